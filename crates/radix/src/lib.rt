@@ -1,0 +1,49 @@
+// Numbers as digits over any bases, and the digits that are bytes.
+ghost use mathlib.Core.Path.{_≡_};
+ghost use Prim.Native.Nat.{_+_, _*_, _/_, _%_, _^_, _≤_, _<_};
+ghost use lib.ListN.{length};
+ghost use Rattle.radix.specs.Fields.{bytesNumber};
+
+fn widened(b: u8) -> u64
+    ensures { λ r. ⌜ r ≡ b ⌝ }
+{
+    b as u64
+}
+
+// The number that at most eight bytes spell, the most significant first.
+pub fn bytes_number(s: &[u8]) -> u64
+    requires { ⌜ length (now s) ≤ 8 ⌝ }
+    ensures { λ r. ⌜ r ≡ bytesNumber (now (s .entry)) ⌝ }
+{
+    let mut n: u64 = 0;
+    let mut i: usize = 0;
+    while i < s.len() {
+        n = n * 256 + widened(s[i]);
+        i += 1;
+    }
+    n
+}
+
+// The number with one field more behind it. The fields of a word go in one by one.
+pub fn with_field(n: u64, width: u32, value: u64) -> u64
+    requires { ⌜ (width < 64) × (n * 2 ^ width + value < 2 ^ 64) ⌝ }
+    ensures { λ r. ⌜ r ≡ n * 2 ^ width + value ⌝ }
+{
+    (n << width) + value
+}
+
+// The field of this width above the lower bits of a number.
+pub fn field_of(n: u64, lower: u32, width: u32) -> u64
+    requires { ⌜ (lower < 64) × (width < 64) ⌝ }
+    ensures { λ r. ⌜ r ≡ n / 2 ^ lower % 2 ^ width ⌝ }
+{
+    (n >> lower) % (1 << width)
+}
+
+// The byte above the lower bits of a number.
+pub fn byte_of(n: u64, lower: u32) -> u8
+    requires { ⌜ lower < 64 ⌝ }
+    ensures { λ r. ⌜ r ≡ n / 2 ^ lower % 2 ^ 8 ⌝ }
+{
+    field_of(n, lower, 8) as u8
+}

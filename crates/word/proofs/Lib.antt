@@ -1,0 +1,4 @@
+pub mod Keeps
+pub mod Judged
+pub mod Laws
+pub mod Worked
