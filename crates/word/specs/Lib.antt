@@ -1,2 +1,3 @@
+pub mod Kinds
 pub mod Form
 pub mod Word

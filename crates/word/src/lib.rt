@@ -5,6 +5,8 @@ ghost use Rattle.radix.specs.Fields.{bases};
 ghost use Rattle.word.specs.Form.{form1};
 ghost use Rattle.word.specs.Word.{Fits, valuesOf, partsOf, wordOf, keeps as keepsOf, judged, answer, readWord};
 
+pub mod kind;
+
 // What a word says. All parts of an accepting word are zero.
 pub struct Parts {
     pub file: u8,

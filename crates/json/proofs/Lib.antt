@@ -1,0 +1,15 @@
+pub mod Steps
+pub mod Bound
+pub mod Takes
+pub mod FaultKinds
+pub mod Shrinks
+pub mod Local
+pub mod Goes
+pub mod Follow
+pub mod Loops
+pub mod Values
+pub mod Texts
+pub mod Faults
+pub mod Verdict
+pub mod Prefix
+pub mod Least

@@ -1,0 +1,5 @@
+pub mod Tree
+pub mod Text
+pub mod Turns
+pub mod Grammar
+pub mod Cases

@@ -1,0 +1,31 @@
+-- A JSON text as a tree, as document 01's last section describes it: objects hold members (decoded name, value; repeats stay),
+-- arrays items in their order, strings decoded bytes, numbers their spelling.
+use mathlib.Core.Bool.{Bool}
+use mathlib.Core.List.{List, [], _∷_}
+use Prim.Native.Nat.{ℕ}
+
+mutual
+  pub data Json : Type 0 where
+    null : Json
+    boolean : Bool → Json
+    number : List ℕ → Json
+    string : List ℕ → Json
+    array : Items → Json
+    object : Members → Json
+
+  pub data Items : Type 0 where
+    noItem : Items
+    item : Json → Items → Items
+
+  pub data Members : Type 0 where
+    noMember : Members
+    member : List ℕ → Json → Members → Members
+
+-- the items and members of lists of them
+unfoldable pub itemsOf : List Json → Items
+itemsOf [] = noItem
+itemsOf (j ∷ js) = item j (itemsOf js)
+
+unfoldable pub membersOf : List (List ℕ × Json) → Members
+membersOf [] = noMember
+membersOf (m ∷ ms) = member (m .0) (m .1) (membersOf ms)

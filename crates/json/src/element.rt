@@ -1,0 +1,38 @@
+// What follows an element of an array or object.
+ghost use mathlib.Core.Path.{_≡_};
+ghost use lib.ListN.{drop};
+ghost use Rattle.json.specs.Turns.{turn};
+use lexeme::Scan;
+use lexeme::blank::skip_blanks;
+use word::kind::Kind;
+
+// The whole array or object ends so, or the next element begins there.
+pub enum Turn {
+    Stop(Scan),
+    Next(usize),
+}
+
+// After an element whose reading ended so: a fault ends the whole, and so does the closing bracket or the want of a comma.
+pub fn after_element(s: &[u8], element: Scan, close: u8) -> Turn
+    ensures { λ r. ⌜ r ≡ turn (now (s .entry)) close element ⌝ }
+{
+    match element {
+        Scan::Fault(kind, place) => {
+            return Turn::Stop(Scan::Fault(kind, place));
+        }
+        Scan::End(end) => {
+            let i = skip_blanks(s, end);
+            if s.len() <= i {
+                return Turn::Stop(Scan::Fault(Kind::NOT_JSON, i));
+            }
+            let b = s[i];
+            if b == close {
+                return Turn::Stop(Scan::End(i + 1));
+            }
+            if b == b',' {
+                return Turn::Next(skip_blanks(s, i + 1));
+            }
+            return Turn::Stop(Scan::Fault(Kind::NOT_JSON, i));
+        }
+    }
+}

@@ -1,0 +1,143 @@
+// Values, arrays and objects. `levels` counts the brackets that may still open, one inside another, and falls with each.
+ghost use mathlib.Core.Path.{_≡_};
+ghost use lib.ListN.{drop};
+ghost use Rattle.lexeme.specs.Character.{paired};
+ghost use Rattle.lexeme.specs.Read.{placed};
+ghost use Rattle.lexeme.specs.Strings.{string};
+ghost use Rattle.json.specs.Text.{expect, bracketed, member, value, text};
+use super::element::Turn;
+use super::element::after_element;
+use lexeme::Scan;
+use lexeme::blank::skip_blanks;
+use lexeme::class::Class;
+use lexeme::class::class_of;
+use lexeme::front::first;
+use lexeme::front::place;
+use lexeme::literal::read_literal;
+use lexeme::number::read_number;
+use strings::string::read_string;
+use word::kind::Kind;
+
+// The value at `at`.
+pub fn read_value(s: &[u8], at: usize, levels: u8) -> Scan
+    ensures { λ r. ⌜ r ≡ placed (now (s .entry)) (value paired levels (drop at (now (s .entry)))) ⌝ }
+{
+    match class_of(first(s, at)) {
+        Class::NUMBER => {
+            return read_number(s, at);
+        }
+        Class::ARRAY => {
+            if levels == 0 {
+                return Scan::Fault(Kind::TOO_DEEP, at);
+            }
+            return read_array(s, at + 1, levels - 1);
+        }
+        Class::OBJECT => {
+            if levels == 0 {
+                return Scan::Fault(Kind::TOO_DEEP, at);
+            }
+            return read_object(s, at + 1, levels - 1);
+        }
+        Class::LETTER_T => {
+            return read_literal(s, at, b"true");
+        }
+        Class::LETTER_F => {
+            return read_literal(s, at, b"false");
+        }
+        Class::LETTER_N => {
+            return read_literal(s, at, b"null");
+        }
+        Class::QUOTE => {
+            return read_string(s, at + 1);
+        }
+        _ => {
+            return Scan::Fault(Kind::NOT_JSON, place(s, at));
+        }
+    }
+}
+
+// The array whose bracket stands before `at`.
+fn read_array(s: &[u8], at: usize, levels: u8) -> Scan
+    ensures { λ r. ⌜ r ≡ placed (now (s .entry)) (bracketed 0x5d (value paired levels) (drop at (now (s .entry)))) ⌝ }
+{
+    let mut i = skip_blanks(s, at);
+    if first(s, i) == b']' {
+        return Scan::End(i + 1);
+    }
+    loop {
+        match after_element(s, read_value(s, i, levels), b']') {
+            Turn::Stop(whole) => {
+                return whole;
+            }
+            Turn::Next(next) => {
+                i = next;
+            }
+        }
+    }
+}
+
+// The object whose bracket stands before `at`.
+fn read_object(s: &[u8], at: usize, levels: u8) -> Scan
+    ensures { λ r. ⌜ r ≡ placed (now (s .entry)) (bracketed 0x7d (member paired (value paired levels)) (drop at (now (s .entry)))) ⌝ }
+{
+    let mut i = skip_blanks(s, at);
+    if first(s, i) == b'}' {
+        return Scan::End(i + 1);
+    }
+    loop {
+        match after_element(s, read_member(s, i, levels), b'}') {
+            Turn::Stop(whole) => {
+                return whole;
+            }
+            Turn::Next(next) => {
+                i = next;
+            }
+        }
+    }
+}
+
+// The member at `at`: its name, a colon, its value.
+fn read_member(s: &[u8], at: usize, levels: u8) -> Scan
+    ensures { λ r. ⌜ r ≡ placed (now (s .entry)) (member paired (value paired levels) (drop at (now (s .entry)))) ⌝ }
+{
+    match read_name(s, at) {
+        Scan::Fault(kind, place) => {
+            return Scan::Fault(kind, place);
+        }
+        Scan::End(next) => {
+            let i = skip_blanks(s, next);
+            if first(s, i) != b':' {
+                return Scan::Fault(Kind::NOT_JSON, i);
+            }
+            return read_value(s, skip_blanks(s, i + 1), levels);
+        }
+    }
+}
+
+// The string at `at`, from its opening quote on.
+fn read_name(s: &[u8], at: usize) -> Scan
+    ensures { λ r. ⌜ r ≡ placed (now (s .entry)) (expect 0x22 (string paired 0) (drop at (now (s .entry)))) ⌝ }
+{
+    if first(s, at) != b'"' {
+        return Scan::Fault(Kind::NOT_JSON, place(s, at));
+    }
+    read_string(s, at + 1)
+}
+
+// The whole text: one value with blanks around it.
+pub fn read_text(s: &[u8], levels: u8) -> Scan
+    ensures { λ r. ⌜ r ≡ placed (now (s .entry)) (text paired levels (now (s .entry))) ⌝ }
+{
+    match read_value(s, skip_blanks(s, 0), levels) {
+        Scan::Fault(kind, place) => {
+            return Scan::Fault(kind, place);
+        }
+        Scan::End(next) => {
+            let end = skip_blanks(s, next);
+            if end < s.len() {
+                return Scan::Fault(Kind::NOT_JSON, end);
+            }
+            return Scan::End(end);
+        }
+    }
+}

@@ -1,0 +1,16 @@
+pub mod Reading
+pub mod Steps
+pub mod Shrinks
+pub mod Local
+pub mod Takes
+pub mod Rests
+pub mod Placed
+pub mod Spans
+pub mod Words
+pub mod NumberParts
+pub mod Table
+pub mod Classes
+pub mod Goes
+pub mod Mends
+pub mod Lone
+pub mod Faults

@@ -1,0 +1,189 @@
+-- What stands before a fault of one character, where lone surrogates pass, can be completed: each fault has an ending of its own.
+-- UTF-8 is completed by the least byte that fits and continuation bytes, an escape by zeros or a quote, and the string by its quote.
+use mathlib.Core.Bool.{true}
+use mathlib.Core.List.{List, [], _∷_, _++_}
+use mathlib.Core.Path.{_≡_, refl, sym, ap, _∙_}
+use Prim.Native.Nat.{ℕ, zero, suc, _+_, _*_, _≤_}
+use native.Mathlib.Omega.{arith}
+use lib.ListN.{length, drop, take}
+use lib.Seq.{getD-drop, drop-cons, drop-append-seam}
+use lib.Dec.{eqb}
+use Rattle.word.specs.Kinds.{notJson}
+use Rattle.lexeme.specs.declared.Next.{Next}
+use Rattle.lexeme.specs.declared.Next.the-variants.{Quote, Character, Fault}
+use Rattle.lexeme.specs.declared.Trail.{Trail}
+use Rattle.lexeme.specs.declared.Trail.the-variants.{Low, Other}
+use Rattle.lexeme.specs.Read.Read.{done}
+use Rattle.lexeme.specs.Character.{byte, within, Lead, lead, char1, char2, char3, char4, bytesOf, utf2, utf3, utf4, encoded, hexValue, hexadecimal, quad, trail, combined, alone, high, unit, unicode, short, escape, nextBy, next}
+use Rattle.lexeme.specs.Character.Surrogates.{lone}
+use Rattle.lexeme.specs.Character.Lead.{plain, quote, backslash, wrong, two, threeE0, three, threeED, fourF0, four, fourF4}
+use Rattle.lexeme.specs.Strings.{string}
+use Rattle.lexeme.proofs.Steps.{by-test, made-reads, string-quote, string-character, string-skip}
+use Rattle.lexeme.proofs.Local.{Spans, encoded-spans}
+use Rattle.lexeme.proofs.Takes.{closes}
+
+-- a text that is a string's rest, whole
+pub record Whole (l : List ℕ) : Type 0 where
+  pub text : List ℕ
+  pub reads : string lone 0 l ≡ done text []
+
+-- one character and the quote
+whole : (b : ℕ) (q : List ℕ) (o : Next) → next lone (b ∷ (q ++ (0x22 ∷ []))) ≡ o → Spans (length q) o → Whole (b ∷ (q ++ (0x22 ∷ [])))
+whole b q Quote e s = absurd s
+whole b q (Fault k n) e s = absurd s
+whole b q (Character x) e s =
+    record {
+      text = bytesOf x ++ [];
+      reads =
+          string-character lone b (q ++ (0x22 ∷ [])) e
+          ∙ made-reads (λ y. bytesOf x ++ y)
+          (string-skip lone (x .more) (q ++ (0x22 ∷ []))
+          ∙ ap (λ n. string lone 0 (drop n (q ++ (0x22 ∷ [])))) s ∙ ap (string lone 0) (drop-append-seam q (0x22 ∷ []))
+          ∙ string-quote lone 0x22 [] (closes lone []));
+    }
+
+-- the n bytes of l from i on
+abbrev pub front : ℕ → ℕ → List ℕ → List ℕ
+front zero i l = []
+front (suc n) i l = byte l i ∷ front n (suc i) l
+
+pub front-take : (n i : ℕ) (l : List ℕ) → i + n ≤ length l → take n (drop i l) ≡ front n i l
+front-take zero i l h = refl
+front-take (suc n) i l h =
+    rw (drop-cons l i 0 (omega arith)) (ap (λ m. byte l i ∷ m) (front-take n (suc i) l (omega arith)))
+
+-- a fault is of kind 2, and what stands before it begins a whole text
+pub record Mend (k n : ℕ) (l : List ℕ) : Type 0 where
+  pub kind : k ≡ notJson
+  pub ending : List ℕ
+  pub mended : Whole (front n 0 l ++ ending)
+
+abbrev pub Mends : List ℕ → Next → Type 0
+Mends l Quote = Unit {0}
+Mends l (Character x) = Unit {0}
+Mends l (Fault k n) = Mend k n l
+
+mend : (n : ℕ) (l z : List ℕ) → Whole (front n 0 l ++ z) → Mend notJson n l
+mend n l z w = record { kind = refl; ending = z; mended = w }
+
+-- UTF-8
+continuation : within 0x80 0xbf 0x80 ≡ true
+unfolding within
+continuation = refl
+
+module _ (l : List ℕ) (t : Lead) (led : lead (byte l 0) ≡ t) where
+  utf2-mends : ((m : List ℕ) → nextBy lone m t ≡ utf2 m) → Mends l (utf2 l)
+  unfolding utf2 next within
+  utf2-mends is =
+      by-test (within 0x80 0xbf (byte l 1)) (λ a. rw a tt)
+      (λ a. rw a (mend 1 l (0x80 ∷ 0x22 ∷ [])
+      (whole (byte l 0) (0x80 ∷ []) (char2 (byte l 0) 0x80 1) (rw led (is (byte l 0 ∷ 0x80 ∷ 0x22 ∷ []))) refl)))
+
+  module _ (lo hi : ℕ) (fit : within lo hi lo ≡ true) where
+    utf3-mends : ((m : List ℕ) → nextBy lone m t ≡ utf3 lo hi m) → Mends l (utf3 lo hi l)
+    unfolding utf3 next
+    utf3-mends is =
+        by-test (within lo hi (byte l 1))
+        (λ a. by-test (within 0x80 0xbf (byte l 2)) (λ b. rw (a, b) tt)
+        (λ b. rw (a, b) (mend 2 l (0x80 ∷ 0x22 ∷ [])
+        (whole (byte l 0) (byte l 1 ∷ 0x80 ∷ []) (char3 (byte l 0) (byte l 1) 0x80 2)
+        (rw led (is (byte l 0 ∷ byte l 1 ∷ 0x80 ∷ 0x22 ∷ []) ∙ rw (a, continuation))) refl))))
+        (λ a. rw a (mend 1 l (lo ∷ 0x80 ∷ 0x22 ∷ [])
+        (whole (byte l 0) (lo ∷ 0x80 ∷ []) (char3 (byte l 0) lo 0x80 2)
+        (rw led (is (byte l 0 ∷ lo ∷ 0x80 ∷ 0x22 ∷ []) ∙ rw (fit, continuation))) refl)))
+
+    utf4-mends : ((m : List ℕ) → nextBy lone m t ≡ utf4 lo hi m) → Mends l (utf4 lo hi l)
+    unfolding utf4 next
+    utf4-mends is =
+        by-test (within lo hi (byte l 1))
+        (λ a. by-test (within 0x80 0xbf (byte l 2))
+        (λ b. by-test (within 0x80 0xbf (byte l 3)) (λ c. rw (a, b, c) tt)
+        (λ c. rw (a, b, c) (mend 3 l (0x80 ∷ 0x22 ∷ [])
+        (whole (byte l 0) (byte l 1 ∷ byte l 2 ∷ 0x80 ∷ []) (char4 (byte l 0) (byte l 1) (byte l 2) 0x80 3)
+        (rw led (is (byte l 0 ∷ byte l 1 ∷ byte l 2 ∷ 0x80 ∷ 0x22 ∷ []) ∙ rw (a, b, continuation))) refl))))
+        (λ b. rw (a, b) (mend 2 l (0x80 ∷ 0x80 ∷ 0x22 ∷ [])
+        (whole (byte l 0) (byte l 1 ∷ 0x80 ∷ 0x80 ∷ []) (char4 (byte l 0) (byte l 1) 0x80 0x80 3)
+        (rw led (is (byte l 0 ∷ byte l 1 ∷ 0x80 ∷ 0x80 ∷ 0x22 ∷ []) ∙ rw (a, continuation))) refl))))
+        (λ a. rw a (mend 1 l (lo ∷ 0x80 ∷ 0x80 ∷ 0x22 ∷ [])
+        (whole (byte l 0) (lo ∷ 0x80 ∷ 0x80 ∷ []) (char4 (byte l 0) lo 0x80 0x80 3)
+        (rw led (is (byte l 0 ∷ lo ∷ 0x80 ∷ 0x80 ∷ 0x22 ∷ []) ∙ rw (fit, continuation))) refl)))
+
+-- escapes; a lone one takes six bytes, whatever its value
+unit-alone : (m : List ℕ) (v : ℕ) → trail (drop 6 m) ≡ Other → unit lone m v ≡ encoded v 5
+unfolding unit high alone
+unit-alone m v e =
+    by-test (within 0xdc00 0xdfff v) (λ a. rw a) λ a.
+    by-test (within 0xd800 0xdbff v) (λ b. rw (a, b, e)) (λ b. rw (a, b))
+
+encoded-mends : (l : List ℕ) (v t : ℕ) → Mends l (encoded v t)
+encoded-mends l v t = go (encoded v t) (encoded-spans v t)
+  where
+    go : (o : Next) → Spans t o → Mends l o
+    go Quote s = tt
+    go (Character x) s = tt
+    go (Fault k n) s = absurd s
+
+high-mends : (l : List ℕ) (v : ℕ) (t : Trail) → Mends l (high lone v t)
+unfolding high alone
+high-mends l v Other = encoded-mends l v 5
+high-mends l v (Low w) = encoded-mends l (combined v w) 11
+
+unit-mends : (l : List ℕ) (v : ℕ) → Mends l (unit lone l v)
+unfolding unit alone
+unit-mends l v =
+    by-test (within 0xdc00 0xdfff v) (λ a. rw a (encoded-mends l v 5)) λ a.
+    by-test (within 0xd800 0xdbff v) (λ b. rw (a, b) (high-mends l v (trail (drop 6 l)))) (λ b. rw (a, b) (encoded-mends l v 5))
+
+-- an escape of four digits, and the quote
+quad-whole : (b u h0 h1 h2 h3 : ℕ) → lead b ≡ backslash → eqb u 0x75 ≡ true → hexadecimal h0 ≡ true → hexadecimal h1 ≡ true
+    → hexadecimal h2 ≡ true → hexadecimal h3 ≡ true → Whole (b ∷ u ∷ h0 ∷ h1 ∷ h2 ∷ h3 ∷ 0x22 ∷ [])
+unfolding next nextBy escape unicode quad
+quad-whole b u h0 h1 h2 h3 e f a0 a1 a2 a3 =
+    let v = hexValue h0 * 4096 + hexValue h1 * 256 + hexValue h2 * 16 + hexValue h3 in
+    whole b (u ∷ h0 ∷ h1 ∷ h2 ∷ h3 ∷ []) (encoded v 5)
+    (rw (e, f, a0, a1, a2, a3) (unit-alone _ v (unfold trail in refl))) (encoded-spans v 5)
+
+zero-digit : hexadecimal 0x30 ≡ true
+unfolding hexadecimal hexValue within
+zero-digit = refl
+
+unicode-mends : (l : List ℕ) → lead (byte l 0) ≡ backslash → eqb (byte l 1) 0x75 ≡ true → Mends l (unicode lone l (quad (drop 2 l)))
+unfolding unicode quad
+unicode-mends l e u =
+    let there : (i : ℕ) → hexadecimal (byte (drop 2 l) i) ≡ true → hexadecimal (byte l (2 + i)) ≡ true = λ i a. ap hexadecimal (sym (getD-drop 2 l i 0)) ∙ a in
+    let filled = quad-whole (byte l 0) (byte l 1) in
+    by-test (hexadecimal (byte (drop 2 l) 0))
+    (λ a. by-test (hexadecimal (byte (drop 2 l) 1))
+    (λ b. by-test (hexadecimal (byte (drop 2 l) 2))
+    (λ c. by-test (hexadecimal (byte (drop 2 l) 3))
+    (λ d. rw (a, b, c, d) (unit-mends l _))
+    (λ d. rw (a, b, c, d) (mend 5 l (0x30 ∷ 0x22 ∷ [])
+    (filled (byte l 2) (byte l 3) (byte l 4) 0x30 e u (there 0 a) (there 1 b) (there 2 c) zero-digit))))
+    (λ c. rw (a, b, c) (mend 4 l (0x30 ∷ 0x30 ∷ 0x22 ∷ []) (filled (byte l 2) (byte l 3) 0x30 0x30 e u (there 0 a) (there 1 b) zero-digit zero-digit))))
+    (λ b. rw (a, b) (mend 3 l (0x30 ∷ 0x30 ∷ 0x30 ∷ 0x22 ∷ []) (filled (byte l 2) 0x30 0x30 0x30 e u (there 0 a) zero-digit zero-digit zero-digit))))
+    (λ a. rw a (mend 2 l (0x30 ∷ 0x30 ∷ 0x30 ∷ 0x30 ∷ 0x22 ∷ []) (filled 0x30 0x30 0x30 0x30 e u zero-digit zero-digit zero-digit zero-digit)))
+
+escape-mends : (l : List ℕ) → lead (byte l 0) ≡ backslash → Mends l (escape lone l)
+unfolding escape next nextBy short
+escape-mends l e =
+    by-test (eqb (byte l 1) 0x75) (λ a. rw a (unicode-mends l e a)) λ a.
+    by-test (eqb (short (byte l 1)) 0)
+    (λ b. rw (a, b) (mend 1 l (0x22 ∷ 0x22 ∷ []) (whole (byte l 0) (0x22 ∷ []) (char1 0x22 1) (rw e) refl)))
+    (λ b. rw (a, b) tt)
+
+pub next-mends : (l : List ℕ) → Mends l (next lone l)
+unfolding next nextBy within
+next-mends l = go (lead (byte l 0)) refl
+  where
+    go : (t : Lead) → lead (byte l 0) ≡ t → Mends l (nextBy lone l t)
+    go plain e = tt
+    go quote e = tt
+    go backslash e = escape-mends l e
+    go wrong e = mend 0 l (0x22 ∷ []) (record { text = []; reads = string-quote lone 0x22 [] (closes lone []) })
+    go two e = utf2-mends l two e (λ m. refl)
+    go threeE0 e = utf3-mends l threeE0 e 0xa0 0xbf refl (λ m. refl)
+    go three e = utf3-mends l three e 0x80 0xbf refl (λ m. refl)
+    go threeED e = utf3-mends l threeED e 0x80 0x9f refl (λ m. refl)
+    go fourF0 e = utf4-mends l fourF0 e 0x90 0xbf refl (λ m. refl)
+    go four e = utf4-mends l four e 0x80 0xbf refl (λ m. refl)
+    go fourF4 e = utf4-mends l fourF4 e 0x80 0x8f refl (λ m. refl)

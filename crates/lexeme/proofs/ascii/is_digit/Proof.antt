@@ -1,0 +1,17 @@
+-- `is_digit` tests in the definition's order.
+use borrow.Author.Tests.{lt-leb, le-leb}
+use Rattle.lexeme.specs.Character.{within}
+use Rattle.lexeme.specs.Numbers.{digit}
+use Rattle.lexeme.proofs.ascii.is_digit.Statement.{statement}
+use Rattle.lexeme.proofs.ascii.is_digit.Tie as tie
+
+returns : tie.Need-returns
+unfolding digit within
+returns c = rw (lt-leb _ _ (c .if1 .taken), digit, within)
+
+returns-2 : tie.Need-returns-2
+unfolding digit within
+returns-2 c = rw (le-leb _ _ (c .if1 .left), digit, within)
+
+pub is-digit-spec : {M : Type 1} → statement M
+is-digit-spec = tie.close (tie.spec returns returns-2)

@@ -1,0 +1,4 @@
+pub mod Places
+pub mod CharacterSteps
+pub mod Inside
+pub mod Spelling
