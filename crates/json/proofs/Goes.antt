@@ -130,6 +130,9 @@ text-goes-surrogates d = text-goes (λ n. n ≡ unpaired) paired lone (string-go
 pub text-goes-depth : (ρ : Surrogates) {d e : ℕ} → d ≤ e → (l : List ℕ) → Goes (λ n. n ≡ tooDeep) (text ρ d l) (text ρ e l)
 text-goes-depth ρ {d} {e} h = text-goes (λ n. n ≡ tooDeep) ρ ρ (λ l. same) d e h (λ i. refl)
 
+pub value-goes-depth : (ρ : Surrogates) {d e : ℕ} → d ≤ e → (l : List ℕ) → Goes (λ n. n ≡ tooDeep) (value ρ d l) (value ρ e l)
+value-goes-depth ρ {d} {e} h = value-goes (λ n. n ≡ tooDeep) ρ ρ (λ l. same) d e h (λ i. refl)
+
 -- what the laxer reading is, by what the stricter one is: the same end, the same fault, or past it
 module _ {A : Type 0} {D : ℕ → Type 0} where
   pub ends-too : {o p : Read A} {x : A} {r : List ℕ} → Goes D o p → o ≡ done x r → p ≡ done x r

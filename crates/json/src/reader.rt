@@ -115,7 +115,7 @@ fn read_member(s: &[u8], at: usize, levels: u8) -> Scan
 }
 
 // The string at `at`, from its opening quote on.
-fn read_name(s: &[u8], at: usize) -> Scan
+pub fn read_name(s: &[u8], at: usize) -> Scan
     ensures { λ r. ⌜ r ≡ placed (now (s .entry)) (expect 0x22 (string paired 0) (drop at (now (s .entry)))) ⌝ }
 {
     if first(s, at) != b'"' {

@@ -1,0 +1,113 @@
+-- The bytes of a price, one by one: the ways of a byte, and that the values stay within their digits, so that no sum wraps.
+use mathlib.Core.Bool.{Bool, true, false}
+use mathlib.Core.List.{List, [], _∷_, _++_}
+use mathlib.Core.Path.{_≡_, refl, sym, ap, subst}
+use Prim.Native.Nat.{ℕ, _+_, _-_, _*_, _^_, _<_, _≤_, min}
+use native.Mathlib.Omega.{arith}
+use lib.Dec.{eqb, ltb}
+use lib.ListN.{take}
+use lib.Seq.{take-all}
+use borrow.Author.Tests.{eq-eqb, ne-eqb, ltb-true, ltb-false, lt-ltb, le-ltb}
+use Rattle.radix.proofs.Digits.{one-more}
+use Rattle.lexeme.specs.declared.Char.{Char}
+use Rattle.lexeme.specs.Character.{bytesOf}
+use Rattle.lexeme.specs.Numbers.{digit}
+use Rattle.decimal.specs.declared.Price.the-variants.{NoNumber}
+use Rattle.decimal.specs.declared.spelling.Run.{Run}
+use Rattle.decimal.specs.declared.quoted.Phase.{Phase}
+use Rattle.decimal.specs.declared.quoted.Phase.the-variants.{Start, Zero, Whole, Part, Lost}
+use Rattle.decimal.specs.declared.quoted.Progress.{Progress}
+use Rattle.decimal.specs.Priced.{longer, lost, start, onDigit, onPoint, step, steps, priceSo, finished, Held}
+use Rattle.decimal.proofs.Runs.{digit-range}
+
+-- one digit more, within the most digits and past them
+module _ (most : ℕ) (r : Run) (b : ℕ) where
+  pub longer-more : r .count < most → record { value = r .value * 10 + (b - 0x30); count = r .count + 1 } ≡ longer most r b
+  unfolding longer
+  longer-more h = rw (lt-ltb (r .count) most h)
+
+  pub longer-full : most ≤ r .count → record { value = r .value; count = most + 1 } ≡ longer most r b
+  unfolding longer
+  longer-full h = rw (le-ltb (r .count) most h)
+
+  longer-held : digit b ≡ true → r .value < 10 ^ min (r .count) most → longer most r b .value < 10 ^ min (longer most r b .count) most
+  longer-held e h = go (ltb (r .count) most) refl
+    where
+      go : (t : Bool) → ltb (r .count) most ≡ t → longer most r b .value < 10 ^ min (longer most r b .count) most
+      go true q =
+          let l : r .count < most = ltb-true (r .count) most q in
+          let m : min (r .count) most ≡ r .count = omega arith in
+          let n : min (r .count + 1) most ≡ r .count + 1 = omega arith in
+          rw (← longer-more l, n) (one-more 10 (r .count) (rw m at h) (omega (arith, digit-range b e)))
+      go false q =
+          let l : most ≤ r .count = ltb-false (r .count) most q in
+          let m : min (r .count) most ≡ most = omega arith in
+          let n : min (most + 1) most ≡ most = omega arith in
+          rw (← longer-full l, n) (rw m at h)
+
+-- a byte by the code's tests
+module _ (p : Progress) (b : ℕ) where
+  pub step-digit : digit b ≡ true → onDigit p b (p .phase) ≡ step p b
+  unfolding step
+  step-digit e = rw e
+
+  module _ (n : digit b ≡ false) where
+    pub step-point : eqb b 0x2e ≡ true → onPoint p (p .phase) ≡ step p b
+    unfolding step
+    step-point e = rw (n, e)
+
+    pub step-other : eqb b 0x2e ≡ false → lost ≡ step p b
+    unfolding step
+    step-other e = rw (n, e)
+
+lost-held : Held lost
+lost-held = record { whole = omega arith; part = omega arith }
+
+pub start-held : Held start
+start-held = record { whole = omega arith; part = omega arith }
+
+module _ (p : Progress) (h : Held p) where
+  on-digit-held : (b : ℕ) (f : Phase) → digit b ≡ true → Held (onDigit p b f)
+  unfolding onDigit
+  on-digit-held b Start e = record { whole = longer-held 12 (p .whole) b e (h .whole); part = h .part }
+  on-digit-held b Zero e = lost-held
+  on-digit-held b Whole e = record { whole = longer-held 12 (p .whole) b e (h .whole); part = h .part }
+  on-digit-held b Part e = record { whole = h .whole; part = longer-held 18 (p .part) b e (h .part) }
+  on-digit-held b Lost e = lost-held
+
+  on-point-held : (f : Phase) → Held (onPoint p f)
+  unfolding onPoint
+  on-point-held Start = lost-held
+  on-point-held Zero = record { whole = h .whole; part = h .part }
+  on-point-held Whole = record { whole = h .whole; part = h .part }
+  on-point-held Part = lost-held
+  on-point-held Lost = lost-held
+
+  pub step-held : (b : ℕ) → Held (step p b)
+  step-held b = go (digit b) refl (eqb b 0x2e) refl
+    where
+      go : (d : Bool) → digit b ≡ d → (e : Bool) → eqb b 0x2e ≡ e → Held (step p b)
+      go true q e r = subst Held (step-digit p b q) (on-digit-held b (p .phase) q)
+      go false q true r = subst Held (step-point p b q r) (on-point-held (p .phase))
+      go false q false r = subst Held (step-other p b q r) lost-held
+
+-- one byte, and then those that follow it
+pub steps-next : (p : Progress) {l : List ℕ} {b : ℕ} {r : List ℕ} → l ≡ b ∷ r → steps (step p b) r ≡ steps p l
+unfolding steps
+steps-next p e = sym (ap (steps p) e)
+
+-- where the text ends behind the point
+pub part-none : (p : Progress) → p .part .count ≡ 0 → NoNumber ≡ finished p Part
+unfolding finished
+part-none p e = rw (eq-eqb (p .part .count) 0 e)
+
+pub part-some : (p : Progress) → (p .part .count ≡ 0 → ⊥) → priceSo p ≡ finished p Part
+unfolding finished
+part-some p n = rw (ne-eqb (p .part .count) 0 n)
+
+-- the bytes of a character, of which `len` count
+pub first-bytes : (p : Progress) (x : Char) (n : ℕ) → x .len ≡ n → steps p (take n (x .b0 ∷ x .b1 ∷ x .b2 ∷ x .b3 ∷ [])) ≡ steps p (bytesOf x)
+first-bytes p x n e = ap (λ (k : ℕ). steps p (take k (x .b0 ∷ x .b1 ∷ x .b2 ∷ x .b3 ∷ []))) (sym e)
+
+pub four-bytes : (p : Progress) (x : Char) → 4 ≤ x .len → steps p (x .b0 ∷ x .b1 ∷ x .b2 ∷ x .b3 ∷ []) ≡ steps p (bytesOf x)
+four-bytes p x h = ap (steps p) (sym (take-all (x .len) (x .b0 ∷ x .b1 ∷ x .b2 ∷ x .b3 ∷ []) h))

@@ -1,0 +1,4 @@
+pub mod Whole
+pub mod Decoding
+pub mod Steps
+pub mod Laws

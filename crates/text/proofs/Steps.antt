@@ -1,0 +1,150 @@
+-- One step of each question on a text's bytes: how it goes on from the first of them.
+use mathlib.Core.Bool.{Bool, true, false}
+use mathlib.Core.List.{List, [], _∷_, map}
+use mathlib.Core.Path.{_≡_, refl, sym, ap, _∙_}
+use Prim.Native.Nat.{ℕ, _+_, _≤_}
+use native.Mathlib.Omega.{arith}
+use lib.Dec.{eqb, leb, ltb}
+use lib.ListN.{length, drop, drop-of-length-le}
+use borrow.Author.Tests.{ne-eqb, lt-ltb, le-ltb, leb-true, leb-false}
+use Rattle.notation.specs.Choice.{_and_}
+use Rattle.lexeme.specs.Character.{within}
+use Rattle.lexeme.proofs.Rests.{at-cons}
+use Rattle.lexeme.proofs.Steps.{by-test, true-false}
+use Rattle.text.specs.Text.{same, lower, sameWord, capitals, currency, mixed, digestFrom}
+use Rattle.text.specs.Walk.{agreeing, cased}
+
+and-true : (t : Bool) → (t and true) ≡ t
+and-true true = refl
+and-true false = refl
+
+and-false : (t : Bool) → (t and false) ≡ false
+and-false true = refl
+and-false false = refl
+
+-- small letters
+pub within-most : (lo hi b : ℕ) → within lo hi b ≡ true → b ≤ hi
+unfolding within
+within-most lo hi b e = by-test (leb lo b) (λ t. leb-true b hi (rw (t, within) at e)) (λ t. true-false e (rw (t, within)))
+
+pub lower-capital : (b : ℕ) → within 0x41 0x5a b ≡ true → b + 0x20 ≡ lower b
+unfolding lower
+lower-capital b e = rw (e, lower)
+
+pub lower-other : (b : ℕ) → within 0x41 0x5a b ≡ false → b ≡ lower b
+unfolding lower
+lower-other b e = rw (e, lower)
+
+module _ {fold : Bool} (a b : ℕ) where
+  pub folded : {x y : ℕ} → fold ≡ true → x ≡ lower a → y ≡ lower b → eqb x y ≡ eqb (cased fold a) (cased fold b)
+  unfolding cased
+  folded e f g = rw (e, f, g, cased)
+
+  pub unfolded : fold ≡ false → eqb a b ≡ eqb (cased fold a) (cased fold b)
+  unfolding cased
+  unfolded e = rw (e, cased)
+
+-- two texts
+module _ {x y : List ℕ} where
+  pub same-end : x ≡ [] → y ≡ [] → same x y ≡ true
+  unfolding same
+  same-end e f = rw (e, f)
+
+  module _ {b : ℕ} {v : List ℕ} (f : y ≡ b ∷ v) where
+    pub same-short : x ≡ [] → same x y ≡ false
+    unfolding same
+    same-short e = rw (e, f)
+
+    module _ {a : ℕ} {u : List ℕ} (e : x ≡ a ∷ u) where
+      pub same-next : eqb a b ≡ true → same x y ≡ same u v
+      unfolding same
+      same-next t = rw (e, f, same, t)
+
+      pub same-differ : eqb a b ≡ false → same x y ≡ false
+      unfolding same
+      same-differ t = rw (e, f, same, t)
+
+  pub same-long : {a : ℕ} {u : List ℕ} → x ≡ a ∷ u → y ≡ [] → same x y ≡ false
+  unfolding same
+  same-long e f = rw (e, f)
+
+-- one text ends
+pub ends-text : {x : List ℕ} (y : List ℕ) → x ≡ [] → same y [] ≡ same x y
+unfolding same
+ends-text [] e = rw e
+ends-text (b ∷ y) e = rw e
+
+pub ends-plain : (fold : Bool) (x : List ℕ) {y : List ℕ} → y ≡ [] → same x [] ≡ agreeing fold x y
+unfolding same
+ends-plain fold [] e = rw e
+ends-plain fold (a ∷ x) e = rw e
+
+pub ends-at : {x : List ℕ} (y : List ℕ) (i : ℕ) → x ≡ [] → leb (length y) i ≡ agreeing false x (drop i y)
+ends-at {x} y i e =
+    let m : map (cased false) x ≡ [] = ap (map (cased false)) e in
+    by-test (leb (length y) i)
+    (λ t. t ∙ sym (same-end m (ap (map (cased false)) (drop-of-length-le y (leb-true (length y) i t)))))
+    λ t. t ∙ sym (same-short (ap (map (cased false)) (at-cons y i (leb-false (length y) i t))) m)
+
+-- where case is not folded, bytes are compared as they are; where it is, as words are
+cased-none : (x : List ℕ) → map (cased false) x ≡ x
+unfolding cased
+cased-none [] = refl
+cased-none (b ∷ x) = ap (λ z. b ∷ z) (cased-none x)
+
+pub agreeing-none : (x y : List ℕ) → agreeing false x y ≡ same x y
+agreeing-none x y = ap (λ z. same z (map (cased false) y)) (cased-none x) ∙ ap (same x) (cased-none y)
+
+pub agreeing-all : (x y : List ℕ) → agreeing true x y ≡ sameWord x y
+unfolding cased sameWord
+agreeing-all x y = refl
+
+-- a text, of which n bytes were passed
+module _ {x : List ℕ} (n : ℕ) where
+  pub count-end : (m : ℕ) → n ≤ m → x ≡ [] → false ≡ ltb m (n + length x)
+  count-end m h e = rw e (sym (le-ltb m (n + 0) (omega arith)))
+
+  pub currency-end : x ≡ [] → eqb n 3 ≡ (eqb (n + length x) 3 and capitals x)
+  unfolding capitals
+  currency-end e =
+      let z : n ≡ n + 0 = omega arith in
+      rw e (ap (λ k. eqb k 3) z ∙ sym (and-true (eqb (n + 0) 3)))
+
+  module _ {b : ℕ} {u : List ℕ} (e : x ≡ b ∷ u) where
+    longer : n + length x ≡ n + 1 + length u
+    longer = ap (λ z. n + length z) e ∙ omega arith
+
+    pub count-past : (m : ℕ) → n ≡ m → true ≡ ltb m (n + length x)
+    count-past m h = sym (lt-ltb m (n + length x) (omega (arith, longer)))
+
+    pub count-next : (m : ℕ) → ltb m (n + 1 + length u) ≡ ltb m (n + length x)
+    count-next m = sym (ap (ltb m) longer)
+
+    pub currency-past : n ≡ 3 → false ≡ (eqb (n + length x) 3 and capitals x)
+    currency-past h = ap (λ t. t and capitals x) (sym (ne-eqb (n + length x) 3 (λ z. omega (arith, longer))))
+
+    pub currency-other : within 0x41 0x5a b ≡ false → false ≡ (eqb (n + length x) 3 and capitals x)
+    unfolding capitals
+    currency-other t =
+        let w : capitals x ≡ false = rw (e, capitals, t) in
+        sym (ap (λ z. eqb (n + length x) 3 and z) w ∙ and-false (eqb (n + length x) 3))
+
+    pub currency-next : within 0x41 0x5a b ≡ true → (eqb (n + 1 + length u) 3 and capitals u) ≡ (eqb (n + length x) 3 and capitals x)
+    unfolding capitals
+    currency-next t =
+        let w : capitals x ≡ capitals u = rw (e, capitals, t) in
+        sym (ap (λ z. eqb (n + length x) 3 and z) w ∙ ap (λ k. eqb k 3 and capitals u) longer)
+
+pub currency-start : (x : List ℕ) → (eqb (0 + length x) 3 and capitals x) ≡ currency x
+unfolding currency
+currency-start x = let z : 0 + length x ≡ length x = omega arith in ap (λ k. eqb k 3 and capitals x) z
+
+-- digests
+module _ {x : List ℕ} (h : ℕ) where
+  pub digest-end : x ≡ [] → h ≡ digestFrom h x
+  unfolding digestFrom
+  digest-end e = rw e
+
+  pub digest-next : {b : ℕ} {u : List ℕ} → x ≡ b ∷ u → digestFrom (mixed h b) u ≡ digestFrom h x
+  unfolding digestFrom
+  digest-next e = rw e

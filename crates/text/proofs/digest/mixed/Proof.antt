@@ -1,0 +1,13 @@
+-- The sum fits 64 bits, and the remainder 32.
+use mathlib.Core.Path.{refl}
+use borrow.Author.Needs.{needs}
+use Rattle.text.specs.Text.{mixed}
+use Rattle.text.proofs.digest.mixed.Statement.{statement}
+use Rattle.text.proofs.digest.mixed.Tie as tie
+
+returns : tie.Need-returns
+unfolding mixed
+returns c = refl
+
+pub mixed-spec : {M : Type 1} → statement M
+mixed-spec = tie.close (tie.spec (λ c. search needs) (λ c. search needs) (λ c. search needs) returns)

@@ -1,0 +1,49 @@
+-- What is asked of a string's text, always of its decoded bytes: document 01 judges names and strings after decoding escapes.
+-- `spelled` is what stands between the quotation marks.
+use mathlib.Core.Bool.{Bool, true, false}
+use mathlib.Core.List.{List, [], _∷_, map}
+use Prim.Native.Nat.{ℕ, _+_, _*_, _%_}
+use lib.Dec.{eqb, ltb}
+use lib.ListN.{length}
+use Rattle.notation.specs.Choice.{_⇒_else_, _and_}
+use Rattle.lexeme.specs.Character.{paired, within}
+use Rattle.lexeme.specs.Strings.{decoded}
+
+-- the bytes that a spelling stands for
+abbrev pub textOf : List ℕ → List ℕ
+textOf spelled = decoded paired 0 spelled
+
+-- the same bytes
+unfoldable pub same : List ℕ → List ℕ → Bool
+same [] [] = true
+same [] (b ∷ y) = false
+same (a ∷ x) [] = false
+same (a ∷ x) (b ∷ y) = eqb a b and same x y
+
+-- a byte with ASCII capitals made small
+unfoldable pub lower : ℕ → ℕ
+lower b = within 0x41 0x5a b ⇒ b + 0x20 else b
+
+-- the same words, whatever the case of their ASCII letters
+unfoldable pub sameWord : List ℕ → List ℕ → Bool
+sameWord x y = same (map lower x) (map lower y)
+
+-- every byte is a capital
+unfoldable pub capitals : List ℕ → Bool
+capitals [] = true
+capitals (b ∷ x) = within 0x41 0x5a b and capitals x
+
+-- a currency: three capital letters
+unfoldable pub currency : List ℕ → Bool
+currency x = eqb (length x) 3 and capitals x
+
+-- a digest of 32 bits: equal texts have equal digests
+unfoldable pub mixed : ℕ → ℕ → ℕ
+mixed h b = (h * 16_777_619 + b) % 4_294_967_296
+
+unfoldable pub digestFrom : ℕ → List ℕ → ℕ
+digestFrom h [] = h
+digestFrom h (b ∷ x) = digestFrom (mixed h b) x
+
+unfoldable pub digest : List ℕ → ℕ
+digest x = digestFrom 2_166_136_261 x

@@ -1,0 +1,32 @@
+-- A text's bytes from a cursor on, as the code walks over them, and the two ways in which it compares bytes.
+use mathlib.Core.Bool.{Bool, true, false}
+use mathlib.Core.List.{List, [], _∷_, _++_, map}
+use Prim.Native.Nat.{ℕ}
+use lib.ListN.{drop}
+use Rattle.lexeme.specs.Character.{bytesOf}
+use Rattle.text.specs.declared.Cursor.{Cursor}
+use Rattle.text.specs.declared.Step.{Step}
+use Rattle.text.specs.declared.Step.the-variants.{End, Byte}
+use Rattle.text.specs.Text.{textOf, same, lower}
+
+-- the place `at` of the spelling, no character begun
+abbrev pub cursorAt : ℕ → Cursor
+cursorAt at = record { begun = record { b0 = 0; b1 = 0; b2 = 0; b3 = 0; len = 0; more = 0 }; at = at }
+
+-- the bytes from a cursor on
+unfoldable pub left : List ℕ → Cursor → List ℕ
+left s c = bytesOf (c .begun) ++ textOf (drop (c .at) s)
+
+-- the bytes of which a step tells
+unfoldable pub told : List ℕ → Step → List ℕ
+told s End = []
+told s (Byte b c) = b ∷ left s c
+
+-- a byte as it is compared, with case folded or not
+unfoldable pub cased : Bool → ℕ → ℕ
+cased true b = lower b
+cased false b = b
+
+-- the same bytes, so compared
+abbrev pub agreeing : Bool → List ℕ → List ℕ → Bool
+agreeing fold x y = same (map (cased fold) x) (map (cased fold) y)

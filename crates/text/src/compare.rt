@@ -1,0 +1,113 @@
+// Texts against each other.
+use crate::Cursor;
+use crate::Step;
+use crate::ascii::lower;
+use crate::walk::cursor_at;
+use crate::walk::next_byte;
+use lexeme::class::Class;
+use lexeme::class::class_of;
+ghost use mathlib.Core.Path.{_≡_};
+ghost use mathlib.Core.List.{[]};
+ghost use lib.Dec.{eqb};
+ghost use lib.ListN.{drop};
+ghost use Rattle.text.specs.Text.{textOf, same, sameWord};
+ghost use Rattle.text.specs.Walk.{agreeing, cased, left};
+
+// The same byte; or, where case is folded, the same letter.
+fn alike(fold: bool, a: u8, b: u8) -> bool
+    ensures { λ r. ⌜ r ≡ eqb (cased fold a) (cased fold b) ⌝ }
+{
+    if fold {
+        return lower(a) == lower(b);
+    }
+    a == b
+}
+
+// No byte is left at the cursor.
+fn ended(s: &[u8], c: Cursor) -> bool
+    ensures { λ r. ⌜ r ≡ same (left (now (s .entry)) c) [] ⌝ }
+{
+    match next_byte(s, c) {
+        Step::End => true,
+        Step::Byte(_, _) => false,
+    }
+}
+
+// What is spelled from `from` on stands for the plain bytes from there on.
+fn agrees(spelled: &[u8], plain: &[u8], from: usize, fold: bool) -> bool
+    ensures { λ r. ⌜ r ≡ agreeing fold (textOf (drop from (now (spelled .entry)))) (drop from (now (plain .entry))) ⌝ }
+{
+    let mut c = cursor_at(from);
+    let mut j = from;
+    while j < plain.len() {
+        match next_byte(spelled, c) {
+            Step::End => {
+                return false;
+            }
+            Step::Byte(b, after) => {
+                if !alike(fold, b, plain[j]) {
+                    return false;
+                }
+                c = after;
+                j += 1;
+            }
+        }
+    }
+    ended(spelled, c)
+}
+
+// The text is the plain bytes. As long as its bytes stand for themselves they are compared as they are.
+pub fn text_is(spelled: &[u8], plain: &[u8]) -> bool
+    ensures { λ r. ⌜ r ≡ same (textOf (now (spelled .entry))) (now (plain .entry)) ⌝ }
+{
+    let mut i: usize = 0;
+    while i < spelled.len() {
+        if Class::QUOTE <= class_of(spelled[i]) {
+            return agrees(spelled, plain, i, false);
+        }
+        if plain.len() <= i {
+            return false;
+        }
+        if spelled[i] != plain[i] {
+            return false;
+        }
+        i += 1;
+    }
+    plain.len() <= i
+}
+
+// The text is the plain bytes, whatever the case of ASCII letters.
+pub fn word_is(spelled: &[u8], plain: &[u8]) -> bool
+    ensures { λ r. ⌜ r ≡ sameWord (textOf (now (spelled .entry))) (now (plain .entry)) ⌝ }
+{
+    agrees(spelled, plain, 0, true)
+}
+
+// Two texts, both spelled, are the same.
+pub fn same_text(a: &[u8], b: &[u8]) -> bool
+    ensures { λ r. ⌜ r ≡ same (textOf (now (a .entry))) (textOf (now (b .entry))) ⌝ }
+{
+    let mut c = cursor_at(0);
+    let mut d = cursor_at(0);
+    loop {
+        match next_byte(a, c) {
+            Step::End => {
+                return ended(b, d);
+            }
+            Step::Byte(x, after) => {
+                c = after;
+                match next_byte(b, d) {
+                    Step::End => {
+                        return false;
+                    }
+                    Step::Byte(y, beyond) => {
+                        if x != y {
+                            return false;
+                        }
+                        d = beyond;
+                    }
+                }
+            }
+        }
+    }
+}

@@ -1,0 +1,97 @@
+// The bytes that a spelled text stands for, one after another.
+use crate::Cursor;
+use crate::Step;
+use lexeme::Char;
+use lexeme::Next;
+use lexeme::class::Class;
+use lexeme::class::class_of;
+use strings::character::next_char;
+ghost use mathlib.Core.Path.{_≡_};
+ghost use lib.ListN.{drop};
+ghost use Rattle.lexeme.specs.Character.{bytesOf};
+ghost use Rattle.text.specs.Text.{textOf};
+ghost use Rattle.text.specs.Walk.{cursorAt, left, told};
+
+// The cursor at a place of the spelling where a character begins.
+pub fn cursor_at(at: usize) -> Cursor
+    ensures { λ r. ⌜ r ≡ cursorAt at ⌝ }
+{
+    Cursor {
+        begun: Char {
+            b0: 0,
+            b1: 0,
+            b2: 0,
+            b3: 0,
+            len: 0,
+            more: 0,
+        },
+        at,
+    }
+}
+
+// The character without its first byte.
+fn tail(x: Char) -> Char
+    ensures { λ r. ⌜ bytesOf r ≡ drop 1 (bytesOf x) ⌝ }
+{
+    let mut len: usize = 3;
+    if x.len <= 3 {
+        len = x.len;
+        if 0 < len {
+            len -= 1;
+        }
+    }
+    Char {
+        b0: x.b1,
+        b1: x.b2,
+        b2: x.b3,
+        b3: 0,
+        len,
+        more: x.more,
+    }
+}
+
+// The first byte of what is spelled from `at` on.
+fn first_byte(s: &[u8], at: usize) -> Step
+    ensures { λ r. ⌜ told (now (s .entry)) r ≡ textOf (drop at (now (s .entry))) ⌝ }
+{
+    if s.len() <= at {
+        return Step::End;
+    }
+    if class_of(s[at]) < Class::QUOTE {
+        return Step::Byte(s[at], cursor_at(at + 1));
+    }
+    match next_char(s, at) {
+        Next::Quote => {
+            return Step::End;
+        }
+        Next::Fault(_, _) => {
+            return Step::End;
+        }
+        Next::Character(x) => {
+            return Step::Byte(
+                x.b0,
+                Cursor {
+                    begun: tail(x),
+                    at: at + 1 + x.more,
+                },
+            );
+        }
+    }
+}
+
+// The byte at the cursor.
+pub fn next_byte(s: &[u8], c: Cursor) -> Step
+    ensures { λ r. ⌜ told (now (s .entry)) r ≡ left (now (s .entry)) c ⌝ }
+{
+    let x = c.begun;
+    if 0 < x.len {
+        return Step::Byte(
+            x.b0,
+            Cursor {
+                begun: tail(x),
+                at: c.at,
+            },
+        );
+    }
+    first_byte(s, c.at)
+}

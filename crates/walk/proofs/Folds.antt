@@ -1,0 +1,148 @@
+-- A loop over the members of an object or the items of an array, for any fold over them: what is still to come decides the result.
+-- Every later loop has `Walk (memberSteps p) g s at (foldl g s₀ (membersOf p))` for its invariant and cites three lemmas: `members-start`
+-- (or `items-start`), `walk-more` and `walk-end`. A step goes on by a byte at least, so the text's length bounds their number.
+use mathlib.Core.List.{List, [], _∷_, foldl, List·Memᴰ, List·Memᴰ·not-nil, List·Memᴰ·cases-cons}
+use mathlib.Core.Logic.{_⊎_, inl, inr, ⊎-elim}
+use mathlib.Core.Path.{_≡_, refl, sym, ap, subst, _∙_}
+use Prim.Native.Nat.{ℕ, zero, suc, _+_, _≤_, _<_}
+use native.Mathlib.Omega.{arith}
+use lib.ListN.{length}
+use Rattle.walk.specs.declared.Member.{Member}
+use Rattle.walk.specs.declared.Item.{Item}
+use Rattle.walk.specs.declared.MemberStep.{MemberStep}
+use Rattle.walk.specs.declared.ItemStep.{ItemStep}
+use Rattle.walk.specs.declared.MemberStep.the-variants as members
+use Rattle.walk.specs.declared.ItemStep.the-variants as items
+use Rattle.walk.specs.Walk.{memberAt, membersFrom, membersOf, itemAt, itemsFrom, itemsOf}
+use Rattle.walk.proofs.Places.{member-placed, item-placed}
+
+-- steps through a text of n bytes: what one finds at a place, where the next is looked for, and all that is found from a place on
+pub record Steps (n : ℕ) (M : Type 0) : Type 1 where
+  pub Finds : ℕ → M → Type 0
+  pub Ends : ℕ → Type 0
+  pub next : M → ℕ
+  pub from : ℕ → ℕ → List M
+  pub either : (at : ℕ) → Ends at ⊎ ((m : M) × Finds at m)
+  pub later : (at : ℕ) (m : M) → Finds at m → at < next m
+  pub inside : (at : ℕ) (m : M) → Finds at m → next m ≤ n
+  pub none : (at : ℕ) → from zero at ≡ []
+  pub end : (k at : ℕ) → Ends at → from k at ≡ []
+  pub more : (k at : ℕ) (m : M) → Finds at m → from (suc k) at ≡ m ∷ from k (next m)
+
+-- the fold g, which has come to s at the place `at`, will come to r
+abbrev pub Walk : {n : ℕ} {M A : Type 0} → Steps n M → (A → M → A) → A → ℕ → A → Type 0
+Walk {n} w g s at r = (k : ℕ) × (n ≤ at + k) × (foldl g s (w .from k at) ≡ r)
+
+module _ {n : ℕ} {M : Type 0} (w : Steps n M) where
+  -- enough steps are left where one finds something
+  pub one-more : (k at : ℕ) (m : M) → w .Finds at m → n ≤ at + k → (j : ℕ) × (n ≤ w .next m + j) × (w .from k at ≡ m ∷ w .from j (w .next m))
+  one-more zero at m f h = absurd (omega (arith, w .later at m f, w .inside at m f))
+  one-more (suc k) at m f h = (k, omega (arith, w .later at m f), w .more k at m f)
+
+  -- what holds of all that a step finds holds of each in the list
+  pub each : (P : M → Type 0) → ((at : ℕ) (m : M) → w .Finds at m → P m) → (k at : ℕ) (m : M) → List·Memᴰ m (w .from k at) → P m
+  each P holds zero at m i = absurd (List·Memᴰ·not-nil (subst (List·Memᴰ m) (w .none at) i))
+  each P holds (suc k) at m i =
+      let ih = each P holds k in
+      ⊎-elim (λ e. absurd (List·Memᴰ·not-nil (subst (List·Memᴰ m) (w .end (suc k) at e) i)))
+      (λ f. ⊎-elim (λ e. subst P (sym e) (holds at (f .0) (f .1))) (ih (w .next (f .0)) m)
+      (List·Memᴰ·cases-cons (subst (List·Memᴰ m) (w .more k at (f .0) (f .1)) i)))
+      (w .either at)
+
+  module _ {A : Type 0} (g : A → M → A) where
+    pub walk-start : (s : A) (at : ℕ) → Walk w g s at (foldl g s (w .from n at))
+    walk-start s at = (n, omega arith, refl)
+
+    pub walk-more : (s : A) (at : ℕ) (r : A) (m : M) → w .Finds at m → Walk w g s at r → Walk w g (g s m) (w .next m) r
+    walk-more s at r m f (k, h, e) = let j = one-more k at m f h in (j .0, j .1, ap (foldl g s) (sym (j .2)) ∙ e)
+
+    pub walk-end : (s : A) (at : ℕ) (r : A) → w .Ends at → Walk w g s at r → s ≡ r
+    walk-end s at r f (k, h, e) = ap (foldl g s) (sym (w .end k at f)) ∙ e
+
+-- members
+module _ (p : List ℕ) where
+  pub members-none : (at : ℕ) → membersFrom zero p at ≡ []
+  unfolding membersFrom
+  members-none at = refl
+
+  pub members-end : (k at : ℕ) → memberAt p at ≡ members.End → membersFrom k p at ≡ []
+  unfolding membersFrom
+  members-end zero at e = refl
+  members-end (suc k) at e = rw (membersFrom, e)
+
+  pub members-more : (k at : ℕ) (m : Member) → memberAt p at ≡ members.Found m → membersFrom (suc k) p at ≡ m ∷ membersFrom k p (m .next)
+  unfolding membersFrom
+  members-more k at m e = rw (membersFrom, e)
+
+  pub members-either : (at : ℕ) → (memberAt p at ≡ members.End) ⊎ ((m : Member) × (memberAt p at ≡ members.Found m))
+  members-either at = go (memberAt p at) refl
+    where
+      go : (o : MemberStep) → memberAt p at ≡ o → (memberAt p at ≡ members.End) ⊎ ((m : Member) × (memberAt p at ≡ members.Found m))
+      go members.End e = inl e
+      go (members.Found m) e = inr (m, e)
+
+  pub members-later : (at : ℕ) (m : Member) → memberAt p at ≡ members.Found m → at < m .next
+  members-later at m e = let i = member-placed p at m e in omega arith
+
+  abbrev pub memberSteps : Steps (length p) Member
+  memberSteps =
+      record {
+        Finds = λ at m. memberAt p at ≡ members.Found m;
+        Ends = λ at. memberAt p at ≡ members.End;
+        next = λ m. m .next;
+        from = λ k at. membersFrom k p at;
+        either = members-either;
+        later = members-later;
+        inside = λ at m e. member-placed p at m e .inside;
+        none = members-none;
+        end = members-end;
+        more = members-more;
+      }
+
+  pub members-start : {A : Type 0} (g : A → Member → A) (s : A) → Walk memberSteps g s 1 (foldl g s (membersOf p))
+  unfolding membersOf
+  members-start g s = walk-start memberSteps g s 1
+
+-- items
+module _ (p : List ℕ) where
+  pub items-none : (at : ℕ) → itemsFrom zero p at ≡ []
+  unfolding itemsFrom
+  items-none at = refl
+
+  pub items-end : (k at : ℕ) → itemAt p at ≡ items.End → itemsFrom k p at ≡ []
+  unfolding itemsFrom
+  items-end zero at e = refl
+  items-end (suc k) at e = rw (itemsFrom, e)
+
+  pub items-more : (k at : ℕ) (m : Item) → itemAt p at ≡ items.Found m → itemsFrom (suc k) p at ≡ m ∷ itemsFrom k p (m .next)
+  unfolding itemsFrom
+  items-more k at m e = rw (itemsFrom, e)
+
+  pub items-either : (at : ℕ) → (itemAt p at ≡ items.End) ⊎ ((m : Item) × (itemAt p at ≡ items.Found m))
+  items-either at = go (itemAt p at) refl
+    where
+      go : (o : ItemStep) → itemAt p at ≡ o → (itemAt p at ≡ items.End) ⊎ ((m : Item) × (itemAt p at ≡ items.Found m))
+      go items.End e = inl e
+      go (items.Found m) e = inr (m, e)
+
+  pub items-later : (at : ℕ) (m : Item) → itemAt p at ≡ items.Found m → at < m .next
+  items-later at m e = let i = item-placed p at m e in omega arith
+
+  abbrev pub itemSteps : Steps (length p) Item
+  itemSteps =
+      record {
+        Finds = λ at m. itemAt p at ≡ items.Found m;
+        Ends = λ at. itemAt p at ≡ items.End;
+        next = λ m. m .next;
+        from = λ k at. itemsFrom k p at;
+        either = items-either;
+        later = items-later;
+        inside = λ at m e. item-placed p at m e .inside;
+        none = items-none;
+        end = items-end;
+        more = items-more;
+      }
+
+  pub items-start : {A : Type 0} (g : A → Item → A) (s : A) → Walk itemSteps g s 1 (foldl g s (itemsOf p))
+  unfolding itemsOf
+  items-start g s = walk-start itemSteps g s 1

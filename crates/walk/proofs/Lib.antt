@@ -1,0 +1,11 @@
+pub mod Rests
+pub mod Steps
+pub mod Places
+pub mod Finding
+pub mod FirstByte
+pub mod Folds
+pub mod Spells
+pub mod Wholes
+pub mod Parts
+pub mod Trees
+pub mod Files

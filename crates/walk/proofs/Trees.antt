@@ -1,0 +1,180 @@
+-- The tree of an object or array is that of its parts: the walk meets the members or items that reading met, one for one and in their
+-- order. Reading took one level less for them, and what is read within fewer levels is read the same within more.
+use mathlib.Core.Bool.{false}
+use mathlib.Core.List.{List, [], _∷_, map}
+use mathlib.Core.Path.{_≡_, refl, sym, ap, subst, _∙_}
+use Prim.Native.Nat.{ℕ, suc, _+_, _≤_}
+use native.Mathlib.Omega.{arith}
+use lib.ListN.{length, drop}
+use lib.Dec.{eqb}
+use borrow.Author.Tests.{eqb-true}
+use Rattle.limits.specs.Ceilings.{depth}
+use Rattle.lexeme.specs.Read.{Read, made}
+use Rattle.lexeme.specs.Read.Read.{done}
+use Rattle.lexeme.specs.Character.{paired, within}
+use Rattle.lexeme.specs.Strings as Strings
+use Rattle.lexeme.specs.Numbers.{digit}
+use Rattle.lexeme.specs.Tokens.{blanks, start}
+use Rattle.lexeme.proofs.Reading.{Eats, Ok, Takes}
+use Rattle.lexeme.proofs.Steps.{by-test, bad-done, done-what, made-done, then-done, blanks-stop}
+use Rattle.lexeme.proofs.Takes.{solid-first}
+use Rattle.json.specs.Tree as Tree
+use Rattle.json.specs.Tree.{Json}
+use Rattle.json.specs.Text.{expect, after, contents, bracketed, member, value}
+use Rattle.json.specs.Text.After.{closed, more}
+use Rattle.json.proofs.Steps.{contents-end, contents-none, contents-some, expect-here, expect-other, member-then, named}
+use Rattle.json.proofs.Bound.{Follows, at-close, at-comma, follows-as, Run, faulty, last, next, broken, run}
+use Rattle.json.proofs.Takes.{value-eats, value-takes, member-eats, member-takes}
+use Rattle.json.proofs.Goes.{value-goes-depth, ends-too}
+use Rattle.json.proofs.Values.{value-none}
+use Rattle.walk.specs.declared.Member.{Member}
+use Rattle.walk.specs.declared.MemberStep.the-variants as members
+use Rattle.walk.specs.declared.ItemStep.the-variants as items
+use Rattle.walk.specs.Walk.{place, onward, memberAt, membersOf, itemAt, itemsOf}
+use Rattle.walk.specs.Part.{Whole, treeOf}
+use Rattle.walk.proofs.Rests.{Rest, rest-drop, rest-next, rest-blanks, rest-read, rest-there}
+use Rattle.walk.proofs.Steps.{expect-done, onward-comma, onward-other, Reads, memberOf, member-unnamed, member-found, item-none, item-found}
+use Rattle.walk.proofs.Places.{member-spelt, item-spelt}
+use Rattle.walk.proofs.Folds.{Steps, one-more, memberSteps, itemSteps}
+use Rattle.walk.proofs.Wholes.{whole-array, whole-object}
+use Rattle.walk.proofs.Parts.{nameOf, valueOf, itemOf, spelt-name, spelt-tree, item-tree}
+
+-- a step at `at` finds the element that reads as x up to the rest r
+pub record Meets {M A : Type 0} (p : List ℕ) (w : Steps (length p) M) (f : M → A) (at : ℕ) (x : A) (r : List ℕ) : Type 0 where
+  pub what : M
+  pub finds : w .Finds at what
+  pub is : f what ≡ x
+  pub next : w .next what ≡ onward p (blanks r)
+
+-- the elements of one sort, read by `element` up to the bracket `close`, and found by the steps w
+module _ {M A : Type 0} (p : List ℕ) (w : Steps (length p) M) (f : M → A) (close : ℕ) (element : List ℕ → Read A)
+    (eats : Eats element) (takes : Takes Ok element)
+    (meets : (at : ℕ) (x : A) (r : List ℕ) → element (blanks (drop at p)) ≡ done x r → Meets p w f at x r)
+    (stops : (at : ℕ) (q : List ℕ) → blanks (drop at p) ≡ close ∷ q → w .Ends at) (apart : eqb close 0x2c ≡ false) where
+  -- what an element leaves is a rest of p
+  leaves : (at : ℕ) (x : A) (r : List ℕ) → element (blanks (drop at p)) ≡ done x r → Rest p r
+  leaves at x r e = rest-read element takes (blanks (drop at p)) r x e (rest-blanks (drop at p) (rest-drop at))
+
+  -- at the closing bracket nothing is found
+  none-closed : (k at : ℕ) (r q : List ℕ) → Rest p r → Follows close r (closed q) → at ≡ onward p (blanks r) → w .from k at ≡ []
+  none-closed k at r q s (at-close {b} i h) n =
+      let z : b ≡ close = eqb-true b close h in
+      let other : eqb b 0x2c ≡ false = ap (λ (c : ℕ). eqb c 0x2c) z ∙ apart in
+      let there : drop at p ≡ b ∷ q =
+      ap (λ (c : ℕ). drop c p) (n ∙ onward-other p b q i other ∙ ap (place p) (sym i)) ∙ rest-there (rest-blanks r s) ∙ i in
+      w .end k at (stops at q (ap blanks there ∙ blanks-stop b q (solid-first r b q i) ∙ ap (λ (c : ℕ). c ∷ q) z))
+
+  -- after a comma the next element begins
+  next-begins : (at : ℕ) (r q : List ℕ) → Rest p r → Follows close r (more q) → at ≡ onward p (blanks r) → blanks (drop at p) ≡ q
+  next-begins at r _ s (at-comma {b} {q} i h c) n =
+      ap (λ (z : ℕ). blanks (drop z p)) (n ∙ onward-comma p b q i c) ∙ ap blanks (rest-there (rest-next b q i (rest-blanks r s)))
+
+  run-met : {l : List ℕ} {o : Read (List A)} → Run close element l o → (xs : List A) (r : List ℕ) → o ≡ done xs r
+      → (k at : ℕ) → blanks (drop at p) ≡ l → length p ≤ at + k → map f (w .from k at) ≡ xs
+  run-met (faulty e) xs r i k at h n = bad-done i
+  run-met (broken e j) xs r i k at h n = bad-done i
+  run-met (last {r = m} {q = q} {x = x} e j) xs r i k at h n =
+      let g = ap element h ∙ e in
+      let t = meets at x m g in
+      let c = one-more w k at (t .what) (t .finds) n in
+      ap (map f) (c .2 ∙ ap (λ (z : List M). t .what ∷ z) (none-closed (c .0) (w .next (t .what)) m q (leaves at x m g) (follows-as close m j) (t .next)))
+      ∙ ap (λ (z : A). z ∷ []) (t .is) ∙ done-what i
+  run-met (next {r = m} {q = q} {x = x} {o = o} e j u) xs r i k at h n =
+      let g = ap element h ∙ e in
+      let t = meets at x m g in
+      let c = one-more w k at (t .what) (t .finds) n in
+      let y = made-done (λ ys. x ∷ ys) o xs r i in
+      let b = next-begins (w .next (t .what)) m q (leaves at x m g) (follows-as close m j) (t .next) in
+      ap (map f) (c .2)
+      ∙ ap (λ (z : List A). f (t .what) ∷ z) (run-met u (y .0) r (y .1) (c .0) (w .next (t .what)) b (c .1))
+      ∙ ap (λ (z : A). z ∷ y .0) (t .is) ∙ y .2
+
+  pub bracketed-met : (at : ℕ) (xs : List A) (r : List ℕ) → bracketed close element (drop at p) ≡ done xs r → map f (w .from (length p) at) ≡ xs
+  unfolding bracketed
+  bracketed-met at xs r e = go (blanks (drop at p)) refl
+    where
+      go : (l : List ℕ) → blanks (drop at p) ≡ l → map f (w .from (length p) at) ≡ xs
+      go [] h = bad-done (sym (contents-end close element) ∙ ap (contents close element) (sym h) ∙ e)
+      go (b ∷ q) h =
+          by-test (eqb b close)
+          (λ t. ap (map f) (w .end (length p) at (stops at q (h ∙ ap (λ (z : ℕ). z ∷ q) (eqb-true b close t))))
+          ∙ done-what (sym (contents-none close element b q t) ∙ ap (contents close element) (sym h) ∙ e))
+          (λ t. run-met (run close element eats (suc (length (b ∷ q))) (b ∷ q) (omega arith)) xs r
+          (sym (contents-some close element b q t) ∙ ap (contents close element) (sym h) ∙ e) (length p) at h (omega arith))
+
+-- within fewer levels, and within all
+deepen : (d : ℕ) → d ≤ depth → (l r : List ℕ) (x : Json) → value paired d l ≡ done x r → value paired depth l ≡ done x r
+deepen d h l r x e = ends-too (value-goes-depth paired h l) e
+
+-- items
+module _ (p : List ℕ) where
+  item-meets : (d : ℕ) → d ≤ depth → (at : ℕ) (x : Json) (r : List ℕ) → value paired d (blanks (drop at p)) ≡ done x r
+      → Meets p (itemSteps p) (λ m. treeOf (itemOf p m)) at x r
+  unfolding itemAt
+  item-meets d h at x r e =
+      let l = blanks (drop at p) in
+      let g = deepen d h l r x e in
+      record { what = _; finds = item-found p l g; is = item-tree (item-spelt p at g); next = refl }
+
+  item-stops : (at : ℕ) (q : List ℕ) → blanks (drop at p) ≡ 0x5d ∷ q → itemAt p at ≡ items.End
+  unfolding itemAt start digit within
+  item-stops at q e = item-none p (blanks (drop at p)) (ap (value paired depth) e ∙ value-none depth (0x5d ∷ q) refl)
+
+  pub array-parts : {is : Tree.Items} → Whole p (Json.array is) → is ≡ Tree.itemsOf (map (λ m. treeOf (itemOf p m)) (itemsOf p))
+  unfolding itemsOf
+  array-parts w =
+      let o = whole-array w in
+      let d = o .levels in
+      let h : d ≤ depth = omega (arith, o .less) in
+      sym (ap Tree.itemsOf (bracketed-met p (itemSteps p) (λ m. treeOf (itemOf p m)) 0x5d (value paired d) (value-eats paired d) (value-takes paired d)
+      (item-meets d h) item-stops refl 1 (o .elements) [] (o .reads)) ∙ o .is)
+
+-- members
+module _ (p : List ℕ) where
+  abbrev pub memberTree : Member → List ℕ × Json
+  memberTree m = (nameOf p m, treeOf (valueOf p m))
+
+  -- a member as reading has it, and as a step has it
+  member-reads : (d : ℕ) → d ≤ depth → (l r : List ℕ) (y : List ℕ × Json) → member paired (value paired d) l ≡ done y r → (q : List ℕ) × Reads l (y .0) (y .1) q r
+  member-reads d h l r y e =
+      let a = then-done (expect 0x22 (Strings.string paired 0) l) (named (value paired d)) y r (sym (member-then paired (value paired d) l) ∙ e) in
+      let q = a .1 in
+      let b = expect-done 0x3a (λ z. made (λ x. (a .0, x)) (value paired d (blanks z))) (blanks q) r y (a .3) in
+      let c = made-done (λ x. (a .0, x)) (value paired d (blanks (b .0))) y r (b .2) in
+      subst (λ (z : List ℕ × Json). (q : List ℕ) × Reads l (z .0) (z .1) q r) (c .2) (
+        q,
+        record {
+          named = a .2;
+          valued = ap (expect 0x3a (λ z. value paired depth (blanks z))) (b .1) ∙ expect-here 0x3a _ 0x3a (b .0) refl ∙ deepen d h (blanks (b .0)) r (c .0) (c .1);
+        },
+      )
+
+  member-meets : (d : ℕ) → d ≤ depth → (at : ℕ) (y : List ℕ × Json) (r : List ℕ) → member paired (value paired d) (blanks (drop at p)) ≡ done y r
+      → Meets p (memberSteps p) memberTree at y r
+  unfolding memberAt
+  member-meets d h at y r e =
+      let l = blanks (drop at p) in
+      let g = member-reads d h l r y e in
+      let s = member-spelt p at (g .1) in
+      let m = memberOf p l (g .0) r in
+      record {
+        what = m;
+        finds = member-found p l (g .1);
+        is = ap (λ (z : List ℕ). (z, treeOf (valueOf p m))) (spelt-name s) ∙ ap (λ (z : Json). (y .0, z)) (spelt-tree s);
+        next = refl;
+      }
+
+  member-stops : (at : ℕ) (q : List ℕ) → blanks (drop at p) ≡ 0x7d ∷ q → memberAt p at ≡ members.End
+  unfolding memberAt
+  member-stops at q e = member-unnamed p (blanks (drop at p)) (ap (expect 0x22 (Strings.string paired 0)) e ∙ expect-other 0x22 _ 0x7d q refl)
+
+  pub object-parts : {ms : Tree.Members} → Whole p (Json.object ms) → ms ≡ Tree.membersOf (map memberTree (membersOf p))
+  unfolding membersOf
+  object-parts w =
+      let o = whole-object w in
+      let d = o .levels in
+      let h : d ≤ depth = omega (arith, o .less) in
+      let eats = member-eats paired (value paired d) (value-eats paired d) in
+      let takes = member-takes paired (value paired d) (value-eats paired d) (value-takes paired d) in
+      sym (ap Tree.membersOf (bracketed-met p (memberSteps p) memberTree 0x7d (member paired (value paired d)) eats takes
+      (member-meets d h) member-stops refl 1 (o .elements) [] (o .reads)) ∙ o .is)

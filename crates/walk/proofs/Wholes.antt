@@ -1,0 +1,154 @@
+-- The laws of one whole value that every judge cites: its tree is the only one, its first byte tells its kind, and a scalar is read off
+-- its bytes. For arrays and objects, what stands between the brackets is read with a level less.
+use mathlib.Core.Bool.{Bool, true, false}
+use mathlib.Core.List.{List, [], _∷_, append-nil}
+use mathlib.Core.Path.{_≡_, refl, sym, ap, subst, _∙_}
+use Prim.Native.Nat.{ℕ, zero, suc, _-_, _≤_, _<_}
+use native.Mathlib.Omega.{arith}
+use lib.ListN.{length, drop, take, getD, length-append, length-drop}
+use lib.Seq.{take-at}
+use lib.Dec.{eqb}
+use borrow.Author.Tests.{eqb-true}
+use Rattle.limits.specs.Ceilings.{depth}
+use Rattle.notation.specs.Ascii.{bytes}
+use Rattle.lexeme.specs.Read.{Read, made}
+use Rattle.lexeme.specs.Read.Read.{done, bad}
+use Rattle.lexeme.specs.Character.{paired, byte}
+use Rattle.lexeme.specs.Strings as Strings
+use Rattle.lexeme.specs.Numbers as Numbers
+use Rattle.lexeme.specs.Tokens.{literal, Start, start}
+use Rattle.lexeme.proofs.Steps.{by-test, bad-done, done-what, made-done, literal-match, literal-differs}
+use Rattle.lexeme.proofs.Takes.{string-spelled, string-eats}
+use Rattle.json.specs.Tree as Tree
+use Rattle.json.specs.Tree.{Json}
+use Rattle.json.specs.Text.{bracketed, member, valueAt, valueBy, value}
+use Rattle.json.proofs.Takes.{value-eats}
+use Rattle.walk.specs.Part.{Whole, treeOf, kindOf, kindFrom, kindAt, inside}
+use Rattle.walk.proofs.Spells.{number-spells}
+
+-- elements between brackets, read with a level less than d
+pub record Opened {A B : Type 0} (d close : ℕ) (element : ℕ → List ℕ → Read A) (of : List A → B) (p r : List ℕ) (x : B) : Type 0 where
+  pub levels : ℕ
+  pub less : d ≡ suc levels
+  pub elements : List A
+  pub reads : bracketed close (element levels) (drop 1 p) ≡ done elements r
+  pub is : of elements ≡ x
+
+abbrev pub OpenedArray : ℕ → List ℕ → List ℕ → Tree.Items → Type 0
+OpenedArray d p r is = Opened d 0x5d (value paired) Tree.itemsOf p r is
+
+abbrev pub OpenedObject : ℕ → List ℕ → List ℕ → Tree.Members → Type 0
+OpenedObject d p r ms = Opened d 0x7d (λ e. member paired (value paired e)) Tree.membersOf p r ms
+
+-- what reading a value of the tree x from the front of p, up to the rest r, has read
+abbrev Content : ℕ → List ℕ → List ℕ → Json → Type 0
+Content d p r Json.null = Unit {0}
+Content d p r (Json.boolean b) = eqb (byte p 0) 0x74 ≡ b
+Content d p r (Json.number s) = Numbers.number p ≡ done s r
+Content d p r (Json.string y) = Strings.string paired 0 (drop 1 p) ≡ done y r
+Content d p r (Json.array is) = OpenedArray d p r is
+Content d p r (Json.object ms) = OpenedObject d p r ms
+
+record Origin (d : ℕ) (p r : List ℕ) (x : Json) : Type 0 where
+  kind : kindFrom (start (byte p 0)) ≡ kindOf x
+  content : Content d p r x
+
+-- the readers of arrays and objects within d levels
+record Brackets (d : ℕ) : Type 0 where
+  arrays : List ℕ → Read Json
+  objects : List ℕ → Read Json
+  by : (l : List ℕ) → value paired d l ≡ valueBy paired arrays objects l
+  array : (p r : List ℕ) (x : Json) → arrays p ≡ done x r → (is : Tree.Items) × OpenedArray d p r is × (Json.array is ≡ x)
+  object : (p r : List ℕ) (x : Json) → objects p ≡ done x r → (ms : Tree.Members) × OpenedObject d p r ms × (Json.object ms ≡ x)
+
+brackets : (d : ℕ) → Brackets d
+unfolding value
+brackets zero = record { arrays = bad _; objects = bad _; by = λ l. refl; array = λ p r x e. bad-done e; object = λ p r x e. bad-done e }
+brackets (suc d) =
+    record {
+      arrays = λ t. made (λ xs. Json.array (Tree.itemsOf xs)) (bracketed 0x5d (value paired d) (drop 1 t));
+      objects = λ t. made (λ ms. Json.object (Tree.membersOf ms)) (bracketed 0x7d (member paired (value paired d)) (drop 1 t));
+      by = λ l. refl;
+      array = λ p r x e.
+          let k = made-done (λ xs. Json.array (Tree.itemsOf xs)) (bracketed 0x5d (value paired d) (drop 1 p)) x r e in
+          (Tree.itemsOf (k .0), record { levels = d; less = refl; elements = k .0; reads = k .1; is = refl }, k .2);
+      object = λ p r x e.
+          let k = made-done (λ ms. Json.object (Tree.membersOf ms)) (bracketed 0x7d (member paired (value paired d)) (drop 1 p)) x r e in
+          (Tree.membersOf (k .0), record { levels = d; less = refl; elements = k .0; reads = k .1; is = refl }, k .2);
+    }
+
+literal-done : {A : Type 0} (w : List ℕ) (x : A) (l r : List ℕ) (y : A) → literal w x l ≡ done y r → x ≡ y
+unfolding literal
+literal-done [] x l r y e = done-what e
+literal-done (c ∷ w) x [] r y e = bad-done e
+literal-done (c ∷ w) x (b ∷ l) r y e =
+    let ih = literal-done w x l r y in
+    by-test (eqb b c) (λ h. ih (sym (literal-match b x c w l h) ∙ e)) (λ h. bad-done (sym (literal-differs b x c w l h) ∙ e))
+
+literal-first : {A : Type 0} (c : ℕ) (w : List ℕ) (x : A) (b : ℕ) (l r : List ℕ) (y : A) → literal (c ∷ w) x (b ∷ l) ≡ done y r → b ≡ c
+literal-first c w x b l r y e = by-test (eqb b c) (λ h. eqb-true b c h) (λ h. bad-done (sym (literal-differs b x c w l h) ∙ e))
+
+origin : (d : ℕ) (p r : List ℕ) (x : Json) → value paired d p ≡ done x r → Origin d p r x
+unfolding valueBy valueAt
+origin d [] r x e = bad-done (sym (brackets d .by []) ∙ e)
+origin d (b ∷ l) r x e = go (start b) refl
+  where
+    k : Brackets d
+    k = brackets d
+
+    reads : valueBy paired (k .arrays) (k .objects) (b ∷ l) ≡ done x r
+    reads = sym (k .by (b ∷ l)) ∙ e
+
+    told : {y : Json} {t : Start} → start b ≡ t → kindFrom t ≡ kindOf y → Content d (b ∷ l) r y → y ≡ x → Origin d (b ∷ l) r x
+    told h same c i = subst (Origin d (b ∷ l) r) i (record { kind = ap kindFrom h ∙ same; content = c })
+
+    go : (t : Start) → start b ≡ t → Origin d (b ∷ l) r x
+    go Start.string h = let m = made-done Json.string (Strings.string paired 0 l) x r (rw (valueBy, valueAt, h) at reads) in told h refl (m .1) (m .2)
+    go Start.number h = let m = made-done Json.number (Numbers.number (b ∷ l)) x r (rw (valueBy, valueAt, h) at reads) in told h refl (m .1) (m .2)
+    go Start.array h = let m = k .array (b ∷ l) r x (rw (valueBy, valueAt, h) at reads) in told h refl (m .1) (m .2)
+    go Start.object h = let m = k .object (b ∷ l) r x (rw (valueBy, valueAt, h) at reads) in told h refl (m .1) (m .2)
+    go Start.letterT h =
+        let f : literal (bytes "true") (Json.boolean true) (b ∷ l) ≡ done x r = rw (valueBy, valueAt, h) at reads in
+        told {y = Json.boolean true} h refl (ap (λ (z : ℕ). eqb z 0x74) (literal-first 0x74 _ _ b l r x f)) (literal-done _ _ (b ∷ l) r x f)
+    go Start.letterF h =
+        let f : literal (bytes "false") (Json.boolean false) (b ∷ l) ≡ done x r = rw (valueBy, valueAt, h) at reads in
+        told {y = Json.boolean false} h refl (ap (λ (z : ℕ). eqb z 0x74) (literal-first 0x66 _ _ b l r x f)) (literal-done _ _ (b ∷ l) r x f)
+    go Start.letterN h =
+        let f : literal (bytes "null") Json.null (b ∷ l) ≡ done x r = rw (valueBy, valueAt, h) at reads in
+        told {y = Json.null} h refl tt (literal-done _ _ (b ∷ l) r x f)
+    go Start.other h = bad-done (rw (valueBy, valueAt, h) at reads)
+
+-- the laws
+module _ {p : List ℕ} {x : Json} (w : Whole p x) where
+  pub whole-tree : treeOf p ≡ x
+  unfolding treeOf
+  whole-tree = rw (treeOf, w .reads)
+
+  pub whole-some : 0 < length p
+  whole-some = omega (arith, value-eats paired depth p [] x (w .reads))
+
+  pub whole-kind : kindAt p ≡ kindOf x
+  unfolding kindAt
+  whole-kind = origin depth p [] x (w .reads) .kind
+
+module _ {p : List ℕ} where
+  pub whole-boolean : {b : Bool} → Whole p (Json.boolean b) → eqb (getD p 0 0) 0x74 ≡ b
+  whole-boolean w = origin depth p [] _ (w .reads) .content
+
+  pub whole-number : {s : List ℕ} → Whole p (Json.number s) → s ≡ p
+  whole-number {s} w = sym (number-spells p [] s (origin depth p [] _ (w .reads) .content) ∙ append-nil s)
+
+  pub whole-string : {y : List ℕ} → Whole p (Json.string y) → y ≡ Strings.decoded paired 0 (inside p)
+  whole-string {y} w =
+      let s = string-spelled paired 0 (drop 1 p) y [] (origin depth p [] _ (w .reads) .content) in
+      let n : length (s .part) ≡ length p - 2 = omega (arith, ap length (s .splits), length-append (s .part) (0x22 ∷ []), length-drop 1 p) in
+      sym (s .decodes) ∙ ap (Strings.decoded paired 0) (sym (ap (take (length p - 2)) (s .splits) ∙ take-at (s .part) (0x22 ∷ []) (length p - 2) n))
+
+  pub whole-quotes : {y : List ℕ} → Whole p (Json.string y) → 2 ≤ length p
+  whole-quotes {y} w = omega (arith, string-eats paired 0 (drop 1 p) [] y (origin depth p [] _ (w .reads) .content), length-drop 1 p)
+
+  pub whole-array : {is : Tree.Items} → Whole p (Json.array is) → OpenedArray depth p [] is
+  whole-array w = origin depth p [] _ (w .reads) .content
+
+  pub whole-object : {ms : Tree.Members} → Whole p (Json.object ms) → OpenedObject depth p [] ms
+  whole-object w = origin depth p [] _ (w .reads) .content

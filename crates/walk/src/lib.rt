@@ -1,0 +1,116 @@
+// One level of a JSON value's bytes at a time: the members of an object, the items of an array, the kind of a value.
+ghost use mathlib.Core.Path.{_≡_};
+ghost use lib.ListN.{drop};
+ghost use Rattle.lexeme.specs.Tokens.{blanks};
+ghost use Rattle.walk.specs.Walk.{onward, memberAt, itemAt};
+ghost use Rattle.walk.specs.Part.{kindAt};
+use json::reader::read_name;
+use json::reader::read_value;
+use lexeme::Scan;
+use lexeme::blank::skip_blanks;
+use lexeme::class::Class;
+use lexeme::class::class_of;
+use lexeme::front::first;
+use limits::Limits;
+
+// A member of an object: where the text of its name stands, without the quotation marks; where its value stands; where the next member is looked for.
+pub struct Member {
+    pub name: usize,
+    pub name_end: usize,
+    pub value: usize,
+    pub value_end: usize,
+    pub next: usize,
+}
+
+pub enum MemberStep {
+    End,
+    Found(Member),
+}
+
+// An item of an array: where it stands, and where the next one is looked for.
+pub struct Item {
+    pub value: usize,
+    pub value_end: usize,
+    pub next: usize,
+}
+
+pub enum ItemStep {
+    End,
+    Found(Item),
+}
+
+// What kind of value stands somewhere.
+pub enum ValueKind {
+    Null,
+    Boolean,
+    Number,
+    String,
+    Array,
+    Object,
+}
+
+// The member of the object `p` that is looked for at `at`.
+pub fn next_member(p: &[u8], at: usize) -> MemberStep
+    ensures { λ r. ⌜ r ≡ memberAt (now (p .entry)) at ⌝ }
+{
+    let quote = skip_blanks(p, at);
+    let Scan::End(named) = read_name(p, quote) else {
+        return MemberStep::End;
+    };
+    let colon = skip_blanks(p, named);
+    if first(p, colon) != b':' {
+        return MemberStep::End;
+    }
+    let value = skip_blanks(p, colon + 1);
+    let Scan::End(value_end) = read_value(p, value, Limits::DEPTH) else {
+        return MemberStep::End;
+    };
+    MemberStep::Found(Member {
+        name: quote + 1,
+        name_end: named - 1,
+        value: value,
+        value_end: value_end,
+        next: next_place(p, value_end),
+    })
+}
+
+// The item of the array `p` that is looked for at `at`.
+pub fn next_item(p: &[u8], at: usize) -> ItemStep
+    ensures { λ r. ⌜ r ≡ itemAt (now (p .entry)) at ⌝ }
+{
+    let value = skip_blanks(p, at);
+    let Scan::End(value_end) = read_value(p, value, Limits::DEPTH) else {
+        return ItemStep::End;
+    };
+    ItemStep::Found(Item {
+        value: value,
+        value_end: value_end,
+        next: next_place(p, value_end),
+    })
+}
+
+// Where the next element is looked for, after one that ends at `at`.
+fn next_place(p: &[u8], at: usize) -> usize
+    ensures { λ r. ⌜ r ≡ onward (now (p .entry)) (blanks (drop at (now (p .entry)))) ⌝ }
+{
+    let i = skip_blanks(p, at);
+    if first(p, i) == b',' {
+        return i + 1;
+    }
+    i
+}
+
+// The kind of the value `p`, by its first byte.
+pub fn value_kind(p: &[u8]) -> ValueKind
+    ensures { λ r. ⌜ r ≡ kindAt (now (p .entry)) ⌝ }
+{
+    match class_of(first(p, 0)) {
+        Class::QUOTE => ValueKind::String,
+        Class::NUMBER => ValueKind::Number,
+        Class::ARRAY => ValueKind::Array,
+        Class::OBJECT => ValueKind::Object,
+        Class::LETTER_T => ValueKind::Boolean,
+        Class::LETTER_F => ValueKind::Boolean,
+        _ => ValueKind::Null,
+    }
+}
