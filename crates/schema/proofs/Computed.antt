@@ -1,0 +1,78 @@
+-- What holds of the 2.3 table by tests that are computed over the whole of it, and the tests as facts of each file: no object lists a name
+-- twice, and the field numbers rise from line to line, so that no two are equal and an inner object's are above their container's.
+use mathlib.Core.Bool.{Bool, true}
+use mathlib.Core.List.{List, [], _∷_, flatten}
+use mathlib.Core.Path.{_≡_, refl}
+use Prim.Native.Nat.{ℕ, zero, suc, _<_}
+use native.Mathlib.Omega.{arith}
+use lib.Dec.{ltb}
+use lib.ListN.{length, getD}
+use borrow.Author.Tests.{ltb-true}
+use Rattle.notation.specs.Choice.{_and_}
+use Rattle.text.specs.Text.{same}
+use Rattle.schema.specs.Shape.{Shape, Table, unlisted, fileShape}
+use Rattle.schema.specs.Table23.{table23, written23}
+use Rattle.schema.specs.Later.{listedIn}
+use Rattle.schema.specs.Sound.{distinctNames, fieldsOf, rising}
+use Rattle.schema.specs.Line.{namesOf, wordsOf, laidOut}
+use Rattle.schema.proofs.Tests.{and-left, and-right}
+
+-- A test that every file passes, and the empty shape too, is passed by the shape of any number.
+every : (Shape → Bool) → Table → Bool
+every test [] = true
+every test (σ ∷ t) = test σ and every test t
+
+every-at : (test : Shape → Bool) (t : Table) → every test t ≡ true → test unlisted ≡ true → (i : ℕ) → test (getD t i unlisted) ≡ true
+unfolding every
+every-at test [] e u i = u
+every-at test (σ ∷ t) e u zero = and-left (test σ) (every test t) e
+every-at test (σ ∷ t) e u (suc i) = every-at test t (and-right (test σ) (every test t) e) u i
+
+every-file : (test : Shape → Bool) (t : Table) → every test t ≡ true → test unlisted ≡ true → (file : ℕ) → test (fileShape t file) ≡ true
+unfolding fileShape
+every-file test t e u zero = u
+every-file test t e u (suc i) = every-at test t e u i
+
+pub distinct : (file : ℕ) → distinctNames (fileShape table23 file) ≡ true
+unfolding every written23 distinctNames listedIn same
+distinct file = every-file distinctNames table23 refl refl file
+
+rising-file : (file : ℕ) → rising (fieldsOf (fileShape table23 file)) ≡ true
+unfolding every written23 rising fieldsOf
+rising-file file = every-file (λ σ. rising (fieldsOf σ)) table23 refl refl file
+
+-- In a rising list what stands later is larger.
+rising-below : (a : ℕ) (l : List ℕ) → rising (a ∷ l) ≡ true → (i : ℕ) → i < length l → a < getD l i 0
+unfolding rising
+rising-below a [] e i h = absurd (omega arith)
+rising-below a (b ∷ l) e zero h = ltb-true a b (and-left (ltb a b) (rising (b ∷ l)) e)
+rising-below a (b ∷ l) e (suc i) h =
+    let p = ltb-true a b (and-left (ltb a b) (rising (b ∷ l)) e) in
+    let q = rising-below b l (and-right (ltb a b) (rising (b ∷ l)) e) i (omega arith) in
+    omega arith
+
+rising-tail : (a : ℕ) (l : List ℕ) → rising (a ∷ l) ≡ true → rising l ≡ true
+unfolding rising
+rising-tail a [] e = refl
+rising-tail a (b ∷ l) e = and-right (ltb a b) (rising (b ∷ l)) e
+
+pub rising-apart : (l : List ℕ) → rising l ≡ true → (i j : ℕ) → i < j → j < length l → getD l i 0 < getD l j 0
+rising-apart [] e i j h k = absurd (omega arith)
+rising-apart (a ∷ l) e zero zero h k = absurd (omega arith)
+rising-apart (a ∷ l) e zero (suc j) h k = rising-below a l e j (omega arith)
+rising-apart (a ∷ l) e (suc i) zero h k = absurd (omega arith)
+rising-apart (a ∷ l) e (suc i) (suc j) h k = rising-apart l (rising-tail a l e) i j (omega arith) (omega arith)
+
+-- the field numbers of a file, in preorder
+pub fields-rise : (file i j : ℕ) → i < j → j < length (fieldsOf (fileShape table23 file)) →
+    getD (fieldsOf (fileShape table23 file)) i 0 < getD (fieldsOf (fileShape table23 file)) j 0
+fields-rise file i j h k = rising-apart (fieldsOf (fileShape table23 file)) (rising-file file) i j h k
+
+-- the bytes of all names, and of all words
+pub names-length : length (flatten (namesOf table23)) ≡ 840
+unfolding laidOut written23
+names-length = refl
+
+pub words-length : length (flatten (wordsOf table23)) ≡ 217
+unfolding laidOut written23
+words-length = refl

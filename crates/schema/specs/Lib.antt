@@ -1,0 +1,7 @@
+pub mod Shape
+pub mod Words
+pub mod Table23
+pub mod Pick
+pub mod Later
+pub mod Sound
+pub mod Line

@@ -1,0 +1,112 @@
+-- The picked document: of a tree, what a table lists, in the table's order. Everything that is judged, quoted or answered is a function
+-- of it, so order of members, unlisted members, blanks and spellings cannot matter.
+use mathlib.Core.List.{List, [], _∷_}
+use Prim.Native.Nat.{ℕ}
+use lib.Dec.{eqb}
+use Rattle.notation.specs.Choice.{_⇒_else_}
+use Rattle.text.specs.Text.{same}
+use Rattle.json.specs.Tree as tree
+use Rattle.json.specs.Tree.{Json, Items, Members}
+use Rattle.schema.specs.Shape as shape
+use Rattle.schema.specs.Shape.{Shape, Rows}
+
+-- how often a name stands in an object
+pub data Slot (A : Type 0) : Type 0 where
+  missing : Slot A
+  once : A → Slot A
+  twice : Slot A
+
+-- one occurrence more, in front
+abbrev pub again : {A : Type 0} → A → Slot A → Slot A
+again x missing = once x
+again x (once y) = twice
+again x twice = twice
+
+unfoldable pub find : List ℕ → Members → Slot Json
+find name tree.noMember = missing
+find name (tree.member n x ms) = same name n ⇒ again x (find name ms) else find name ms
+
+mutual
+  pub data Picked : Type 0 where
+    -- a value in which the table lists nothing; an array or object is left with nothing in it
+    bare : Json → Picked
+    items : PickedItems → Picked
+    slots : Slots → Picked
+
+  pub data PickedItems : Type 0 where
+    noItem : PickedItems
+    item : Picked → PickedItems → PickedItems
+
+  -- a slot for each row, with the row's field
+  pub data Slots : Type 0 where
+    noSlot : Slots
+    absent : (field : ℕ) → Slots → Slots
+    repeated : (field : ℕ) → Slots → Slots
+    present : (field : ℕ) → Picked → Slots → Slots
+
+-- a value with nothing in it
+abbrev pub outline : Json → Json
+outline tree.null = tree.null
+outline (tree.boolean b) = tree.boolean b
+outline (tree.number s) = tree.number s
+outline (tree.string s) = tree.string s
+outline (tree.array is) = tree.array tree.noItem
+outline (tree.object ms) = tree.object tree.noMember
+
+abbrev pub inArray : (Items → PickedItems) → Json → Picked
+inArray f tree.null = bare tree.null
+inArray f (tree.boolean b) = bare (tree.boolean b)
+inArray f (tree.number s) = bare (tree.number s)
+inArray f (tree.string s) = bare (tree.string s)
+inArray f (tree.array is) = items (f is)
+inArray f (tree.object ms) = bare (tree.object tree.noMember)
+
+abbrev pub inObject : (Members → Slots) → Json → Picked
+inObject f tree.null = bare tree.null
+inObject f (tree.boolean b) = bare (tree.boolean b)
+inObject f (tree.number s) = bare (tree.number s)
+inObject f (tree.string s) = bare (tree.string s)
+inObject f (tree.array is) = bare (tree.array tree.noItem)
+inObject f (tree.object ms) = slots (f ms)
+
+unfoldable pub each : (Json → Picked) → Items → PickedItems
+each f tree.noItem = noItem
+each f (tree.item x is) = item (f x) (each f is)
+
+-- a member that holds "" counts as missing; not so one of two, which are twice there
+abbrev pub unlessEmpty : Json → Slot Json
+unlessEmpty tree.null = once tree.null
+unlessEmpty (tree.boolean b) = once (tree.boolean b)
+unlessEmpty (tree.number s) = once (tree.number s)
+unlessEmpty (tree.string []) = missing
+unlessEmpty (tree.string (b ∷ s)) = once (tree.string (b ∷ s))
+unlessEmpty (tree.array is) = once (tree.array is)
+unlessEmpty (tree.object ms) = once (tree.object ms)
+
+abbrev pub given : Slot Json → Slot Json
+given missing = missing
+given (once x) = unlessEmpty x
+given twice = twice
+
+abbrev pub put : ℕ → (Json → Picked) → Slot Json → Slots → Slots
+put field f missing rest = absent field rest
+put field f (once x) rest = present field (f x) rest
+put field f twice rest = repeated field rest
+
+unfoldable mutual
+  pub pick : Shape → Json → Picked
+  pick shape.unlisted x = bare (outline x)
+  pick (shape.scalar sort) x = bare (outline x)
+  pick (shape.array numbering most σ) x = inArray (λ is. each (λ y. pick σ y) is) x
+  pick (shape.object rows) x = inObject (λ ms. pickRows rows ms) x
+
+  pub pickRows : Rows → Members → Slots
+  pickRows shape.noRow ms = noSlot
+  pickRows (shape.row field need name σ rows) ms = put field (λ y. pick σ y) (given (find name ms)) (pickRows rows ms)
+
+-- the slot of a field
+unfoldable pub at : ℕ → Slots → Slot Picked
+at field noSlot = missing
+at field (absent f rest) = eqb field f ⇒ missing else at field rest
+at field (repeated f rest) = eqb field f ⇒ twice else at field rest
+at field (present f x rest) = eqb field f ⇒ once x else at field rest

@@ -1,0 +1,125 @@
+-- The text with nothing in it is the two quotation marks, and nothing else is: a character of a text takes a byte of its spelling at least, and
+-- stands for a byte at least.
+use mathlib.Core.Bool.{Bool, true, false}
+use mathlib.Core.List.{List, [], _∷_, _++_}
+use mathlib.Core.Path.{_≡_, refl, sym, ap, _∙_}
+use Prim.Native.Nat.{ℕ, zero, suc, _-_, _<_}
+use native.Mathlib.Omega.{arith}
+use lib.Dec.{eqb}
+use lib.ListN.{length, getD, length-append, length-take}
+use Rattle.notation.specs.Choice.{_⇒_else_}
+use Rattle.limits.specs.Ceilings.{depth}
+use Rattle.lexeme.specs.declared.Char.{Char}
+use Rattle.lexeme.specs.declared.Next.{Next}
+use Rattle.lexeme.specs.declared.Next.the-variants.{Quote, Character, Fault}
+use Rattle.lexeme.specs.Read.{made}
+use Rattle.lexeme.specs.Read.Read.{done}
+use Rattle.lexeme.specs.Character.{paired, bytesOf, next}
+use Rattle.lexeme.specs.Strings.{string, decoded}
+use Rattle.lexeme.specs.Numbers.{digit}
+use Rattle.lexeme.specs.Tokens.{Start, start}
+use Rattle.lexeme.proofs.Steps.{by-test, bad-done, done-rest, made-done, no-cons, string-quote, string-fault, string-character, string-empty}
+use Rattle.text.proofs.Whole.{next-whole}
+use Rattle.json.specs.Tree as tree
+use Rattle.json.specs.Tree.{Json}
+use Rattle.json.specs.Text.{value, valueBy, valueAt}
+use Rattle.walk.specs.declared.ValueKind.the-variants as kind
+use Rattle.walk.specs.Part.{Whole, kindOf, kindFrom, kindAt}
+use Rattle.walk.proofs.Wholes.{whole-kind, whole-string, whole-some}
+use Rattle.slots.specs.Blank.{blankText}
+
+-- the first byte of a text
+string-start : (t : Start) → kindFrom t ≡ kind.String → t ≡ Start.string
+string-start Start.string e = refl
+string-start Start.number e = absurd (let z : _≡_ {A = ℕ} 0 1 = cc in omega arith)
+string-start Start.array e = absurd (let z : _≡_ {A = ℕ} 0 1 = cc in omega arith)
+string-start Start.object e = absurd (let z : _≡_ {A = ℕ} 0 1 = cc in omega arith)
+string-start Start.letterT e = absurd (let z : _≡_ {A = ℕ} 0 1 = cc in omega arith)
+string-start Start.letterF e = absurd (let z : _≡_ {A = ℕ} 0 1 = cc in omega arith)
+string-start Start.letterN e = absurd (let z : _≡_ {A = ℕ} 0 1 = cc in omega arith)
+string-start Start.other e = absurd (let z : _≡_ {A = ℕ} 0 1 = cc in omega arith)
+
+no-string : (a b c d e f g : Bool)
+    → (a ⇒ Start.array else b ⇒ Start.object else c ⇒ Start.number else d ⇒ Start.number else e ⇒ Start.letterT else f ⇒ Start.letterF else
+    g ⇒ Start.letterN else Start.other) ≡ Start.string → ⊥
+no-string true b c d e f g h = let z : _≡_ {A = ℕ} 0 1 = cc in omega arith
+no-string false true c d e f g h = let z : _≡_ {A = ℕ} 0 1 = cc in omega arith
+no-string false false true d e f g h = let z : _≡_ {A = ℕ} 0 1 = cc in omega arith
+no-string false false false true e f g h = let z : _≡_ {A = ℕ} 0 1 = cc in omega arith
+no-string false false false false true f g h = let z : _≡_ {A = ℕ} 0 1 = cc in omega arith
+no-string false false false false false true g h = let z : _≡_ {A = ℕ} 0 1 = cc in omega arith
+no-string false false false false false false true h = let z : _≡_ {A = ℕ} 0 1 = cc in omega arith
+no-string false false false false false false false h = let z : _≡_ {A = ℕ} 0 1 = cc in omega arith
+
+quote-start : (b : ℕ) → start b ≡ Start.string → eqb b 0x22 ≡ true
+unfolding start
+quote-start b e = by-test (eqb b 0x22) (λ t. t) (λ t.
+    absurd (no-string (eqb b 0x5b) (eqb b 0x7b) (eqb b 0x2d) (digit b) (eqb b 0x74) (eqb b 0x66) (eqb b 0x6e) (rw (start, t) at e)))
+
+start-quote : (b : ℕ) → eqb b 0x22 ≡ true → start b ≡ Start.string
+unfolding start
+start-quote b e = rw (start, e)
+
+-- a text, read
+read-text : (d b : ℕ) (l : List ℕ) → start b ≡ Start.string → value paired d (b ∷ l) ≡ made Json.string (string paired 0 l)
+unfolding value valueBy valueAt
+read-text zero b l e = rw (valueAt, e)
+read-text (suc d) b l e = rw (valueAt, e)
+
+bytes-some : (x : Char) (y : List ℕ) → 0 < x .len → bytesOf x ++ y ≡ [] → ⊥
+bytes-some x y h e = omega (arith, ap length e, length-append (bytesOf x) y, length-take (x .len) (x .b0 ∷ x .b1 ∷ x .b2 ∷ x .b3 ∷ []))
+
+-- it has nothing in it only at its closing mark
+nothing-read : (l : List ℕ) → string paired 0 l ≡ done [] [] → length l ≡ 1
+nothing-read [] e = bad-done (sym (string-empty paired 0) ∙ e)
+nothing-read (b ∷ r) e = go (next paired (b ∷ r)) refl
+  where
+    go : (o : Next) → next paired (b ∷ r) ≡ o → length (b ∷ r) ≡ 1
+    go Quote h = ap (λ (z : List ℕ). length (b ∷ z)) (done-rest (sym (string-quote paired b r h) ∙ e))
+    go (Fault k n) h = bad-done (sym (string-fault paired b r h) ∙ e)
+    go (Character x) h =
+        let m = made-done (λ y. bytesOf x ++ y) (string paired (x .more) r) [] [] (sym (string-character paired b r h) ∙ e) in
+        absurd (bytes-some x (m .0) (next-whole (b ∷ r) x h) (m .2))
+
+module _ {p : List ℕ} where
+  text-start : {y : List ℕ} → Whole p (Json.string y) → start (getD p 0 0) ≡ Start.string
+  unfolding kindAt
+  text-start w = string-start (start (getD p 0 0)) (whole-kind w)
+
+  blank-two : Whole p (Json.string []) → length p ≡ 2
+  blank-two w = go p refl
+    where
+      go : (q : List ℕ) → p ≡ q → length p ≡ 2
+      go [] e = absurd (omega (arith, whole-some w, ap length e))
+      go (b ∷ l) e =
+          let s : start b ≡ Start.string = ap (λ (z : List ℕ). start (getD z 0 0)) (sym e) ∙ text-start w in
+          let m = made-done Json.string (string paired 0 l) (Json.string []) [] (sym (read-text depth b l s) ∙ ap (value paired depth) (sym e) ∙ w .reads) in
+          let y : m .0 ≡ [] = cc (m .2) in
+          omega (arith, ap length e, nothing-read l (m .1 ∙ ap (λ (z : List ℕ). done z []) y))
+
+  two-blank : {y : List ℕ} → length p ≡ 2 → Whole p (Json.string y) → y ≡ []
+  unfolding decoded
+  two-blank h w = let n : length p - 2 ≡ 0 = omega arith in whole-string w ∙ rw n
+
+  -- only a text begins with the mark
+  unquoted : {x : Json} → (kindOf x ≡ kind.String → ⊥) → Whole p x → eqb (getD p 0 0) 0x22 ≡ false
+  unfolding kindAt
+  unquoted n w = by-test (eqb (getD p 0 0) 0x22) (λ t. absurd (n (sym (whole-kind w) ∙ ap kindFrom (start-quote (getD p 0 0) t)))) (λ t. t)
+
+  pub long-blank : (x : Json) → Whole p x → (length p ≡ 2 → ⊥) → false ≡ blankText x
+  long-blank tree.null w n = refl
+  long-blank (tree.boolean b) w n = refl
+  long-blank (tree.number s) w n = refl
+  long-blank (tree.string []) w n = absurd (n (blank-two w))
+  long-blank (tree.string (b ∷ s)) w n = refl
+  long-blank (tree.array is) w n = refl
+  long-blank (tree.object ms) w n = refl
+
+  pub short-blank : (x : Json) → Whole p x → length p ≡ 2 → eqb (getD p 0 0) 0x22 ≡ blankText x
+  short-blank tree.null w h = unquoted (λ k. let z : _≡_ {A = ℕ} 0 1 = cc in omega arith) w
+  short-blank (tree.boolean b) w h = unquoted (λ k. let z : _≡_ {A = ℕ} 0 1 = cc in omega arith) w
+  short-blank (tree.number s) w h = unquoted (λ k. let z : _≡_ {A = ℕ} 0 1 = cc in omega arith) w
+  short-blank (tree.string []) w h = quote-start (getD p 0 0) (text-start w)
+  short-blank (tree.string (b ∷ s)) w h = no-cons (sym (two-blank h w))
+  short-blank (tree.array is) w h = unquoted (λ k. let z : _≡_ {A = ℕ} 0 1 = cc in omega arith) w
+  short-blank (tree.object ms) w h = unquoted (λ k. let z : _≡_ {A = ℕ} 0 1 = cc in omega arith) w

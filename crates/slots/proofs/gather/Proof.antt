@@ -1,0 +1,50 @@
+-- `gather` walks over the members. The loop's invariant: the pass over those that are left comes to what the pass over all comes to.
+use borrow.Author.Needs.{needs}
+use mathlib.Core.Path.{sym, _∙_}
+use Prim.Native.Nat.{_-_}
+use native.Mathlib.Omega.{arith}
+use lib.ListN.{length}
+use Rattle.walk.proofs.Places.{Placed, member-placed}
+use Rattle.walk.proofs.Folds.{Walk, memberSteps, members-start, walk-more, walk-end}
+use Rattle.slots.specs.Rows.{lineNames}
+use Rattle.slots.specs.Slots.{empty, absorbed, gathered}
+use Rattle.slots.proofs.Filled.{gathers}
+use Rattle.slots.proofs.gather.Statement.{statement}
+use Rattle.slots.proofs.gather.Tie as tie
+
+abbrev Inv-loop : tie.InvT-loop
+Inv-loop p first count s₀ at₀ s at =
+    Walk (memberSteps p) (absorbed p (lineNames first count)) s at (gathered p (lineNames first count))
+
+abbrev μ-loop : tie.MeasureT-loop
+μ-loop p first count s₀ at₀ s at = length p - at
+
+loop-holds : tie.Need-loop-holds Inv-loop μ-loop
+unfolding gathered
+loop-holds c = let a = c .before .args in members-start (a .p .now) (absorbed (a .p .now) (lineNames (a .first) (a .count))) empty
+
+returns : tie.Need-returns Inv-loop μ-loop
+returns c =
+    let n = c .before .before in let k = n .before in let a = k .before .before .args in
+    gathers (a .p .now) (a .first) (a .count) (k .loop .s) (walk-end (memberSteps (a .p .now)) (absorbed (a .p .now) (lineNames (a .first) (a .count)))
+    (k .loop .s) (k .loop .at) (gathered (a .p .now) (lineNames (a .first) (a .count))) (sym (n .next-member .ensures) ∙ c .enum-told .given .1) (k .loop .inv))
+
+-- where a member was found
+abbrev Met : Type 0
+Met = tie.After-known-told Inv-loop μ-loop
+
+placed : (c : Met) → Placed (c .before .before .before .before .before .before .args .p .now) (c .before .before .before .before .loop .at) (c .before .m .given .0 .0)
+placed c = let n = c .before .before .before in member-placed _ _ _ (sym (n .next-member .ensures) ∙ c .before .m .given .1)
+
+loop-again : tie.Need-loop-again Inv-loop μ-loop
+loop-again c =
+    let r = c .before in let d = r .before .before .before in let n = d .before .before in let k = n .before in let a = k .before .before .args in
+    let p = a .p .now in let g = absorbed p (lineNames (a .first) (a .count)) in let m = d .m .given .0 .0 in
+    rw (c .with .ensures, r .row-of .ensures)
+    (walk-more (memberSteps p) g (k .loop .s) (k .loop .at) _ m (sym (n .next-member .ensures) ∙ d .m .given .1) (k .loop .inv))
+
+pub gather-spec : {M : Type 1} → statement M
+gather-spec =
+    tie.close
+    (tie.spec Inv-loop μ-loop loop-holds (λ c κs. search needs) (λ c. search needs) returns (λ c. search needs) (λ c. let m = placed c in omega arith)
+    (λ c. let m = placed c in omega arith) (λ c. let m = placed c in omega arith) (λ c κs. search needs) (λ c κs. search needs) (λ c. let m = placed (c .before .before .before) in omega arith) loop-again)

@@ -1,0 +1,151 @@
+// The members of an object that its rows list: one pass over its bytes fills a slot for each row.
+ghost use mathlib.Core.Path.{_≡_};
+ghost use Prim.Native.Nat.{_+_, min};
+ghost use Rattle.json.specs.Tree.{Json};
+ghost use Rattle.text.specs.Text.{textOf};
+ghost use Rattle.walk.specs.Part.{Whole};
+ghost use Rattle.slots.specs.Rows.{lineCount, lineNames, rowNamed};
+ghost use Rattle.slots.specs.Slots.{slotAt, putIn, Gathered};
+ghost use Rattle.slots.specs.Blank.{blankText};
+use schema::Line;
+use schema::lines::line_at;
+use schema::names::name_is;
+use walk::MemberStep;
+use walk::next_member;
+
+// What an object holds under a name: nothing, a value from one place up to another, or more than one.
+pub enum Found {
+    Missing,
+    Once(usize, usize),
+    Twice,
+}
+
+// A slot for each row of an object, in the rows' order: how often the row's name was met, and where the first value stands.
+pub struct Slots {
+    state: [u8; Slots::ROWS],
+    from: [usize; Slots::ROWS],
+    upto: [usize; Slots::ROWS],
+}
+
+impl Slots {
+    // How many rows have a slot.
+    pub const ROWS: usize = 16;
+
+    const MISSING: u8 = 0;
+
+    const ONCE: u8 = 1;
+
+    const TWICE: u8 = 2;
+
+    // What the object holds under the name of a row.
+    pub fn slot(self, row: usize) -> Found
+        ensures { λ r. ⌜ r ≡ slotAt self row ⌝ }
+    {
+        if Slots::ROWS <= row {
+            return Found::Missing;
+        }
+        if self.state[row] == Slots::MISSING {
+            return Found::Missing;
+        }
+        if self.state[row] == Slots::ONCE {
+            return Found::Once(self.from[row], self.upto[row]);
+        }
+        return Found::Twice;
+    }
+
+    // The slots with one value more for a row.
+    // Shut out: a second value of one name that goes unseen.
+    fn with(self, row: usize, from: usize, upto: usize) -> Slots
+        ensures { λ r. ⌜ r ≡ putIn self row from upto ⌝ }
+    {
+        if Slots::ROWS <= row {
+            return self;
+        }
+        let mut t = self;
+        if t.state[row] == Slots::MISSING {
+            t.state[row] = Slots::ONCE;
+            t.from[row] = from;
+            t.upto[row] = upto;
+        } else {
+            t.state[row] = Slots::TWICE;
+        }
+        t
+    }
+}
+
+// Where `count` lines from `first` on end: with the table's last line at the latest.
+fn lines_end(first: usize, count: usize) -> usize
+    ensures { λ r. ⌜ r ≡ min lineCount (first + count) ⌝ }
+{
+    if Line::COUNT < first {
+        return Line::COUNT;
+    }
+    if Line::COUNT - first < count {
+        return Line::COUNT;
+    }
+    first + count
+}
+
+// The number of the row that has the name that is spelled, among the rows at these lines; `Slots::ROWS` where none has it.
+fn row_of(spelled: &[u8], first: usize, count: usize) -> usize
+    ensures { λ r. ⌜ r ≡ rowNamed (textOf (now (spelled .entry))) (lineNames first count) 0 ⌝ }
+{
+    let end = lines_end(first, count);
+    let mut i = first;
+    let mut row: usize = 0;
+    while row < Slots::ROWS {
+        if end <= i {
+            return Slots::ROWS;
+        }
+        if name_is(i, spelled) {
+            return row;
+        }
+        let line = line_at(i);
+        i = i + 1 + wide(line.inside);
+        row += 1;
+    }
+    Slots::ROWS
+}
+
+fn wide(x: u8) -> usize
+    ensures { λ r. ⌜ r ≡ x ⌝ }
+{
+    x as usize
+}
+
+// The slots of the object `p`, for the rows at these lines of the table.
+pub fn gather(p: &[u8], first: usize, count: usize) -> Slots
+    ensures { λ r. ⌜ Gathered (now (p .entry)) first count r ⌝ }
+{
+    let mut s = Slots {
+        state: [Slots::MISSING; Slots::ROWS],
+        from: [0; Slots::ROWS],
+        upto: [0; Slots::ROWS],
+    };
+    let mut at: usize = 1;
+    loop {
+        match next_member(p, at) {
+            MemberStep::End => {
+                return s;
+            }
+            MemberStep::Found(m) => {
+                let name = m.name;
+                let name_end = m.name_end;
+                let row = row_of(&p[name..name_end], first, count);
+                s = s.with(row, m.value, m.value_end);
+                at = m.next;
+            }
+        }
+    }
+}
+
+// The value `p` is the text with nothing in it: two quotation marks.
+// Shut out: a member that holds "" taken as there.
+pub fn is_blank_text(p: &[u8]) -> bool
+    ensures { λ r. ⌜ ((x : Json) → Whole (now (p .entry)) x → r ≡ blankText x) ⌝ }
+{
+    if p.len() != 2 {
+        return false;
+    }
+    p[0] == b'"'
+}
