@@ -64,15 +64,15 @@ sum-rotated f n s h =
     omega (arith, sum-split f s n, sum-split f n s, ap (sumTo f) e, sum-same (λ k. f (n + k)) f s (λ k l. h k))
 
 -- an integer's part above zero, and its part below
-abbrev up : ℤ → ℕ
+abbrev pub up : ℤ → ℕ
 up (pos k) = k
 up (negsuc k) = 0
 
-abbrev down : ℤ → ℕ
+abbrev pub down : ℤ → ℕ
 down (pos k) = 0
 down (negsuc k) = suc k
 
-parts : (z : ℤ) → Gap z (up z) (down z)
+pub parts : (z : ℤ) → Gap z (up z) (down z)
 parts (pos k) = record { apart = omega arith }
 parts (negsuc k) = record { apart = omega arith }
 

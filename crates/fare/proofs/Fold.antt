@@ -1,0 +1,88 @@
+-- Loops over the segments of a list: what was folded so far and what is left make the whole. For the charges (`Makes`) and for the mark
+-- (`Tells`) there are three lemmas: where a loop starts, its step, and what is known at its end.
+use mathlib.Core.Bool.{Bool, true, false}
+use mathlib.Core.List.{List, [], _∷_}
+use mathlib.Core.Path.{_≡_, refl, sym, ap, ap₂, _∙_}
+use Prim.Native.Nat.{ℕ, max}
+use native.Mathlib.Omega.{arith}
+use lib.Dec.{leb}
+use lib.IntN.{ℤ, _+ℤ_, +ℤ-assoc, +ℤ-idr}
+use Rattle.notation.specs.Choice.{_and_}
+use Rattle.decimal.specs.declared.Amount.{Amount}
+use Rattle.decimal.specs.Exact.{tenThousandths}
+use Rattle.fare.specs.declared.Minutes.{Minutes}
+use Rattle.fare.specs.declared.Kilometres.{Kilometres}
+use Rattle.fare.specs.declared.Segment.{Segment}
+use Rattle.fare.specs.declared.Sum.{Sum}
+use Rattle.fare.specs.declared.Marks.{Marks}
+use Rattle.fare.specs.Charges.{charge, charges, amount, allEnded, greatestEnd, past}
+use Rattle.fare.specs.Folds.{worth, ofPrice, withCharge, withCharges, unmarked, withEnd, withEnds, marked}
+use Rattle.fare.proofs.Worth.{worth-price, worth-charge}
+
+-- the sum and the charges of what is left make z
+abbrev pub Makes : ℤ → ℕ → Sum → List Segment → Type 0
+Makes z ride sum l = worth sum +ℤ charges l ride ≡ z
+
+pub makes-start : (sum : Sum) (l : List Segment) (ride : ℕ) → Makes (worth sum +ℤ charges l ride) ride sum l
+makes-start sum l ride = refl
+
+pub makes-next : (z : ℤ) (ride : ℕ) (sum : Sum) (s : Segment) (l : List Segment) → Makes z ride sum (s ∷ l) → Makes z ride (withCharge sum s ride) l
+unfolding charges
+makes-next z ride sum s l h = rw (worth-charge sum s ride) (+ℤ-assoc (worth sum) (charge s ride) (charges l ride) ∙ h)
+
+pub makes-end : (z : ℤ) (ride : ℕ) (sum : Sum) → Makes z ride sum [] → worth sum ≡ z
+unfolding charges
+makes-end z ride sum h = sym (+ℤ-idr (worth sum)) ∙ h
+
+-- all charges of a list, and of a plan
+makes-all : (z : ℤ) (ride : ℕ) (l : List Segment) (sum : Sum) → Makes z ride sum l → worth (withCharges sum l ride) ≡ z
+makes-all z ride [] sum h = makes-end z ride sum h
+makes-all z ride (s ∷ l) sum h = makes-all z ride l (withCharge sum s ride) (makes-next z ride sum s l h)
+
+pub charges-summed : (sum : Sum) (l : List Segment) (ride : ℕ) → worth (withCharges sum l ride) ≡ worth sum +ℤ charges l ride
+charges-summed sum l ride = makes-all _ ride l sum (makes-start sum l ride)
+
+pub amount-summed : (price : Amount) (perMinute perKilometre : List Segment) (minutes : Minutes) (kilometres : Kilometres)
+    → worth (withCharges (withCharges (ofPrice price) perMinute (minutes .count)) perKilometre (kilometres .count))
+    ≡ amount (tenThousandths price) perMinute perKilometre minutes kilometres
+unfolding amount
+amount-summed price perMinute perKilometre minutes kilometres =
+    charges-summed _ perKilometre (kilometres .count)
+    ∙ ap (λ (z : ℤ). z +ℤ charges perKilometre (kilometres .count))
+    (charges-summed (ofPrice price) perMinute (minutes .count) ∙ ap (λ (z : ℤ). z +ℤ charges perMinute (minutes .count)) (worth-price price))
+
+-- the mark is b when what is left was seen too
+abbrev pub Tells : Bool → ℕ → Marks → List Segment → Type 0
+Tells b ride m l = marked (withEnds m l) ride ≡ b
+
+and-assoc : (a b c : Bool) → ((a and b) and c) ≡ (a and (b and c))
+and-assoc true b c = refl
+and-assoc false b c = refl
+
+and-true : (a : Bool) → (a and true) ≡ a
+and-true true = refl
+and-true false = refl
+
+marked-from : (ride : ℕ) (l : List Segment) (m : Marks) → m .some ≡ true
+    → marked (withEnds m l) ride ≡ ((m .ended and allEnded l) and leb (max (m .end) (greatestEnd l)) ride)
+unfolding marked allEnded greatestEnd
+marked-from ride [] m e =
+    let z : max (m .end) 0 ≡ m .end = omega arith in rw (e, and-true (m .ended), z)
+marked-from ride (s ∷ l) m e =
+    let z : max (max (m .end) (s .end)) (greatestEnd l) ≡ max (m .end) (max (s .end) (greatestEnd l)) = omega arith in
+    marked-from ride l (withEnd m s) refl
+    ∙ ap₂ (λ (a : Bool) (n : ℕ). a and leb n ride) (and-assoc (m .ended) (s .ended) (allEnded l)) z
+
+pub tells-start : (l : List Segment) (ride : ℕ) → Tells (past l ride) ride unmarked l
+unfolding marked past allEnded greatestEnd
+tells-start [] ride = refl
+tells-start (s ∷ l) ride =
+    let z : max (max 0 (s .end)) (greatestEnd l) ≡ max (s .end) (greatestEnd l) = omega arith in
+    marked-from ride l (withEnd unmarked s) refl
+    ∙ ap (λ (n : ℕ). (s .ended and allEnded l) and leb n ride) z
+
+pub tells-next : (b : Bool) (ride : ℕ) (m : Marks) (s : Segment) (l : List Segment) → Tells b ride m (s ∷ l) → Tells b ride (withEnd m s) l
+tells-next b ride m s l h = h
+
+pub tells-end : (b : Bool) (ride : ℕ) (m : Marks) → Tells b ride m [] → marked m ride ≡ b
+tells-end b ride m h = h

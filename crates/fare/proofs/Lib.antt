@@ -1,0 +1,6 @@
+pub mod Moments
+pub mod Worth
+pub mod Fold
+pub mod Bound
+pub mod Ends
+pub mod Past

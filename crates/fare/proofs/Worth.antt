@@ -1,0 +1,88 @@
+-- What the two sums come to: an amount goes in with its sign, and a charge is the segment's. The total is exact on either side of zero.
+use mathlib.Core.Bool.{Bool, true, false}
+use mathlib.Core.Path.{_≡_, refl, ap, _∙_}
+use Prim.Native.Nat.{ℕ, _+_, _-_, _*_, _^_, _≤_, _<_}
+use native.Mathlib.Omega.{arith}
+use lib.IntN.{ℤ, pos, negsuc, _+ℤ_, _-ℤ_, _*ℤ_}
+use lib.ListN.{length}
+use borrow.Author.Tests.{lt-ltb, le-ltb}
+use Rattle.signed.specs.Signed.{signed, difference}
+use Rattle.signed.proofs.Gap.{gap, gap-pos, gap-neg, gap-negsuc, gap-add, gap-minus, gap-mul, gap-same, difference-up}
+use Rattle.decimal.specs.declared.Amount.{Amount}
+use Rattle.decimal.specs.Exact.{tenThousandths}
+use Rattle.fare.specs.declared.Segment.{Segment}
+use Rattle.fare.specs.declared.Sum.{Sum}
+use Rattle.fare.specs.declared.Total.the-variants.{Is, Outside}
+use Rattle.fare.specs.Charges.{moments, charge, total}
+use Rattle.fare.specs.Folds.{worth, withAmount, ofPrice, withCharge}
+
+abbrev sums : ℕ → ℕ → Sum
+sums added taken = record { added = added; taken = taken }
+
+-- the ways through an amount
+pub amount-taken : (sum : Sum) (negative : Bool) (size : ℕ) → negative ≡ true → sums (sum .added) (sum .taken + size) ≡ withAmount sum negative size
+unfolding withAmount
+amount-taken sum negative size e = rw e
+
+pub amount-added : (sum : Sum) (negative : Bool) (size : ℕ) → negative ≡ false → sums (sum .added + size) (sum .taken) ≡ withAmount sum negative size
+unfolding withAmount
+amount-added sum negative size e = rw e
+
+worth-amount : (sum : Sum) (negative : Bool) (size : ℕ) → worth (withAmount sum negative size) ≡ worth sum +ℤ signed negative size
+unfolding withAmount
+worth-amount sum true size =
+    gap-same (gap (sum .added) (sum .taken + size)) (gap-add (gap (sum .added) (sum .taken)) (gap-neg size)) (omega arith)
+worth-amount sum false size =
+    gap-same (gap (sum .added + size) (sum .taken)) (gap-add (gap (sum .added) (sum .taken)) (gap-pos size)) (omega arith)
+
+pub worth-price : (price : Amount) → worth (ofPrice price) ≡ tenThousandths price
+unfolding ofPrice tenThousandths
+worth-price price = worth-amount (sums 0 0) (price .negative) (price .size) ∙ go (price .negative) (price .size)
+  where
+    go : (negative : Bool) (size : ℕ) → worth (sums 0 0) +ℤ signed negative size ≡ signed negative size
+    go true size = gap-same (gap-add (gap 0 0) (gap-neg size)) (gap-neg size) (omega arith)
+    go false size = gap-same (gap-add (gap 0 0) (gap-pos size)) (gap-pos size) (omega arith)
+
+pub price-is : (price : Amount) → withAmount (sums 0 0) (price .negative) (price .size) ≡ ofPrice price
+unfolding ofPrice
+price-is price = refl
+
+pub charge-is : (sum : Sum) (s : Segment) (ride n : ℕ) → n ≡ length (moments s ride)
+    → withAmount sum (s .rate .negative) (s .rate .size * n) ≡ withCharge sum s ride
+unfolding withCharge
+charge-is sum s ride n e = rw e
+
+-- a size and its sign, so many times
+signed-times : (negative : Bool) (size n : ℕ) → signed negative (size * n) ≡ signed negative size *ℤ pos n
+signed-times true size n = gap-same (gap-neg (size * n)) (gap-mul (gap-neg size) (gap-pos n)) (omega arith)
+signed-times false size n = gap-same (gap-pos (size * n)) (gap-mul (gap-pos size) (gap-pos n)) (omega arith)
+
+pub worth-charge : (sum : Sum) (s : Segment) (ride : ℕ) → worth (withCharge sum s ride) ≡ worth sum +ℤ charge s ride
+unfolding withCharge charge tenThousandths
+worth-charge sum s ride =
+    worth-amount sum (s .rate .negative) (s .rate .size * length (moments s ride))
+    ∙ ap (λ (z : ℤ). worth sum +ℤ z) (signed-times (s .rate .negative) (s .rate .size) (length (moments s ride)))
+
+-- the ways through the total
+module _ (a b : ℕ) where
+  difference-below : a < b → difference a b ≡ negsuc (b - a - 1)
+  difference-below h = gap-same (gap a b) (gap-negsuc (b - a - 1)) (omega arith)
+
+  pub total-above : b ≤ a → a - b < 2 ^ 63 → Is (pos (a - b)) ≡ total (difference a b)
+  unfolding total
+  total-above h l = rw (difference-up a b h, lt-ltb (a - b) (2 ^ 63) l)
+
+  pub total-over : b ≤ a → 2 ^ 63 ≤ a - b → Outside ≡ total (difference a b)
+  unfolding total
+  total-over h l = rw (difference-up a b h, le-ltb (a - b) (2 ^ 63) l)
+
+  pub total-below : a < b → b - a - 1 < 2 ^ 63 → Is (negsuc (b - a - 1)) ≡ total (difference a b)
+  unfolding total
+  total-below h l = rw (difference-below h, lt-ltb (b - a - 1) (2 ^ 63) l)
+
+  pub total-under : a < b → 2 ^ 63 ≤ b - a - 1 → Outside ≡ total (difference a b)
+  unfolding total
+  total-under h l = rw (difference-below h, le-ltb (b - a - 1) (2 ^ 63) l)
+
+pub one-below : (n : ℕ) → negsuc 0 -ℤ pos n ≡ negsuc n
+one-below n = gap-same (gap-minus (gap-negsuc 0) (gap-pos n)) (gap-negsuc n) (omega arith)

@@ -1,0 +1,46 @@
+-- The bounds within which nothing overflows: a sound plan's rates and a quote's longest ride keep them.
+use mathlib.Core.List.{List, List·Memᴰ}
+use Prim.Native.Nat.{ℕ, _+_, _*_, _^_, _≤_, _<_}
+use lib.ListN.{length}
+use Rattle.limits.specs.Ceilings.{segments}
+use Rattle.decimal.specs.declared.Amount.{Amount}
+use Rattle.fare.specs.declared.Minutes.{Minutes}
+use Rattle.fare.specs.declared.Kilometres.{Kilometres}
+use Rattle.fare.specs.declared.Segment.{Segment}
+use Rattle.fare.specs.declared.Sum.{Sum}
+
+-- money at its most, in ten-thousandths
+abbrev pub mostMoney : ℕ
+mostMoney = 10_000_000_000
+
+-- the longest ride: 2,678,400 seconds in minutes. In kilometres a ride is at most 1,000 long.
+abbrev pub mostRide : ℕ
+mostRide = 44_640
+
+-- the most that one segment charges: its rate at every moment from 0 to the ride's length
+abbrev pub mostCharge : ℕ
+mostCharge = mostMoney * (mostRide + 1)
+
+-- so many segments more and neither side of the sum leaves 63 bits
+pub record Room (more : ℕ) (sum : Sum) : Type 0 where
+  pub added : sum .added + more * mostCharge < 2 ^ 63
+  pub taken : sum .taken + more * mostCharge < 2 ^ 63
+
+-- a segment's charge can be added
+pub record Payable (sum : Sum) (s : Segment) (ride : ℕ) : Type 0 where
+  pub room : Room 1 sum
+  pub modest : s .rate .size ≤ mostMoney
+  pub short : ride ≤ mostRide
+
+abbrev pub Modest : List Segment → Type 0
+Modest l = (s : Segment) → List·Memᴰ s l → s .rate .size ≤ mostMoney
+
+-- a plan and a ride for which there is a quote
+pub record Quotable (price : Amount) (perMinute perKilometre : List Segment) (minutes : Minutes) (kilometres : Kilometres) : Type 0 where
+  pub cheap : price .size ≤ mostMoney
+  pub few-minutes : length perMinute ≤ segments
+  pub few-kilometres : length perKilometre ≤ segments
+  pub modest-minutes : Modest perMinute
+  pub modest-kilometres : Modest perKilometre
+  pub short-minutes : minutes .count ≤ mostRide
+  pub short-kilometres : kilometres .count ≤ mostRide

@@ -1,0 +1,4 @@
+pub mod Charges
+pub mod Folds
+pub mod Bounds
+pub mod Cases

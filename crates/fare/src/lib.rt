@@ -1,0 +1,43 @@
+// What a ride costs by a plan's price and segments.
+use decimal::Amount;
+
+pub mod charge;
+pub mod length;
+pub mod mark;
+
+// The length of a ride in whole minutes, and in whole kilometres: two types, so that neither can stand in the other's place.
+pub struct Minutes {
+    pub count: u64,
+}
+
+pub struct Kilometres {
+    pub count: u64,
+}
+
+// A segment of charges: the rate falls due at the start and at every interval after it, up to the end where there is one.
+pub struct Segment {
+    pub start: u64,
+    pub rate: Amount,
+    pub interval: u64,
+    pub ended: bool,
+    pub end: u64,
+}
+
+// A sum of charges: what is added and what is taken off, in ten-thousandths.
+pub struct Sum {
+    pub added: u64,
+    pub taken: u64,
+}
+
+// An amount in ten-thousandths, or a sum that has no place in 64 bits with a sign.
+pub enum Total {
+    Is(i64),
+    Outside,
+}
+
+// What the mark needs of the segments so far: whether there is one, whether all have an end, and the greatest end.
+pub struct Marks {
+    pub some: bool,
+    pub ended: bool,
+    pub end: u64,
+}

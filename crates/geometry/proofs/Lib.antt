@@ -1,0 +1,12 @@
+pub mod Tests
+pub mod Edges
+pub mod Closed
+pub mod Started
+pub mod Reversed
+pub mod Moved
+pub mod Ends
+pub mod Added
+pub mod Rest
+pub mod Ways
+pub mod Signs
+pub mod Rectangle

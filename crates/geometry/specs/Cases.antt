@@ -1,0 +1,91 @@
+-- Cases, computed: document 01's worked reading (j), and the places where a rule of crossings or of soundness is easy to get wrong.
+use mathlib.Core.Bool.{true, false}
+use mathlib.Core.List.{List, [], _∷_, map}
+use mathlib.Core.Path.{_≡_, refl}
+use Prim.Native.Nat.{ℕ, _*_}
+use lib.IntN.{pos, negsuc, negℤ}
+use Rattle.signed.specs.Signed.{difference}
+use Rattle.geometry.specs.Ring.{Point, samePoint, turn, areaSum, clockwise, endsAt, sound}
+use Rattle.geometry.specs.Shifted.{points}
+use Rattle.geometry.specs.Held.{side, onEdge, crosses, onRing, odd, holds}
+
+unfoldable pub holding : Unit {0}
+unfolding samePoint turn areaSum clockwise endsAt sound side onEdge crosses onRing odd holds
+holding = tt
+
+-- a point in whole degrees: lon, lat; and one with a lon below 0
+abbrev degrees : ℕ → ℕ → Point
+degrees x y = record { lon = pos (x * 1_000_000); lat = pos (y * 1_000_000) }
+
+abbrev west : ℕ → ℕ → Point
+west x y = record { lon = negℤ (pos (x * 1_000_000)); lat = pos (y * 1_000_000) }
+
+-- (j): the ring (0,0) (0,2) (2,2) (2,0) (0,0), and the same ring reversed
+abbrev square : List Point
+square = degrees 0 0 ∷ degrees 0 2 ∷ degrees 2 2 ∷ degrees 2 0 ∷ degrees 0 0 ∷ []
+
+abbrev reversed : List Point
+reversed = degrees 0 0 ∷ degrees 2 0 ∷ degrees 2 2 ∷ degrees 0 2 ∷ degrees 0 0 ∷ []
+
+j-held : map (holds square) (degrees 1 1 ∷ degrees 2 2 ∷ degrees 3 1 ∷ []) ≡ true ∷ true ∷ false ∷ []
+unfolding holding
+j-held = refl
+
+j-reversed : map (holds reversed) (degrees 3 1 ∷ degrees 2 1 ∷ degrees 1 1 ∷ []) ≡ true ∷ true ∷ false ∷ []
+unfolding holding
+j-reversed = refl
+
+-- on the parallel of a horizontal edge, west and east of it; and at the height of the ring, west of all of it
+sides : map (holds square) (west 1 0 ∷ west 1 2 ∷ west 1 1 ∷ degrees 3 0 ∷ degrees 3 2 ∷ []) ≡ false ∷ false ∷ false ∷ false ∷ false ∷ []
+unfolding holding
+sides = refl
+
+-- corners and the middle of a horizontal edge, either way round
+corners : map (holds square) (degrees 0 0 ∷ degrees 2 0 ∷ degrees 1 2 ∷ []) ≡ true ∷ true ∷ true ∷ []
+unfolding holding
+corners = refl
+
+corners-reversed : map (holds reversed) (degrees 0 0 ∷ degrees 2 0 ∷ degrees 1 2 ∷ []) ≡ true ∷ true ∷ true ∷ []
+unfolding holding
+corners-reversed = refl
+
+-- A ray through a vertex. From inside it leaves at (4,2), which counts once; from the west it passes (0,2) and (4,2); at the lowest
+-- vertex both edges count, at the highest none.
+abbrev diamond : List Point
+diamond = degrees 2 0 ∷ degrees 0 2 ∷ degrees 2 4 ∷ degrees 4 2 ∷ degrees 2 0 ∷ []
+
+vertices : map (odd diamond) (degrees 1 2 ∷ degrees 3 2 ∷ west 1 2 ∷ degrees 0 0 ∷ degrees 0 4 ∷ []) ≡ true ∷ true ∷ false ∷ false ∷ false ∷ []
+unfolding holding
+vertices = refl
+
+vertices-held : map (holds diamond) (degrees 1 2 ∷ degrees 4 2 ∷ degrees 2 4 ∷ degrees 3 3 ∷ degrees 4 3 ∷ []) ≡ true ∷ true ∷ true ∷ true ∷ false ∷ []
+unfolding holding
+vertices-held = refl
+
+-- a ray along a horizontal edge, from (2,2) to (4,2), between an edge above it and one below it
+abbrev steps : List Point
+steps = degrees 0 0 ∷ degrees 0 4 ∷ degrees 2 4 ∷ degrees 2 2 ∷ degrees 4 2 ∷ degrees 4 0 ∷ degrees 0 0 ∷ []
+
+along : map (holds steps) (degrees 1 2 ∷ degrees 3 2 ∷ degrees 3 3 ∷ west 1 2 ∷ []) ≡ true ∷ true ∷ false ∷ false ∷ []
+unfolding holding
+along = refl
+
+-- sound either way round; not without an area, as there and back or crossed over; not open, of one point or of none
+soundness : map sound (square ∷ reversed ∷ diamond ∷ steps ∷ []) ≡ true ∷ true ∷ true ∷ true ∷ []
+unfolding holding
+soundness = refl
+
+no-area : map sound ((degrees 0 0 ∷ degrees 1 1 ∷ degrees 2 2 ∷ degrees 0 0 ∷ []) ∷ (degrees 0 0 ∷ degrees 2 2 ∷ degrees 2 0 ∷ degrees 0 2 ∷ degrees 0 0 ∷ []) ∷ [])
+    ≡ false ∷ false ∷ []
+unfolding holding
+no-area = refl
+
+not-closed : map sound ((degrees 0 0 ∷ degrees 0 2 ∷ degrees 2 2 ∷ degrees 2 0 ∷ []) ∷ (degrees 0 0 ∷ []) ∷ [] ∷ []) ≡ false ∷ false ∷ false ∷ []
+unfolding holding
+not-closed = refl
+
+-- moved up, the least coordinates are 0
+lowest : points (0 ∷ 181_000_000 ∷ []) (0 ∷ 92_000_000 ∷ [])
+    ≡ record { lon = negsuc 179_999_999; lat = negsuc 89_999_999 } ∷ degrees 1 2 ∷ []
+unfolding points difference
+lowest = refl

@@ -1,0 +1,4 @@
+pub mod Ring
+pub mod Held
+pub mod Shifted
+pub mod Cases
