@@ -107,6 +107,7 @@ fn row_of(spelled: &[u8], first: usize, count: usize) -> usize
     Slots::ROWS
 }
 
+// A number of lines, as a place.
 fn wide(x: u8) -> usize
     ensures { λ r. ⌜ r ≡ x ⌝ }
 {

@@ -26,8 +26,9 @@ loop-holds c = let a = c .before .args in members-start (a .p .now) (absorbed (a
 returns : tie.Need-returns Inv-loop μ-loop
 returns c =
     let n = c .before .before in let k = n .before in let a = k .before .before .args in
-    gathers (a .p .now) (a .first) (a .count) (k .loop .s) (walk-end (memberSteps (a .p .now)) (absorbed (a .p .now) (lineNames (a .first) (a .count)))
-    (k .loop .s) (k .loop .at) (gathered (a .p .now) (lineNames (a .first) (a .count))) (sym (n .next-member .ensures) ∙ c .enum-told .given .1) (k .loop .inv))
+    let p = a .p .now in let names = lineNames (a .first) (a .count) in let s = k .loop .s in
+    gathers p (a .first) (a .count) s
+    (walk-end (memberSteps p) (absorbed p names) s (k .loop .at) (gathered p names) (sym (n .next-member .ensures) ∙ c .enum-told .given .1) (k .loop .inv))
 
 -- where a member was found
 abbrev Met : Type 0
@@ -46,5 +47,6 @@ loop-again c =
 pub gather-spec : {M : Type 1} → statement M
 gather-spec =
     tie.close
-    (tie.spec Inv-loop μ-loop loop-holds (λ c κs. search needs) (λ c. search needs) returns (λ c. search needs) (λ c. let m = placed c in omega arith)
-    (λ c. let m = placed c in omega arith) (λ c. let m = placed c in omega arith) (λ c κs. search needs) (λ c κs. search needs) (λ c. let m = placed (c .before .before .before) in omega arith) loop-again)
+    (tie.spec Inv-loop μ-loop loop-holds (λ c κs. search needs) (λ c. search needs) returns (λ c. search needs)
+    (λ c. let m = placed c in omega arith) (λ c. let m = placed c in omega arith) (λ c. let m = placed c in omega arith)
+    (λ c κs. search needs) (λ c κs. search needs) (λ c. let m = placed (c .before .before .before) in omega arith) loop-again)
