@@ -1,7 +1,6 @@
 -- Which points a ring holds: document 01, "Zones".
 use mathlib.Core.Bool.{Bool, true, false, not}
 use mathlib.Core.List.{List, [], _∷_}
-use Prim.Native.Nat.{ℕ}
 use lib.IntN.{ℤ, pos, _-ℤ_, _*ℤ_}
 use lib.Signed.{leZ, ltZ}
 use Rattle.notation.specs.Choice.{_⇒_else_, _and_}

@@ -1,11 +1,10 @@
 -- Rings as lists of points in millionths of a degree, on a flat plane: document 01, "Zones" and the last rules of field 73.
 -- Whole numbers of any size; nothing here knows of machine words.
-use mathlib.Core.Bool.{Bool, true, false, not}
+use mathlib.Core.Bool.{Bool, false, not}
 use mathlib.Core.List.{List, [], _∷_}
-use Prim.Native.Nat.{ℕ}
 use lib.IntN.{ℤ, pos, _+ℤ_, _-ℤ_, _*ℤ_}
 use lib.Signed.{leZ, ltZ}
-use Rattle.notation.specs.Choice.{_⇒_else_, _and_}
+use Rattle.notation.specs.Choice.{_and_}
 
 pub record Point : Type 0 where
   pub lon : ℤ

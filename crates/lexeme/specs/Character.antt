@@ -1,6 +1,6 @@
 -- One character of a JSON string, as RFC 8259 spells it and RFC 3629 encodes it: found by looking at most twelve bytes ahead.
 -- A byte past the end of the text counts as 0, which is wrong wherever it stands in a string: so a cut-off text needs no case of its own.
-use mathlib.Core.Bool.{Bool, true, false, not}
+use mathlib.Core.Bool.{Bool, false, not}
 use mathlib.Core.List.{List, [], _∷_}
 use Prim.Native.Nat.{ℕ, _+_, _-_, _*_, _/_, _%_}
 use lib.ListN.{drop, getD, take}

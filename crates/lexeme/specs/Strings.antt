@@ -4,8 +4,7 @@ use Prim.Native.Nat.{ℕ, zero, suc}
 use lib.ListN.{drop}
 use Rattle.word.specs.Kinds.{notJson}
 use Rattle.lexeme.specs.declared.Next.the-variants.{Quote, Character, Fault}
-use Rattle.lexeme.specs.declared.Scan.{Scan}
-use Rattle.lexeme.specs.Read.{Read, made, placed}
+use Rattle.lexeme.specs.Read.{Read, made}
 use Rattle.lexeme.specs.Read.Read.{done, bad}
 use Rattle.lexeme.specs.Character.{Surrogates, bytesOf, next}
 

@@ -1,6 +1,6 @@
 -- The walk on cases, computed: each is named for what it shows.
 use mathlib.Core.Bool.{true, false}
-use mathlib.Core.List.{List, [], _∷_}
+use mathlib.Core.List.{[], _∷_}
 use mathlib.Core.Path.{_≡_, refl}
 use Prim.Native.Nat.{ℕ}
 use Rattle.notation.specs.Ascii.{bytes}

@@ -1,11 +1,9 @@
 -- The tree of a value's bytes, as every later layer means it: a part of a file that stage A passed, read by itself.
 use mathlib.Core.Path.{_≡_}
-use mathlib.Core.List.{List, [], _∷_}
+use mathlib.Core.List.{List, []}
 use Prim.Native.Nat.{ℕ, _-_}
 use lib.ListN.{length, getD, drop, take}
-use lib.Dec.{eqb}
 use Rattle.limits.specs.Ceilings.{depth}
-use Rattle.notation.specs.Choice.{_⇒_else_}
 use Rattle.lexeme.specs.Read.Read.{done, bad}
 use Rattle.lexeme.specs.Character.{paired}
 use Rattle.lexeme.specs.Tokens.{Start, start}

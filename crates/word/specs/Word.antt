@@ -1,6 +1,6 @@
 -- The verdict word and the question "read a word": document 01, "The verdict word" and the table of questions.
 -- A word is its parts packed by the form's layout; bytes are a word where their parts keep the rule, and are refused otherwise.
-use mathlib.Core.Bool.{Bool, true, false}
+use mathlib.Core.Bool.{Bool, true}
 use mathlib.Core.List.{List, [], _∷_}
 use mathlib.Core.Path.{_≡_}
 use Prim.Native.Nat.{ℕ, _+_}

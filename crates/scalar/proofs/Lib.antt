@@ -1,0 +1,4 @@
+pub mod Ranges
+pub mod Sorts
+pub mod Words
+pub mod Values
