@@ -1,0 +1,114 @@
+-- The code's steps along the names that lead to a file's records: the top value, a member in a span, an item by its number.
+use mathlib.Core.List.{List, [], _∷_}
+use mathlib.Core.Path.{_≡_, refl, sym, ap, _∙_}
+use Prim.Native.Nat.{ℕ, zero, suc, _+_, _-_, _≤_}
+use native.Mathlib.Omega.{arith}
+use lib.Dec.{eqb}
+use lib.ListN.{length, drop}
+use borrow.Author.Tests.{ne-eqb}
+use Rattle.notation.specs.Ascii.{bytes}
+use Rattle.notation.specs.Choice.{_⇒_else_}
+use Rattle.limits.specs.Ceilings.{depth}
+use Rattle.lexeme.specs.declared.Scan.{Scan}
+use Rattle.lexeme.specs.declared.Scan.the-variants as scan
+use Rattle.lexeme.specs.Read.{Read, placed}
+use Rattle.lexeme.specs.Read.Read.{done, bad}
+use Rattle.lexeme.specs.Character.{paired}
+use Rattle.lexeme.specs.Tokens.{blanks}
+use Rattle.json.specs.Tree.{Json}
+use Rattle.json.specs.Text.{value}
+use Rattle.walk.specs.declared.Item.{Item}
+use Rattle.walk.specs.Walk.{place, part, itemsFrom, itemsOf}
+use Rattle.walk.proofs.Rests.{rest-drop, rest-blanks, rest-there}
+use Rattle.walk.proofs.Folds.{Steps, itemSteps, one-more}
+use Rattle.slots.specs.declared.Found.{Found}
+use Rattle.slots.specs.Found.{foundIn}
+use Rattle.document.specs.declared.Span.{Span}
+use Rattle.document.specs.declared.Span.the-variants.{None, Is}
+use Rattle.document.specs.Spans.{moved, memberAt, membersAlong, topSpan, namesTo, recordsSpan, nth}
+
+-- the top value, by where it was read
+module _ (s : List ℕ) (from : ℕ) (e : from ≡ place s (blanks s)) where
+  begins : value paired depth (drop from s) ≡ value paired depth (blanks s)
+  begins = ap (value paired depth) (ap (λ (n : ℕ). drop n s) e ∙ rest-there (rest-blanks s (rest-drop 0)))
+
+  pub top-there : (upto : ℕ) → scan.End upto ≡ placed s (value paired depth (drop from s)) → Is from upto ≡ topSpan s
+  unfolding topSpan placed
+  top-there upto h = go (value paired depth (blanks s)) refl
+    where
+      go : (o : Read Json) → value paired depth (blanks s) ≡ o → Is from upto ≡ topSpan s
+      go (done x r) i = let w : scan.End upto ≡ scan.End (place s r) = rw (begins, i) at h in rw (topSpan, i) (cc)
+      go (bad k r) i = let w : scan.End upto ≡ scan.Fault k (place s r) = rw (begins, i) at h in let z : _≡_ {A = ℕ} 0 1 = cc in absurd (omega arith)
+
+  pub top-absent : (k n : ℕ) → scan.Fault k n ≡ placed s (value paired depth (drop from s)) → None ≡ topSpan s
+  unfolding topSpan placed
+  top-absent k n h = go (value paired depth (blanks s)) refl
+    where
+      go : (o : Read Json) → value paired depth (blanks s) ≡ o → None ≡ topSpan s
+      go (done x r) i = let w : scan.Fault k n ≡ scan.End (place s r) = rw (begins, i) at h in let z : _≡_ {A = ℕ} 0 1 = cc in absurd (omega arith)
+      go (bad j r) i = rw (topSpan, i)
+
+-- two names, or three
+module _ (file : ℕ) (s a b : List ℕ) where
+  pub along-two : namesTo file ≡ a ∷ b ∷ [] → memberAt s b (memberAt s a (topSpan s)) ≡ recordsSpan file s
+  unfolding recordsSpan membersAlong
+  along-two e = rw (recordsSpan, e)
+
+  pub along-three : (d : List ℕ) → namesTo file ≡ a ∷ b ∷ d ∷ [] → memberAt s d (memberAt s b (memberAt s a (topSpan s))) ≡ recordsSpan file s
+  unfolding recordsSpan membersAlong
+  along-three d e = rw (recordsSpan, e)
+
+-- those of any other number than 1 to 5
+pub names-else : (file : ℕ) → (file ≡ 1 → ⊥) → (file ≡ 2 → ⊥) → (file ≡ 3 → ⊥) → (file ≡ 4 → ⊥) → (file ≡ 5 → ⊥)
+    → namesTo file ≡ bytes "data" ∷ bytes "geofencing_zones" ∷ bytes "features" ∷ []
+unfolding namesTo
+names-else file a b c d e = rw (namesTo, ne-eqb file 1 a, ne-eqb file 2 b, ne-eqb file 3 c, ne-eqb file 4 d, ne-eqb file 5 e)
+
+-- items by number, counted down
+module _ (from : ℕ) (m : Item) (l : List Item) where
+  pub nth-here : nth from (m ∷ l) 1 ≡ Is (from + m .value) (from + m .«value_end»)
+  unfolding nth
+  nth-here = refl
+
+  nth-suc : (n : ℕ) → nth from (m ∷ l) (suc (suc n)) ≡ nth from l (suc n)
+  unfolding nth
+  nth-suc n = refl
+
+  pub nth-later : (n : ℕ) → 1 ≤ n → (n ≡ 1 → ⊥) → nth from (m ∷ l) n ≡ nth from l (n - 1)
+  nth-later zero h i = absurd (omega arith)
+  nth-later (suc zero) h i = absurd (i refl)
+  nth-later (suc (suc n)) h i = let z : suc n ≡ suc (suc n) - 1 = omega arith in nth-suc n ∙ ap (nth from l) z
+
+pub nth-none : (from n : ℕ) → nth from [] n ≡ None
+unfolding nth
+nth-none from n = refl
+
+pub nth-zero : (from : ℕ) (l : List Item) → nth from l 0 ≡ None
+unfolding nth
+nth-zero from [] = refl
+nth-zero from (m ∷ l) = refl
+
+-- what is left to count comes to r
+abbrev pub Counts : List ℕ → ℕ → ℕ → ℕ → Span → Type 0
+Counts p from left at r = (k : ℕ) × (length p ≤ at + k) × (nth from (itemsFrom k p at) left ≡ r)
+
+module _ (p : List ℕ) (from : ℕ) where
+  pub counts-start : (n : ℕ) → Counts p from n 1 (nth from (itemsOf p) n)
+  unfolding itemsOf
+  counts-start n = (length p, omega arith, refl)
+
+  module _ (left at : ℕ) (r : Span) (w : Counts p from left at r) where
+    pub counts-end : itemSteps p .Ends at → None ≡ r
+    counts-end f = sym (ap (λ (l : List Item). nth from l left) (itemSteps p .end (w .0) at f) ∙ nth-none from left) ∙ w .2
+
+    module _ (m : Item) (f : itemSteps p .Finds at m) where
+      pub counts-here : left ≡ 1 → Is (from + m .value) (from + m .«value_end») ≡ r
+      counts-here e =
+          let j = one-more (itemSteps p) (w .0) at m f (w .1) in
+          sym (nth-here from m (itemsFrom (j .0) p (m .next))) ∙ ap (nth from (m ∷ itemsFrom (j .0) p (m .next))) (sym e)
+          ∙ ap (λ (l : List Item). nth from l left) (sym (j .2)) ∙ w .2
+
+      pub counts-later : 1 ≤ left → (left ≡ 1 → ⊥) → Counts p from (left - 1) (m .next) r
+      counts-later h i =
+          let j = one-more (itemSteps p) (w .0) at m f (w .1) in
+          (j .0, j .1, sym (nth-later from m (itemsFrom (j .0) p (m .next)) left h i) ∙ ap (λ (l : List Item). nth from l left) (sym (j .2)) ∙ w .2)

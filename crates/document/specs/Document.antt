@@ -1,0 +1,99 @@
+-- What a picked file holds, by field numbers: its records, and the values of a record's fields. A field that is missing, or twice there, or of
+-- another kind than asked for, gives nothing; in a file without faults it is never of another kind.
+use mathlib.Core.Bool.{Bool, true, false}
+use mathlib.Core.List.{List, [], _∷_}
+use Prim.Native.Nat.{ℕ}
+use Rattle.json.specs.Tree as tree
+use Rattle.json.specs.Tree.{Json}
+use Rattle.schema.specs.Pick.{Picked, PickedItems, Slots, Slot, bare, items, slots, noItem, item, missing, once, twice, at}
+
+-- a value, or none
+pub data Maybe (A : Type 0) : Type 0 where
+  none : Maybe A
+  some : A → Maybe A
+
+abbrev pub onceOnly : {A : Type 0} → Slot A → Maybe A
+onceOnly missing = none
+onceOnly (once x) = some x
+onceOnly twice = none
+
+-- the value of a field of an object
+unfoldable pub field : ℕ → Picked → Maybe Picked
+field f (slots ss) = onceOnly (at f ss)
+field f (bare x) = none
+field f (items is) = none
+
+-- the items of an array
+unfoldable pub listOf : PickedItems → List Picked
+listOf noItem = []
+listOf (item x is) = x ∷ listOf is
+
+abbrev pub elements : Picked → List Picked
+elements (items is) = listOf is
+elements (bare x) = []
+elements (slots ss) = []
+
+abbrev pub elementsOf : Maybe Picked → List Picked
+elementsOf none = []
+elementsOf (some x) = elements x
+
+unfoldable pub fieldItems : ℕ → Picked → List Picked
+fieldItems f x = elementsOf (field f x)
+
+-- the value behind a path of fields
+unfoldable pub along : List ℕ → Picked → Maybe Picked
+along [] x = some x
+along (f ∷ fs) x = elim (field f x) [ none ↦ none | some y ↦ along fs y ]
+
+-- where a file's records stand
+abbrev pub path : Bool → List ℕ
+path true = 4 ∷ 5 ∷ 7 ∷ []
+path false = 4 ∷ 5 ∷ []
+
+-- the text of a string, the spelling of a number, the truth of a boolean
+abbrev pub textIn : Picked → Maybe (List ℕ)
+textIn (bare tree.null) = none
+textIn (bare (tree.boolean b)) = none
+textIn (bare (tree.number s)) = none
+textIn (bare (tree.string s)) = some s
+textIn (bare (tree.array is)) = none
+textIn (bare (tree.object ms)) = none
+textIn (items is) = none
+textIn (slots ss) = none
+
+abbrev pub spellingIn : Picked → Maybe (List ℕ)
+spellingIn (bare tree.null) = none
+spellingIn (bare (tree.boolean b)) = none
+spellingIn (bare (tree.number s)) = some s
+spellingIn (bare (tree.string s)) = none
+spellingIn (bare (tree.array is)) = none
+spellingIn (bare (tree.object ms)) = none
+spellingIn (items is) = none
+spellingIn (slots ss) = none
+
+abbrev pub truthIn : Picked → Maybe Bool
+truthIn (bare tree.null) = none
+truthIn (bare (tree.boolean b)) = some b
+truthIn (bare (tree.number s)) = none
+truthIn (bare (tree.string s)) = none
+truthIn (bare (tree.array is)) = none
+truthIn (bare (tree.object ms)) = none
+truthIn (items is) = none
+truthIn (slots ss) = none
+
+abbrev pub then : {A B : Type 0} → Maybe A → (A → Maybe B) → Maybe B
+then none f = none
+then (some x) f = f x
+
+unfoldable pub text : ℕ → Picked → Maybe (List ℕ)
+text f x = then (field f x) textIn
+
+unfoldable pub spelling : ℕ → Picked → Maybe (List ℕ)
+spelling f x = then (field f x) spellingIn
+
+unfoldable pub truth : ℕ → Picked → Maybe Bool
+truth f x = then (field f x) truthIn
+
+abbrev pub given : {A : Type 0} → Maybe A → Bool
+given none = false
+given (some x) = true

@@ -1,0 +1,66 @@
+-- Where the records of a file stand in the caller's bytes: along the names that lead to them, and then item by item.
+use mathlib.Core.List.{List, [], _∷_}
+use Prim.Native.Nat.{ℕ, zero, suc, _+_}
+use lib.ListN.{length}
+use lib.Dec.{eqb}
+use Rattle.notation.specs.Ascii.{bytes}
+use Rattle.notation.specs.Choice.{_⇒_else_}
+use Rattle.lexeme.specs.Read.Read.{done, bad}
+use Rattle.lexeme.specs.Character.{paired}
+use Rattle.lexeme.specs.Tokens.{blanks}
+use Rattle.limits.specs.Ceilings.{depth}
+use Rattle.json.specs.Text.{value}
+use Rattle.walk.specs.declared.Item.{Item}
+use Rattle.walk.specs.Walk.{place, part, itemsOf}
+use Rattle.slots.specs.declared.Found.{Found}
+use Rattle.slots.specs.declared.Found.the-variants.{Missing, Once, Twice}
+use Rattle.slots.specs.Found.{foundIn}
+use Rattle.document.specs.declared.Span.{Span}
+use Rattle.document.specs.declared.Span.the-variants.{None, Is}
+
+-- a span inside the part that begins at a place
+abbrev pub moved : ℕ → Found → Span
+moved at Missing = None
+moved at (Once from upto) = Is (at + from) (at + upto)
+moved at Twice = None
+
+-- the member of a name, in the object at a span of s
+abbrev pub memberAt : List ℕ → List ℕ → Span → Span
+memberAt s name None = None
+memberAt s name (Is from upto) = moved from (foundIn (part s from upto) name)
+
+unfoldable pub membersAlong : List ℕ → List (List ℕ) → Span → Span
+membersAlong s [] span = span
+membersAlong s (name ∷ names) span = membersAlong s names (memberAt s name span)
+
+-- the value of the whole file
+unfoldable pub topSpan : List ℕ → Span
+topSpan s = elim (value paired depth (blanks s)) [ done x r ↦ Is (place s (blanks s)) (place s r) | bad k r ↦ None ]
+
+-- the names that lead to a file's records
+unfoldable pub namesTo : ℕ → List (List ℕ)
+namesTo file =
+    eqb file 1 ⇒ bytes "data" ∷ bytes "vehicle_types" ∷ [] else
+    eqb file 2 ⇒ bytes "data" ∷ bytes "stations" ∷ [] else
+    eqb file 3 ⇒ bytes "data" ∷ bytes "stations" ∷ [] else
+    eqb file 4 ⇒ bytes "data" ∷ bytes "bikes" ∷ [] else
+    eqb file 5 ⇒ bytes "data" ∷ bytes "plans" ∷ [] else
+    bytes "data" ∷ bytes "geofencing_zones" ∷ bytes "features" ∷ []
+
+-- the array of records
+unfoldable pub recordsSpan : ℕ → List ℕ → Span
+recordsSpan file s = membersAlong s (namesTo file) (topSpan s)
+
+-- the n-th item, counted from 1, of a list of them
+unfoldable pub nth : ℕ → List Item → ℕ → Span
+nth at [] n = None
+nth at (m ∷ l) zero = None
+nth at (m ∷ l) (suc zero) = Is (at + m .value) (at + m .«value_end»)
+nth at (m ∷ l) (suc (suc n)) = nth at l (suc n)
+
+abbrev pub nthIn : List ℕ → Span → ℕ → Span
+nthIn s None n = None
+nthIn s (Is from upto) n = nth from (itemsOf (part s from upto)) n
+
+unfoldable pub recordSpan : ℕ → List ℕ → ℕ → Span
+recordSpan file s n = nthIn s (recordsSpan file s) n

@@ -1,0 +1,171 @@
+-- A ring by what was read of it: its counts, its positions, and its area where all positions are sound. With more positions than there is room
+-- for, kind 10 stands at the ring's number already, and kind 11 at the same number comes after it.
+use mathlib.Core.Bool.{Bool, true, false}
+use mathlib.Core.List.{List, [], _∷_, _++_, map}
+use mathlib.Core.Logic.{inl, inr}
+use mathlib.Core.Path.{_≡_, refl, sym, ap, ap₂, subst, _∙_}
+use Prim.Native.Nat.{ℕ, zero, suc, _+_, _≤_, _<_}
+use native.Mathlib.Omega.{arith}
+use lib.Dec.{leb}
+use lib.ListN.{length, getD, take, length-take}
+use lib.Seq.{length-take-le, getD-take}
+use borrow.Author.Tests.{leb-true, leb-false, le-leb, lt-leb}
+use Rattle.limits.specs.Ceilings.{positions}
+use Rattle.notation.specs.Choice.{_⇒_else_, _and_}
+use Rattle.word.specs.Kinds.{badRing, tooMany}
+use Rattle.walk.specs.declared.ItemStep.the-variants as step
+use Rattle.walk.specs.Walk.{itemAt}
+use Rattle.geometry.specs.Ring.{Point, sound}
+use Rattle.geometry.specs.Shifted.{OnMap, InRange, points}
+use Rattle.schema.specs.Pick.{Picked}
+use Rattle.scalar.specs.Scalars.{unless}
+use Rattle.rings.specs.Rings.{Found, at, positionKinds, position, none, allSound, positionsFound, ringFound}
+use Rattle.rings.specs.Least.{lesser, leastFound}
+use Rattle.rings.specs.Parts.{positionShape, partsOf, foundIn, Charted, RingRead, onlySound, areaLeast, Tells}
+use Rattle.rings.specs.declared.LeastFound.{LeastFound}
+use Rattle.rings.specs.declared.LeastFound.the-variants.{None, At}
+use Rattle.rings.specs.declared.RingPoints.{RingPoints}
+use Rattle.rings.proofs.Order.{lesser-none, none-lesser, lesser-assoc, both-none, first-first, least-append, least-nothing, at-nothing, later-kind}
+use Rattle.rings.proofs.Going.{Going, going-end, none-left}
+use Rattle.rings.proofs.Numbers.{least-one, least-empty, not-none}
+use Rattle.rings.proofs.Charts.{Drawn, drawn-end}
+
+-- the positions of a ring, as items that are one position each
+abbrev pub spotFound : ℕ → Picked → List Found
+spotFound n x = at n (positionKinds x)
+
+abbrev pub single : Picked → ℕ
+single x = 1
+
+spots-found : (n : ℕ) (l : List Picked) → positionsFound n l ≡ foundIn spotFound single n l
+unfolding positionsFound foundIn
+spots-found n [] = refl
+spots-found n (x ∷ l) = ap (λ (fs : List Found). at n (positionKinds x) ++ fs) (spots-found (n + 1) l)
+
+-- all are sound just where nothing is found
+pub sound-found : (n : ℕ) (l : List Picked) → allSound l ≡ true → leastFound (positionsFound n l) ≡ None
+unfolding allSound positionsFound none at
+sound-found n [] e = unfold leastFound in refl
+sound-found n (x ∷ l) e = go (positionKinds x) e (sound-found (n + 1) l)
+  where
+    go : (ks : List ℕ) → (none ks and allSound l) ≡ true → (allSound l ≡ true → leastFound (positionsFound (n + 1) l) ≡ None)
+        → leastFound (at n ks ++ positionsFound (n + 1) l) ≡ None
+    go [] f ih = ih f
+    go (k ∷ ks) f ih = let z : _≡_ {A = ℕ} 0 1 = cc in absurd (omega arith)
+
+pub found-sound : (n : ℕ) (l : List Picked) → leastFound (positionsFound n l) ≡ None → allSound l ≡ true
+unfolding allSound positionsFound none
+found-sound n [] e = refl
+found-sound n (x ∷ l) e =
+    let b = both-none _ _ (sym (least-append (at n (positionKinds x)) (positionsFound (n + 1) l)) ∙ e) in
+    let k : positionKinds x ≡ [] = at-nothing n (positionKinds x) (least-nothing _ (b .0)) in
+    ap (λ ks. none ks and allSound l) k ∙ found-sound (n + 1) l (b .1)
+
+-- where the loop over positions ends
+module _ (n : ℕ) (p : List ℕ) {at₀ count : ℕ} {least : LeastFound} {lons lats : List ℕ}
+    (g : Going spotFound single positionShape n p at₀ count count least)
+    (d : Drawn lons lats count least (g .left) (partsOf positionShape p)) (f : itemAt p at₀ ≡ step.End) where
+  pub ring-read : RingRead n (partsOf positionShape p) (length p) (record { lons = lons; lats = lats; count = count; least = least })
+  ring-read =
+      let t = going-end spotFound single positionShape n p g f in
+      let found = t .least ∙ ap leastFound (sym (spots-found n (partsOf positionShape p))) in
+      record {
+        count = t .items;
+        within = t .within;
+        least = found;
+        charted = d .charted;
+        points = λ s h.
+            drawn-end d (none-left spotFound single positionShape n p g f) (found ∙ sound-found n (partsOf positionShape p) s) (omega (arith, t .items));
+      }
+
+-- the part that is filled
+taken-most : (n : ℕ) (xs : List ℕ) (k : ℕ) {most : ℕ} → getD xs k 0 ≤ most → getD (take n xs) k 0 ≤ most
+taken-most zero xs k h = omega arith
+taken-most (suc n) [] k h = h
+taken-most (suc n) (x ∷ xs) zero h = h
+taken-most (suc n) (x ∷ xs) (suc k) h = taken-most n xs k h
+
+pub filled : (lons lats : List ℕ) (n : ℕ) → Charted lons lats → n ≤ positions → InRange (take n lons) (take n lats)
+filled lons lats n c h =
+    let a : n ≤ length lons = omega (arith, c .east) in let b : n ≤ length lats = omega (arith, c .north) in
+    let e = length-take-le n lons a in
+    record {
+      same = length-take-le n lats b ∙ sym e;
+      most = omega (arith, e);
+      map = λ k. record { east = taken-most n lons k (c .map k .east); north = taken-most n lats k (c .map k .north) };
+    }
+
+pub filled-size : (xs : List ℕ) (n : ℕ) → length xs ≡ positions → n ≤ positions → n ≡ length (take n xs)
+filled-size xs n e h = let a : n ≤ length xs = omega arith in sym (length-take-le n xs a)
+
+-- the area
+module _ (n : ℕ) (r : RingPoints) where
+  pub area-faulty : (m k : ℕ) → r .least ≡ At m k → None ≡ areaLeast n r
+  unfolding areaLeast
+  area-faulty m k e = rw e
+
+  pub area-many : r .least ≡ None → positions < r .count → None ≡ areaLeast n r
+  unfolding areaLeast
+  area-many e h = rw (e, lt-leb (r .count) positions h)
+
+  pub area-asked : r .least ≡ None → r .count ≤ positions
+      → leastFound (at n (unless (sound (points (take (r .count) (r .lons)) (take (r .count) (r .lats)))) badRing)) ≡ areaLeast n r
+  unfolding areaLeast
+  area-asked e h = rw (e, le-leb (r .count) positions h)
+
+hidden : (n : ℕ) (t : Bool) → lesser (At n tooMany) (leastFound (at n (unless t badRing))) ≡ At n tooMany
+hidden n true = ap (lesser (At n tooMany)) (least-empty n) ∙ lesser-none (At n tooMany)
+hidden n false = ap (lesser (At n tooMany)) (least-one n badRing) ∙ later-kind n tooMany badRing (omega arith)
+
+module _ {n bytes : ℕ} {l : List Picked} {r : RingPoints} (h : RingRead n l bytes r) where
+  abbrev few : LeastFound
+  few = leastFound (at n (unless (leb 4 (r .count)) badRing))
+
+  abbrev many : LeastFound
+  many = leastFound (at n (unless (leb (r .count) positions) tooMany))
+
+  abbrev area : LeastFound
+  area = leastFound (allSound l ⇒ at n (unless (sound (map position l)) badRing) else [])
+
+  unsound : (m k : ℕ) → r .least ≡ At m k → area ≡ None
+  unsound m k e = go (allSound l) refl
+    where
+      go : (t : Bool) → allSound l ≡ t → leastFound (t ⇒ at n (unless (sound (map position l)) badRing) else []) ≡ None
+      go true s = not-none (sym e ∙ h .least ∙ sound-found n l s)
+      go false s = unfold leastFound in refl
+
+  asked : r .least ≡ None → area ≡ leastFound (at n (unless (sound (map position l)) badRing))
+  asked e = rw (found-sound n l (sym (h .least) ∙ e))
+
+  abbrev sofar : LeastFound
+  sofar = lesser (lesser few many) (r .least)
+
+  -- with what the code asks, and with what the definition has
+  as-asked : lesser sofar (areaLeast n r) ≡ lesser sofar area
+  as-asked = go (r .least) refl (leb (r .count) positions) refl
+    where
+      go : (f : LeastFound) → r .least ≡ f → (t : Bool) → leb (r .count) positions ≡ t → lesser sofar (areaLeast n r) ≡ lesser sofar area
+      go (At m k) e t i = ap (lesser sofar) (sym (area-faulty n r m k e) ∙ sym (unsound m k e))
+      go None e true i =
+          let c : r .count ≤ positions = leb-true (r .count) positions i in
+          let q = h .points (found-sound n l (sym (h .least) ∙ e)) (omega (arith, h .count)) in
+          ap (lesser sofar) (sym (area-asked n r e c) ∙ ap (λ ps. leastFound (at n (unless (sound ps) badRing))) q ∙ sym (asked e))
+      go None e false i =
+          let base : sofar ≡ lesser few (At n tooMany) =
+          ap (lesser (lesser few many)) e ∙ lesser-none (lesser few many)
+          ∙ ap (lesser few) (ap (λ t. leastFound (at n (unless t tooMany))) i ∙ least-one n tooMany) in
+          ap₂ lesser base (sym (area-many n r e (leb-false (r .count) positions i))) ∙ lesser-none (lesser few (At n tooMany))
+          ∙ sym (ap₂ lesser base (asked e) ∙ lesser-assoc few (At n tooMany) _ ∙ ap (lesser few) (hidden n (sound (map position l))))
+
+  pub ring-found : lesser (lesser (lesser few many) (r .least)) (areaLeast n r) ≡ leastFound (ringFound n l)
+  unfolding ringFound
+  ring-found =
+      let c = sym (h .count) in
+      as-asked
+      ∙ sym (least-append _ _ ∙ ap (λ z. lesser z area) (least-append _ (positionsFound n l)
+      ∙ ap₂ lesser (least-append _ _ ∙ ap₂ lesser (ap (λ k. leastFound (at n (unless (leb 4 k) badRing))) c)
+      (ap (λ k. leastFound (at n (unless (leb k positions) tooMany))) c)) (sym (h .least))))
+
+  pub ring-tells : (found : LeastFound) → found ≡ lesser (lesser (lesser few many) (r .least)) (areaLeast n r)
+      → Tells (ringFound n l) (length l) bytes (record { positions = r .count; least = found })
+  ring-tells found e = record { least = e ∙ ring-found; positions = h .count; within = h .within }

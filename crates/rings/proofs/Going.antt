@@ -1,0 +1,147 @@
+-- A loop over items that are judged and numbered one after the other, for any way to judge one: what has been found so far, with what is
+-- left, is what is found in all. The items' bytes lie one behind the other, so there are no more positions than bytes.
+use mathlib.Core.List.{List, [], _∷_, _++_}
+use mathlib.Core.Path.{_≡_, refl, sym, ap, subst, _∙_}
+use Prim.Native.Nat.{ℕ, _+_, _-_, _≤_, _<_}
+use native.Mathlib.Omega.{arith}
+use lib.ListN.{length, take, drop, length-take, length-drop}
+use Rattle.walk.specs.declared.Item.{Item}
+use Rattle.walk.specs.declared.ItemStep.the-variants as step
+use Rattle.walk.specs.Walk.{part, itemAt}
+use Rattle.walk.proofs.Places.{item-placed}
+use Rattle.schema.specs.Shape.{Shape}
+use Rattle.schema.specs.Pick.{Picked}
+use Rattle.rings.specs.Rings.{Found}
+use Rattle.rings.specs.Least.{lesser, leastFound}
+use Rattle.rings.specs.Parts.{picked, partsOf, Left, positionsIn, foundIn, Tallied}
+use Rattle.rings.specs.declared.LeastFound.{LeastFound}
+use Rattle.rings.specs.declared.LeastFound.the-variants.{None}
+use Rattle.rings.specs.declared.Tally.{Tally}
+use Rattle.rings.proofs.Order.{lesser-none, none-lesser, lesser-assoc, least-append}
+use Rattle.rings.proofs.Picked.{left-start, left-end, left-more}
+
+-- an item m of p, found at a place with so many items and positions passed
+pub record Room (p : List ℕ) (at items positions : ℕ) (m : Item) : Type 0 where
+  pub some : m .value < m .«value_end»
+  pub ends : m .«value_end» ≤ length p
+  pub size : length (part p (m .value) (m .«value_end»)) ≡ m .«value_end» - m .value
+  pub number : positions + (m .«value_end» - m .value) < length p
+  pub count : items < length p
+  pub onward : at < m .next
+  pub inside : m .next ≤ length p
+
+module _ (e : ℕ → Picked → List Found) (c : Picked → ℕ) where
+  -- the definitions, step by step
+  positions-none : positionsIn c [] ≡ 0
+  unfolding positionsIn
+  positions-none = refl
+
+  positions-next : (x : Picked) (l : List Picked) → positionsIn c (x ∷ l) ≡ c x + positionsIn c l
+  unfolding positionsIn
+  positions-next x l = refl
+
+  found-none : (n : ℕ) → leastFound (foundIn e c n []) ≡ None
+  unfolding foundIn leastFound
+  found-none n = refl
+
+  found-next : (n : ℕ) (x : Picked) (l : List Picked)
+      → leastFound (foundIn e c n (x ∷ l)) ≡ lesser (leastFound (e n x)) (leastFound (foundIn e c (n + c x) l))
+  unfolding foundIn
+  found-next n x l = least-append (e n x) (foundIn e c (n + c x) l)
+
+  module _ (σ : Shape) (n : ℕ) (p : List ℕ) where
+    -- at the place `at`, with so many items and positions passed
+    pub record Going (at items positions : ℕ) (least : LeastFound) : Type 0 where
+      pub left : List Picked
+      pub here : Left σ p at left
+      pub counted : items + length left ≡ length (partsOf σ p)
+      pub numbered : positions + positionsIn c left ≡ positionsIn c (partsOf σ p)
+      pub found : lesser least (leastFound (foundIn e c (n + positions) left)) ≡ leastFound (foundIn e c n (partsOf σ p))
+      pub few : items < at
+      pub room : positions < at
+      pub inside : at ≤ length p + 1
+
+    abbrev pub going-start : Going 1 0 0 None
+    going-start =
+        let z : n + 0 ≡ n = omega arith in
+        record {
+          left = partsOf σ p;
+          here = left-start σ p;
+          counted = omega arith;
+          numbered = omega arith;
+          found = none-lesser _ ∙ ap (λ (m : ℕ). leastFound (foundIn e c m (partsOf σ p))) z;
+          few = omega arith;
+          room = omega arith;
+          inside = omega arith;
+        }
+
+    module _ {at items positions : ℕ} {least : LeastFound} (g : Going at items positions least) where
+      -- where none is found
+      module _ (f : itemAt p at ≡ step.End) where
+        pub none-left : g .left ≡ []
+        none-left = left-end σ p at (g .left) (g .here) f
+
+        pub end-counted : items ≡ length (partsOf σ p)
+        end-counted = let z = ap length none-left in omega (arith, g .counted, z)
+
+        pub end-found : least ≡ leastFound (foundIn e c n (partsOf σ p))
+        end-found =
+            sym (lesser-none least) ∙ ap (lesser least) (sym (found-none (n + positions)))
+            ∙ ap (λ (l : List Picked). lesser least (leastFound (foundIn e c (n + positions) l))) (sym none-left) ∙ g .found
+
+        pub going-end : Tallied e c n (partsOf σ p) (length p) (record { items = items; positions = positions; least = least })
+        going-end =
+            let z : positionsIn c (g .left) ≡ 0 = ap (positionsIn c) none-left ∙ positions-none in
+            record { items = end-counted; positions = omega (arith, g .numbered); least = end-found; within = omega (arith, g .room, g .inside) }
+
+      -- where one is found: its bytes, with the positions passed, are no more than all
+      pub going-room : (m : Item) → itemAt p at ≡ step.Found m → Room p at items positions m
+      going-room m f =
+          let k = item-placed p at m f in
+          let d = length-drop (m .value) p in
+          let t = length-take (m .«value_end» - m .value) (drop (m .value) p) in
+          record {
+            some = k .value;
+            ends = omega (arith, k .next, k .inside);
+            size = omega (arith, k .value, k .next, k .inside);
+            number = omega (arith, g .room, k .later, k .value, k .next, k .inside);
+            count = omega (arith, g .few, k .later, k .value, k .next, k .inside);
+            onward = omega (arith, k .later, k .value, k .next);
+            inside = k .inside;
+          }
+
+      module _ (m : Item) (f : itemAt p at ≡ step.Found m) (first next : LeastFound) (q : ℕ)
+          (judged : first ≡ leastFound (e (n + positions) (picked σ p m))) (taken : next ≡ lesser least first)
+          (many : q ≡ c (picked σ p m)) (fits : q ≤ m .«value_end» - m .value) where
+        -- with the items that are left then
+        pub going-next : (h : Going (m .next) (items + 1) (positions + q) next) × (g .left ≡ picked σ p m ∷ h .left)
+        going-next =
+            let o = left-more σ p at (g .left) (g .here) m f in
+            let k = item-placed p at m f in
+            let x = picked σ p m in
+            let a : length (g .left) ≡ length (o .rest) + 1 = omega (arith, ap length (o .is)) in
+            let b : positionsIn c (g .left) ≡ q + positionsIn c (o .rest) =
+            ap (positionsIn c) (o .is) ∙ positions-next x (o .rest) ∙ ap (λ (z : ℕ). z + positionsIn c (o .rest)) (sym many) in
+            let s : n + (positions + q) ≡ n + positions + c x = omega (arith, many) in
+            let rest = leastFound (foundIn e c (n + positions + c x) (o .rest)) in (
+              record {
+                left = o .rest;
+                here = o .left;
+                counted = omega (arith, g .counted);
+                numbered = omega (arith, g .numbered);
+                found =
+                    ap (λ (z : ℕ). lesser next (leastFound (foundIn e c z (o .rest)))) s
+                    ∙ ap (λ (z : LeastFound). lesser z rest) (taken ∙ ap (lesser least) judged)
+                    ∙ lesser-assoc least (leastFound (e (n + positions) x)) rest
+                    ∙ ap (lesser least) (sym (found-next (n + positions) x (o .rest)))
+                    ∙ ap (λ (l : List Picked). lesser least (leastFound (foundIn e c (n + positions) l))) (sym (o .is))
+                    ∙ g .found;
+                few = omega (arith, g .few, k .later, k .value, k .next);
+                room = omega (arith, g .room, k .later, k .value, k .next);
+                inside = omega (arith, k .inside);
+              },
+              o .is,
+            )
+
+        pub going-more : Going (m .next) (items + 1) (positions + q) next
+        going-more = going-next .0

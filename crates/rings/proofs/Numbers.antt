@@ -1,0 +1,149 @@
+-- A number of a position, by its bytes: lon and lat against their ranges, the third of any size.
+use mathlib.Core.Bool.{Bool, true, false}
+use mathlib.Core.List.{List, [], _∷_}
+use mathlib.Core.Path.{_≡_, refl, sym, ap, subst, _∙_}
+use Prim.Native.Nat.{ℕ, _+_, _-_, _*_, _≤_}
+use native.Mathlib.Decide.{decLe}
+use native.Mathlib.Omega.{arith}
+use lib.IntN.{ℤ, natAbs}
+use Rattle.word.specs.Kinds.{wrongType, numberForm, outOfRange}
+use Rattle.signed.specs.Signed.{difference}
+use Rattle.signed.proofs.Gap.{difference-up}
+use Rattle.json.specs.Tree as tree
+use Rattle.json.specs.Tree.{Json}
+use Rattle.walk.specs.Part.{Whole, kindOf, kindAt}
+use Rattle.walk.proofs.Wholes.{whole-kind, whole-number}
+use Rattle.decimal.specs.declared.Decimal.{Decimal}
+use Rattle.decimal.specs.declared.Number.{Number}
+use Rattle.decimal.specs.declared.Number.the-variants as number
+use Rattle.decimal.specs.Decimals.{numberOf}
+use Rattle.decimal.specs.Exact.{within, millionths}
+use Rattle.decimal.proofs.Millionths.{millionths-within}
+use Rattle.schema.specs.Shape as shape
+use Rattle.schema.specs.Pick.{Picked, bare, items, slots, pick}
+use Rattle.scalar.specs.Scalars as scalar
+use Rattle.scalar.specs.Scalars.{unless, formed, kindsOf}
+use Rattle.rings.specs.Rings.{at, coordinate, ordinateKinds}
+use Rattle.rings.specs.Least.{leastFound}
+use Rattle.rings.specs.Parts.{numberShape, isNumber, rangeKinds, Measured}
+use Rattle.rings.specs.declared.LeastFound.the-variants.{None, At}
+use Rattle.rings.specs.declared.Ordinate.{Ordinate}
+use Rattle.rings.proofs.Order.{lesser-none}
+
+-- the sorts
+pub longitude-kinds : (x : Picked) → ordinateKinds shape.longitude x ≡ rangeKinds 180 x
+unfolding ordinateKinds kindsOf scalar.numberKinds scalar.textKinds scalar.booleanKinds
+longitude-kinds (bare tree.null) = refl
+longitude-kinds (bare (tree.boolean b)) = refl
+longitude-kinds (bare (tree.number s)) = refl
+longitude-kinds (bare (tree.string s)) = refl
+longitude-kinds (bare (tree.array is)) = refl
+longitude-kinds (bare (tree.object ms)) = refl
+longitude-kinds (items is) = refl
+longitude-kinds (slots ss) = refl
+
+pub latitude-kinds : (x : Picked) → ordinateKinds shape.latitude x ≡ rangeKinds 90 x
+unfolding ordinateKinds kindsOf scalar.numberKinds scalar.textKinds scalar.booleanKinds
+latitude-kinds (bare tree.null) = refl
+latitude-kinds (bare (tree.boolean b)) = refl
+latitude-kinds (bare (tree.number s)) = refl
+latitude-kinds (bare (tree.string s)) = refl
+latitude-kinds (bare (tree.array is)) = refl
+latitude-kinds (bare (tree.object ms)) = refl
+latitude-kinds (items is) = refl
+latitude-kinds (slots ss) = refl
+
+third-tree : (x : Json) → unless (isNumber (kindOf x)) wrongType ≡ ordinateKinds shape.ordinate (pick numberShape x)
+unfolding ordinateKinds kindsOf scalar.numberKinds scalar.textKinds scalar.booleanKinds pick
+third-tree tree.null = refl
+third-tree (tree.boolean b) = refl
+third-tree (tree.number s) = refl
+third-tree (tree.string s) = refl
+third-tree (tree.array is) = refl
+third-tree (tree.object ms) = refl
+
+-- the third number
+pub third-kinds : {p : List ℕ} {x : Json} → Whole p x → unless (isNumber (kindAt p)) wrongType ≡ ordinateKinds shape.ordinate (pick numberShape x)
+third-kinds {p} {x} w = ap (λ k. unless (isNumber k) wrongType) (whole-kind w) ∙ third-tree x
+
+-- one fault
+pub least-one : (n k : ℕ) → leastFound (at n (k ∷ [])) ≡ At n k
+unfolding leastFound at
+least-one n k = lesser-none (At n k)
+
+pub least-empty : (n : ℕ) → leastFound (at n []) ≡ None
+unfolding leastFound at
+least-empty n = refl
+
+pub not-none : {A : Type 0} {n k : ℕ} → At n k ≡ None → A
+not-none e = let z : _≡_ {A = ℕ} 0 1 = cc in absurd (omega arith)
+
+pub measured-broken : (most n kind : ℕ) (x : Picked) (o : Ordinate) → rangeKinds most x ≡ kind ∷ []
+    → o ≡ record { least = At n kind; value = 0 } → Measured most n x o
+measured-broken most n kind x o h e =
+    rw e
+    record {
+      least = sym (ap (λ ks. leastFound (at n ks)) h ∙ least-one n kind);
+      value = λ f. not-none f;
+      upto = omega arith;
+    }
+
+-- what is no number
+other-kinds : (most : ℕ) (x : Json) → isNumber (kindOf x) ≡ false → rangeKinds most (pick numberShape x) ≡ wrongType ∷ []
+unfolding pick
+other-kinds most tree.null e = refl
+other-kinds most (tree.boolean b) e = refl
+other-kinds most (tree.number s) e = let z : _≡_ {A = ℕ} 0 1 = cc in absurd (omega arith)
+other-kinds most (tree.string s) e = refl
+other-kinds most (tree.array is) e = refl
+other-kinds most (tree.object ms) e = refl
+
+pub no-number : (most : ℕ) {p : List ℕ} {x : Json} → Whole p x → isNumber (kindAt p) ≡ false → rangeKinds most (pick numberShape x) ≡ wrongType ∷ []
+no-number most {p} {x} w e = other-kinds most x (ap isNumber (sym (whole-kind w)) ∙ e)
+
+-- a number is picked with its spelling
+pub number-picked : {p : List ℕ} {x : Json} → Whole p x → isNumber (kindAt p) ≡ true → pick numberShape x ≡ bare (tree.number p)
+unfolding pick
+number-picked {p} {x} w e = go x w (ap isNumber (sym (whole-kind w)) ∙ e)
+  where
+    other : {A : Type 0} → false ≡ true → A
+    other f = let z : _≡_ {A = ℕ} 0 1 = cc in absurd (omega arith)
+
+    go : (y : Json) → Whole p y → isNumber (kindOf y) ≡ true → pick numberShape y ≡ bare (tree.number p)
+    go tree.null v f = other f
+    go (tree.boolean b) v f = other f
+    go (tree.number s) v f = ap (λ (t : List ℕ). bare (tree.number t)) (whole-number v)
+    go (tree.string s) v f = other f
+    go (tree.array is) v f = other f
+    go (tree.object ms) v f = other f
+
+-- a number that was moved up by h is at most h above it
+up-to : (a h b : ℕ) → natAbs (difference a h) ≤ b → a ≤ h + b
+up-to a h b e = go (decLe h a)
+  where
+    go : Dec (h ≤ a) → a ≤ h + b
+    go (yes l) = let k : natAbs (difference a h) ≡ a - h = ap natAbs (difference-up a h l) in omega arith
+    go (no n) = omega (arith, n)
+
+module _ (most : ℕ) {p : List ℕ} {x : Json} (w : Whole p x) (e : isNumber (kindAt p) ≡ true) where
+  pub unformed-kinds : numberOf p ≡ number.Unformed → rangeKinds most (pick numberShape x) ≡ numberForm ∷ []
+  unfolding formed
+  unformed-kinds h = ap (rangeKinds most) (number-picked w e) ∙ ap (formed (within most)) h
+
+  module _ (d : Decimal) (h : numberOf p ≡ number.Value d) where
+    pub outside-kinds : within most d ≡ false → rangeKinds most (pick numberShape x) ≡ outOfRange ∷ []
+    unfolding formed
+    outside-kinds f = ap (rangeKinds most) (number-picked w e) ∙ ap (formed (within most)) h ∙ ap (λ t. unless t outOfRange) f
+
+    pub measured-inside : (n v : ℕ) → within most d ≡ true → difference v (most * 1_000_000) ≡ millionths d
+        → Measured most n (pick numberShape x) (record { least = None; value = v })
+    unfolding formed
+    measured-inside n v f g =
+        let k : natAbs (difference v (most * 1_000_000)) ≤ most * 1_000_000 = rw g (millionths-within most d f) in
+        subst (λ (y : Picked). Measured most n y (record { least = None; value = v })) (sym (number-picked w e)) (
+        record {
+          least = sym (ap (λ ks. leastFound (at n ks)) (ap (formed (within most)) h ∙ ap (λ t. unless t outOfRange) f) ∙ least-empty n);
+          value = λ z. g ∙ sym (ap coordinate h);
+          upto = let q = up-to v (most * 1_000_000) (most * 1_000_000) k in omega arith;
+        }
+        )

@@ -1,0 +1,96 @@
+-- The picked items of an array are those of its parts, one for one: so a loop that finds an item at a place has found the next of the
+-- picked items that are left, whose bytes are whole; and where none is found, none is left.
+use mathlib.Core.Bool.{true, false}
+use mathlib.Core.List.{List, [], _∷_, map}
+use mathlib.Core.Path.{_≡_, refl, sym, ap, subst, _∙_}
+use Prim.Native.Nat.{ℕ, _+_, _≤_}
+use native.Mathlib.Omega.{arith}
+use lib.ListN.{length}
+use Rattle.json.specs.Tree as Tree
+use Rattle.json.specs.Tree.{Json, Items}
+use Rattle.walk.specs.declared.Item.{Item}
+use Rattle.walk.specs.declared.ItemStep.the-variants as step
+use Rattle.walk.specs.Walk.{part, itemAt, itemsFrom, itemsOf}
+use Rattle.walk.specs.Part.{Whole, treeOf, kindOf, kindAt}
+use Rattle.walk.proofs.Folds.{one-more, itemSteps, items-end}
+use Rattle.walk.proofs.Wholes.{whole-kind}
+use Rattle.walk.proofs.Parts.{item-whole}
+use Rattle.walk.proofs.Trees.{array-parts}
+use Rattle.schema.specs.Shape as shape
+use Rattle.schema.specs.Shape.{Shape, Numbering}
+use Rattle.schema.specs.Pick.{Picked, PickedItems, bare, items, each, pick}
+use Rattle.rings.specs.Rings.{listOf}
+use Rattle.rings.specs.Parts.{picked, partsOf, Left, isArray}
+
+-- a loop over the items of p
+module _ (σ : Shape) (p : List ℕ) where
+  pub left-start : Left σ p 1 (partsOf σ p)
+  unfolding partsOf itemsOf
+  left-start = record { most = length p; enough = omega arith; are = refl }
+
+  -- the items after one that was found
+  pub record Onward (m : Item) (l : List Picked) : Type 0 where
+    pub rest : List Picked
+    pub is : l ≡ picked σ p m ∷ rest
+    pub left : Left σ p (m .next) rest
+
+  module _ (at : ℕ) (l : List Picked) (h : Left σ p at l) where
+    pub left-end : itemAt p at ≡ step.End → l ≡ []
+    left-end e = sym (h .are) ∙ ap (map (picked σ p)) (items-end p (h .most) at e)
+
+    pub left-more : (m : Item) → itemAt p at ≡ step.Found m → Onward m l
+    left-more m e =
+        let j = one-more (itemSteps p) (h .most) at m e (h .enough) in
+        record {
+          rest = map (picked σ p) (itemsFrom (j .0) p (m .next));
+          is = sym (h .are) ∙ ap (map (picked σ p)) (j .2);
+          left = record { most = j .0; enough = j .1; are = refl };
+        }
+
+-- an array's picked items
+each-list : (f : Json → Picked) (js : List Json) → listOf (each f (Tree.itemsOf js)) ≡ map f js
+unfolding listOf each Tree.itemsOf
+each-list f [] = refl
+each-list f (j ∷ js) = ap (λ (l : List Picked). f j ∷ l) (each-list f js)
+
+map-twice : {A B C : Type 0} (f : B → C) (g : A → B) (l : List A) → map f (map g l) ≡ map (λ x. f (g x)) l
+map-twice f g [] = refl
+map-twice f g (x ∷ l) = ap (λ m. f (g x) ∷ m) (map-twice f g l)
+
+pub record Listed (ν : Numbering) (most : ℕ) (σ : Shape) (p : List ℕ) (x : Json) : Type 0 where
+  pub list : PickedItems
+  pub picks : pick (shape.array ν most σ) x ≡ items list
+  pub parts : listOf list ≡ partsOf σ p
+
+module _ (ν : Numbering) (most : ℕ) (σ : Shape) {p : List ℕ} where
+  pub parts-picked : {is : Items} → Whole p (Json.array is) → listOf (each (λ y. pick σ y) is) ≡ partsOf σ p
+  unfolding partsOf
+  parts-picked w =
+      ap (λ (is : Items). listOf (each (λ y. pick σ y) is)) (array-parts p w) ∙ each-list (λ y. pick σ y) _ ∙ map-twice (λ y. pick σ y) _ (itemsOf p)
+
+  pub array-picked : (x : Json) → Whole p x → isArray (kindAt p) ≡ true → Listed ν most σ p x
+  unfolding pick
+  array-picked x w e = go x w (ap isArray (sym (whole-kind w)) ∙ e)
+    where
+      other : {y : Json} → false ≡ true → Listed ν most σ p y
+      other f = let z : _≡_ {A = ℕ} 0 1 = cc in absurd (omega arith)
+
+      go : (y : Json) → Whole p y → isArray (kindOf y) ≡ true → Listed ν most σ p y
+      go Json.null v f = other f
+      go (Json.boolean b) v f = other f
+      go (Json.number s) v f = other f
+      go (Json.string s) v f = other f
+      go (Json.array is) v f = record { list = each (λ y. pick σ y) is; picks = refl; parts = parts-picked v }
+      go (Json.object ms) v f = other f
+
+  pub other-picked : (x : Json) → Whole p x → isArray (kindAt p) ≡ false → (y : Json) × (pick (shape.array ν most σ) x ≡ bare y)
+  unfolding pick
+  other-picked x w e = go x (ap isArray (sym (whole-kind w)) ∙ e)
+    where
+      go : (y : Json) → isArray (kindOf y) ≡ false → (z : Json) × (pick (shape.array ν most σ) y ≡ bare z)
+      go Json.null f = (_, refl)
+      go (Json.boolean b) f = (_, refl)
+      go (Json.number s) f = (_, refl)
+      go (Json.string s) f = (_, refl)
+      go (Json.array is) f = let z : _≡_ {A = ℕ} 0 1 = cc in absurd (omega arith)
+      go (Json.object ms) f = (_, refl)

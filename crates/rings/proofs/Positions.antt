@@ -1,0 +1,168 @@
+-- A position by its items: lon, lat and what follows them each find their own kinds, and the first of all is the lesser of these.
+use mathlib.Core.Bool.{Bool, true, false}
+use mathlib.Core.List.{List, [], _∷_, _++_, append-nil}
+use mathlib.Core.Path.{_≡_, refl, sym, ap, ap₂, _∙_}
+use Prim.Native.Nat.{ℕ, suc, _+_, _*_, _≤_, _<_}
+use native.Mathlib.Omega.{arith}
+use lib.Dec.{leb}
+use lib.IntN.{ℤ}
+use lib.ListN.{length}
+use borrow.Author.Tests.{le-leb, lt-leb}
+use Rattle.notation.specs.Choice.{_and_}
+use Rattle.word.specs.Kinds.{wrongType, badRing}
+use Rattle.json.specs.Tree.{Json}
+use Rattle.walk.specs.declared.Item.{Item}
+use Rattle.walk.specs.declared.ItemStep.the-variants as step
+use Rattle.walk.specs.Walk.{part, itemAt}
+use Rattle.walk.specs.Part.{Whole, treeOf, kindAt}
+use Rattle.walk.proofs.Parts.{item-whole}
+use Rattle.geometry.specs.Ring.{Point}
+use Rattle.geometry.specs.Shifted.{OnMap, point, shifted, origin}
+use Rattle.geometry.specs.declared.Position.{Position}
+use Rattle.schema.specs.Shape as shape
+use Rattle.schema.specs.Pick.{Picked, PickedItems, bare, items, pick}
+use Rattle.scalar.specs.Scalars.{unless}
+use Rattle.rings.specs.Rings.{at, listOf, count, ordinate, ordinateKinds, numberKinds, positionKinds, pointOf, position}
+use Rattle.rings.specs.Least.{lesser, leastFound}
+use Rattle.rings.specs.Parts.{numberShape, positionShape, picked, partsOf, Left, isArray, isNumber, rangeKinds, Measured, listKinds, restKinds, Spotted}
+use Rattle.rings.specs.declared.LeastFound.{LeastFound}
+use Rattle.rings.specs.declared.LeastFound.the-variants.{None, At}
+use Rattle.rings.specs.declared.Ordinate.{Ordinate}
+use Rattle.rings.specs.declared.Spot.{Spot}
+use Rattle.rings.proofs.Order.{lesser-none, none-lesser, lesser-comm, lesser-assoc, both-none, least-at}
+use Rattle.rings.proofs.Picked.{left-end, left-more, array-picked, other-picked}
+use Rattle.rings.proofs.Numbers.{longitude-kinds, latitude-kinds, third-kinds, least-one, least-empty, not-none}
+
+abbrev first : ℕ → List ℕ → LeastFound
+first n ks = leastFound (at n ks)
+
+-- what follows lon and lat, at a place of p
+module _ (p : List ℕ) (at₀ n : ℕ) (l : List Picked) (h : Left numberShape p at₀ l) where
+  pub rest-none : itemAt p at₀ ≡ step.End → None ≡ first n (restKinds l)
+  unfolding restKinds
+  rest-none e = sym (ap (λ k. first n (restKinds k)) (left-end numberShape p at₀ l h e) ∙ least-empty n)
+
+  module _ (m : Item) (e : itemAt p at₀ ≡ step.Found m) (t : Bool) (told : t ≡ isNumber (kindAt (part p (m .value) (m .«value_end»)))) where
+    third : unless t wrongType ≡ ordinateKinds shape.ordinate (picked numberShape p m)
+    third = ap (λ s. unless s wrongType) told ∙ third-kinds (item-whole p at₀ m e)
+
+    pub rest-one : itemAt p (m .next) ≡ step.End → first n (unless t wrongType) ≡ first n (restKinds l)
+    unfolding restKinds
+    rest-one f =
+        let o = left-more numberShape p at₀ l h m e in
+        let z : l ≡ picked numberShape p m ∷ [] = o .is ∙ ap (λ k. picked numberShape p m ∷ k) (left-end numberShape p (m .next) (o .rest) (o .left) f) in
+        ap (first n) third ∙ sym (ap (λ k. first n (restKinds k)) z)
+
+    pub rest-two : (w : Item) → itemAt p (m .next) ≡ step.Found w → lesser (At n badRing) (first n (unless t wrongType)) ≡ first n (restKinds l)
+    unfolding restKinds
+    rest-two w f =
+        let o = left-more numberShape p at₀ l h m e in
+        let u = left-more numberShape p (m .next) (o .rest) (o .left) w f in
+        let z : l ≡ picked numberShape p m ∷ picked numberShape p w ∷ u .rest = o .is ∙ ap (λ k. picked numberShape p m ∷ k) (u .is) in
+        ap (lesser (At n badRing)) (ap (first n) third)
+        ∙ ap (λ k. lesser k (first n (ordinateKinds shape.ordinate (picked numberShape p m)))) (sym (least-one n badRing))
+        ∙ sym (ap (λ k. first n (restKinds k)) z ∙ least-at n (badRing ∷ []) _)
+
+-- all items
+none-kinds : listKinds [] ≡ badRing ∷ []
+unfolding listKinds numberKinds
+none-kinds = refl
+
+one-kinds : (x : Picked) → listKinds (x ∷ []) ≡ badRing ∷ rangeKinds 180 x
+unfolding listKinds numberKinds
+one-kinds x = ap (λ ks. badRing ∷ ks) (longitude-kinds x)
+
+-- a fault in the third place comes to the front
+swap : (a b c : LeastFound) → lesser a (lesser b c) ≡ lesser b (lesser a c)
+swap a b c = sym (lesser-assoc a b c) ∙ ap (λ z. lesser z c) (lesser-comm a b) ∙ lesser-assoc b a c
+
+module _ (n : ℕ) (x y : Picked) where
+  abbrev three : List ℕ → LeastFound
+  three ks = lesser (first n (rangeKinds 180 x)) (lesser (first n (rangeKinds 90 y)) (first n ks))
+
+  three-kinds : (ks : List ℕ) → three ks ≡ first n (ordinateKinds shape.longitude x ++ ordinateKinds shape.latitude y ++ ks)
+  three-kinds ks =
+      let xs = ordinateKinds shape.longitude x in let ys = ordinateKinds shape.latitude y in
+      sym (least-at n (xs ++ ys) ks ∙ ap (λ z. lesser z (first n ks)) (least-at n xs ys) ∙ lesser-assoc (first n xs) (first n ys) (first n ks)
+      ∙ ap (λ cs. lesser (first n cs) (lesser (first n ys) (first n ks))) (longitude-kinds x)
+      ∙ ap (λ cs. lesser (first n (rangeKinds 180 x)) (lesser (first n cs) (first n ks))) (latitude-kinds y))
+
+  more-kinds : (l : List Picked) → three (restKinds l) ≡ first n (listKinds (x ∷ y ∷ l))
+  unfolding listKinds numberKinds restKinds
+  more-kinds [] =
+      three-kinds [] ∙ ap (first n) (append-nil (ordinateKinds shape.longitude x ++ ordinateKinds shape.latitude y))
+  more-kinds (z ∷ []) = three-kinds (ordinateKinds shape.ordinate z)
+  more-kinds (z ∷ w ∷ l) =
+      let cs = ordinateKinds shape.ordinate z in
+      let m = length (x ∷ y ∷ z ∷ w ∷ l) in
+      let a : 2 ≤ m = omega arith in let b : 3 < m = omega arith in
+      let bad = first n (badRing ∷ []) in
+      let all = ordinateKinds shape.longitude x ++ ordinateKinds shape.latitude y ++ cs in
+      let t : (leb 2 m and leb m 3) ≡ false = ap (λ s. s and leb m 3) (le-leb 2 m a) ∙ lt-leb m 3 b in
+      ap (λ k. lesser (first n (rangeKinds 180 x)) (lesser (first n (rangeKinds 90 y)) k)) (least-at n (badRing ∷ []) cs)
+      ∙ ap (lesser (first n (rangeKinds 180 x))) (swap (first n (rangeKinds 90 y)) bad (first n cs))
+      ∙ swap (first n (rangeKinds 180 x)) bad (lesser (first n (rangeKinds 90 y)) (first n cs))
+      ∙ ap (lesser bad) (three-kinds cs) ∙ sym (ap (λ s. first n (unless s badRing ++ all)) t ∙ least-at n (badRing ∷ []) all)
+
+-- the same fault
+pub spotted-as : (n : ℕ) (kinds : List ℕ) (q : Point) (found first : LeastFound) {at : Position} → found ≡ first
+    → Spotted n kinds q (record { least = first; point = at }) → Spotted n kinds q (record { least = found; point = at })
+spotted-as n kinds q found first {at} e s = rw e s
+
+-- a position that is not sound
+pub spotted-broken : (n : ℕ) (kinds : List ℕ) (q : Point) (s : Spot) (found : LeastFound) → s ≡ record { least = found; point = origin }
+    → found ≡ first n kinds → (found ≡ None → ⊥) → Spotted n kinds q s
+spotted-broken n kinds q s found e f never =
+    rw e record { least = f; point = λ z. absurd (never z); map = record { east = omega arith; north = omega arith } }
+
+pub spotted-empty : (n : ℕ) (l : List Picked) (q : Point) (s : Spot) → l ≡ [] → s ≡ record { least = At n badRing; point = origin } → Spotted n (listKinds l) q s
+spotted-empty n l q s h e =
+    spotted-broken n (listKinds l) q s (At n badRing) e (sym (ap (λ k. first n (listKinds k)) h ∙ ap (first n) none-kinds ∙ least-one n badRing)) (λ z. not-none z)
+
+abbrev pointAt : ℤ → ℤ → Point
+pointAt x y = record { lon = x; lat = y }
+
+-- lon, and what follows it
+module _ (n : ℕ) (x : Picked) (lon : Ordinate) (east : Measured 180 n x lon) where
+  pub spotted-one : (l : List Picked) (q : Point) (s : Spot) (found : LeastFound) → l ≡ [] → found ≡ lesser (At n badRing) (lon .least)
+      → s ≡ record { least = found; point = origin } → Spotted n (listKinds (x ∷ l)) q s
+  spotted-one l q s found h f e =
+      spotted-broken n (listKinds (x ∷ l)) q s found e
+      (f ∙ ap (lesser (At n badRing)) (east .least) ∙ ap (λ k. lesser k (first n (rangeKinds 180 x))) (sym (least-one n badRing))
+      ∙ sym (ap (λ k. first n (listKinds (x ∷ k))) h ∙ ap (first n) (one-kinds x) ∙ least-at n (badRing ∷ []) (rangeKinds 180 x)))
+      (λ z. not-none (both-none (At n badRing) (lon .least) (sym f ∙ z) .0))
+
+  pub spotted-more : (l : List Picked) (y : Picked) (r : List Picked) (lat : Ordinate) (rest : LeastFound) → l ≡ y ∷ r → Measured 90 n y lat
+      → rest ≡ first n (restKinds r)
+      → Spotted n (listKinds (x ∷ l)) (pointOf (x ∷ l))
+      (record { least = lesser (lon .least) (lesser (lat .least) rest); point = record { lon = lon .value; lat = lat .value } })
+  unfolding pointOf
+  spotted-more l y r lat rest h north g =
+      let all = lesser (lon .least) (lesser (lat .least) rest) in
+      let sound = both-none (lon .least) (lesser (lat .least) rest) in
+      rw h
+      record {
+        least =
+            ap (λ k. lesser k (lesser (lat .least) rest)) (east .least) ∙ ap (λ k. lesser (first n (rangeKinds 180 x)) (lesser k rest)) (north .least)
+            ∙ ap (λ k. lesser (first n (rangeKinds 180 x)) (lesser (first n (rangeKinds 90 y)) k)) g ∙ more-kinds n x y r;
+        point = λ z.
+            let a = east .value (sound z .0) in let b = north .value (both-none (lat .least) rest (sound z .1) .0) in
+            ap₂ pointAt a b;
+        map = record { east = east .upto; north = north .upto };
+      }
+
+-- an item of a ring
+module _ {p : List ℕ} {x : Json} (w : Whole p x) (n : ℕ) (s : Spot) where
+  pub spotted-array : isArray (kindAt p) ≡ true → Spotted n (listKinds (partsOf numberShape p)) (pointOf (partsOf numberShape p)) s
+      → Spotted n (positionKinds (pick positionShape x)) (position (pick positionShape x)) s
+  unfolding positionKinds position count listKinds
+  spotted-array e h =
+      let k = array-picked shape.positions 3 numberShape x w e in
+      rw (k .picks) (rw (k .parts) h)
+
+  pub spotted-other : isArray (kindAt p) ≡ false → s ≡ record { least = At n wrongType; point = origin }
+      → Spotted n (positionKinds (pick positionShape x)) (position (pick positionShape x)) s
+  unfolding positionKinds
+  spotted-other e h =
+      let k = other-picked shape.positions 3 numberShape x w e in
+      spotted-broken n _ _ s (At n wrongType) h (sym (ap (λ z. first n (positionKinds z)) (k .1) ∙ least-one n wrongType)) (λ z. not-none z)

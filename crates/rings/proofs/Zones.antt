@@ -1,0 +1,102 @@
+-- Rings in a polygon and polygons in a zone: each is an array's items judged one after the other, with the rule of its own count.
+use mathlib.Core.Bool.{Bool, true, false}
+use mathlib.Core.List.{List, [], _∷_, _++_}
+use mathlib.Core.Path.{_≡_, refl, sym, ap, ap₂, subst, _∙_}
+use Prim.Native.Nat.{ℕ, _+_, _≤_}
+use native.Mathlib.Omega.{arith}
+use lib.Dec.{eqb, leb}
+use lib.ListN.{length}
+use Rattle.limits.specs.Ceilings as ceiling
+use Rattle.word.specs.Kinds.{wrongType, tooMany, badRing}
+use Rattle.json.specs.Tree as tree
+use Rattle.json.specs.Tree.{Json}
+use Rattle.walk.specs.Part.{Whole, kindAt}
+use Rattle.schema.specs.Shape as shape
+use Rattle.schema.specs.Table23.{coordinates}
+use Rattle.schema.specs.Pick.{Picked, PickedItems, bare, items, each, pick}
+use Rattle.scalar.specs.Scalars.{unless}
+use Rattle.rings.specs.Rings.{Found, at, listOf, count, ring, ringPositions, ringFound, ringsFound, ringsPositions, polygon, polygonPositions, polygonsFound, coordinatesFound}
+use Rattle.rings.specs.Least.{lesser, leastFound}
+use Rattle.rings.specs.Parts.{positionShape, ringShape, polygonShape, partsOf, isArray, positionsIn, foundIn, Tells, Tallied}
+use Rattle.rings.specs.declared.LeastFound.{LeastFound}
+use Rattle.rings.specs.declared.LeastFound.the-variants.{None, At}
+use Rattle.rings.specs.declared.Judged.{Judged}
+use Rattle.rings.specs.declared.Tally.{Tally}
+use Rattle.rings.proofs.Order.{least-append}
+use Rattle.rings.proofs.Picked.{parts-picked, array-picked, other-picked}
+use Rattle.rings.proofs.Numbers.{least-one}
+
+-- the definitions, as items after another
+rings-found : (n : ℕ) (l : List Picked) → ringsFound n l ≡ foundIn ring ringPositions n l
+unfolding ringsFound foundIn
+rings-found n [] = refl
+rings-found n (x ∷ l) = ap (λ (fs : List Found). ring n x ++ fs) (rings-found (n + ringPositions x) l)
+
+rings-positions : (l : List Picked) → ringsPositions l ≡ positionsIn ringPositions l
+unfolding ringsPositions positionsIn
+rings-positions [] = refl
+rings-positions (x ∷ l) = ap (λ k. ringPositions x + k) (rings-positions l)
+
+polygons-found : (n : ℕ) (l : List Picked) → polygonsFound n l ≡ foundIn polygon polygonPositions n l
+unfolding polygonsFound foundIn
+polygons-found n [] = refl
+polygons-found n (x ∷ l) = ap (λ (fs : List Found). polygon n x ++ fs) (polygons-found (n + polygonPositions x) l)
+
+abbrev broken : ℕ → Judged
+broken n = record { positions = 0; least = At n wrongType }
+
+module _ {p : List ℕ} {x : Json} (w : Whole p x) (n : ℕ) where
+  -- an item of a polygon
+  pub ring-array : (r : Judged) → isArray (kindAt p) ≡ true → Tells (ringFound n (partsOf positionShape p)) (length (partsOf positionShape p)) (length p) r
+      → Tells (ring n (pick ringShape x)) (ringPositions (pick ringShape x)) (length p) r
+  unfolding count
+  ring-array r e h = let k = array-picked shape.positions ceiling.positions positionShape x w e in rw (k .picks) (rw (k .parts) h)
+
+  pub ring-other : isArray (kindAt p) ≡ false → Tells (ring n (pick ringShape x)) (ringPositions (pick ringShape x)) (length p) (broken n)
+  ring-other e =
+      let k = other-picked shape.positions ceiling.positions positionShape x w e in
+      rw (k .1) record { least = sym (least-one n wrongType); positions = refl; within = omega arith }
+
+  -- an item of the coordinates
+  pub polygon-array : (t : Tally) (found : LeastFound) → isArray (kindAt p) ≡ true → Tallied ring ringPositions n (partsOf ringShape p) (length p) t
+      → found ≡ lesser (leastFound (at n (unless (eqb (t .items) 1) badRing))) (t .least)
+      → Tells (polygon n (pick polygonShape x)) (polygonPositions (pick polygonShape x)) (length p) (record { positions = t .positions; least = found })
+  unfolding count
+  polygon-array t found e h f =
+      let k = array-picked shape.positions 1 ringShape x w e in
+      let l = partsOf ringShape p in
+      rw (k .picks) (rw (k .parts)
+      record {
+        least =
+            f ∙ ap₂ lesser (ap (λ m. leastFound (at n (unless (eqb m 1) badRing))) (h .items)) (h .least ∙ ap leastFound (sym (rings-found n l)))
+            ∙ sym (least-append (at n (unless (eqb (length l) 1) badRing)) (ringsFound n l));
+        positions = h .positions ∙ sym (rings-positions l);
+        within = h .within;
+      })
+
+  pub polygon-other : isArray (kindAt p) ≡ false → Tells (polygon n (pick polygonShape x)) (polygonPositions (pick polygonShape x)) (length p) (broken n)
+  polygon-other e =
+      let k = other-picked shape.positions 1 ringShape x w e in
+      rw (k .1) record { least = sym (least-one n wrongType); positions = refl; within = omega arith }
+
+-- all of field 73
+items-list : (x : Json) (p : List ℕ) (is : PickedItems) → Whole p x → pick coordinates x ≡ items is → listOf is ≡ partsOf polygonShape p
+unfolding pick coordinates
+items-list tree.null p is w e = let z : _≡_ {A = ℕ} 0 1 = cc in absurd (omega arith)
+items-list (tree.boolean b) p is w e = let z : _≡_ {A = ℕ} 0 1 = cc in absurd (omega arith)
+items-list (tree.number s) p is w e = let z : _≡_ {A = ℕ} 0 1 = cc in absurd (omega arith)
+items-list (tree.string s) p is w e = let z : _≡_ {A = ℕ} 0 1 = cc in absurd (omega arith)
+items-list (tree.array js) p is w e =
+    let z : each (λ y. pick polygonShape y) js ≡ is = cc in
+    ap listOf (sym z) ∙ parts-picked shape.positions ceiling.polygons polygonShape w
+items-list (tree.object ms) p is w e = let z : _≡_ {A = ℕ} 0 1 = cc in absurd (omega arith)
+
+pub coordinates-found : {p : List ℕ} (t : Tally) → Tallied polygon polygonPositions 1 (partsOf polygonShape p) (length p) t
+    → (x : Json) (is : PickedItems) → Whole p x → pick coordinates x ≡ items is
+    → lesser (leastFound (at 0 (unless (leb (t .items) ceiling.polygons) tooMany))) (t .least) ≡ leastFound (coordinatesFound is)
+unfolding coordinatesFound count
+coordinates-found {p} t h x is w e =
+    let l = items-list x p is w e in
+    ap₂ lesser (ap (λ m. leastFound (at 0 (unless (leb m ceiling.polygons) tooMany))) (h .items ∙ ap length (sym l)))
+    (h .least ∙ ap leastFound (sym (polygons-found 1 (partsOf polygonShape p)) ∙ ap (polygonsFound 1) (sym l)))
+    ∙ sym (least-append (at 0 (unless (leb (length (listOf is)) ceiling.polygons) tooMany)) (polygonsFound 1 (listOf is)))

@@ -1,0 +1,16 @@
+-- What is no array is of the wrong type; an array is judged by its items.
+use mathlib.Core.Path.{_≡_, sym, _∙_}
+use borrow.Author.Needs.{needs}
+use borrow.Author.Tests.{not-true, not-false}
+use Rattle.rings.proofs.Positions.{spotted-array, spotted-other}
+use Rattle.rings.proofs.position.judge_position.Statement.{statement}
+use Rattle.rings.proofs.position.judge_position.Tie as tie
+
+returns : tie.Need-returns
+returns c x w = spotted-other w _ _ (sym (c .before .before .is-array .ensures) ∙ not-true _ (c .before .if1 .taken)) (c .broken .ensures)
+
+returns-2 : tie.Need-returns-2
+returns-2 c x w = spotted-array w _ _ (sym (c .before .before .is-array .ensures) ∙ not-false _ (c .before .if1 .left)) (c .judge-numbers .ensures)
+
+pub judge-position-spec : {M : Type 1} → statement M
+judge-position-spec = tie.close (tie.spec (λ c κs. search needs) (λ c κs. search needs) returns (λ c κs. search needs) returns-2)

@@ -1,0 +1,17 @@
+-- The polygons, judged from number 1 on, and their count at number 0.
+use mathlib.Core.Path.{_≡_, ap, _∙_}
+use native.Mathlib.Omega.{arith}
+use borrow.Author.Needs.{needs}
+use Rattle.rings.specs.Least.{lesser}
+use Rattle.rings.specs.declared.LeastFound.{LeastFound}
+use Rattle.rings.proofs.Zones.{coordinates-found}
+use Rattle.rings.proofs.zone.judge_coordinates.Statement.{statement}
+use Rattle.rings.proofs.zone.judge_coordinates.Tie as tie
+
+returns : tie.Need-returns
+returns c x is w e =
+    let r = c .before .before .before .judge-polygons in
+    c .lesser .ensures ∙ ap (λ (z : LeastFound). lesser z (r .result .least)) (c .before .unless .ensures) ∙ coordinates-found (r .result) (r .ensures) x is w e
+
+pub judge-coordinates-spec : {M : Type 1} → statement M
+judge-coordinates-spec = tie.close (tie.spec (λ c κs. search needs) (λ c. search needs) (λ c κs. search needs) (λ c κs. search needs) returns)

@@ -1,0 +1,4 @@
+pub mod Rings
+pub mod Least
+pub mod Parts
+pub mod Cases

@@ -1,0 +1,142 @@
+-- Field 73, coordinates: document 01's rules on polygons, rings and positions, with the numbers that positions count over the whole zone.
+use mathlib.Core.Bool.{Bool, true, false}
+use mathlib.Core.List.{List, [], _∷_, _++_, map}
+use Prim.Native.Nat.{ℕ, _+_}
+use lib.Dec.{eqb, leb}
+use lib.ListN.{length}
+use lib.IntN.{ℤ, pos}
+use Rattle.limits.specs.Ceilings.{polygons, positions}
+use Rattle.notation.specs.Choice.{_⇒_else_, _and_}
+use Rattle.word.specs.Kinds.{wrongType, tooMany, badRing}
+use Rattle.json.specs.Tree as tree
+use Rattle.json.specs.Tree.{Json}
+use Rattle.decimal.specs.declared.Number.{Number}
+use Rattle.decimal.specs.declared.Number.the-variants as number
+use Rattle.decimal.specs.Decimals.{numberOf}
+use Rattle.decimal.specs.Exact.{millionths}
+use Rattle.geometry.specs.Ring.{Point, sound}
+use Rattle.schema.specs.Shape as sort
+use Rattle.schema.specs.Pick.{Picked, PickedItems, bare, items, slots, noItem, item}
+use Rattle.scalar.specs.Scalars.{unless, kindsOf}
+
+-- what is found at a position's number: its kind
+pub record Found : Type 0 where
+  pub number : ℕ
+  pub kind : ℕ
+
+unfoldable pub at : ℕ → List ℕ → List Found
+at n [] = []
+at n (k ∷ ks) = record { number = n; kind = k } ∷ at n ks
+
+-- items as a list
+unfoldable pub listOf : PickedItems → List Picked
+listOf noItem = []
+listOf (item x is) = x ∷ listOf is
+
+unfoldable pub count : PickedItems → ℕ
+count is = length (listOf is)
+
+-- the kinds of the numbers of a position: lon, lat and any third number; what comes after them is not judged
+unfoldable pub ordinateKinds : sort.Sort → Picked → List ℕ
+ordinateKinds σ (bare x) = kindsOf σ x
+ordinateKinds σ (items is) = wrongType ∷ []
+ordinateKinds σ (slots ss) = wrongType ∷ []
+
+unfoldable pub numberKinds : List Picked → List ℕ
+numberKinds [] = []
+numberKinds (x ∷ []) = ordinateKinds sort.longitude x
+numberKinds (x ∷ y ∷ []) = ordinateKinds sort.longitude x ++ ordinateKinds sort.latitude y
+numberKinds (x ∷ y ∷ z ∷ rest) =
+    ordinateKinds sort.longitude x ++ ordinateKinds sort.latitude y ++ ordinateKinds sort.ordinate z
+
+-- a position: an array of two or three numbers
+unfoldable pub positionKinds : Picked → List ℕ
+positionKinds (items is) = unless (leb 2 (count is) and leb (count is) 3) badRing ++ numberKinds (listOf is)
+positionKinds (bare x) = wrongType ∷ []
+positionKinds (slots ss) = wrongType ∷ []
+
+-- the point of a sound position; the origin stands in for one that is not sound, and is never looked at
+abbrev pub coordinate : Number → ℤ
+coordinate (number.Value d) = millionths d
+coordinate number.Unformed = pos 0
+
+abbrev pub ordinate : Picked → ℤ
+ordinate (bare tree.null) = pos 0
+ordinate (bare (tree.boolean b)) = pos 0
+ordinate (bare (tree.number s)) = coordinate (numberOf s)
+ordinate (bare (tree.string s)) = pos 0
+ordinate (bare (tree.array is)) = pos 0
+ordinate (bare (tree.object ms)) = pos 0
+ordinate (items is) = pos 0
+ordinate (slots ss) = pos 0
+
+unfoldable pub pointOf : List Picked → Point
+pointOf [] = record { lon = pos 0; lat = pos 0 }
+pointOf (x ∷ []) = record { lon = ordinate x; lat = pos 0 }
+pointOf (x ∷ y ∷ rest) = record { lon = ordinate x; lat = ordinate y }
+
+unfoldable pub position : Picked → Point
+position (items is) = pointOf (listOf is)
+position (bare x) = pointOf []
+position (slots ss) = pointOf []
+
+-- no kinds at all
+unfoldable pub none : List ℕ → Bool
+none [] = true
+none (k ∷ ks) = false
+
+unfoldable pub allSound : List Picked → Bool
+allSound [] = true
+allSound (x ∷ l) = none (positionKinds x) and allSound l
+
+-- the positions of a ring, each with its number: the first has the number n
+unfoldable pub positionsFound : ℕ → List Picked → List Found
+positionsFound n [] = []
+positionsFound n (x ∷ l) = at n (positionKinds x) ++ positionsFound (n + 1) l
+
+-- a ring whose first position has the number n; faults of the whole ring stand there
+unfoldable pub ringFound : ℕ → List Picked → List Found
+ringFound n l =
+    at n (unless (leb 4 (length l)) badRing) ++
+    at n (unless (leb (length l) positions) tooMany) ++
+    positionsFound n l ++
+    -- first equals last, and the area sum is not zero
+    (allSound l ⇒ at n (unless (sound (map position l)) badRing) else [])
+
+-- an item of a polygon: what is found in it, and how many positions it has
+abbrev pub ring : ℕ → Picked → List Found
+ring n (items is) = ringFound n (listOf is)
+ring n (bare x) = at n (wrongType ∷ [])
+ring n (slots ss) = at n (wrongType ∷ [])
+
+abbrev pub ringPositions : Picked → ℕ
+ringPositions (items is) = count is
+ringPositions (bare x) = 0
+ringPositions (slots ss) = 0
+
+unfoldable pub ringsFound : ℕ → List Picked → List Found
+ringsFound n [] = []
+ringsFound n (x ∷ l) = ring n x ++ ringsFound (n + ringPositions x) l
+
+unfoldable pub ringsPositions : List Picked → ℕ
+ringsPositions [] = 0
+ringsPositions (x ∷ l) = ringPositions x + ringsPositions l
+
+-- a polygon: one ring
+abbrev pub polygon : ℕ → Picked → List Found
+polygon n (items is) = at n (unless (eqb (count is) 1) badRing) ++ ringsFound n (listOf is)
+polygon n (bare x) = at n (wrongType ∷ [])
+polygon n (slots ss) = at n (wrongType ∷ [])
+
+abbrev pub polygonPositions : Picked → ℕ
+polygonPositions (items is) = ringsPositions (listOf is)
+polygonPositions (bare x) = 0
+polygonPositions (slots ss) = 0
+
+unfoldable pub polygonsFound : ℕ → List Picked → List Found
+polygonsFound n [] = []
+polygonsFound n (x ∷ l) = polygon n x ++ polygonsFound (n + polygonPositions x) l
+
+-- all of field 73, where it is an array: too many polygons stand at 0
+unfoldable pub coordinatesFound : PickedItems → List Found
+coordinatesFound is = at 0 (unless (leb (count is) polygons) tooMany) ++ polygonsFound 1 (listOf is)

@@ -1,0 +1,151 @@
+// One position: an array of lon, lat and perhaps a third number.
+use crate::LeastFound;
+use crate::Ordinate;
+use crate::Spot;
+use decimal::Number;
+use decimal::spelling::read_decimal;
+use geometry::Position;
+use walk::ItemStep;
+use walk::ValueKind;
+use walk::next_item;
+use walk::value_kind;
+use word::kind::Kind;
+ghost use mathlib.Core.Path.{_≡_};
+ghost use mathlib.Core.List.{List, _∷_};
+ghost use Prim.Native.Nat.{_≤_};
+ghost use Rattle.json.specs.Tree.{Json};
+ghost use Rattle.walk.specs.Part.{Whole, kindAt};
+ghost use Rattle.schema.specs.Pick.{Picked, pick};
+ghost use Rattle.rings.specs.Rings.{at as foundAt, positionKinds, pointOf, position};
+ghost use Rattle.rings.specs.Least.{leastFound};
+ghost use Rattle.rings.specs.declared.LeastFound.the-variants.{At};
+ghost use Rattle.geometry.specs.Shifted.{origin};
+ghost use Rattle.rings.specs.Parts.{numberShape, positionShape, partsOf, Left, isArray, isNumber, Measured, listKinds, restKinds, Spotted};
+
+pub fn is_array(p: &[u8]) -> bool
+    ensures { λ r. ⌜ r ≡ isArray (kindAt (now (p .entry))) ⌝ }
+{
+    match value_kind(p) {
+        ValueKind::Null => false,
+        ValueKind::Boolean => false,
+        ValueKind::Number => false,
+        ValueKind::String => false,
+        ValueKind::Array => true,
+        ValueKind::Object => false,
+    }
+}
+
+fn is_number(p: &[u8]) -> bool
+    ensures { λ r. ⌜ r ≡ isNumber (kindAt (now (p .entry))) ⌝ }
+{
+    match value_kind(p) {
+        ValueKind::Null => false,
+        ValueKind::Boolean => false,
+        ValueKind::Number => true,
+        ValueKind::String => false,
+        ValueKind::Array => false,
+        ValueKind::Object => false,
+    }
+}
+
+impl Ordinate {
+    fn broken(number: u32, kind: u8) -> Ordinate
+        ensures { λ r. ⌜ r ≡ record { least = At number kind; value = 0 } ⌝ }
+    {
+        Ordinate {
+            least: LeastFound::At(number, kind),
+            value: 0,
+        }
+    }
+}
+
+// Lon or lat, from -most to most degrees.
+fn read_ordinate(p: &[u8], most: u64, number: u32) -> Ordinate
+    requires { ⌜ most ≤ 180 ⌝ }
+    ensures { λ r. ⌜ ((x : Json) → Whole (now (p .entry)) x → Measured most number (pick numberShape x) r) ⌝ }
+{
+    if !is_number(p) {
+        return Ordinate::broken(number, Kind::WRONG_TYPE);
+    }
+    let Number::Value(d) = read_decimal(p) else {
+        return Ordinate::broken(number, Kind::NUMBER_FORM);
+    };
+    if !d.within(most) {
+        return Ordinate::broken(number, Kind::OUT_OF_RANGE);
+    }
+    Ordinate {
+        least: LeastFound::None,
+        value: d.coordinate(most),
+    }
+}
+
+// What follows lon and lat: nothing, or one number of any size.
+fn judge_rest(p: &[u8], at: usize, number: u32) -> LeastFound
+    ensures { λ r. ⌜ ((l : List Picked) → Left numberShape (now (p .entry)) at l → r ≡ leastFound (foundAt number (restKinds l))) ⌝ }
+{
+    let ItemStep::Found(third) = next_item(p, at) else {
+        return LeastFound::None;
+    };
+    let from = third.value;
+    let upto = third.value_end;
+    let least = LeastFound::unless(is_number(&p[from..upto]), number, Kind::WRONG_TYPE);
+    let ItemStep::Found(fourth) = next_item(p, third.next) else {
+        return least;
+    };
+    return LeastFound::At(number, Kind::BAD_RING).lesser(least);
+}
+
+impl Spot {
+    fn broken(least: LeastFound) -> Spot
+        ensures { λ r. ⌜ r ≡ record { least = least; point = origin } ⌝ }
+    {
+        Spot {
+            least,
+            point: Position::origin(),
+        }
+    }
+}
+
+// Lat and what follows it, behind lon.
+fn judge_behind(p: &[u8], at: usize, lon: Ordinate, number: u32) -> Spot
+    ensures { λ r. ⌜ ((x : Picked) (l : List Picked) → Measured 180 number x lon → Left numberShape (now (p .entry)) at l → Spotted number (listKinds (x ∷ l)) (pointOf (x ∷ l)) r) ⌝ }
+{
+    let east = lon.least;
+    let ItemStep::Found(second) = next_item(p, at) else {
+        return Spot::broken(LeastFound::At(number, Kind::BAD_RING).lesser(east));
+    };
+    let from = second.value;
+    let upto = second.value_end;
+    let lat = read_ordinate(&p[from..upto], 90, number);
+    let north = lat.least;
+    let rest = judge_rest(p, second.next, number);
+    Spot {
+        least: east.lesser(north.lesser(rest)),
+        point: Position {
+            lon: lon.value,
+            lat: lat.value,
+        },
+    }
+}
+
+fn judge_numbers(p: &[u8], number: u32) -> Spot
+    ensures { λ r. ⌜ Spotted number (listKinds (partsOf numberShape (now (p .entry)))) (pointOf (partsOf numberShape (now (p .entry)))) r ⌝ }
+{
+    let ItemStep::Found(first) = next_item(p, 1) else {
+        return Spot::broken(LeastFound::At(number, Kind::BAD_RING));
+    };
+    let from = first.value;
+    let upto = first.value_end;
+    let lon = read_ordinate(&p[from..upto], 180, number);
+    return judge_behind(p, first.next, lon, number);
+}
+
+// The least kind of a position, at its number; and its point, where it is sound.
+pub fn judge_position(p: &[u8], number: u32) -> Spot
+    ensures { λ r. ⌜ ((x : Json) → Whole (now (p .entry)) x → Spotted number (positionKinds (pick positionShape x)) (position (pick positionShape x)) r) ⌝ }
+{
+    if !is_array(p) {
+        return Spot::broken(LeastFound::At(number, Kind::WRONG_TYPE));
+    }
+    return judge_numbers(p, number);
+}

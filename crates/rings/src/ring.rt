@@ -1,0 +1,113 @@
+// One ring: its positions, numbered one after the other.
+use crate::Judged;
+use crate::LeastFound;
+use crate::RingPoints;
+use crate::position::is_array;
+use crate::position::judge_position;
+use geometry::ring::sound;
+use limits::Limits;
+use walk::ItemStep;
+use walk::next_item;
+use word::kind::Kind;
+ghost use mathlib.Core.Path.{_≡_};
+ghost use Prim.Native.Nat.{_+_, _<_, _≤_, _^_};
+ghost use lib.Dec.{ltb};
+ghost use lib.ListN.{length, set};
+ghost use Rattle.limits.specs.Ceilings.{positions};
+ghost use Rattle.notation.specs.Choice.{_⇒_else_};
+ghost use Rattle.json.specs.Tree.{Json};
+ghost use Rattle.walk.specs.Part.{Whole};
+ghost use Rattle.schema.specs.Pick.{pick};
+ghost use Rattle.rings.specs.Rings.{ring, ringPositions, ringFound};
+ghost use Rattle.rings.specs.Least.{leastFound};
+ghost use Rattle.rings.specs.Parts.{positionShape, ringShape, partsOf, RingRead, Charted, areaLeast, Tells};
+
+// Into the place of position i, where there is one for it.
+fn keep(xs: &mut [u64; 256], i: u32, v: u64)
+    ensures { λ _. ⌜ now (xs .exit) ≡ (ltb i positions ⇒ set (now (xs .entry)) i v else now (xs .entry)) ⌝ }
+{
+    if i < Limits::POSITIONS as u32 {
+        xs[i as usize] = v;
+    }
+}
+
+// The positions of the ring p, the first with the number n.
+pub fn read_ring(p: &[u8], n: u32) -> RingPoints
+    requires { ⌜ n + length (now p) < 2 ^ 32 ⌝ }
+    ensures { λ r. ⌜ RingRead n (partsOf positionShape (now (p .entry))) (length (now (p .entry))) r ⌝ }
+{
+    let mut lons: [u64; 256] = [0; 256];
+    let mut lats: [u64; 256] = [0; 256];
+    let mut count: u32 = 0;
+    let mut least = LeastFound::None;
+    let mut at: usize = 1;
+    loop {
+        let ItemStep::Found(item) = next_item(p, at) else {
+            return RingPoints {
+                lons,
+                lats,
+                count,
+                least,
+            };
+        };
+        let from = item.value;
+        let upto = item.value_end;
+        let spot = judge_position(&p[from..upto], n + count);
+        let first = spot.least;
+        let point = spot.point;
+        least = least.lesser(first);
+        keep(&mut lons, count, point.lon);
+        keep(&mut lats, count, point.lat);
+        count += 1;
+        at = item.next;
+    }
+}
+
+// The area of a ring is asked for where its positions are all sound and there is room for them. With more of them kind 10 stands
+// at the same number and comes before kind 11.
+fn judge_area(r: RingPoints, n: u32) -> LeastFound
+    requires { ⌜ Charted (r .lons) (r .lats) ⌝ }
+    ensures { λ o. ⌜ o ≡ areaLeast n r ⌝ }
+{
+    let least = r.least;
+    let LeastFound::None = least else {
+        return LeastFound::None;
+    };
+    if (Limits::POSITIONS as u32) < r.count {
+        return LeastFound::None;
+    }
+    let count = r.count as usize;
+    let lons = r.lons;
+    let lats = r.lats;
+    return LeastFound::unless(sound(&lons[..count], &lats[..count]), n, Kind::BAD_RING);
+}
+
+fn judge_positions(p: &[u8], n: u32) -> Judged
+    requires { ⌜ n + length (now p) < 2 ^ 32 ⌝ }
+    ensures { λ r. ⌜ Tells (ringFound n (partsOf positionShape (now (p .entry)))) (length (partsOf positionShape (now (p .entry)))) (length (now (p .entry))) r ⌝ }
+{
+    let r = read_ring(p, n);
+    let count = r.count;
+    let few = LeastFound::unless(4 <= count, n, Kind::BAD_RING);
+    let many = LeastFound::unless(count <= Limits::POSITIONS as u32, n, Kind::TOO_MANY);
+    let found = r.least;
+    let least = few.lesser(many).lesser(found).lesser(judge_area(r, n));
+    Judged {
+        positions: count,
+        least,
+    }
+}
+
+// An item of a polygon, whose first position has the number n.
+pub fn judge_ring(p: &[u8], n: u32) -> Judged
+    requires { ⌜ n + length (now p) < 2 ^ 32 ⌝ }
+    ensures { λ r. ⌜ ((x : Json) → Whole (now (p .entry)) x → Tells (ring n (pick ringShape x)) (ringPositions (pick ringShape x)) (length (now (p .entry))) r) ⌝ }
+{
+    if !is_array(p) {
+        return Judged {
+            positions: 0,
+            least: LeastFound::At(n, Kind::WRONG_TYPE),
+        };
+    }
+    return judge_positions(p, n);
+}

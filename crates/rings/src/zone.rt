@@ -1,0 +1,108 @@
+// All of a zone's coordinates: polygons of one ring each.
+use crate::Judged;
+use crate::LeastFound;
+use crate::Tally;
+use crate::position::is_array;
+use crate::ring::judge_ring;
+use limits::Limits;
+use walk::ItemStep;
+use walk::next_item;
+use word::kind::Kind;
+ghost use mathlib.Core.Path.{_≡_};
+ghost use Prim.Native.Nat.{_+_, _<_, _≤_, _^_};
+ghost use lib.ListN.{length};
+ghost use Rattle.limits.specs.Ceilings.{fileBytes};
+ghost use Rattle.json.specs.Tree.{Json};
+ghost use Rattle.walk.specs.Part.{Whole};
+ghost use Rattle.schema.specs.Pick.{PickedItems, items as itemsAre, pick};
+ghost use Rattle.schema.specs.Table23.{coordinates};
+ghost use Rattle.rings.specs.Rings.{ring, ringPositions, polygon, polygonPositions, coordinatesFound};
+ghost use Rattle.rings.specs.Least.{leastFound};
+ghost use Rattle.rings.specs.Parts.{ringShape, polygonShape, partsOf, Tells, Tallied};
+
+// The items of the polygon p, the first position of which has the number n.
+fn judge_rings(p: &[u8], n: u32) -> Tally
+    requires { ⌜ n + length (now p) < 2 ^ 32 ⌝ }
+    ensures { λ r. ⌜ Tallied ring ringPositions n (partsOf ringShape (now (p .entry))) (length (now (p .entry))) r ⌝ }
+{
+    let mut items: u32 = 0;
+    let mut positions: u32 = 0;
+    let mut least = LeastFound::None;
+    let mut at: usize = 1;
+    loop {
+        let ItemStep::Found(item) = next_item(p, at) else {
+            return Tally {
+                items,
+                positions,
+                least,
+            };
+        };
+        let from = item.value;
+        let upto = item.value_end;
+        let judged = judge_ring(&p[from..upto], n + positions);
+        let first = judged.least;
+        least = least.lesser(first);
+        items += 1;
+        positions += judged.positions;
+        at = item.next;
+    }
+}
+
+// An item of the coordinates, whose first position has the number n.
+fn judge_polygon(p: &[u8], n: u32) -> Judged
+    requires { ⌜ n + length (now p) < 2 ^ 32 ⌝ }
+    ensures { λ r. ⌜ ((x : Json) → Whole (now (p .entry)) x → Tells (polygon n (pick polygonShape x)) (polygonPositions (pick polygonShape x)) (length (now (p .entry))) r) ⌝ }
+{
+    if !is_array(p) {
+        return Judged {
+            positions: 0,
+            least: LeastFound::At(n, Kind::WRONG_TYPE),
+        };
+    }
+    let rings = judge_rings(p, n);
+    let found = rings.least;
+    Judged {
+        positions: rings.positions,
+        least: LeastFound::unless(rings.items == 1, n, Kind::BAD_RING).lesser(found),
+    }
+}
+
+// The items of the coordinates p, the first position of which has the number n.
+fn judge_polygons(p: &[u8], n: u32) -> Tally
+    requires { ⌜ n + length (now p) < 2 ^ 32 ⌝ }
+    ensures { λ r. ⌜ Tallied polygon polygonPositions n (partsOf polygonShape (now (p .entry))) (length (now (p .entry))) r ⌝ }
+{
+    let mut items: u32 = 0;
+    let mut positions: u32 = 0;
+    let mut least = LeastFound::None;
+    let mut at: usize = 1;
+    loop {
+        let ItemStep::Found(item) = next_item(p, at) else {
+            return Tally {
+                items,
+                positions,
+                least,
+            };
+        };
+        let from = item.value;
+        let upto = item.value_end;
+        let judged = judge_polygon(&p[from..upto], n + positions);
+        let first = judged.least;
+        least = least.lesser(first);
+        items += 1;
+        positions += judged.positions;
+        at = item.next;
+    }
+}
+
+// The first fault of the array that field 73 is.
+// Shut out: a count of polygons, rings or positions that hides another fault; a ring compared before it is cut to six decimals; a number
+// that is off by one.
+pub fn judge_coordinates(p: &[u8]) -> LeastFound
+    requires { ⌜ length (now p) ≤ fileBytes ⌝ }
+    ensures { λ r. ⌜ ((x : Json) (is : PickedItems) → Whole (now (p .entry)) x → pick coordinates x ≡ itemsAre is → r ≡ leastFound (coordinatesFound is)) ⌝ }
+{
+    let polygons = judge_polygons(p, 1);
+    let found = polygons.least;
+    LeastFound::unless(polygons.items <= Limits::POLYGONS as u32, 0, Kind::TOO_MANY).lesser(found)
+}
