@@ -1,0 +1,33 @@
+// Numbers in decimal, from 0 to the greatest of 64 bits.
+pub enum Number {
+    Malformed,
+    Is(u64),
+}
+
+pub fn parse(word: &[u8]) -> Number {
+    if word.len() == 0 {
+        return Number::Malformed;
+    }
+    let mut n = 0;
+    let mut i = 0;
+    while i < word.len() {
+        let Number::Is(more) = with_digit(n, word[i]) else {
+            return Number::Malformed;
+        };
+        n = more;
+        i += 1;
+    }
+    Number::Is(n)
+}
+
+// The number with a digit more, where the byte is one and the number has room.
+fn with_digit(n: u64, b: u8) -> Number {
+    if b < b'0' || b'9' < b {
+        return Number::Malformed;
+    }
+    let digit = (b - b'0') as u64;
+    if n > (u64::MAX - digit) / 10 {
+        return Number::Malformed;
+    }
+    Number::Is(n * 10 + digit)
+}

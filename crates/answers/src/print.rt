@@ -1,0 +1,32 @@
+// Parts of an answer's line, to standard output.
+use libc::STDOUT_FILENO;
+use word::Parts;
+
+pub fn error() {
+    io::write_all(STDOUT_FILENO, b"error\n");
+}
+
+// The number that an answer begins with.
+pub fn first(n: u64) {
+    io::print_decimal(STDOUT_FILENO, n);
+}
+
+// A number after others.
+pub fn next(n: u64) {
+    io::write_all(STDOUT_FILENO, b" ");
+    io::print_decimal(STDOUT_FILENO, n);
+}
+
+pub fn end() {
+    io::write_all(STDOUT_FILENO, b"\n");
+}
+
+// What a word says, after the answer's number.
+pub fn parts(p: Parts) {
+    next(p.file as u64);
+    next(p.kind as u64);
+    next(p.field as u64);
+    next(p.record as u64);
+    next(p.sub as u64);
+    next(p.offset as u64);
+}

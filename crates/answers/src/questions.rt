@@ -1,0 +1,20 @@
+// The questions by name. A question's module answers whether the line was well formed, and prints the answer where it was.
+use crate::print;
+use crate::read_word;
+use crate::words;
+
+pub fn answer(line: &[u8]) {
+    let mut bytes = io::large_buffer();
+    if !ask(line, &mut bytes) {
+        print::error();
+    }
+}
+
+// `bytes` is room for the byte strings that the line spells.
+fn ask(line: &[u8], bytes: &mut [u8]) -> bool {
+    let name = words::at(line, 0);
+    if words::same(name, b"word") {
+        return read_word::answer(line, bytes);
+    }
+    false
+}
