@@ -1,4 +1,4 @@
--- The form of listed numbers: document 01, "Numbers". At most 12 digits before the point, 18 after it, no exponent.
+-- The form of listed numbers: document 01, "Numbers". It bounds the digits on either side of the point and admits no exponent.
 use mathlib.Core.Bool.{Bool, true, false, not}
 use mathlib.Core.List.{List, [], _∷_, map}
 use Prim.Native.Nat.{ℕ, _+_, _-_, _*_, _^_}

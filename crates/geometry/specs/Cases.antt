@@ -20,7 +20,7 @@ degrees x y = record { lon = pos (x * 1_000_000); lat = pos (y * 1_000_000) }
 abbrev west : ℕ → ℕ → Point
 west x y = record { lon = negℤ (pos (x * 1_000_000)); lat = pos (y * 1_000_000) }
 
--- (j): the ring (0,0) (0,2) (2,2) (2,0) (0,0), and the same ring reversed
+-- reading (j)'s square of two degrees, clockwise from the origin, and the same the other way round
 abbrev square : List Point
 square = degrees 0 0 ∷ degrees 0 2 ∷ degrees 2 2 ∷ degrees 2 0 ∷ degrees 0 0 ∷ []
 

@@ -1,4 +1,4 @@
--- Rings as lists of points in millionths of a degree, on a flat plane: document 01, "Zones" and the last rules of field 73.
+-- Rings as lists of points, each coordinate a whole number of millionths, degrees taken as a plane: document 01, "Zones" and field 73's last rules.
 -- Whole numbers of any size; nothing here knows of machine words.
 use mathlib.Core.Bool.{Bool, false, not}
 use mathlib.Core.List.{List, [], _∷_}

@@ -1,5 +1,5 @@
--- A fault of kind 2 is at the end of the longest part that some text begins with: what stands before it can be gone on with to a whole
--- text, and with the byte at the fault it cannot. Each combinator hands this on; a reader in the middle must not begin with a blank.
+-- Where kind 2 is found no JSON text goes on, and up to there some text does: the bytes before the fault have an ending that completes
+-- them, and once the byte at the fault is added they have none. Each combinator hands this on; a reader in the middle must not begin with a blank.
 use mathlib.Core.Bool.{true, false}
 use mathlib.Core.List.{List, [], _∷_, _++_, append-assoc, append-nil}
 use mathlib.Core.Path.{_≡_, refl, sym, ap, subst, _∙_}
@@ -79,7 +79,7 @@ opened-failing g f faults b l r e = later (cons-faulted b (λ m. refl) (made-fau
 handed : {A B : Type 0} {o : Read A} {k n : ℕ} {q r : List ℕ} → o ≡ bad k q → _≡_ {A = Read B} (bad k q) (bad n r) → o ≡ bad n r
 handed e i = cc (e, bad-kind i, bad-rest i)
 
--- what is read whole is read before any text that may follow it
+-- reading to the end carries over to a longer text, where what follows may follow
 extend : {A : Type 0} {C : List ℕ → List ℕ → Type 0} (f : List ℕ → Read A) → Takes C f
     → (p z : List ℕ) (x : A) → f (p ++ z) ≡ done x [] → (q : List ℕ) → C [] q → f (p ++ (z ++ q)) ≡ done x q
 extend f takes p z x e q o =

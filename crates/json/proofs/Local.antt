@@ -1,4 +1,5 @@
--- Theorem 2. A value's own bytes, as a text of their own, are read to their end, with the same tree: a value looks at no more than what it takes.
+-- Theorem 2. The bytes of a value, cut out, are read whole and to the same tree, since reading a value looks past its last byte only to see
+-- that a number has ended.
 use mathlib.Core.List.{List, [], _++_, append-nil, append-cancel-right}
 use mathlib.Core.Path.{_≡_, sym, ap, _∙_}
 use Prim.Native.Nat.{ℕ, _+_, _-_, _≤_}

@@ -1,4 +1,4 @@
--- A value takes a byte at least, and looks at no more than what it takes: its part is read the same before any other text, and alone.
+-- A value takes a byte at least, and what it took decides what was read: another text behind it, or none, changes nothing.
 -- A number looks one byte further, so what follows one must not go on with it (Ok). Each combinator hands both properties on.
 use mathlib.Core.Bool.{Bool, true, false}
 use mathlib.Core.List.{List, [], _∷_, _++_, append-assoc}

@@ -1,5 +1,5 @@
--- A JSON text as a tree, as document 01's last section describes it: objects hold members (decoded name, value; repeats stay),
--- arrays items in their order, strings decoded bytes, numbers their spelling.
+-- A JSON text as a tree, by document 01's last section. An object keeps all its members, each a decoded name with a value, also where a
+-- name comes again; an array keeps its items' order; a string is its decoded bytes, and a number the way it is spelled.
 use mathlib.Core.Bool.{Bool}
 use mathlib.Core.List.{List, [], _∷_}
 use Prim.Native.Nat.{ℕ}

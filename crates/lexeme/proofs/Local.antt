@@ -30,7 +30,7 @@ Agree n l m = (i : ℕ) → i ≤ n → byte l i ≡ byte m i
 agree-drop : (k n : ℕ) (l m : List ℕ) → Agree (k + n) l m → Agree n (drop k l) (drop k m)
 agree-drop k n l m g i h = getD-drop k l i 0 ∙ g (k + i) (omega arith) ∙ sym (getD-drop k m i 0)
 
--- the answer o of f at l is decided by the bytes that it takes, or by those up to the fault; and these are there
+-- the answer o of f at l rests on the bytes that it took, or on those up to the fault, and all of them are in the text
 abbrev pub Near : (List ℕ → Next) → List ℕ → Next → Type 0
 Near f l Quote = byte l 0 ≡ 0x22
 Near f l (Character x) = (x .more < length l) × ((m : List ℕ) → Agree (x .more) l m → f m ≡ Character x)
@@ -46,7 +46,7 @@ pub data Way (ρ : Surrogates) (f : List ℕ → Next) (l : List ℕ) (o : Next)
   near : Near f l o → Way ρ f l o
   far : (v : ℕ) → Far o → 5 < length l → ((m : List ℕ) → Agree 5 l m → f m ≡ high ρ v (trail (drop 6 m))) → Way ρ f l o
 
--- a byte that is not 0 is there
+-- only a byte of the text can differ from 0
 pub here : (l : List ℕ) (i : ℕ) → (byte l i ≡ 0 → ⊥) → i < length l
 here l i h = by-test (ltb i (length l)) (ltb-true i (length l)) (λ e. absurd (h (List·getD-eq-default l 0 (ltb-false i (length l) e))))
 

@@ -1,5 +1,5 @@
 -- The parts of a number at places of a text, one equation for each way that the code goes. The byte at a place decides, and a byte past
--- the end is 0, which begins no part: so the end of the text has no case of its own.
+-- the end is 0, with which no part begins, so that a text which ends there is told by the same test.
 use mathlib.Core.Bool.{Bool, true, false}
 use mathlib.Core.List.{List, [], _∷_, _++_}
 use mathlib.Core.Path.{_≡_, refl, sym, ap, _∙_}

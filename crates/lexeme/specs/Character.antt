@@ -1,5 +1,5 @@
 -- One character of a JSON string, as RFC 8259 spells it and RFC 3629 encodes it: found by looking at most twelve bytes ahead.
--- A byte past the end of the text counts as 0, which is wrong wherever it stands in a string: so a cut-off text needs no case of its own.
+-- Past the end of the text every byte reads as 0, and no place of a string admits a 0, so that a text which is cut off fails by the same tests.
 use mathlib.Core.Bool.{Bool, false, not}
 use mathlib.Core.List.{List, [], _∷_}
 use Prim.Native.Nat.{ℕ, _+_, _-_, _*_, _/_, _%_}

@@ -1,5 +1,5 @@
 -- Reading from the front of a text, as all of stage A does it. A reader finds a value and the text after it,
--- or a fault: its kind, and the text from the fault on. A fault's offset is thus the whole text's length less that rest's.
+-- or a fault: its kind, and what is left from there. A fault's offset is thus the whole text's length less what is left.
 use Prim.Native.Nat.{ℕ, _-_}
 use mathlib.Core.List.{List}
 use lib.ListN.{length}

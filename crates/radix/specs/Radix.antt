@@ -22,7 +22,7 @@ unfoldable pub digits : List ℕ → ℕ → List ℕ
 digits [] n = []
 digits (m ∷ ms) n = n / weight ms % m ∷ digits ms n
 
--- as many digits as bases, each below its base
+-- digits that go with these bases: one for each, and less than it
 abbrev pub Fit : List ℕ → List ℕ → Type 0
 Fit [] [] = Unit {0}
 Fit [] (v ∷ vs) = ⊥

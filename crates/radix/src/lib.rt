@@ -10,7 +10,7 @@ fn widened(b: u8) -> u64
     b as u64
 }
 
-// The number that at most eight bytes spell, the most significant first.
+// What a byte string of up to eight bytes is worth as a number, its first byte counting most.
 pub fn bytes_number(s: &[u8]) -> u64
     requires { ⌜ length (now s) ≤ 8 ⌝ }
     ensures { λ r. ⌜ r ≡ bytesNumber (now (s .entry)) ⌝ }

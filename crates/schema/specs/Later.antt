@@ -1,5 +1,5 @@
--- The later tree of demand 3: the earlier one with every object's members in any order, and unlisted ones added. What is listed at a place
--- is said by shapes, one for each table that counts: a member may be added where none of them lists its name.
+-- Demand 3's later tree: what a tree becomes when members change places and new ones come in that no table lists. What is listed at a place
+-- is said by shapes, one for each table that counts, and a name comes in only where none of them has it.
 use mathlib.Core.Bool.{Bool, true, false}
 use mathlib.Core.List.{List, [], _∷_, map}
 use mathlib.Core.Path.{_≡_}

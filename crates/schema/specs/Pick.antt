@@ -37,7 +37,7 @@ mutual
     noItem : PickedItems
     item : Picked → PickedItems → PickedItems
 
-  -- a slot for each row, with the row's field
+  -- row by row, each slot under its field's number
   pub data Slots : Type 0 where
     noSlot : Slots
     absent : (field : ℕ) → Slots → Slots

@@ -1,5 +1,5 @@
--- The field table as data: what an object lists, and what each listed member may be. A table is a value: whatever picks, judges or
--- answers takes one as a parameter.
+-- Field tables: the members that an object lists, and what may stand in each. A table is a value like any other, and whatever picks,
+-- judges or answers is handed one.
 use mathlib.Core.List.{List, _∷_}
 use Prim.Native.Nat.{ℕ}
 use Prim.Native.String.{String}

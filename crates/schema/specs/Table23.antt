@@ -8,7 +8,7 @@ use Rattle.schema.specs.Shape as Shape
 use Rattle.schema.specs.Shape.{Shape, Table, Sort, noRow, scalar, array, object, records, subs, outer, positions, _R_∶_▸_, _O_∶_▸_, _C_∶_▸_}
 use Rattle.schema.specs.Words.{formFactors, propulsionTypes}
 
--- The letters and words of the table: T timestamp and N integer, both at least 0; F number at least 0; B boolean; S string.
+-- The table's own letters, T, N, F, B and S, and its words for ids, places and money; each stands for a sort of value.
 abbrev T : Shape
 T = scalar Sort.timestamp
 

@@ -1,5 +1,5 @@
 -- An integer as a pair of naturals: `Gap z a b` says that z is a less b. Every law of sums, products and order in ℤ then is one in ℕ,
--- which `omega` decides: take the gap of each side in the shape of its term, and compare the pairs.
+-- which `omega` decides: both sides get their gap, built up as their terms are, and the pairs are compared.
 use mathlib.Core.Bool.{Bool, true, false, cond, not}
 use mathlib.Core.Path.{_≡_, refl, sym, ap, subst, _∙_}
 use Prim.Native.Nat.{ℕ, zero, suc, _+_, _*_, _-_, _≤_, _<_}

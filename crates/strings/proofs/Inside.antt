@@ -33,7 +33,7 @@ abbrev pub TrailInside : List ℕ → Trail → Type 0
 TrailInside l (Low w) = 6 ≤ length l
 TrailInside l Other = Unit {0}
 
--- a byte that is not 0 is there
+-- only a byte of the text can differ from 0
 here : (l : List ℕ) (i : ℕ) → (byte l i ≡ 0 → ⊥) → i < length l
 here l i n =
     by-test (ltb i (length l)) (ltb-true i (length l)) (λ e. absurd (n (List·getD-eq-default l 0 (ltb-false i (length l) e))))

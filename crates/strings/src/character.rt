@@ -1,5 +1,5 @@
 // One character of a string, found by looking ahead from a place.
-// A byte past the end counts as 0, which is wrong wherever it stands, so every function is total.
+// Past the end every byte reads as 0, which no place of a string admits, so every function is total.
 use lexeme::Char;
 use lexeme::Next;
 use lexeme::Quad;
@@ -48,7 +48,7 @@ fn within(lo: u32, hi: u32, b: u32) -> bool
     return false;
 }
 
-// The byte k after `at` is from lo to hi.
+// Whether the byte at k places from `at` lies between lo and hi.
 fn byte_within(s: &[u8], at: usize, k: usize, lo: u32, hi: u32) -> bool
     ensures { λ r. ⌜ r ≡ spec.within lo hi (spec.byte (drop at (now (s .entry))) k) ⌝ }
 {
