@@ -2,30 +2,29 @@
 -- for, kind 10 stands at the ring's number already, and kind 11 at the same number comes after it.
 use mathlib.Core.Bool.{Bool, true, false}
 use mathlib.Core.List.{List, [], _∷_, _++_, map}
-use mathlib.Core.Logic.{inl, inr}
-use mathlib.Core.Path.{_≡_, refl, sym, ap, ap₂, subst, _∙_}
+use mathlib.Core.Path.{_≡_, refl, sym, ap, ap₂, _∙_}
 use Prim.Native.Nat.{ℕ, zero, suc, _+_, _≤_, _<_}
 use native.Mathlib.Omega.{arith}
 use lib.Dec.{leb}
-use lib.ListN.{length, getD, take, length-take}
-use lib.Seq.{length-take-le, getD-take}
+use lib.ListN.{length, getD, take}
+use lib.Seq.{length-take-le}
 use borrow.Author.Tests.{leb-true, leb-false, le-leb, lt-leb}
 use Rattle.limits.specs.Ceilings.{positions}
 use Rattle.notation.specs.Choice.{_⇒_else_, _and_}
 use Rattle.word.specs.Kinds.{badRing, tooMany}
 use Rattle.walk.specs.declared.ItemStep.the-variants as step
 use Rattle.walk.specs.Walk.{itemAt}
-use Rattle.geometry.specs.Ring.{Point, sound}
-use Rattle.geometry.specs.Shifted.{OnMap, InRange, points}
+use Rattle.geometry.specs.Ring.{sound}
+use Rattle.geometry.specs.Shifted.{InRange, points}
 use Rattle.schema.specs.Pick.{Picked}
 use Rattle.scalar.specs.Scalars.{unless}
 use Rattle.rings.specs.Rings.{Found, at, positionKinds, position, none, allSound, positionsFound, ringFound}
 use Rattle.rings.specs.Least.{lesser, leastFound}
-use Rattle.rings.specs.Parts.{positionShape, partsOf, foundIn, Charted, RingRead, onlySound, areaLeast, Tells}
+use Rattle.rings.specs.Parts.{positionShape, partsOf, foundIn, Charted, RingRead, Outlined, areaLeast, Tells}
 use Rattle.rings.specs.declared.LeastFound.{LeastFound}
 use Rattle.rings.specs.declared.LeastFound.the-variants.{None, At}
 use Rattle.rings.specs.declared.RingPoints.{RingPoints}
-use Rattle.rings.proofs.Order.{lesser-none, none-lesser, lesser-assoc, both-none, first-first, least-append, least-nothing, at-nothing, later-kind}
+use Rattle.rings.proofs.Order.{lesser-none, lesser-assoc, both-none, least-append, least-of-none, least-nothing, at-nothing, later-kind}
 use Rattle.rings.proofs.Going.{Going, going-end, none-left}
 use Rattle.rings.proofs.Numbers.{least-one, least-empty, not-none}
 use Rattle.rings.proofs.Charts.{Drawn, drawn-end}
@@ -45,7 +44,7 @@ spots-found n (x ∷ l) = ap (λ (fs : List Found). at n (positionKinds x) ++ fs
 -- all are sound just where nothing is found
 pub sound-found : (n : ℕ) (l : List Picked) → allSound l ≡ true → leastFound (positionsFound n l) ≡ None
 unfolding allSound positionsFound none at
-sound-found n [] e = unfold leastFound in refl
+sound-found n [] e = least-of-none
 sound-found n (x ∷ l) e = go (positionKinds x) e (sound-found (n + 1) l)
   where
     go : (ks : List ℕ) → (none ks and allSound l) ≡ true → (allSound l ≡ true → leastFound (positionsFound (n + 1) l) ≡ None)
@@ -132,7 +131,7 @@ module _ {n bytes : ℕ} {l : List Picked} {r : RingPoints} (h : RingRead n l by
     where
       go : (t : Bool) → allSound l ≡ t → leastFound (t ⇒ at n (unless (sound (map position l)) badRing) else []) ≡ None
       go true s = not-none (sym e ∙ h .least ∙ sound-found n l s)
-      go false s = unfold leastFound in refl
+      go false s = least-of-none
 
   asked : r .least ≡ None → area ≡ leastFound (at n (unless (sound (map position l)) badRing))
   asked e = rw (found-sound n l (sym (h .least) ∙ e))
@@ -169,3 +168,39 @@ module _ {n bytes : ℕ} {l : List Picked} {r : RingPoints} (h : RingRead n l by
   pub ring-tells : (found : LeastFound) → found ≡ lesser (lesser (lesser few many) (r .least)) (areaLeast n r)
       → Tells (ringFound n l) (length l) bytes (record { positions = r .count; least = found })
   ring-tells found e = record { least = e ∙ ring-found; positions = h .count; within = h .within }
+
+-- a ring in which nothing is found
+pub record Clean (l : List Picked) : Type 0 where
+  pub least : 4 ≤ length l
+  pub most : length l ≤ positions
+  pub each : allSound l ≡ true
+  pub whole : sound (map position l) ≡ true
+
+held : (n k : ℕ) (t : Bool) → leastFound (at n (unless t k)) ≡ None → t ≡ true
+held n k true e = refl
+held n k false e = not-none (sym (least-one n k) ∙ e)
+
+pub clean-ring : (n : ℕ) (l : List Picked) → ringFound n l ≡ [] → Clean l
+unfolding ringFound
+clean-ring n l e =
+    let nothing = ap leastFound e ∙ least-of-none in
+    let a = both-none _ _ (sym (least-append _ _) ∙ nothing) in
+    let b = both-none _ _ (sym (least-append _ (positionsFound n l)) ∙ a .0) in
+    let c = both-none _ _ (sym (least-append _ _) ∙ b .0) in
+    let s = found-sound n l (b .1) in
+    record {
+      least = leb-true 4 (length l) (held n badRing _ (c .0));
+      most = leb-true (length l) positions (held n tooMany _ (c .1));
+      each = s;
+      whole = held n badRing _ (rw s at (a .1));
+    }
+
+pub outlined : {m bytes : ℕ} {l : List Picked} {r : RingPoints} → RingRead m l bytes r → (k : List Picked) → k ≡ l → Clean k → Outlined k r
+outlined {l = l} {r = r} h k e c =
+    let many : length l ≤ positions = rw e at (c .most) in
+    rw e
+    record {
+      count = h .count;
+      range = filled (r .lons) (r .lats) (r .count) (h .charted) (omega (arith, h .count));
+      points = h .points (rw e at (c .each)) many;
+    }

@@ -1,10 +1,10 @@
 -- A loop over items that are judged and numbered one after the other, for any way to judge one: what has been found so far, with what is
 -- left, is what is found in all. The items' bytes lie one behind the other, so there are no more positions than bytes.
-use mathlib.Core.List.{List, [], _∷_, _++_}
-use mathlib.Core.Path.{_≡_, refl, sym, ap, subst, _∙_}
+use mathlib.Core.List.{List, [], _∷_}
+use mathlib.Core.Path.{_≡_, refl, sym, ap, _∙_}
 use Prim.Native.Nat.{ℕ, _+_, _-_, _≤_, _<_}
 use native.Mathlib.Omega.{arith}
-use lib.ListN.{length, take, drop, length-take, length-drop}
+use lib.ListN.{length, drop, length-take, length-drop}
 use Rattle.walk.specs.declared.Item.{Item}
 use Rattle.walk.specs.declared.ItemStep.the-variants as step
 use Rattle.walk.specs.Walk.{part, itemAt}
@@ -16,7 +16,6 @@ use Rattle.rings.specs.Least.{lesser, leastFound}
 use Rattle.rings.specs.Parts.{picked, partsOf, Left, positionsIn, foundIn, Tallied}
 use Rattle.rings.specs.declared.LeastFound.{LeastFound}
 use Rattle.rings.specs.declared.LeastFound.the-variants.{None}
-use Rattle.rings.specs.declared.Tally.{Tally}
 use Rattle.rings.proofs.Order.{lesser-none, none-lesser, lesser-assoc, least-append}
 use Rattle.rings.proofs.Picked.{left-start, left-end, left-more}
 

@@ -1,11 +1,11 @@
 -- A number of a position, by its bytes: lon and lat against their ranges, the third of any size.
-use mathlib.Core.Bool.{Bool, true, false}
+use mathlib.Core.Bool.{true, false}
 use mathlib.Core.List.{List, [], _∷_}
 use mathlib.Core.Path.{_≡_, refl, sym, ap, subst, _∙_}
 use Prim.Native.Nat.{ℕ, _+_, _-_, _*_, _≤_}
 use native.Mathlib.Decide.{decLe}
 use native.Mathlib.Omega.{arith}
-use lib.IntN.{ℤ, natAbs}
+use lib.IntN.{natAbs}
 use Rattle.word.specs.Kinds.{wrongType, numberForm, outOfRange}
 use Rattle.signed.specs.Signed.{difference}
 use Rattle.signed.proofs.Gap.{difference-up}
@@ -14,7 +14,6 @@ use Rattle.json.specs.Tree.{Json}
 use Rattle.walk.specs.Part.{Whole, kindOf, kindAt}
 use Rattle.walk.proofs.Wholes.{whole-kind, whole-number}
 use Rattle.decimal.specs.declared.Decimal.{Decimal}
-use Rattle.decimal.specs.declared.Number.{Number}
 use Rattle.decimal.specs.declared.Number.the-variants as number
 use Rattle.decimal.specs.Decimals.{numberOf}
 use Rattle.decimal.specs.Exact.{within, millionths}

@@ -8,7 +8,6 @@ use Prim.Native.Nat.{ℕ, _≤_, _<_}
 use native.Mathlib.Omega.{arith}
 use lib.Dec.{ltb}
 use borrow.Author.Tests.{ltb-true, ltb-false, lt-ltb, le-ltb}
-use Rattle.notation.specs.Choice.{_⇒_else_}
 use Rattle.rings.specs.Rings.{Found, at}
 use Rattle.rings.specs.Least.{earlier, lesser, leastFound}
 use Rattle.rings.specs.declared.LeastFound.{LeastFound}
@@ -145,6 +144,10 @@ unfolding leastFound
 least-append [] ys = sym (none-lesser (leastFound ys))
 least-append (f ∷ xs) ys =
     ap (lesser (At (f .number) (f .kind))) (least-append xs ys) ∙ sym (lesser-assoc (At (f .number) (f .kind)) (leastFound xs) (leastFound ys))
+
+pub least-of-none : leastFound [] ≡ None
+unfolding leastFound
+least-of-none = refl
 
 pub least-nothing : (l : List Found) → leastFound l ≡ None → l ≡ []
 unfolding leastFound

@@ -2,19 +2,18 @@
 -- picked items that are left, whose bytes are whole; and where none is found, none is left.
 use mathlib.Core.Bool.{true, false}
 use mathlib.Core.List.{List, [], _∷_, map}
-use mathlib.Core.Path.{_≡_, refl, sym, ap, subst, _∙_}
-use Prim.Native.Nat.{ℕ, _+_, _≤_}
+use mathlib.Core.Path.{_≡_, refl, sym, ap, _∙_}
+use Prim.Native.Nat.{ℕ}
 use native.Mathlib.Omega.{arith}
 use lib.ListN.{length}
 use Rattle.json.specs.Tree as Tree
 use Rattle.json.specs.Tree.{Json, Items}
 use Rattle.walk.specs.declared.Item.{Item}
 use Rattle.walk.specs.declared.ItemStep.the-variants as step
-use Rattle.walk.specs.Walk.{part, itemAt, itemsFrom, itemsOf}
-use Rattle.walk.specs.Part.{Whole, treeOf, kindOf, kindAt}
+use Rattle.walk.specs.Walk.{itemAt, itemsFrom, itemsOf}
+use Rattle.walk.specs.Part.{Whole, kindOf, kindAt}
 use Rattle.walk.proofs.Folds.{one-more, itemSteps, items-end}
 use Rattle.walk.proofs.Wholes.{whole-kind}
-use Rattle.walk.proofs.Parts.{item-whole}
 use Rattle.walk.proofs.Trees.{array-parts}
 use Rattle.schema.specs.Shape as shape
 use Rattle.schema.specs.Shape.{Shape, Numbering}
@@ -94,3 +93,19 @@ module _ (ν : Numbering) (most : ℕ) (σ : Shape) {p : List ℕ} where
       go (Json.string s) f = (_, refl)
       go (Json.array is) f = let z : _≡_ {A = ℕ} 0 1 = cc in absurd (omega arith)
       go (Json.object ms) f = (_, refl)
+
+  -- whatever is picked as items is picked of an array
+  pub items-parts : (x : Json) (is : PickedItems) → Whole p x → pick (shape.array ν most σ) x ≡ items is → listOf is ≡ partsOf σ p
+  unfolding pick
+  items-parts x is w e = go x w e
+    where
+      other : {y : Json} → bare y ≡ items is → listOf is ≡ partsOf σ p
+      other f = let z : _≡_ {A = ℕ} 0 1 = cc in absurd (omega arith)
+
+      go : (y : Json) → Whole p y → pick (shape.array ν most σ) y ≡ items is → listOf is ≡ partsOf σ p
+      go Json.null v f = other f
+      go (Json.boolean b) v f = other f
+      go (Json.number s) v f = other f
+      go (Json.string s) v f = other f
+      go (Json.array js) v f = let z : each (λ y. pick σ y) js ≡ is = cc in ap listOf (sym z) ∙ parts-picked v
+      go (Json.object ms) v f = other f

@@ -2,7 +2,7 @@
 use mathlib.Core.Bool.{Bool, true, false}
 use mathlib.Core.List.{List, [], _∷_, _++_, append-nil}
 use mathlib.Core.Path.{_≡_, refl, sym, ap, ap₂, _∙_}
-use Prim.Native.Nat.{ℕ, suc, _+_, _*_, _≤_, _<_}
+use Prim.Native.Nat.{ℕ, _≤_, _<_}
 use native.Mathlib.Omega.{arith}
 use lib.Dec.{leb}
 use lib.IntN.{ℤ}
@@ -14,22 +14,22 @@ use Rattle.json.specs.Tree.{Json}
 use Rattle.walk.specs.declared.Item.{Item}
 use Rattle.walk.specs.declared.ItemStep.the-variants as step
 use Rattle.walk.specs.Walk.{part, itemAt}
-use Rattle.walk.specs.Part.{Whole, treeOf, kindAt}
+use Rattle.walk.specs.Part.{Whole, kindAt}
 use Rattle.walk.proofs.Parts.{item-whole}
 use Rattle.geometry.specs.Ring.{Point}
-use Rattle.geometry.specs.Shifted.{OnMap, point, shifted, origin}
+use Rattle.geometry.specs.Shifted.{point, origin}
 use Rattle.geometry.specs.declared.Position.{Position}
 use Rattle.schema.specs.Shape as shape
-use Rattle.schema.specs.Pick.{Picked, PickedItems, bare, items, pick}
+use Rattle.schema.specs.Pick.{Picked, pick}
 use Rattle.scalar.specs.Scalars.{unless}
-use Rattle.rings.specs.Rings.{at, listOf, count, ordinate, ordinateKinds, numberKinds, positionKinds, pointOf, position}
+use Rattle.rings.specs.Rings.{at, count, ordinate, ordinateKinds, numberKinds, positionKinds, pointOf, position}
 use Rattle.rings.specs.Least.{lesser, leastFound}
 use Rattle.rings.specs.Parts.{numberShape, positionShape, picked, partsOf, Left, isArray, isNumber, rangeKinds, Measured, listKinds, restKinds, Spotted}
 use Rattle.rings.specs.declared.LeastFound.{LeastFound}
 use Rattle.rings.specs.declared.LeastFound.the-variants.{None, At}
 use Rattle.rings.specs.declared.Ordinate.{Ordinate}
 use Rattle.rings.specs.declared.Spot.{Spot}
-use Rattle.rings.proofs.Order.{lesser-none, none-lesser, lesser-comm, lesser-assoc, both-none, least-at}
+use Rattle.rings.proofs.Order.{lesser-comm, lesser-assoc, both-none, least-at}
 use Rattle.rings.proofs.Picked.{left-end, left-more, array-picked, other-picked}
 use Rattle.rings.proofs.Numbers.{longitude-kinds, latitude-kinds, third-kinds, least-one, least-empty, not-none}
 

@@ -1,29 +1,28 @@
 -- Rings in a polygon and polygons in a zone: each is an array's items judged one after the other, with the rule of its own count.
-use mathlib.Core.Bool.{Bool, true, false}
+use mathlib.Core.Bool.{true, false}
 use mathlib.Core.List.{List, [], _∷_, _++_}
-use mathlib.Core.Path.{_≡_, refl, sym, ap, ap₂, subst, _∙_}
-use Prim.Native.Nat.{ℕ, _+_, _≤_}
+use mathlib.Core.Path.{_≡_, refl, sym, ap, ap₂, _∙_}
+use Prim.Native.Nat.{ℕ, _+_}
 use native.Mathlib.Omega.{arith}
 use lib.Dec.{eqb, leb}
 use lib.ListN.{length}
 use Rattle.limits.specs.Ceilings as ceiling
 use Rattle.word.specs.Kinds.{wrongType, tooMany, badRing}
-use Rattle.json.specs.Tree as tree
 use Rattle.json.specs.Tree.{Json}
 use Rattle.walk.specs.Part.{Whole, kindAt}
 use Rattle.schema.specs.Shape as shape
 use Rattle.schema.specs.Table23.{coordinates}
-use Rattle.schema.specs.Pick.{Picked, PickedItems, bare, items, each, pick}
+use Rattle.schema.specs.Pick.{Picked, PickedItems, items, pick}
 use Rattle.scalar.specs.Scalars.{unless}
 use Rattle.rings.specs.Rings.{Found, at, listOf, count, ring, ringPositions, ringFound, ringsFound, ringsPositions, polygon, polygonPositions, polygonsFound, coordinatesFound}
 use Rattle.rings.specs.Least.{lesser, leastFound}
 use Rattle.rings.specs.Parts.{positionShape, ringShape, polygonShape, partsOf, isArray, positionsIn, foundIn, Tells, Tallied}
 use Rattle.rings.specs.declared.LeastFound.{LeastFound}
-use Rattle.rings.specs.declared.LeastFound.the-variants.{None, At}
+use Rattle.rings.specs.declared.LeastFound.the-variants.{At}
 use Rattle.rings.specs.declared.Judged.{Judged}
 use Rattle.rings.specs.declared.Tally.{Tally}
 use Rattle.rings.proofs.Order.{least-append}
-use Rattle.rings.proofs.Picked.{parts-picked, array-picked, other-picked}
+use Rattle.rings.proofs.Picked.{array-picked, other-picked, items-parts}
 use Rattle.rings.proofs.Numbers.{least-one}
 
 -- the definitions, as items after another
@@ -80,23 +79,12 @@ module _ {p : List ℕ} {x : Json} (w : Whole p x) (n : ℕ) where
       rw (k .1) record { least = sym (least-one n wrongType); positions = refl; within = omega arith }
 
 -- all of field 73
-items-list : (x : Json) (p : List ℕ) (is : PickedItems) → Whole p x → pick coordinates x ≡ items is → listOf is ≡ partsOf polygonShape p
-unfolding pick coordinates
-items-list tree.null p is w e = let z : _≡_ {A = ℕ} 0 1 = cc in absurd (omega arith)
-items-list (tree.boolean b) p is w e = let z : _≡_ {A = ℕ} 0 1 = cc in absurd (omega arith)
-items-list (tree.number s) p is w e = let z : _≡_ {A = ℕ} 0 1 = cc in absurd (omega arith)
-items-list (tree.string s) p is w e = let z : _≡_ {A = ℕ} 0 1 = cc in absurd (omega arith)
-items-list (tree.array js) p is w e =
-    let z : each (λ y. pick polygonShape y) js ≡ is = cc in
-    ap listOf (sym z) ∙ parts-picked shape.positions ceiling.polygons polygonShape w
-items-list (tree.object ms) p is w e = let z : _≡_ {A = ℕ} 0 1 = cc in absurd (omega arith)
-
 pub coordinates-found : {p : List ℕ} (t : Tally) → Tallied polygon polygonPositions 1 (partsOf polygonShape p) (length p) t
     → (x : Json) (is : PickedItems) → Whole p x → pick coordinates x ≡ items is
     → lesser (leastFound (at 0 (unless (leb (t .items) ceiling.polygons) tooMany))) (t .least) ≡ leastFound (coordinatesFound is)
-unfolding coordinatesFound count
+unfolding coordinatesFound count coordinates
 coordinates-found {p} t h x is w e =
-    let l = items-list x p is w e in
+    let l = items-parts shape.positions ceiling.polygons polygonShape x is w e in
     ap₂ lesser (ap (λ m. leastFound (at 0 (unless (leb m ceiling.polygons) tooMany))) (h .items ∙ ap length (sym l)))
     (h .least ∙ ap leastFound (sym (polygons-found 1 (partsOf polygonShape p)) ∙ ap (polygonsFound 1) (sym l)))
     ∙ sym (least-append (at 0 (unless (leb (length (listOf is)) ceiling.polygons) tooMany)) (polygonsFound 1 (listOf is)))

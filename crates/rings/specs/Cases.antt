@@ -1,5 +1,5 @@
 -- Field 73 on cases, computed: every rule at its limit, with all that is found, each as the position's number and the kind.
-use mathlib.Core.List.{List, [], _∷_, _++_, map}
+use mathlib.Core.List.{List, [], _∷_, map}
 use mathlib.Core.Path.{_≡_, refl}
 use Prim.Native.Nat.{ℕ, zero, suc}
 use Prim.Native.String.{String}
@@ -13,7 +13,7 @@ use Rattle.schema.specs.Pick.{Picked, PickedItems, bare, items, slots, noItem, 
 use Rattle.scalar.specs.Scalars as scalar
 use Rattle.rings.specs.Rings.{Found, at, listOf, count, ordinateKinds, numberKinds, positionKinds, pointOf, position, none, allSound, positionsFound, ringFound, ringsFound, ringsPositions, polygonsFound, coordinatesFound}
 use Rattle.rings.specs.Least.{earlier, lesser, leastFound}
-use Rattle.rings.specs.Parts.{polygonShape, ringShape, positionShape}
+use Rattle.rings.specs.Parts.{polygonShape, positionShape}
 use Rattle.rings.specs.declared.LeastFound.{LeastFound}
 use Rattle.rings.specs.declared.LeastFound.the-variants.{None, At}
 

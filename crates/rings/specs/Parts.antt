@@ -4,7 +4,6 @@ use mathlib.Core.List.{List, [], _∷_, _++_, map}
 use mathlib.Core.Path.{_≡_}
 use Prim.Native.Nat.{ℕ, _+_, _*_, _≤_}
 use lib.Dec.{leb}
-use lib.IntN.{ℤ}
 use lib.ListN.{length, getD, take}
 use Rattle.limits.specs.Ceilings as ceiling
 use Rattle.notation.specs.Choice.{_⇒_else_, _and_}
@@ -19,12 +18,12 @@ use Rattle.walk.specs.Part.{treeOf}
 use Rattle.decimal.specs.Decimals.{numberOf}
 use Rattle.decimal.specs.Exact.{within}
 use Rattle.geometry.specs.Ring.{Point, sound}
-use Rattle.geometry.specs.Shifted.{OnMap, point, points}
+use Rattle.geometry.specs.Shifted.{OnMap, InRange, point, points}
 use Rattle.schema.specs.Shape as shape
 use Rattle.schema.specs.Shape.{Shape}
 use Rattle.schema.specs.Pick.{Picked, bare, items, slots, pick}
 use Rattle.scalar.specs.Scalars.{unless, formed}
-use Rattle.rings.specs.Rings.{Found, at, ordinate, ordinateKinds, numberKinds, pointOf, position, allSound, positionsFound}
+use Rattle.rings.specs.Rings.{Found, at, ordinate, ordinateKinds, numberKinds, position, allSound, positionsFound}
 use Rattle.rings.specs.Least.{leastFound}
 use Rattle.rings.specs.declared.LeastFound.{LeastFound}
 use Rattle.rings.specs.declared.LeastFound.the-variants.{None, At}
@@ -143,6 +142,12 @@ pub record RingRead (n : ℕ) (l : List Picked) (bytes : ℕ) (r : RingPoints) :
   pub charted : Charted (r .lons) (r .lats)
   pub points : allSound l ≡ true → length l ≤ ceiling.positions
       → points (take (r .count) (r .lons)) (take (r .count) (r .lats)) ≡ map position l
+
+-- the points of a ring as geometry takes them
+pub record Outlined (l : List Picked) (r : RingPoints) : Type 0 where
+  pub count : r .count ≡ length l
+  pub range : InRange (take (r .count) (r .lons)) (take (r .count) (r .lats))
+  pub points : points (take (r .count) (r .lons)) (take (r .count) (r .lats)) ≡ map position l
 
 -- what the code asks of a ring that it has read: kind 11 where all positions are sound, there is room for them, and the ring is not sound
 abbrev pub onlySound : LeastFound → LeastFound → LeastFound

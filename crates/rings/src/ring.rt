@@ -10,17 +10,17 @@ use walk::ItemStep;
 use walk::next_item;
 use word::kind::Kind;
 ghost use mathlib.Core.Path.{_≡_};
-ghost use Prim.Native.Nat.{_+_, _<_, _≤_, _^_};
+ghost use mathlib.Core.List.{[]};
+ghost use Prim.Native.Nat.{ℕ, _+_, _<_, _≤_, _^_};
 ghost use lib.Dec.{ltb};
 ghost use lib.ListN.{length, set};
-ghost use Rattle.limits.specs.Ceilings.{positions};
+ghost use Rattle.limits.specs.Ceilings.{fileBytes, positions};
 ghost use Rattle.notation.specs.Choice.{_⇒_else_};
 ghost use Rattle.json.specs.Tree.{Json};
 ghost use Rattle.walk.specs.Part.{Whole};
-ghost use Rattle.schema.specs.Pick.{pick};
-ghost use Rattle.rings.specs.Rings.{ring, ringPositions, ringFound};
-ghost use Rattle.rings.specs.Least.{leastFound};
-ghost use Rattle.rings.specs.Parts.{positionShape, ringShape, partsOf, RingRead, Charted, areaLeast, Tells};
+ghost use Rattle.schema.specs.Pick.{PickedItems, items as itemsAre, pick};
+ghost use Rattle.rings.specs.Rings.{listOf, ring, ringPositions, ringFound};
+ghost use Rattle.rings.specs.Parts.{positionShape, ringShape, partsOf, RingRead, Outlined, Charted, areaLeast, Tells};
 
 // Into the place of position i, where there is one for it.
 fn keep(xs: &mut [u64; 256], i: u32, v: u64)
@@ -61,6 +61,14 @@ pub fn read_ring(p: &[u8], n: u32) -> RingPoints
         count += 1;
         at = item.next;
     }
+}
+
+// The points of a ring in which nothing is found.
+pub fn ring_points(p: &[u8]) -> RingPoints
+    requires { ⌜ length (now p) ≤ fileBytes ⌝ }
+    ensures { λ r. ⌜ ((x : Json) (is : PickedItems) (n : ℕ) → Whole (now (p .entry)) x → pick ringShape x ≡ itemsAre is → ringFound n (listOf is) ≡ [] → Outlined (listOf is) r) ⌝ }
+{
+    read_ring(p, 0)
 }
 
 // The area of a ring is asked for where its positions are all sound and there is room for them. With more of them kind 10 stands

@@ -1,5 +1,5 @@
 -- The cases of the code are those of the definition.
-use mathlib.Core.Path.{_≡_, refl, sym, ap₂, _∙_}
+use mathlib.Core.Path.{refl, sym, ap₂, _∙_}
 use borrow.Author.Needs.{needs}
 use Rattle.rings.specs.Least.{lesser}
 use Rattle.rings.proofs.Order.{none-lesser, lesser-none, second-first, first-first}

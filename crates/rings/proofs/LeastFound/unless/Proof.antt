@@ -1,5 +1,5 @@
 -- One kind at the number where the test fails, and none where it holds.
-use mathlib.Core.Path.{_≡_, refl, sym, ap, _∙_}
+use mathlib.Core.Path.{sym, ap, _∙_}
 use Rattle.scalar.specs.Scalars.{unless}
 use Rattle.rings.specs.Rings.{at}
 use Rattle.rings.specs.Least.{leastFound}

@@ -1,5 +1,4 @@
 -- The origin stands in for the point.
-use mathlib.Core.Path.{_≡_, ap}
 use borrow.Author.Needs.{needs}
 use Rattle.rings.proofs.Spot.broken.Statement.{statement}
 use Rattle.rings.proofs.Spot.broken.Tie as tie

@@ -1,7 +1,5 @@
 -- The tests of the code are those of the definition, in their order.
-use mathlib.Core.Path.{_≡_, refl}
 use borrow.Author.Tests.{lt-ltb, le-ltb}
-use native.Mathlib.Omega.{arith}
 use Rattle.rings.specs.Least.{earlier}
 use Rattle.rings.proofs.least.earlier.Statement.{statement}
 use Rattle.rings.proofs.least.earlier.Tie as tie

@@ -1,5 +1,5 @@
 -- The kind that the first byte tells, asked for one kind.
-use mathlib.Core.Path.{_≡_, sym, ap, _∙_}
+use mathlib.Core.Path.{sym, ap, _∙_}
 use borrow.Author.Needs.{needs}
 use Rattle.rings.specs.Parts.{isNumber}
 use Rattle.rings.proofs.position.is_number.Statement.{statement}

@@ -1,5 +1,5 @@
 -- Lat is missing, or it is read and what follows it judged: each with its own kinds, and the first of all is the lesser of these.
-use mathlib.Core.Path.{_≡_, sym, ap, ap₂, _∙_}
+use mathlib.Core.Path.{sym, ap, _∙_}
 use native.Mathlib.Omega.{arith}
 use borrow.Author.Needs.{needs}
 use Rattle.walk.proofs.Parts.{item-whole}

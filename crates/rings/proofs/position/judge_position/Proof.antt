@@ -1,5 +1,5 @@
 -- What is no array is of the wrong type; an array is judged by its items.
-use mathlib.Core.Path.{_≡_, sym, _∙_}
+use mathlib.Core.Path.{sym, _∙_}
 use borrow.Author.Needs.{needs}
 use borrow.Author.Tests.{not-true, not-false}
 use Rattle.rings.proofs.Positions.{spotted-array, spotted-other}

@@ -1,5 +1,5 @@
 -- A value's kind, its form and its range are asked in this order, and each refusal is the one kind that the definition has there.
-use mathlib.Core.Path.{_≡_, sym, _∙_}
+use mathlib.Core.Path.{sym, _∙_}
 use borrow.Author.Needs.{needs}
 use borrow.Author.Tests.{not-true, not-false}
 use Rattle.word.specs.Kinds.{wrongType, numberForm, outOfRange}

@@ -1,6 +1,5 @@
 -- The area is asked for just where the definition of what code asks has it.
-use mathlib.Core.Path.{_≡_, sym, ap, _∙_}
-use native.Mathlib.Omega.{arith}
+use mathlib.Core.Path.{ap, _∙_}
 use borrow.Author.Needs.{needs}
 use Rattle.word.specs.Kinds.{badRing}
 use Rattle.scalar.specs.Scalars.{unless}

@@ -1,5 +1,5 @@
 -- The counts, the positions and the area, each with its own faults.
-use mathlib.Core.Path.{_≡_, ap, ap₂, _∙_}
+use mathlib.Core.Path.{ap, ap₂, _∙_}
 use borrow.Author.Needs.{needs}
 use Rattle.rings.specs.Least.{lesser}
 use Rattle.rings.specs.declared.LeastFound.{LeastFound}

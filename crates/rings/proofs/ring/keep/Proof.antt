@@ -1,5 +1,4 @@
 -- A place past the last keeps the list as it was.
-use mathlib.Core.Path.{_≡_, refl, sym, ap, _∙_}
 use borrow.Author.Needs.{needs}
 use borrow.Author.Tests.{lt-ltb, le-ltb}
 use Rattle.rings.proofs.ring.keep.Statement.{statement}

@@ -1,6 +1,5 @@
 -- The polygons, judged from number 1 on, and their count at number 0.
-use mathlib.Core.Path.{_≡_, ap, _∙_}
-use native.Mathlib.Omega.{arith}
+use mathlib.Core.Path.{ap, _∙_}
 use borrow.Author.Needs.{needs}
 use Rattle.rings.specs.Least.{lesser}
 use Rattle.rings.specs.declared.LeastFound.{LeastFound}

@@ -1,5 +1,5 @@
 -- What is no array is of the wrong type; an array is judged by its items and their count.
-use mathlib.Core.Path.{_≡_, sym, ap, _∙_}
+use mathlib.Core.Path.{sym, ap, _∙_}
 use borrow.Author.Needs.{needs}
 use borrow.Author.Tests.{not-true, not-false}
 use Rattle.rings.specs.Least.{lesser}

@@ -1,5 +1,5 @@
 -- Each turn judges one polygon more: what is found so far, with what is left, is what is found in all.
-use mathlib.Core.Path.{_≡_, sym, _∙_}
+use mathlib.Core.Path.{sym, _∙_}
 use Prim.Native.Nat.{_+_, _-_}
 use native.Mathlib.Omega.{arith}
 use lib.ListN.{length}
