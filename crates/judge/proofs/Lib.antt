@@ -1,0 +1,10 @@
+pub mod Holds
+pub mod Broken
+pub mod Positions
+pub mod Fits
+pub mod Lines
+pub mod Values
+pub mod Going
+pub mod Nested
+pub mod Listed
+pub mod Numbered

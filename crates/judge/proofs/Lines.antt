@@ -1,0 +1,178 @@
+-- What a row's line tells of its value, and of the items of an array. A value's own bytes tell the same letters.
+use mathlib.Core.Bool.{Bool, true, false}
+use mathlib.Core.List.{List, [], _∷_}
+use mathlib.Core.Path.{_≡_, refl, sym, ap, _∙_}
+use Prim.Native.Char.{code}
+use Prim.Native.Nat.{ℕ, zero, suc, _+_, _<_}
+use native.Mathlib.Omega.{arith}
+use lib.Dec.{eqb}
+use lib.ListN.{length}
+use Rattle.notation.specs.Choice.{_⇒_else_, _and_}
+use Rattle.word.specs.Kinds.{wrongType}
+use Rattle.json.specs.Tree as tree
+use Rattle.json.specs.Tree.{Json}
+use Rattle.walk.specs.Part.{Whole, kindOf, kindAt}
+use Rattle.walk.proofs.Wholes.{whole-kind}
+use Rattle.schema.specs.declared.Line.{Line}
+use Rattle.schema.specs.Shape as shape
+use Rattle.schema.specs.Shape.{Shape, Rows, Need, Numbering, Sort}
+use Rattle.schema.specs.Line.{inside, entries, entriesOf, lineAt, lineOf, wordsAt, valueLetter, sortLetter, sortWords, shapeWords, needLetter, numberingLetter, laidOut}
+use Rattle.schema.specs.Later.{itemShape}
+use Rattle.schema.specs.Table23.{table23, written23}
+use Rattle.schema.specs.declared.Range.{Range}
+use Rattle.schema.specs.Pick.{pick}
+use Rattle.schema.proofs.Letters.{array-letter}
+use Rattle.schema.proofs.Walk.{Laid, LaidIn, Step, step, laid-array}
+use Rattle.slots.specs.Rows.{lineCount}
+use Rattle.fault.proofs.Order.{true-false}
+use Rattle.judge.specs.declared.Place.{Place}
+use Rattle.judge.specs.Faults.{Judge, absence, itemPlace, faulty, arrayFaults, faults}
+use Rattle.judge.specs.Ready.{noWords, plain}
+use Rattle.judge.specs.Judged.{bracketsOf, absenceOf, itemPlaceOf, Told}
+
+pub how-many : length (entriesOf table23) ≡ lineCount
+unfolding laidOut written23
+how-many = refl
+
+module _ (i field : ℕ) (need : Need) (name : List ℕ) (σ : Shape) (rows : Rows) (laid : Laid table23 i (shape.row field need name σ rows)) where
+  walked : Step table23 i field need name σ rows
+  walked = step table23 i field need name σ rows laid
+
+  pub laid-there : i < lineCount
+  unfolding entries
+  laid-there = omega (arith, laid .fits, how-many)
+
+  pub line-field : lineAt table23 i .field ≡ field
+  line-field = ap (λ (l : Line). l .field) (walked .line)
+
+  pub line-need : absenceOf (lineAt table23 i .need) ≡ absence need
+  line-need = ap (λ (l : Line). absenceOf (l .need)) (walked .line) ∙ by-need need
+    where
+      by-need : (n : Need) → absenceOf (needLetter n) ≡ absence n
+      by-need shape.required = refl
+      by-need shape.optional = refl
+      by-need shape.conditional = refl
+
+  pub line-value : valueLetter σ ≡ lineAt table23 i .value
+  line-value = sym (ap (λ (l : Line). l .value) (walked .line))
+
+  pub row-told : Told i (lineAt table23 i .value) σ
+  row-told =
+      record {
+        there = laid-there;
+        lettered = line-value;
+        words = walked .words;
+        inner = walked .inner;
+        lines = ap (λ (l : Line). l .inside) (walked .line);
+      }
+
+-- an array's
+no-words : (σ : Shape) → plain σ ≡ true → [] ≡ shapeWords σ
+unfolding plain
+no-words shape.unlisted e = true-false e refl
+no-words (shape.scalar sort) e = go (sortWords sort) e
+  where
+    go : (ws : List (List ℕ)) → noWords ws ≡ true → [] ≡ ws
+    go [] h = refl
+    go (w ∷ ws) h = true-false h refl
+no-words (shape.array numbering most σ) e = true-false e refl
+no-words (shape.object rows) e = refl
+
+pub plain-single : (σ : Shape) → plain σ ≡ true → valueLetter σ ≡ code "[" → ⊥
+unfolding plain
+plain-single σ e h = let a = array-letter σ h in true-false (sym (ap plain (a .is)) ∙ e) refl
+
+module _ (i field : ℕ) (need : Need) (name : List ℕ) (numbering : Numbering) (most : ℕ) (σ : Shape) (rows : Rows)
+    (laid : Laid table23 i (shape.row field need name (shape.array numbering most σ) rows)) where
+  told : Step table23 i field need name (shape.array numbering most σ) rows
+  told = walked i field need name (shape.array numbering most σ) rows laid
+
+  pub line-numbering : lineAt table23 i .numbering ≡ numberingLetter numbering
+  line-numbering = ap (λ (l : Line). l .numbering) (told .line)
+
+  pub line-most : lineAt table23 i .most ≡ most
+  line-most = ap (λ (l : Line). l .most) (told .line)
+
+  pub line-item : valueLetter σ ≡ lineAt table23 i .item
+  unfolding itemShape
+  line-item = sym (ap (λ (l : Line). l .item) (told .line))
+
+  pub item-told : plain σ ≡ true → Told i (lineAt table23 i .item) σ
+  unfolding inside
+  item-told e =
+      record {
+        there = laid-there i field need name (shape.array numbering most σ) rows laid;
+        lettered = line-item;
+        words = told .words ∙ no-words σ e;
+        inner = laid-array table23 (i + 1) numbering most σ (told .inner);
+        lines = ap (λ (l : Line). l .inside) (told .line);
+      }
+
+  pub line-place : (n : ℕ) (q : Place) → itemPlaceOf (lineAt table23 i .numbering) n q ≡ itemPlace numbering n q
+  line-place n q = ap (λ (l : ℕ). itemPlaceOf l n q) line-numbering ∙ by-letter numbering
+    where
+      by-letter : (m : Numbering) → itemPlaceOf (numberingLetter m) n q ≡ itemPlace m n q
+      by-letter shape.records = refl
+      by-letter shape.subs = refl
+      by-letter shape.outer = refl
+      by-letter shape.positions = refl
+
+pub positions-letter : (numbering : Numbering) → numberingLetter numbering ≡ code "p" → numbering ≡ shape.positions
+positions-letter shape.records e = absurd (omega arith)
+positions-letter shape.subs e = absurd (omega arith)
+positions-letter shape.outer e = absurd (omega arith)
+positions-letter shape.positions e = refl
+
+-- A value that has the brackets of an array or an object is one.
+array-value : (x : Json) → bracketsOf (kindOf x) ≡ code "[" → (is : tree.Items) × (x ≡ tree.array is)
+array-value tree.null e = absurd (omega arith)
+array-value (tree.boolean b) e = absurd (omega arith)
+array-value (tree.number s) e = absurd (omega arith)
+array-value (tree.string s) e = absurd (omega arith)
+array-value (tree.array is) e = (is, refl)
+array-value (tree.object ms) e = absurd (omega arith)
+
+object-value : (x : Json) → bracketsOf (kindOf x) ≡ code "{" → (ms : tree.Members) × (x ≡ tree.object ms)
+object-value tree.null e = absurd (omega arith)
+object-value (tree.boolean b) e = absurd (omega arith)
+object-value (tree.number s) e = absurd (omega arith)
+object-value (tree.string s) e = absurd (omega arith)
+object-value (tree.array is) e = absurd (omega arith)
+object-value (tree.object ms) e = (ms, refl)
+
+module _ {p : List ℕ} {x : Json} (w : Whole p x) where
+  pub whole-brackets : bracketsOf (kindAt p) ≡ bracketsOf (kindOf x)
+  whole-brackets = ap bracketsOf (whole-kind w)
+
+  pub whole-items : bracketsOf (kindAt p) ≡ code "[" → (is : tree.Items) × (x ≡ tree.array is)
+  whole-items e = array-value x (sym whole-brackets ∙ e)
+
+  pub whole-members : bracketsOf (kindAt p) ≡ code "{" → (ms : tree.Members) × (x ≡ tree.object ms)
+  whole-members e = object-value x (sym whole-brackets ∙ e)
+
+  -- others are of the wrong type
+  pub no-items : (bracketsOf (kindAt p) ≡ code "[" → ⊥) → (judge : Judge) (numbering : Numbering) (most : ℕ) (σ : Shape) (q : Place) (φ : ℕ) →
+      arrayFaults judge numbering most q φ (pick (shape.array numbering most σ) x) ≡ faulty q φ (wrongType ∷ [])
+  unfolding pick
+  no-items n judge numbering most σ q φ = go x (λ e. n (whole-brackets ∙ e))
+    where
+      go : (y : Json) → (bracketsOf (kindOf y) ≡ code "[" → ⊥) → arrayFaults judge numbering most q φ (pick (shape.array numbering most σ) y) ≡ faulty q φ (wrongType ∷ [])
+      go tree.null m = refl
+      go (tree.boolean b) m = refl
+      go (tree.number s) m = refl
+      go (tree.string s) m = refl
+      go (tree.array is) m = absurd (m refl)
+      go (tree.object ms) m = refl
+
+  pub no-members : (bracketsOf (kindAt p) ≡ code "{" → ⊥) → (rows : Rows) (q : Place) (φ : ℕ) →
+      faults (shape.object rows) q φ (pick (shape.object rows) x) ≡ faulty q φ (wrongType ∷ [])
+  unfolding pick faults
+  no-members n rows q φ = go x (λ e. n (whole-brackets ∙ e))
+    where
+      go : (y : Json) → (bracketsOf (kindOf y) ≡ code "{" → ⊥) → faults (shape.object rows) q φ (pick (shape.object rows) y) ≡ faulty q φ (wrongType ∷ [])
+      go tree.null m = refl
+      go (tree.boolean b) m = refl
+      go (tree.number s) m = refl
+      go (tree.string s) m = refl
+      go (tree.array is) m = refl
+      go (tree.object ms) m = absurd (m refl)

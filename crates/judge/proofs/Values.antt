@@ -1,0 +1,196 @@
+-- What the judge of a value answers on each of its ways, where those that it calls keep their word.
+use mathlib.Core.Bool.{Bool, true, false}
+use mathlib.Core.List.{List, [], _∷_, _++_}
+use mathlib.Core.Path.{_≡_, refl, sym, ap, subst, _∙_}
+use Prim.Native.Char.{code}
+use Prim.Native.Nat.{ℕ, zero, suc, _+_, _-_, _≤_, _<_}
+use native.Mathlib.Omega.{arith}
+use lib.Dec.{leb}
+use lib.ListN.{length}
+use borrow.Author.Tests.{leb-true}
+use Rattle.notation.specs.Choice.{_⇒_else_, _and_}
+use Rattle.word.specs.Kinds.{nameTwice, wrongType}
+use Rattle.json.specs.Tree as tree
+use Rattle.json.specs.Tree.{Json, Members}
+use Rattle.walk.specs.Walk.{part}
+use Rattle.walk.specs.Part.{Whole, treeOf, kindAt}
+use Rattle.walk.proofs.Wholes.{whole-tree}
+use Rattle.schema.specs.declared.Line.{Line}
+use Rattle.schema.specs.Shape as shape
+use Rattle.schema.specs.Shape.{Shape, Rows, Need, Numbering, Sort}
+use Rattle.schema.specs.Line.{lineAt, wordsAt, valueLetter, sortLetter, sortWords, inside, entries, numberingLetter}
+use Rattle.schema.specs.Pick.{Slot, missing, once, twice, given, unlessEmpty, find, outline, bare, items, pick, each}
+use Rattle.schema.specs.Sound.{distinctRows}
+use Rattle.schema.specs.Table23.{table23, coordinates}
+use Rattle.schema.proofs.Letters.{IsArray, IsObject, array-letter, object-letter}
+use Rattle.schema.proofs.Tests.{and-left, and-right}
+use Rattle.schema.proofs.Walk.{Laid, LaidIn, linesIn, laid-object}
+use Rattle.slots.specs.declared.Found.{Found}
+use Rattle.slots.specs.declared.Found.the-variants.{Missing, Once, Twice}
+use Rattle.slots.specs.Found.{foundIn, treeIn}
+use Rattle.slots.specs.Rows.{lineCount, mostRows, namesIn}
+use Rattle.slots.specs.Blank.{blankText}
+use Rattle.slots.proofs.Finds.{find-found, found-value}
+use Rattle.slots.proofs.Picks.{unless-blank}
+use Rattle.fault.specs.declared.Least.{Least}
+use Rattle.fault.specs.declared.Least.the-variants.{None, Is}
+use Rattle.fault.specs.Fault.{least}
+use Rattle.fault.proofs.Order.{true-false}
+use Rattle.scalar.specs.Scalars.{kindsOf}
+use Rattle.scalar.specs.Listed.{listed}
+use Rattle.judge.specs.declared.Place.{Place}
+use Rattle.judge.specs.Faults.{faulty, absence, coordinateFaults, faults}
+use Rattle.judge.specs.Ready.{arrays, plain, readyArray, under, ready, readyRows}
+use Rattle.judge.specs.Judged.{bracketsOf, absenceOf, memberFaults, Told, Single, Array, Member, Row, Object}
+use Rattle.judge.proofs.Lines.{how-many, laid-there, line-field, line-need, line-value, row-told, line-numbering, positions-letter, no-items, no-members}
+
+-- a single value
+
+outline-kinds : (sort : Sort) (x : Json) → kindsOf sort (outline x) ≡ kindsOf sort x
+unfolding kindsOf
+outline-kinds sort tree.null = refl
+outline-kinds sort (tree.boolean b) = refl
+outline-kinds sort (tree.number s) = refl
+outline-kinds sort (tree.string s) = refl
+outline-kinds sort (tree.array is) = refl
+outline-kinds sort (tree.object ms) = refl
+
+scalar-faults : (sort : Sort) (q : Place) (φ : ℕ) (x : Json) (ks : List ℕ) → kindsOf sort x ≡ ks → faulty q φ ks ≡ faults (shape.scalar sort) q φ (pick (shape.scalar sort) x)
+unfolding faults pick
+scalar-faults sort q φ x ks e = ap (faulty q φ) (sym (outline-kinds sort x ∙ e))
+
+line-at-field : (i : ℕ) {line : Line} → line ≡ lineAt table23 i → line .field ≡ lineAt table23 i .field
+line-at-field i at = ap (λ (l : Line). l .field) at
+
+module _ {p : List ℕ} {letter i : ℕ} {q : Place} {level : ℕ} {r : Least} where
+  pub single-past : lineCount ≤ i → Single p letter i q level r
+  single-past h = record { is = λ σ t n e x w. absurd (omega (arith, t .there)) }
+
+  pub single-object : {line : Line} {count : ℕ} → line ≡ lineAt table23 i → count ≡ line .inside → letter ≡ code "{" →
+      Object p (i + 1) count (line .field) q level r → Single p letter i q level r
+  unfolding inside
+  single-object {line} {count} at c l o = record { is = λ σ t n e x w. go σ (object-letter σ (t .lettered ∙ l)) t e x w }
+    where
+      rows-go : (rows : Rows) → Told i letter (shape.object rows) → ready (shape.object rows) level ≡ true → (x : Json) → Whole p x →
+          r ≡ least (faults (shape.object rows) q (lineAt table23 i .field) (pick (shape.object rows) x))
+      rows-go rows t e x w =
+          o .is rows (laid-object table23 (i + 1) rows (t .inner)) (sym (t .lines) ∙ sym (ap (λ (l : Line). l .inside) at) ∙ sym c) e x w
+          ∙ ap (λ (φ : ℕ). least (faults (shape.object rows) q φ (pick (shape.object rows) x))) (line-at-field i at)
+
+      go : (σ : Shape) → IsObject σ → Told i letter σ → ready σ level ≡ true → (x : Json) → Whole p x → r ≡ least (faults σ q (lineAt table23 i .field) (pick σ x))
+      go σ s =
+          subst (λ (τ : Shape). Told i letter τ → ready τ level ≡ true → (x : Json) → Whole p x → r ≡ least (faults τ q (lineAt table23 i .field) (pick τ x)))
+          (sym (s .is)) (rows-go (s .rows))
+
+  pub single-scalar : {line : Line} (kind : ℕ) → line ≡ lineAt table23 i → (letter ≡ code "{" → ⊥) → r ≡ least (faulty q (line .field) (listed kind)) →
+      ((sort : Sort) (x : Json) → sortLetter sort ≡ letter → wordsAt table23 i ≡ sortWords sort → Whole p x → kindsOf sort x ≡ listed kind) →
+      Single p letter i q level r
+  unfolding ready
+  single-scalar {line} kind at o h k = record { is = go }
+    where
+      go : (σ : Shape) → Told i letter σ → (letter ≡ code "[" → ⊥) → ready σ level ≡ true → (x : Json) → Whole p x →
+          r ≡ least (faults σ q (lineAt table23 i .field) (pick σ x))
+      go shape.unlisted t n e x w = true-false e refl
+      go (shape.scalar sort) t n e x w =
+          h ∙ ap (λ (φ : ℕ). least (faulty q φ (listed kind))) (line-at-field i at)
+          ∙ ap least (scalar-faults sort q (lineAt table23 i .field) x (listed kind) (k sort x (t .lettered) (t .words) w))
+      go (shape.array numbering most σ) t n e x w = absurd (n (sym (t .lettered)))
+      go (shape.object rows) t n e x w = absurd (o (sym (t .lettered)))
+
+-- a member that is not there
+absent-faults : (q : Place) (i field : ℕ) (need : Need) (name : List ℕ) (σ : Shape) (rows : Rows) → Laid table23 i (shape.row field need name σ rows) →
+    {line : Line} → line ≡ lineAt table23 i → faulty q (line .field) (absenceOf (line .need)) ≡ faulty q field (absence need)
+absent-faults q i field need name σ rows l at =
+    ap (λ (m : Line). faulty q (m .field) (absenceOf (m .need))) at
+    ∙ ap (λ (φ : ℕ). faulty q φ (absenceOf (lineAt table23 i .need))) (line-field i field need name σ rows l)
+    ∙ ap (faulty q field) (line-need i field need name σ rows l)
+
+-- a member's value: a text with nothing in it counts as none
+given-by : (b : Bool) (x : Json) → b ≡ blankText x → {t : Bool} → b ≡ t → unlessEmpty x ≡ (t ⇒ missing else once x)
+given-by b x e f = unless-blank x ∙ ap (λ (t : Bool). t ⇒ missing else once x) (sym e ∙ f)
+
+module _ {p : List ℕ} {i : ℕ} {q : Place} {level : ℕ} {r : Least} {line : Line} (at : line ≡ lineAt table23 i) (blank : Bool)
+    (told : (x : Json) → Whole p x → blank ≡ blankText x) where
+  pub member-blank : blank ≡ true → r ≡ least (faulty q (line .field) (absenceOf (line .need))) → Member p i q level r
+  member-blank t h =
+      record {
+        is = λ field need name σ rows l e x w.
+            h ∙ ap least (absent-faults q i field need name σ rows l at)
+            ∙ sym (ap (λ (o : Slot Json). least (memberFaults need σ q field o)) (given-by blank x (told x w) t));
+      }
+
+  -- any other is judged by its shape
+  by-shape : blank ≡ false →
+      ((field : ℕ) (need : Need) (name : List ℕ) (σ : Shape) (rows : Rows) → Laid table23 i (shape.row field need name σ rows) → ready σ level ≡ true →
+      (x : Json) → Whole p x → r ≡ least (faults σ q field (pick σ x))) → Member p i q level r
+  by-shape t h =
+      record {
+        is = λ field need name σ rows l e x w.
+            h field need name σ rows l e x w ∙ sym (ap (λ (o : Slot Json). least (memberFaults need σ q field o)) (given-by blank x (told x w) t));
+      }
+
+  pub member-array : blank ≡ false → line .value ≡ code "[" → Array p i q level r → Member p i q level r
+  member-array t v a = by-shape t λ field need name σ rows l e x w. go field need name rows x w σ (lettered field need name σ rows l) l e
+    where
+      lettered : (field : ℕ) (need : Need) (name : List ℕ) (σ : Shape) (rows : Rows) → Laid table23 i (shape.row field need name σ rows) → IsArray σ
+      lettered field need name σ rows l = array-letter σ (line-value i field need name σ rows l ∙ sym (ap (λ (m : Line). m .value) at) ∙ v)
+
+      go : (field : ℕ) (need : Need) (name : List ℕ) (rows : Rows) (x : Json) → Whole p x → (σ : Shape) → IsArray σ →
+          Laid table23 i (shape.row field need name σ rows) → ready σ level ≡ true → r ≡ least (faults σ q field (pick σ x))
+      go field need name rows x w σ s =
+          subst (λ (τ : Shape). Laid table23 i (shape.row field need name τ rows) → ready τ level ≡ true → r ≡ least (faults τ q field (pick τ x)))
+          (sym (s .is)) (λ l e. a .is field need name (s .numbering) (s .most) (s .item) rows l e x w)
+
+  pub member-single : blank ≡ false → (line .value ≡ code "[" → ⊥) → Single p (line .value) i q level r → Member p i q level r
+  member-single t v s =
+      by-shape t λ field need name σ rows l e x w.
+      s .is σ (subst (λ (m : ℕ). Told i m σ) (sym (ap (λ (m : Line). m .value) at)) (row-told i field need name σ rows l)) v e x w
+      ∙ ap (λ (φ : ℕ). least (faults σ q φ (pick σ x))) (line-field i field need name σ rows l)
+
+-- a row, by what is found under its name
+given-found : {p : List ℕ} {found o : Found} (name : List ℕ) (ms : Members) → Whole p (Json.object ms) → found ≡ foundIn p name → found ≡ o →
+    given (find name ms) ≡ given (treeIn p o)
+given-found {p} name ms w f e = ap given (find-found p name w ∙ ap (treeIn p) (sym f ∙ e))
+
+module _ {p : List ℕ} {found : Found} {i : ℕ} {q : Place} {level : ℕ} {r : Least} where
+  module _ {line : Line} (at : line ≡ lineAt table23 i) where
+    pub row-missing : found ≡ Missing → r ≡ least (faulty q (line .field) (absenceOf (line .need))) → Row p found i q level r
+    row-missing g h =
+        record {
+          is = λ field need name σ rows l e ms w f.
+              h ∙ ap least (absent-faults q i field need name σ rows l at)
+              ∙ sym (ap (λ (o : Slot Json). least (memberFaults need σ q field o)) (given-found name ms w f g));
+        }
+
+    pub row-twice : found ≡ Twice → r ≡ least (faulty q (line .field) (nameTwice ∷ [])) → Row p found i q level r
+    row-twice g h =
+        record {
+          is = λ field need name σ rows l e ms w f.
+              h ∙ ap (λ (φ : ℕ). least (faulty q φ (nameTwice ∷ []))) (ap (λ (m : Line). m .field) at ∙ line-field i field need name σ rows l)
+              ∙ sym (ap (λ (o : Slot Json). least (memberFaults need σ q field o)) (given-found name ms w f g));
+        }
+
+  pub row-once : {from upto : ℕ} → found ≡ Once from upto → Member (part p from upto) i q level r → Row p found i q level r
+  row-once {from} {upto} g m =
+      record {
+        is = λ field need name σ rows l e ms w f.
+            m .is field need name σ rows l e (treeOf (part p from upto)) (found-value p name from upto (sym f ∙ g) .whole)
+            ∙ sym (ap (λ (o : Slot Json). least (memberFaults need σ q field o)) (given-found name ms w f g));
+      }
+
+-- an object: lines that are not there, and what is no object
+module _ {p : List ℕ} {first count field : ℕ} {q : Place} {level : ℕ} {r : Least} where
+  pub object-shut : level ≡ 0 → Object p first count field q level r
+  unfolding ready
+  object-shut z =
+      record {
+        is = λ rows l c e x w.
+            true-false (and-right (leb (length (namesIn rows)) mostRows) _ (and-right (distinctRows rows) _ e))
+            (ap (λ (n : ℕ). under n (λ m. readyRows rows m)) z);
+      }
+
+  pub object-past : lineCount < first + count → Object p first count field q level r
+  object-past h = record { is = λ rows l c e x w. absurd (omega (arith, l .fits, how-many)) }
+
+  pub object-other : {b : ℕ} → b ≡ bracketsOf (kindAt p) → (b ≡ code "{" → ⊥) → r ≡ least (faulty q field (wrongType ∷ [])) → Object p first count field q level r
+  object-other b n h = record { is = λ rows l c e x w. h ∙ sym (ap least (no-members w (λ k. n (b ∙ k)) rows q field)) }

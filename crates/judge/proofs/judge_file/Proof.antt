@@ -1,0 +1,20 @@
+-- `judge_file` judges the object that a file is by the file's lines; where there are none, nothing is judged.
+use borrow.Author.Needs.{needs}
+use mathlib.Core.Path.{_≡_, sym, ap, _∙_}
+use Rattle.schema.specs.declared.Range.{Range}
+use Rattle.judge.proofs.Listed.{file-unlisted, file-listed}
+use Rattle.judge.proofs.judge_file.Statement.{statement}
+use Rattle.judge.proofs.judge_file.Tie as tie
+
+returns : tie.Need-returns
+returns c x w =
+    let f = c .before .before in
+    file-unlisted (f .before .before .args .file) (sym (ap (λ (l : Range). l .count) (f .file-lines .ensures)) ∙ c .if1 .taken) x
+
+returns-2 : tie.Need-returns-2
+returns-2 c =
+    let f = c .before .before .before in
+    file-listed (f .before .before .args .file) (f .file-lines .ensures) (c .before .if1 .left) (c .judge-object .ensures)
+
+pub judge-file-spec : {M : Type 1} → statement M
+judge-file-spec = tie.close (tie.spec (λ c κs. search needs) returns (λ c κs. search needs) returns-2)
