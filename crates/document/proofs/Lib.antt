@@ -1,2 +1,4 @@
 pub mod Cuts
 pub mod Along
+pub mod Fields
+pub mod Records

@@ -1,13 +1,12 @@
 -- A single value breaks rules of the kinds of stage B alone, by cases of what it is judged by.
 use mathlib.Core.Bool.{Bool, true, false, not}
-use mathlib.Core.List.{List, [], _∷_, _++_}
-use mathlib.Core.Path.{_≡_, refl}
-use Prim.Native.Nat.{ℕ, _≤_}
+use mathlib.Core.List.{List, [], _∷_}
+use Prim.Native.Nat.{ℕ}
 use native.Mathlib.Omega.{arith}
 use lib.Dec.{ltb}
 use lib.ListN.{length}
 use Rattle.limits.specs.Ceilings.{idBytes}
-use Rattle.notation.specs.Choice.{_⇒_else_, _and_}
+use Rattle.notation.specs.Choice.{_⇒_else_}
 use Rattle.json.specs.Tree as tree
 use Rattle.json.specs.Tree.{Json}
 use Rattle.decimal.specs.declared.Decimal.{Decimal}

@@ -2,14 +2,12 @@
 -- excess of its array comes before it, since the excess stands at the number 0 and on no later field.
 use mathlib.Core.Bool.{Bool, true, false}
 use mathlib.Core.List.{List, [], _∷_, _++_}
-use mathlib.Core.Path.{_≡_, refl, sym, ap, _∙_}
+use mathlib.Core.Path.{_≡_, refl}
 use Prim.Native.Nat.{ℕ, zero, suc, _+_, _≤_, _<_}
 use native.Mathlib.Omega.{arith}
 use lib.Dec.{leb}
-use lib.ListN.{length}
 use borrow.Author.Tests.{leb-true}
-use Rattle.notation.specs.Choice.{_and_}
-use Rattle.word.specs.Kinds.{nameTwice, missing, wrongType, tooMany}
+use Rattle.word.specs.Kinds.{wrongType, tooMany}
 use Rattle.json.specs.Tree.{Json}
 use Rattle.schema.specs.Shape as shape
 use Rattle.schema.specs.Shape.{Shape, Rows, Need, Numbering, Sort, fileShape}
@@ -18,16 +16,14 @@ use Rattle.schema.specs.Pick.{Picked, PickedItems, Slots, bare, items, slots, n
 use Rattle.schema.proofs.Tests.{and-left, and-right}
 use Rattle.fault.specs.declared.Fault.{Fault}
 use Rattle.fault.specs.declared.Least.{Least}
-use Rattle.fault.specs.declared.Least.the-variants.{None, Is}
-use Rattle.fault.specs.Fault.{fault, before, lesser, least}
+use Rattle.fault.specs.declared.Least.the-variants.{Is}
+use Rattle.fault.specs.Fault.{fault, before, least}
 use Rattle.fault.proofs.Order.{by-test, true-false, later-record}
-use Rattle.fault.proofs.Leasts.{least-append}
-use Rattle.scalar.specs.Scalars.{unless, kindsOf}
-use Rattle.rings.specs.Rings.{listOf, count, coordinatesFound}
+use Rattle.rings.specs.Rings.{listOf, count}
 use Rattle.judge.specs.declared.Place.{Place}
 use Rattle.judge.specs.Faults.{top, Judge, faulty, absence, itemPlace, eachItem, arrayFaults, coordinateFaults, scalarFaults, objectFaults, byNumbering, slotFaults, faults, rowFaults, fileFaults}
 use Rattle.judge.specs.Bounds.{Level, header, inRecord, inItem, OfStageB, Fitting, greatest, fields, tidyArray, tidy, tidyRows}
-use Rattle.judge.proofs.Holds.{All, none, more, only, Holds, nothing, holding, holds-map, holds-is, holds-lesser, holds-least, holds-append, after-sub, first-stays, Of}
+use Rattle.judge.proofs.Holds.{All, none, more, only, Holds, nothing, holding, holds-map, holds-is, holds-least, holds-append, after-sub, first-stays, Of}
 use Rattle.judge.proofs.Broken.{AllStageB, unless-kinds, value-kinds}
 use Rattle.judge.proofs.Positions.{coordinates-fit, coordinates-of}
 

@@ -1,7 +1,7 @@
 -- The judge's two loops, over any table's rows and any array's items: the least fault so far, with the faults of what is left, makes the
 -- least of all.
-use mathlib.Core.Bool.{Bool, true, false}
-use mathlib.Core.List.{List, [], _∷_, _++_, map, foldl}
+use mathlib.Core.Bool.{Bool, true}
+use mathlib.Core.List.{List, [], _∷_, map, foldl}
 use mathlib.Core.Path.{_≡_, refl, sym, ap, subst, _∙_}
 use Prim.Native.Char.{code}
 use Prim.Native.Nat.{ℕ, zero, suc, _+_, _-_, _≤_, _<_}
@@ -9,7 +9,7 @@ use native.Mathlib.Omega.{arith}
 use lib.Dec.{leb}
 use lib.ListN.{length}
 use borrow.Author.Tests.{leb-true}
-use Rattle.notation.specs.Choice.{_⇒_else_, _and_}
+use Rattle.notation.specs.Choice.{_and_}
 use Rattle.word.specs.Kinds.{wrongType, tooMany}
 use Rattle.json.specs.Tree as tree
 use Rattle.json.specs.Tree.{Json, Items, Members}
@@ -23,29 +23,27 @@ use Rattle.walk.proofs.Trees.{array-parts}
 use Rattle.schema.specs.declared.Line.{Line}
 use Rattle.schema.specs.Shape as shape
 use Rattle.schema.specs.Shape.{Shape, Rows, Need, Numbering}
-use Rattle.schema.specs.Line.{lineAt, numberingLetter, valueLetter}
+use Rattle.schema.specs.Line.{lineAt, numberingLetter}
 use Rattle.schema.specs.Pick as picking
-use Rattle.schema.specs.Pick.{Slot, missing, once, twice, given, find, put, Picked, PickedItems, Slots, pick, pickRows, each}
+use Rattle.schema.specs.Pick.{Slot, missing, once, twice, given, find, put, Picked, PickedItems, pick, pickRows, each}
 use Rattle.schema.specs.Sound.{distinctRows}
 use Rattle.schema.specs.Table23.{table23}
 use Rattle.schema.proofs.Tests.{and-left, and-right}
-use Rattle.schema.proofs.Walk.{Laid, linesIn, Step, step, First, first-row, no-row}
+use Rattle.schema.proofs.Walk.{Laid, linesIn, step, first-row, no-row}
 use Rattle.slots.specs.declared.Slots.{Slots as Filled}
 use Rattle.slots.specs.Rows.{mostRows, namesIn}
 use Rattle.slots.specs.Slots.{slotAt, Gathered}
-use Rattle.slots.specs.Found.{foundIn}
 use Rattle.slots.proofs.Picks.{Slotted, slotted}
 use Rattle.fault.specs.declared.Least.{Least}
-use Rattle.fault.specs.declared.Least.the-variants.{None, Is}
+use Rattle.fault.specs.declared.Least.the-variants.{None}
 use Rattle.fault.specs.Fault.{lesser, least}
-use Rattle.fault.proofs.Order.{true-false}
 use Rattle.fault.proofs.Leasts.{lesser-none, none-lesser, lesser-assoc, least-append}
 use Rattle.scalar.specs.Scalars.{unless}
 use Rattle.judge.specs.declared.Place.{Place}
 use Rattle.rings.specs.Rings.{count, listOf}
 use Rattle.judge.specs.Faults.{Judge, faulty, itemPlace, eachItem, arrayFaults, faults, rowFaults}
 use Rattle.judge.specs.Ready.{plain, under, ready, readyRows}
-use Rattle.judge.specs.Judged.{bracketsOf, itemPlaceOf, memberFaults, Told, Single, Array, Row, Object}
+use Rattle.judge.specs.Judged.{bracketsOf, itemPlaceOf, memberFaults, Single, Array, Row, Object}
 use Rattle.judge.proofs.Lines.{line-field, line-numbering, line-most, line-item, item-told, line-place, plain-single, whole-items, whole-members, no-items}
 
 -- one part more: what it adds goes over to the least so far

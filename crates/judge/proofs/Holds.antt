@@ -1,17 +1,16 @@
 -- What holds of every fault of a list holds of its least, part by part. Where a fault of a field fits the word, and the rest are of the
 -- same field, the least fits too: its sub is no greater.
-use mathlib.Core.Bool.{Bool, true, false}
+use mathlib.Core.Bool.{true, false}
 use mathlib.Core.List.{List, [], _∷_, _++_}
-use mathlib.Core.Path.{_≡_, refl, sym, ap, subst, _∙_}
+use mathlib.Core.Path.{_≡_, sym, subst, _∙_}
 use Prim.Native.Nat.{ℕ, _≤_, _<_}
 use native.Mathlib.Omega.{arith}
 use lib.Dec.{ltb}
 use borrow.Author.Tests.{ltb-true, ltb-false}
-use Rattle.notation.specs.Choice.{_⇒_else_}
 use Rattle.fault.specs.declared.Fault.{Fault}
 use Rattle.fault.specs.declared.Least.{Least}
 use Rattle.fault.specs.declared.Least.the-variants.{None, Is}
-use Rattle.fault.specs.Fault.{fault, before, lesser, least}
+use Rattle.fault.specs.Fault.{before, lesser, least}
 use Rattle.fault.proofs.Order.{by-test, true-false, later-field, later-sub}
 use Rattle.fault.proofs.Leasts.{lesser-first, lesser-second, lesser-none, none-lesser, lesser-comm, least-append}
 use Rattle.judge.specs.Bounds.{OfStageB, Fitting}

@@ -1,13 +1,11 @@
 -- What a row's line tells of its value, and of the items of an array. A value's own bytes tell the same letters.
-use mathlib.Core.Bool.{Bool, true, false}
+use mathlib.Core.Bool.{true}
 use mathlib.Core.List.{List, [], _∷_}
 use mathlib.Core.Path.{_≡_, refl, sym, ap, _∙_}
 use Prim.Native.Char.{code}
-use Prim.Native.Nat.{ℕ, zero, suc, _+_, _<_}
+use Prim.Native.Nat.{ℕ, _+_, _<_}
 use native.Mathlib.Omega.{arith}
-use lib.Dec.{eqb}
 use lib.ListN.{length}
-use Rattle.notation.specs.Choice.{_⇒_else_, _and_}
 use Rattle.word.specs.Kinds.{wrongType}
 use Rattle.json.specs.Tree as tree
 use Rattle.json.specs.Tree.{Json}
@@ -15,14 +13,13 @@ use Rattle.walk.specs.Part.{Whole, kindOf, kindAt}
 use Rattle.walk.proofs.Wholes.{whole-kind}
 use Rattle.schema.specs.declared.Line.{Line}
 use Rattle.schema.specs.Shape as shape
-use Rattle.schema.specs.Shape.{Shape, Rows, Need, Numbering, Sort}
-use Rattle.schema.specs.Line.{inside, entries, entriesOf, lineAt, lineOf, wordsAt, valueLetter, sortLetter, sortWords, shapeWords, needLetter, numberingLetter, laidOut}
+use Rattle.schema.specs.Shape.{Shape, Rows, Need, Numbering}
+use Rattle.schema.specs.Line.{inside, entries, entriesOf, lineAt, valueLetter, sortWords, shapeWords, needLetter, numberingLetter, laidOut}
 use Rattle.schema.specs.Later.{itemShape}
 use Rattle.schema.specs.Table23.{table23, written23}
-use Rattle.schema.specs.declared.Range.{Range}
 use Rattle.schema.specs.Pick.{pick}
 use Rattle.schema.proofs.Letters.{array-letter}
-use Rattle.schema.proofs.Walk.{Laid, LaidIn, Step, step, laid-array}
+use Rattle.schema.proofs.Walk.{Laid, Step, step, laid-array}
 use Rattle.slots.specs.Rows.{lineCount}
 use Rattle.fault.proofs.Order.{true-false}
 use Rattle.judge.specs.declared.Place.{Place}

@@ -1,8 +1,8 @@
 -- Of arrays that lie so deep in one another and hold single values the same is picked, whatever the table says of them. So field 73 is
 -- judged by the one shape that coordinates have.
-use mathlib.Core.Bool.{Bool, true, false}
-use mathlib.Core.List.{List, [], _∷_}
-use mathlib.Core.Path.{_≡_, refl, sym, ap, ap₂, subst, _∙_}
+use mathlib.Core.Bool.{true}
+use mathlib.Core.List.{List}
+use mathlib.Core.Path.{_≡_, refl, sym, ap, ap₂, _∙_}
 use Prim.Native.Char.{code}
 use Prim.Native.Nat.{ℕ, zero, suc}
 use native.Mathlib.Omega.{arith}
@@ -11,11 +11,10 @@ use Rattle.json.specs.Tree.{Json, Items}
 use Rattle.walk.specs.Part.{Whole}
 use Rattle.schema.specs.declared.Line.{Line}
 use Rattle.schema.specs.Shape as shape
-use Rattle.schema.specs.Shape.{Shape, Rows, Need, Numbering}
+use Rattle.schema.specs.Shape.{Shape, Numbering}
 use Rattle.schema.specs.Line.{lineAt, numberingLetter}
 use Rattle.schema.specs.Pick.{Picked, PickedItems, bare, items, item, outline, inArray, each, pick}
 use Rattle.schema.specs.Table23.{table23, coordinates}
-use Rattle.schema.proofs.Walk.{Laid}
 use Rattle.fault.specs.declared.Least.{Least}
 use Rattle.fault.specs.Fault.{least}
 use Rattle.fault.proofs.Order.{true-false}

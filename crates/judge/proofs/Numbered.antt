@@ -5,7 +5,6 @@ use mathlib.Core.Path.{_≡_, refl, sym, ap, subst, _∙_}
 use Prim.Native.Char.{code}
 use Prim.Native.Nat.{ℕ}
 use native.Mathlib.Omega.{arith}
-use lib.Dec.{ltb}
 use borrow.Author.Tests.{le-ltb}
 use Rattle.notation.specs.Choice.{_⇒_else_}
 use Rattle.word.specs.Kinds.{wrongType}
@@ -18,7 +17,6 @@ use Rattle.fault.specs.declared.Least.{Least}
 use Rattle.fault.specs.declared.Least.the-variants as least
 use Rattle.fault.specs.Fault as faults
 use Rattle.fault.specs.Fault.{fault, before}
-use Rattle.fault.proofs.Leasts.{lesser-none}
 use Rattle.rings.specs.declared.LeastFound.{LeastFound}
 use Rattle.rings.specs.declared.LeastFound.the-variants as found
 use Rattle.rings.specs.Rings.{Found, coordinatesFound}

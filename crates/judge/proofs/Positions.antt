@@ -2,8 +2,8 @@
 -- each polygon takes at most 256 numbers, and of polygons there are at most 15; that polygon's own fault has its first position's number.
 use mathlib.Core.Bool.{Bool, true, false}
 use mathlib.Core.List.{List, [], _∷_, _++_, map}
-use mathlib.Core.Path.{_≡_, refl, sym, ap, subst, _∙_}
-use Prim.Native.Nat.{ℕ, zero, suc, _+_, _*_, _≤_, _<_}
+use mathlib.Core.Path.{_≡_, refl, ap, _∙_}
+use Prim.Native.Nat.{ℕ, _+_, _*_, _≤_, _<_}
 use native.Mathlib.Omega.{arith}
 use lib.Dec.{eqb, leb}
 use lib.ListN.{length}
@@ -15,11 +15,10 @@ use Rattle.schema.specs.Shape as sort
 use Rattle.schema.specs.Pick.{Picked, PickedItems, bare, items, slots}
 use Rattle.fault.specs.declared.Fault.{Fault}
 use Rattle.fault.specs.declared.Least.{Least}
-use Rattle.fault.specs.declared.Least.the-variants.{None, Is}
-use Rattle.fault.specs.Fault.{fault, before, lesser, least}
+use Rattle.fault.specs.Fault.{fault, lesser, least}
 use Rattle.fault.proofs.Order.{by-test}
 use Rattle.fault.proofs.Leasts.{least-one, least-append}
-use Rattle.scalar.specs.Scalars.{unless, kindsOf}
+use Rattle.scalar.specs.Scalars.{unless}
 use Rattle.geometry.specs.Ring.{sound}
 use Rattle.rings.specs.Rings.{Found, at, listOf, count, ordinateKinds, numberKinds, positionKinds, position, allSound, positionsFound, ringFound, ring, ringPositions, ringsFound, ringsPositions, polygon, polygonPositions, polygonsFound, coordinatesFound}
 use Rattle.judge.specs.declared.Place.{Place}

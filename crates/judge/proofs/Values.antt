@@ -1,30 +1,28 @@
 -- What the judge of a value answers on each of its ways, where those that it calls keep their word.
 use mathlib.Core.Bool.{Bool, true, false}
-use mathlib.Core.List.{List, [], _∷_, _++_}
+use mathlib.Core.List.{List, [], _∷_}
 use mathlib.Core.Path.{_≡_, refl, sym, ap, subst, _∙_}
 use Prim.Native.Char.{code}
-use Prim.Native.Nat.{ℕ, zero, suc, _+_, _-_, _≤_, _<_}
+use Prim.Native.Nat.{ℕ, _+_, _≤_, _<_}
 use native.Mathlib.Omega.{arith}
 use lib.Dec.{leb}
 use lib.ListN.{length}
-use borrow.Author.Tests.{leb-true}
-use Rattle.notation.specs.Choice.{_⇒_else_, _and_}
+use Rattle.notation.specs.Choice.{_⇒_else_}
 use Rattle.word.specs.Kinds.{nameTwice, wrongType}
 use Rattle.json.specs.Tree as tree
 use Rattle.json.specs.Tree.{Json, Members}
 use Rattle.walk.specs.Walk.{part}
 use Rattle.walk.specs.Part.{Whole, treeOf, kindAt}
-use Rattle.walk.proofs.Wholes.{whole-tree}
 use Rattle.schema.specs.declared.Line.{Line}
 use Rattle.schema.specs.Shape as shape
-use Rattle.schema.specs.Shape.{Shape, Rows, Need, Numbering, Sort}
-use Rattle.schema.specs.Line.{lineAt, wordsAt, valueLetter, sortLetter, sortWords, inside, entries, numberingLetter}
-use Rattle.schema.specs.Pick.{Slot, missing, once, twice, given, unlessEmpty, find, outline, bare, items, pick, each}
+use Rattle.schema.specs.Shape.{Shape, Rows, Need, Sort}
+use Rattle.schema.specs.Line.{lineAt, wordsAt, sortLetter, sortWords, inside}
+use Rattle.schema.specs.Pick.{Slot, missing, once, given, unlessEmpty, find, outline, pick}
 use Rattle.schema.specs.Sound.{distinctRows}
-use Rattle.schema.specs.Table23.{table23, coordinates}
+use Rattle.schema.specs.Table23.{table23}
 use Rattle.schema.proofs.Letters.{IsArray, IsObject, array-letter, object-letter}
-use Rattle.schema.proofs.Tests.{and-left, and-right}
-use Rattle.schema.proofs.Walk.{Laid, LaidIn, linesIn, laid-object}
+use Rattle.schema.proofs.Tests.{and-right}
+use Rattle.schema.proofs.Walk.{Laid, laid-object}
 use Rattle.slots.specs.declared.Found.{Found}
 use Rattle.slots.specs.declared.Found.the-variants.{Missing, Once, Twice}
 use Rattle.slots.specs.Found.{foundIn, treeIn}
@@ -33,16 +31,15 @@ use Rattle.slots.specs.Blank.{blankText}
 use Rattle.slots.proofs.Finds.{find-found, found-value}
 use Rattle.slots.proofs.Picks.{unless-blank}
 use Rattle.fault.specs.declared.Least.{Least}
-use Rattle.fault.specs.declared.Least.the-variants.{None, Is}
 use Rattle.fault.specs.Fault.{least}
 use Rattle.fault.proofs.Order.{true-false}
 use Rattle.scalar.specs.Scalars.{kindsOf}
 use Rattle.scalar.specs.Listed.{listed}
 use Rattle.judge.specs.declared.Place.{Place}
-use Rattle.judge.specs.Faults.{faulty, absence, coordinateFaults, faults}
-use Rattle.judge.specs.Ready.{arrays, plain, readyArray, under, ready, readyRows}
+use Rattle.judge.specs.Faults.{faulty, absence, faults}
+use Rattle.judge.specs.Ready.{under, ready, readyRows}
 use Rattle.judge.specs.Judged.{bracketsOf, absenceOf, memberFaults, Told, Single, Array, Member, Row, Object}
-use Rattle.judge.proofs.Lines.{how-many, laid-there, line-field, line-need, line-value, row-told, line-numbering, positions-letter, no-items, no-members}
+use Rattle.judge.proofs.Lines.{how-many, line-field, line-need, line-value, row-told, no-members}
 
 -- a single value
 

@@ -1,6 +1,6 @@
 -- `judge_file` judges the object that a file is by the file's lines; where there are none, nothing is judged.
 use borrow.Author.Needs.{needs}
-use mathlib.Core.Path.{_≡_, sym, ap, _∙_}
+use mathlib.Core.Path.{sym, ap, _∙_}
 use Rattle.schema.specs.declared.Range.{Range}
 use Rattle.judge.proofs.Listed.{file-unlisted, file-listed}
 use Rattle.judge.proofs.judge_file.Statement.{statement}

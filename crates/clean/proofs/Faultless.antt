@@ -1,0 +1,172 @@
+-- What a file without a fault of stage B is sure to hold: each required member once, of its shape, and so an array of records, no more than
+-- the ceiling, in each of which no fault is found either.
+use mathlib.Core.Bool.{Bool, true, false}
+use mathlib.Core.List.{List, [], _∷_, _++_, List·Memᴰ, List·Memᴰ·head, List·Memᴰ·tail, List·Memᴰ·cases-cons, List·Memᴰ·not-nil}
+use mathlib.Core.Logic.{⊎-elim}
+use mathlib.Core.Path.{_≡_, refl, sym, ap, subst, _∙_}
+use Prim.Native.Nat.{ℕ, zero, suc, _+_, _*_, _≤_}
+use native.Mathlib.Omega.{arith}
+use lib.Dec.{eqb, leb}
+use lib.ListN.{length}
+use borrow.Author.Tests.{leb-true}
+use Rattle.limits.specs.Ceilings as ceiling
+use Rattle.notation.specs.Choice.{_⇒_else_}
+use Rattle.lexeme.proofs.Steps.{by-test}
+use Rattle.word.specs.Kinds.{nameTwice, tooMany}
+use Rattle.json.specs.Tree as tree
+use Rattle.json.specs.Tree.{Json, Items, Members}
+use Rattle.schema.specs.Shape as shape
+use Rattle.schema.specs.Shape.{Shape, Rows, Need, Sort, fileShape}
+use Rattle.schema.specs.Table23.{table23, listing, file, zones, vehicleType, station, status, bike, plan}
+use Rattle.schema.specs.Pick.{Picked, PickedItems, items, noItem, item, Slots, Slot, missing, once, twice, given, put, each, pick, pickRows, find}
+use Rattle.fault.specs.declared.Fault.{Fault}
+use Rattle.scalar.specs.Scalars.{unless, kindsOf, numberKinds, booleanKinds}
+use Rattle.rings.specs.Rings as rings
+use Rattle.judge.specs.declared.Place.{Place}
+use Rattle.judge.specs.Faults.{Judge, faulty, absence, itemPlace, eachItem, slotFaults, faults, rowFaults}
+use Rattle.document.specs.Document.{Maybe, some, onceOnly, field, along, listOf, path}
+use Rattle.document.proofs.Fields as fields
+use Rattle.document.proofs.Fields.{Lists, over, at-row}
+use Rattle.document.proofs.Records.{recordShape}
+use Rattle.clean.specs.Noted.{idName}
+
+cons-nil : {A B : Type 0} {x : A} {l : List A} → x ∷ l ≡ [] → B
+cons-nil e = let z : _≡_ {A = ℕ} 0 1 = cc in absurd (omega arith)
+
+-- where nothing is in two lists together, nothing is in either
+none-left : {A : Type 0} (xs ys : List A) → xs ++ ys ≡ [] → xs ≡ []
+none-left [] ys e = refl
+none-left (x ∷ xs) ys e = cons-nil e
+
+none-right : {A : Type 0} (xs ys : List A) → xs ++ ys ≡ [] → ys ≡ []
+none-right [] ys e = e
+none-right (x ∷ xs) ys e = cons-nil e
+
+none-faulty : {B : Type 0} (p : Place) (φ k : ℕ) (ks : List ℕ) → faulty p φ (k ∷ ks) ≡ [] → B
+unfolding faulty
+none-faulty p φ k ks e = cons-nil e
+
+-- the first row of the field f is required, and has this name and shape
+pub data Requires (f : ℕ) (name : List ℕ) (σ : Shape) : Rows → Type 0 where
+  here : {rows : Rows} → Requires f name σ (shape.row f shape.required name σ rows)
+  below : {g : ℕ} {need : Need} {n : List ℕ} {τ : Shape} {rows : Rows} → eqb f g ≡ false → Requires f name σ rows → Requires f name σ (shape.row g need n τ rows)
+
+pub lists : {f : ℕ} {name : List ℕ} {σ : Shape} {rows : Rows} → Requires f name σ rows → Lists f name σ rows
+lists here = fields.here
+lists (below e r) = fields.below e (lists r)
+
+-- a slot in which nothing is found leaves the rows below
+slot-rest : (judge : Judge) (need : Need) (p : Place) (φ : ℕ) (rest : Place → Slots → List Fault) (g : Json → Picked) (o : Slot Json) (ss : Slots)
+    → slotFaults judge need p φ rest (put φ g o ss) ≡ [] → rest p ss ≡ []
+slot-rest judge need p φ rest g missing ss e = none-right (faulty p φ (absence need)) (rest p ss) e
+slot-rest judge need p φ rest g (once z) ss e = none-right (judge p φ (g z)) (rest p ss) e
+slot-rest judge need p φ rest g twice ss e = none-right (faulty p φ (nameTwice ∷ [])) (rest p ss) e
+
+-- and, where it is required, holds a value in which nothing is found
+slot-once : (judge : Judge) (p : Place) (φ : ℕ) (rest : Place → Slots → List Fault) (g : Json → Picked) (o : Slot Json) (ss : Slots)
+    → slotFaults judge shape.required p φ rest (put φ g o ss) ≡ [] → (z : Json) × (o ≡ once z) × (judge p φ (g z) ≡ [])
+slot-once judge p φ rest g missing ss e = none-faulty p φ _ _ (none-left _ (rest p ss) e)
+slot-once judge p φ rest g (once z) ss e = (z, refl, none-left (judge p φ (g z)) (rest p ss) e)
+slot-once judge p φ rest g twice ss e = none-faulty p φ _ _ (none-left _ (rest p ss) e)
+
+pub required-there : {f : ℕ} {name : List ℕ} {σ : Shape} {rows : Rows} → Requires f name σ rows → (p : Place) (ms : Members) → rowFaults rows p (pickRows rows ms) ≡ []
+    → (z : Json) × (given (find name ms) ≡ once z) × (faults σ p f (pick σ z) ≡ [])
+unfolding rowFaults pickRows
+required-there {f} {name} {σ} (here {rows = rows}) p ms e =
+    slot-once (λ q g y. faults σ q g y) p f (λ q rest. rowFaults rows q rest) (λ y. pick σ y) (given (find name ms)) (pickRows rows ms) e
+required-there (below {g = g} {need = need} {n = n} {τ = τ} {rows = rows} i r) p ms e =
+    required-there r p ms (slot-rest (λ q h y. faults τ q h y) need p g (λ q rest. rowFaults rows q rest) (λ y. pick τ y) (given (find n ms)) (pickRows rows ms) e)
+
+module _ (p : Place) (φ : ℕ) where
+  pub object-there : (rows : Rows) (x : Json) → faults (shape.object rows) p φ (pick (shape.object rows) x) ≡ []
+      → (ms : Members) × (x ≡ tree.object ms) × (rowFaults rows p (pickRows rows ms) ≡ [])
+  unfolding faults pick
+  object-there rows (tree.object ms) e = (ms, refl, e)
+  object-there rows tree.null e = none-faulty p φ _ _ e
+  object-there rows (tree.boolean b) e = none-faulty p φ _ _ e
+  object-there rows (tree.number s) e = none-faulty p φ _ _ e
+  object-there rows (tree.string s) e = none-faulty p φ _ _ e
+  object-there rows (tree.array is) e = none-faulty p φ _ _ e
+
+  -- an array of records
+  pub array-there : (most : ℕ) (σ : Shape) (x : Json) → faults (shape.array shape.records most σ) p φ (pick (shape.array shape.records most σ) x) ≡ []
+      → (is : PickedItems) × (pick (shape.array shape.records most σ) x ≡ items is) × (leb (rings.count is) most ≡ true)
+      × (eachItem (λ q f y. faults σ q f y) shape.records p φ 0 is ≡ [])
+  unfolding faults pick
+  array-there most σ (tree.array js) e =
+      let is = each (λ y. pick σ y) js in
+      let excess = faulty p φ (unless (leb (rings.count is) most) tooMany) in
+      let inner = eachItem (λ q f y. faults σ q f y) shape.records p φ 0 is in
+      (is, refl, most-there (leb (rings.count is) most) (none-left excess inner e), none-right excess inner e)
+    where
+      most-there : (t : Bool) → faulty p φ (unless t tooMany) ≡ [] → t ≡ true
+      most-there true h = refl
+      most-there false h = none-faulty p φ _ _ h
+  array-there most σ tree.null e = none-faulty p φ _ _ e
+  array-there most σ (tree.boolean b) e = none-faulty p φ _ _ e
+  array-there most σ (tree.number s) e = none-faulty p φ _ _ e
+  array-there most σ (tree.string s) e = none-faulty p φ _ _ e
+  array-there most σ (tree.object ms) e = none-faulty p φ _ _ e
+
+  pub items-there : (judge : Judge) (n : ℕ) (is : PickedItems) → eachItem judge shape.records p φ n is ≡ [] → (y : Picked) → List·Memᴰ y (listOf is)
+      → (q : Place) × (judge q φ y ≡ [])
+  unfolding eachItem listOf
+  items-there judge n noItem e y i = absurd (List·Memᴰ·not-nil i)
+  items-there judge n (item x is) e y i =
+      let ih = items-there judge (n + 1) is (none-right (judge (itemPlace shape.records (n + 1) p) φ x) _ e) y in
+      ⊎-elim (λ h. (itemPlace shape.records (n + 1) p, ap (judge (itemPlace shape.records (n + 1) p) φ) h ∙ none-left (judge (itemPlace shape.records (n + 1) p) φ x) _ e))
+      ih (List·Memᴰ·cases-cons i)
+
+-- an id is a string
+pub id-there : (p : Place) (φ : ℕ) (x : Json) → faults (shape.scalar Sort.id) p φ (pick (shape.scalar Sort.id) x) ≡ [] → (t : List ℕ) × (x ≡ tree.string t)
+unfolding faults pick kindsOf numberKinds booleanKinds
+id-there p φ (tree.string t) e = (t, refl)
+id-there p φ tree.null e = none-faulty p φ _ _ e
+id-there p φ (tree.boolean b) e = none-faulty p φ _ _ e
+id-there p φ (tree.number s) e = none-faulty p φ _ _ e
+id-there p φ (tree.array is) e = none-faulty p φ _ _ e
+id-there p φ (tree.object ms) e = none-faulty p φ _ _ e
+
+-- the field of a required row
+pub field-there : {f : ℕ} {name : List ℕ} {σ : Shape} {rows : Rows} → Requires f name σ rows → (ms : Members) (z : Json) → given (find name ms) ≡ once z
+    → field f (pick (shape.object rows) (tree.object ms)) ≡ some (pick σ z)
+unfolding field pick
+field-there {σ = σ} r ms z e = ap onceOnly (at-row (lists r) ms) ∙ ap (λ (o : Slot Json). onceOnly (over (pick σ) o)) e
+
+-- required rows that lead on
+pub data Demands : Shape → List ℕ → Shape → Type 0 where
+  arrived : {σ : Shape} → Demands σ [] σ
+  into : {f : ℕ} {name : List ℕ} {σ τ : Shape} {rows : Rows} {fs : List ℕ} → Requires f name σ rows → Demands σ fs τ → Demands (shape.object rows) (f ∷ fs) τ
+
+pub demands-there : {σ τ : Shape} {fs : List ℕ} → Demands σ fs τ → (p : Place) (φ : ℕ) (x : Json) → faults σ p φ (pick σ x) ≡ []
+    → (z : Json) × (ψ : ℕ) × (along fs (pick σ x) ≡ some (pick τ z)) × (faults τ p ψ (pick τ z) ≡ [])
+unfolding along
+demands-there arrived p φ x e = (x, φ, refl, e)
+demands-there (into {f = f} {rows = rows} {fs = fs} r d) p φ x e =
+    let o = object-there p φ rows x e in
+    let h = required-there r p (o .0) (o .2) in
+    let k = demands-there d p f (h .0) (h .2) in
+    let g = ap (λ (y : Json). field f (pick (shape.object rows) y)) (o .1) ∙ field-there r (o .0) (h .0) (h .1) in
+    (k .0, k .1, rw (along, g) (k .2), k .3)
+
+-- the records of each file are demanded, and, of files 1 to 5, their ids
+pub demands-to : (n : ℕ) → 1 ≤ n → n ≤ 6 → Demands (fileShape table23 n) (path (eqb n 6)) (shape.array shape.records ceiling.records (recordShape n))
+unfolding fileShape table23 listing file zones recordShape
+demands-to zero h i = absurd (omega arith)
+demands-to (suc zero) h i = into (below refl (below refl (below refl here))) (into here arrived)
+demands-to (suc (suc zero)) h i = into (below refl (below refl (below refl here))) (into here arrived)
+demands-to (suc (suc (suc zero))) h i = into (below refl (below refl (below refl here))) (into here arrived)
+demands-to (suc (suc (suc (suc zero)))) h i = into (below refl (below refl (below refl here))) (into here arrived)
+demands-to (suc (suc (suc (suc (suc zero))))) h i = into (below refl (below refl (below refl here))) (into here arrived)
+demands-to (suc (suc (suc (suc (suc (suc zero)))))) h i = into (below refl (below refl (below refl here))) (into here (into (below refl here) arrived))
+demands-to (suc (suc (suc (suc (suc (suc (suc n))))))) h i = absurd (omega arith)
+
+pub id-demanded : (n : ℕ) → 1 ≤ n → n ≤ 5 → (rows : Rows) × (recordShape n ≡ shape.object rows) × Requires (n * 10) (idName n) (shape.scalar Sort.id) rows
+unfolding recordShape vehicleType station status bike plan idName
+id-demanded zero h i = absurd (omega arith)
+id-demanded (suc zero) h i = (_, refl, here)
+id-demanded (suc (suc zero)) h i = (_, refl, here)
+id-demanded (suc (suc (suc zero))) h i = (_, refl, here)
+id-demanded (suc (suc (suc (suc zero)))) h i = (_, refl, here)
+id-demanded (suc (suc (suc (suc (suc zero))))) h i = (_, refl, here)
+id-demanded (suc (suc (suc (suc (suc (suc n)))))) h i = absurd (omega arith)

@@ -1,0 +1,118 @@
+-- The steps of a file's judgement: whether it is there, stage A, its value, and what is shown of a clean one.
+use mathlib.Core.Bool.{Bool, true, false}
+use mathlib.Core.List.{List, [], _∷_}
+use mathlib.Core.Path.{_≡_, refl, sym, ap, subst, _∙_}
+use Prim.Native.Nat.{ℕ, zero, suc, _-_, _≤_, _<_}
+use native.Mathlib.Omega.{arith}
+use lib.Dec.{leb, ltb}
+use lib.ListN.{length}
+use borrow.Author.Tests.{ltb-false, leb-true, le-leb, ne-eqb}
+use Rattle.limits.specs.Ceilings.{fileBytes, depth}
+use Rattle.notation.specs.Choice.{_⇒_else_, _and_}
+use Rattle.lexeme.specs.Read.{Read, placed}
+use Rattle.lexeme.specs.Read.Read.{done, bad}
+use Rattle.lexeme.specs.Character.{paired}
+use Rattle.lexeme.proofs.Steps.{by-test}
+use Rattle.word.specs.Kinds.{idTwice}
+use Rattle.json.specs.declared.Syntax.{Syntax}
+use Rattle.json.specs.declared.Syntax.the-variants as syntax
+use Rattle.json.specs.Tree.{Json}
+use Rattle.json.specs.Text.{text, verdictOf, syntaxOf}
+use Rattle.walk.specs.Walk.{part}
+use Rattle.walk.specs.Part.{Whole}
+use Rattle.walk.proofs.Files.{Passed, passed, valueStart}
+use Rattle.schema.specs.Shape.{fileShape}
+use Rattle.schema.specs.Table23.{table23}
+use Rattle.schema.specs.Pick.{pick}
+use Rattle.fault.specs.declared.Fault.{Fault}
+use Rattle.fault.specs.declared.Least.{Least}
+use Rattle.fault.specs.declared.Least.the-variants.{None, Is}
+use Rattle.fault.specs.Fault.{fault, least}
+use Rattle.judge.specs.Faults.{fileFaults}
+use Rattle.document.specs.declared.Span.{Span}
+use Rattle.document.specs.declared.Span.the-variants as span
+use Rattle.document.specs.Spans.{topSpan, recordSpan}
+use Rattle.document.proofs.Cuts.{part-length}
+use Rattle.document.proofs.Records.{top-is}
+use Rattle.clean.specs.declared.Cleanness.{Cleanness}
+use Rattle.clean.specs.declared.Cleanness.the-variants.{Clean, Broken}
+use Rattle.clean.specs.declared.Shown.{Shown}
+use Rattle.clean.specs.declared.Shown.the-variants.{NoFile}
+use Rattle.clean.specs.Clean.{treeOf, idField, repeats, place, broken, judged, cleanOf}
+use Rattle.clean.specs.Noted.{blamed}
+use Rattle.clean.specs.Show.{ofClean, recordShown, shownOf}
+use Rattle.clean.proofs.Repeated.{tree-is}
+
+-- a file that is not there, and one that is
+pub clean-absent : (file : ℕ) (s : List ℕ) → length s ≡ 0 → Clean ≡ cleanOf file s
+unfolding cleanOf
+clean-absent file [] e = refl
+clean-absent file (b ∷ s) e = absurd (omega arith)
+
+pub clean-there : (file : ℕ) (s : List ℕ) → (length s ≡ 0 → ⊥) → judged file s (syntaxOf s) ≡ cleanOf file s
+unfolding cleanOf
+clean-there file [] h = absurd (h refl)
+clean-there file (b ∷ s) h = refl
+
+-- stage A's offset fits the word
+pub offset-fits : (s : List ℕ) (k o : ℕ) → syntaxOf s ≡ syntax.Fault k o → o ≤ fileBytes
+unfolding syntaxOf verdictOf placed
+offset-fits s k o e = by-test (ltb fileBytes (length s)) long read
+  where
+    long : ltb fileBytes (length s) ≡ true → o ≤ fileBytes
+    long h = let p : _≡_ {A = Syntax} (syntax.Fault _ 0) (syntax.Fault k o) = rw (h, syntaxOf) at e in let z : 0 ≡ o = cc in omega arith
+
+    go : (x : Read Json) → verdictOf (placed s x) ≡ syntax.Fault k o → length s ≤ fileBytes → o ≤ fileBytes
+    go (done y r) i n = let z : _≡_ {A = ℕ} 0 1 = cc in absurd (omega arith)
+    go (bad j r) i n = let z : length s - length r ≡ o = cc in omega arith
+
+    read : ltb fileBytes (length s) ≡ false → o ≤ fileBytes
+    read h = go (text paired depth s) (rw (h, syntaxOf) at e) (ltb-false fileBytes (length s) h)
+
+-- the value of a file that stage A passes
+module _ (s : List ℕ) (e : syntaxOf s ≡ syntax.Sound) where
+  pub top-there : topSpan s ≡ span.None → ⊥
+  top-there h = let i = top-is s (passed s e) in let z : _≡_ {A = ℕ} 0 1 = cc in omega arith
+
+  module _ (from upto : ℕ) (h : topSpan s ≡ span.Is from upto) where
+    pub top-short : length (part s from upto) ≤ fileBytes
+    top-short =
+        let t = passed s e in let i = top-is s t in
+        let b : t .end ≡ upto = cc in
+        let n = t .inside in let m = t .short in omega (arith, part-length s from upto)
+
+    pub top-whole : Whole (part s from upto) (treeOf s)
+    top-whole =
+        let t = passed s e in let i = top-is s t in
+        let a : valueStart s ≡ from = cc in
+        let b : t .end ≡ upto = cc in
+        rw (tree-is s t) (subst (λ (z : ℕ). Whole (part s from z) (t .tree)) b (subst (λ (z : ℕ). Whole (part s z (t .end)) (t .tree)) a (t .whole)))
+
+-- stage B's first fault, and where there is none the first of kind 12
+module _ (file : ℕ) (s : List ℕ) where
+  pub judged-on : (r : Cleanness) → None ≡ least (fileFaults (fileShape table23 file) (treeOf s))
+      → r ≡ broken file (least (repeats file (pick (fileShape table23 file) (treeOf s)))) Clean → r ≡ judged file s syntax.Sound
+  judged-on r e h = h ∙ ap (λ (z : Least). broken file z (broken file (least (repeats file (pick (fileShape table23 file) (treeOf s)))) Clean)) e
+
+  pub judged-broken : (f : Fault) → Is f ≡ least (fileFaults (fileShape table23 file) (treeOf s)) → Broken (place file f) ≡ judged file s syntax.Sound
+  judged-broken f e = ap (λ (z : Least). broken file z (broken file (least (repeats file (pick (fileShape table23 file) (treeOf s)))) Clean)) e
+
+module _ (file n : ℕ) (x : Least) (e : x ≡ blamed (idField file) n) where
+  pub ids-clean : n ≡ 0 → Clean ≡ broken file x Clean
+  ids-clean z = sym (ap (λ (y : Least). broken file y Clean) (e ∙ ap (blamed (idField file)) z))
+
+  pub ids-broken : (n ≡ 0 → ⊥) → Broken (place file (fault n (idField file) 0 idTwice)) ≡ broken file x Clean
+  ids-broken z = sym (ap (λ (y : Least). broken file y Clean) (e ∙ ap (λ (t : Bool). t ⇒ None else Is (fault n (idField file) 0 idTwice)) (ne-eqb n 0 z)))
+
+-- what is shown
+module _ (f n : ℕ) (s : List ℕ) where
+  pub shown-none : (1 ≤ f → f ≤ 6 → ⊥) → NoFile ≡ shownOf f n s
+  unfolding shownOf
+  shown-none h =
+      by-test (leb 1 f)
+      (λ t. by-test (leb f 6) (λ u. absurd (h (leb-true 1 f t) (leb-true f 6 u))) (λ u. rw (shownOf, t, u)))
+      (λ t. rw (shownOf, t))
+
+  pub shown-of : 1 ≤ f → f ≤ 6 → (x : Cleanness) → x ≡ cleanOf f s → ofClean x (recordShown (recordSpan f s n)) ≡ shownOf f n s
+  unfolding shownOf
+  shown-of h i x e = rw (shownOf, le-leb 1 f h, le-leb f 6 i, e)

@@ -1,0 +1,5 @@
+pub mod Noting
+pub mod Faultless
+pub mod Repeated
+pub mod Judged
+pub mod Shows

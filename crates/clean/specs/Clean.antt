@@ -1,0 +1,82 @@
+-- "Clean" judges one file alone: stages A and B, and then kind 12. Document 01, below the table of questions.
+use mathlib.Core.List.{List, [], _∷_, _++_}
+use Prim.Native.Nat.{ℕ, _+_, _*_}
+use lib.Dec.{eqb}
+use Rattle.notation.specs.Choice.{_⇒_else_}
+use Rattle.limits.specs.Ceilings.{depth}
+use Rattle.word.specs.declared.Parts.{Parts}
+use Rattle.word.specs.Kinds.{idTwice}
+use Rattle.lexeme.specs.Read.Read.{done, bad}
+use Rattle.lexeme.specs.Character.{paired}
+use Rattle.json.specs.declared.Syntax.{Syntax}
+use Rattle.json.specs.declared.Syntax.the-variants as syntax
+use Rattle.json.specs.Tree.{Json}
+use Rattle.json.specs.Text.{text, syntaxOf}
+use Rattle.text.specs.Text.{same}
+use Rattle.schema.specs.Shape.{Shape, fileShape}
+use Rattle.schema.specs.Table23.{table23}
+use Rattle.schema.specs.Pick.{Picked, pick}
+use Rattle.fault.specs.declared.Fault.{Fault}
+use Rattle.fault.specs.declared.Least.{Least}
+use Rattle.fault.specs.declared.Least.the-variants.{None, Is}
+use Rattle.fault.specs.Fault.{fault, least}
+use Rattle.document.specs.Document as document
+use Rattle.document.specs.Document.{Maybe, none, some, elementsOf, along}
+use Rattle.judge.specs.Faults.{fileFaults}
+use Rattle.clean.specs.declared.Cleanness.{Cleanness}
+use Rattle.clean.specs.declared.Cleanness.the-variants.{Clean, Broken}
+
+-- the tree of a file that stage A passes
+unfoldable pub treeOf : List ℕ → Json
+treeOf s = elim (text paired depth s) [ done x r ↦ x | bad k r ↦ Json.null ]
+
+-- the field of a file's own ids; file 6 has none
+unfoldable pub idField : ℕ → ℕ
+idField file = eqb file 6 ⇒ 0 else file * 10
+
+-- where the records of a picked file stand
+unfoldable pub recordsOf : ℕ → Picked → List Picked
+recordsOf file x = elementsOf (along (eqb file 6 ⇒ 4 ∷ 5 ∷ 7 ∷ [] else 4 ∷ 5 ∷ []) x)
+
+-- a record before has this id
+unfoldable pub usedBefore : ℕ → List Picked → List ℕ → List ℕ
+usedBefore f [] id = []
+usedBefore f (y ∷ passed) id =
+    elim (document.text f y) [ none ↦ usedBefore f passed id | some t ↦ same t id ⇒ idTwice ∷ [] else usedBefore f passed id ]
+
+unfoldable pub repeatedId : ℕ → ℕ → List Picked → Picked → List Fault
+repeatedId f n passed x =
+    elim (document.text f x) [
+      | none ↦ []
+      | some id ↦ elim (usedBefore f passed id) [ [] ↦ [] | k ∷ ks ↦ fault n f 0 k ∷ [] ]
+    ]
+
+-- record after record; `passed` are those before
+unfoldable pub repeatsFrom : ℕ → ℕ → List Picked → List Picked → List Fault
+repeatsFrom f n passed [] = []
+repeatsFrom f n passed (x ∷ l) = repeatedId f n passed x ++ repeatsFrom f (n + 1) (x ∷ passed) l
+
+unfoldable pub repeats : ℕ → Picked → List Fault
+repeats file x = repeatsFrom (idField file) 1 [] (recordsOf file x)
+
+-- the parts of a word for a fault of a file
+abbrev pub place : ℕ → Fault → Parts
+place file f =
+    record { file = file; kind = f .kind; field = f .field; «record» = f .«record»; sub = f .sub; offset = 0 }
+
+abbrev pub broken : ℕ → Least → Cleanness → Cleanness
+broken file None next = next
+broken file (Is f) next = Broken (place file f)
+
+-- a file of which stage A finds this
+abbrev pub judged : ℕ → List ℕ → Syntax → Cleanness
+judged file s (syntax.Fault kind offset) =
+    Broken (record { file = file; kind = kind; field = 0; «record» = 0; sub = 0; offset = offset })
+judged file s syntax.Sound =
+    broken file (least (fileFaults (fileShape table23 file) (treeOf s)))
+    (broken file (least (repeats file (pick (fileShape table23 file) (treeOf s)))) Clean)
+
+-- an absent file is clean
+unfoldable pub cleanOf : ℕ → List ℕ → Cleanness
+cleanOf file [] = Clean
+cleanOf file (b ∷ s) = judged file (b ∷ s) (syntaxOf (b ∷ s))

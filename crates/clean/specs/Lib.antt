@@ -1,0 +1,4 @@
+pub mod Ids
+pub mod Clean
+pub mod Show
+pub mod Noted

@@ -1,0 +1,190 @@
+// Whether one file is clean, judged alone; and the record that a question asks to see.
+use document::Span;
+use document::cut;
+use document::record_span;
+use document::top_span;
+use fault::Fault;
+use fault::Least;
+use ids::repeat_of;
+use json::Syntax;
+use json::check_syntax;
+use judge::judge_file;
+use word::Parts;
+use word::kind::Kind;
+ghost use mathlib.Core.Path.{_≡_};
+ghost use Prim.Native.Nat.{_<_};
+ghost use Rattle.json.specs.declared.Syntax.the-variants.{Sound};
+ghost use Rattle.json.specs.Text.{syntaxOf};
+ghost use Rattle.schema.specs.Shape.{fileShape};
+ghost use Rattle.schema.specs.Table23.{table23};
+ghost use Rattle.schema.specs.Pick.{pick};
+ghost use Rattle.fault.specs.declared.Least.the-variants.{None};
+ghost use Rattle.fault.specs.Fault.{least};
+ghost use Rattle.judge.specs.Faults.{fileFaults};
+ghost use Rattle.clean.specs.declared.Cleanness.the-variants.{Clean};
+ghost use Rattle.clean.specs.Clean.{treeOf, repeats, place, broken, judged, cleanOf};
+ghost use Rattle.clean.specs.Show.{answer, shownOf};
+
+pub mod ids;
+
+// A file that is clean, or the first rule that it breaks, as a word's parts.
+pub enum Cleanness {
+    Clean,
+    Broken(Parts),
+}
+
+// The answer to "show record n of file f", without the bytes: there is no such file or record, the file is not clean, or where the record stands.
+pub enum Shown {
+    NoFile,
+    NotClean(Parts),
+    NoRecord,
+    Record(usize, usize),
+}
+
+// Where a text stands in some bytes, without its quotation marks.
+pub struct Place {
+    pub from: usize,
+    pub upto: usize,
+}
+
+// The parts of a word for a fault of a file.
+fn parts_of(file: u8, f: Fault) -> Parts
+    requires { ⌜ (f .«record» < 65_536) × (f .sub < 65_536) ⌝ }
+    ensures { λ r. ⌜ r ≡ place file f ⌝ }
+{
+    Parts {
+        file: file,
+        kind: f.kind,
+        field: f.field,
+        record: f.record as u16,
+        sub: f.sub as u16,
+        offset: 0,
+    }
+}
+
+// Stage B of a file that stage A passes.
+fn stage_b(file: u8, s: &[u8]) -> Least
+    requires { ⌜ syntaxOf (now s) ≡ Sound ⌝ }
+    ensures { λ r. ⌜ r ≡ least (fileFaults (fileShape table23 file) (treeOf (now (s .entry)))) ⌝ }
+{
+    match top_span(s) {
+        Span::None => {
+            return Least::None;
+        }
+        Span::Is(from, upto) => {
+            return judge_file(cut(s, from, upto), file);
+        }
+    }
+}
+
+// Kind 12 of a file that stages A and B pass. Records of file 6 have no ids.
+fn judge_ids(file: u8, s: &[u8]) -> Cleanness
+    requires { ⌜ (syntaxOf (now s) ≡ Sound) × (least (fileFaults (fileShape table23 file) (treeOf (now s))) ≡ None) ⌝ }
+    ensures { λ r. ⌜ r ≡ broken file (least (repeats file (pick (fileShape table23 file) (treeOf (now (s .entry)))))) Clean ⌝ }
+{
+    if file == 0 {
+        return Cleanness::Clean;
+    }
+    if 5 < file {
+        return Cleanness::Clean;
+    }
+    let n = repeat_of(file, s);
+    if n == 0 {
+        return Cleanness::Clean;
+    }
+    Cleanness::Broken(Parts {
+        file: file,
+        kind: Kind::ID_TWICE,
+        field: file * 10,
+        record: n,
+        sub: 0,
+        offset: 0,
+    })
+}
+
+// A file that stage A passes.
+fn judge_passed(file: u8, s: &[u8]) -> Cleanness
+    requires { ⌜ syntaxOf (now s) ≡ Sound ⌝ }
+    ensures { λ r. ⌜ r ≡ judged file (now (s .entry)) Sound ⌝ }
+{
+    match stage_b(file, s) {
+        Least::None => {
+            return judge_ids(file, s);
+        }
+        Least::Is(f) => {
+            return Cleanness::Broken(parts_of(file, f));
+        }
+    }
+}
+
+// Whether a file is clean, by its number, from 1 to 6, and its bytes; where nothing is there it is. Under any other number stage A alone counts.
+// Shut out: the least fault of kind 12 named where stage B has one; an absent file named as one that is no JSON text.
+pub fn check_clean(file: u8, s: &[u8]) -> Cleanness
+    ensures { λ r. ⌜ r ≡ cleanOf file (now (s .entry)) ⌝ }
+{
+    if s.len() == 0 {
+        return Cleanness::Clean;
+    }
+    match check_syntax(s) {
+        Syntax::Sound => {
+            return judge_passed(file, s);
+        }
+        Syntax::Fault(kind, offset) => {
+            return Cleanness::Broken(Parts {
+                file: file,
+                kind: kind,
+                field: 0,
+                record: 0,
+                sub: 0,
+                offset: offset as u32,
+            });
+        }
+    }
+}
+
+// The n-th record of file f, counted from 1, of which s are the bytes.
+// Shut out: a record of a file that is not clean; the record after the one asked for.
+pub fn show_record(f: u8, n: usize, s: &[u8]) -> Shown
+    ensures { λ r. ⌜ r ≡ shownOf f n (now (s .entry)) ⌝ }
+{
+    if f == 0 {
+        return Shown::NoFile;
+    }
+    if 6 < f {
+        return Shown::NoFile;
+    }
+    match check_clean(f, s) {
+        Cleanness::Broken(p) => {
+            return Shown::NotClean(p);
+        }
+        Cleanness::Clean => match record_span(f, s, n) {
+            Span::None => {
+                return Shown::NoRecord;
+            }
+            Span::Is(from, upto) => {
+                return Shown::Record(from, upto);
+            }
+        },
+    }
+}
+
+// The bytes of an answer, a part of the caller's own: none on a refusal.
+// Shut out: a part that is shown on a refusal; one that ends before its record does.
+pub fn shown_part(s: &[u8], shown: Shown) -> &[u8]
+    ensures { λ r. ⌜ now r ≡ answer (now (s .entry)) shown .shown ⌝ }
+{
+    match shown {
+        Shown::Record(from, upto) => {
+            return cut(s, from, upto);
+        }
+        Shown::NoFile => {
+            return cut(s, 0, 0);
+        }
+        Shown::NotClean(_) => {
+            return cut(s, 0, 0);
+        }
+        Shown::NoRecord => {
+            return cut(s, 0, 0);
+        }
+    }
+}

@@ -1,0 +1,207 @@
+-- The records in a file's bytes are the records of the picked file, one by one: each stands at its span, whole, and is picked by its shape.
+use mathlib.Core.List.{List, [], _∷_, map, List·Memᴰ, List·Memᴰ·head, List·Memᴰ·tail}
+use mathlib.Core.Path.{_≡_, refl, sym, ap, subst, _∙_}
+use Prim.Native.Nat.{ℕ, zero, suc, _+_, _-_, _≤_, _<_}
+use native.Mathlib.Omega.{arith}
+use lib.Dec.{eqb}
+use lib.ListN.{length, getD, length-map}
+use Rattle.limits.specs.Ceilings as ceiling
+use Rattle.notation.specs.Choice.{_⇒_else_}
+use Rattle.json.specs.Tree as tree
+use Rattle.json.specs.Tree.{Json, Items}
+use Rattle.walk.specs.declared.Item.{Item}
+use Rattle.walk.specs.Walk.{part, itemsOf}
+use Rattle.walk.specs.Part.{Whole, treeOf}
+use Rattle.walk.proofs.Places.{item-placed}
+use Rattle.walk.proofs.Folds as iterated
+use Rattle.walk.proofs.Folds.{itemSteps}
+use Rattle.walk.proofs.Parts.{itemOf, items-whole}
+use Rattle.walk.proofs.Trees.{array-parts}
+use Rattle.walk.proofs.Files.{valueStart, Passed}
+use Rattle.schema.specs.Shape as shape
+use Rattle.schema.specs.Shape.{Shape, Rows, fileShape}
+use Rattle.schema.specs.Table23.{table23, listing, file, zones, vehicleType, station, status, bike, plan, zone}
+use Rattle.schema.specs.Pick.{Picked, PickedItems, items, pick, each}
+use Rattle.document.specs.declared.Span.{Span}
+use Rattle.document.specs.declared.Span.the-variants.{None, Is}
+use Rattle.document.specs.Document.{Maybe, none, some, field, listOf, along, path}
+use Rattle.document.specs.Spans.{memberAt, membersAlong, topSpan, namesTo, recordsSpan, nth, nthIn}
+use Rattle.document.proofs.Cuts.{part-part, part-inside}
+use Rattle.document.proofs.Along.{top-there}
+use Rattle.document.proofs.Fields.{Lists, here, below, none-some, some-some, field-held, Stands, reached}
+
+-- the value of a file that passes
+module _ (s : List ℕ) (t : Passed s) where
+  pub top-is : topSpan s ≡ Is (valueStart s) (t .end)
+  top-is = sym (top-there s (valueStart s) refl (t .end) (t .found))
+
+  pub top-stands : Stands s (valueStart s) (t .end) (t .tree)
+  top-stands = record { whole = t .whole; some = t .some; inside = t .inside }
+
+-- rows that lead on
+pub data Leads : Shape → List ℕ → List (List ℕ) → Shape → Type 0 where
+  arrived : {σ : Shape} → Leads σ [] [] σ
+  into : {f : ℕ} {name : List ℕ} {σ τ : Shape} {rows : Rows} {fs : List ℕ} {names : List (List ℕ)} → Lists f name σ rows → Leads σ fs names τ
+      → Leads (shape.object rows) (f ∷ fs) (name ∷ names) τ
+
+-- what stands at a span, from which y is picked
+pub record Picks (s : List ℕ) (span : Span) (σ : Shape) (y : Picked) : Type 0 where
+  pub start : ℕ
+  pub end : ℕ
+  pub tree : Json
+  pub is : span ≡ Is start end
+  pub there : Stands s start end tree
+  pub picked : pick σ tree ≡ y
+
+along-into : (f : ℕ) (fs : List ℕ) (x y : Picked) → along (f ∷ fs) x ≡ some y → (z : Picked) × (field f x ≡ some z) × (along fs z ≡ some y)
+unfolding along
+along-into f fs x y e = go (field f x) refl e
+  where
+    go : (o : Maybe Picked) → field f x ≡ o → elim o [ none ↦ none | some z ↦ along fs z ] ≡ some y → (z : Picked) × (field f x ≡ some z) × (along fs z ≡ some y)
+    go none h k = none-some k
+    go (some z) h k = (z, h, k)
+
+-- the fields along a path are the members along its names
+pub leads-on : {σ τ : Shape} {fs : List ℕ} {names : List (List ℕ)} → Leads σ fs names τ → (s : List ℕ) (from upto : ℕ) (x : Json) → Stands s from upto x
+    → (y : Picked) → along fs (pick σ x) ≡ some y → Picks s (membersAlong s names (Is from upto)) τ y
+unfolding along membersAlong
+leads-on arrived s from upto x w y e = record { start = from; end = upto; tree = x; is = refl; there = w; picked = some-some e }
+leads-on (into {f = f} {name = name} {rows = rows} {fs = fs} {names = names} l r) s from upto x w y e =
+    let t = along-into f fs (pick (shape.object rows) x) y e in
+    let d = field-held l x (t .1) in
+    let v = reached s name from upto (subst (Stands s from upto) (d .object) w) (d .value) (d .found) in
+    let q = leads-on r s (v .start) (v .end) (d .value) (v .there) y (ap (along fs) (d .picked) ∙ t .2) in
+    record { start = q .start; end = q .end; tree = q .tree; is = ap (membersAlong s names) (v .is) ∙ q .is; there = q .there; picked = q .picked }
+
+-- the shape of a file's records, and the rows that lead to them
+unfoldable pub recordShape : ℕ → Shape
+recordShape n =
+    eqb n 1 ⇒ vehicleType else
+    eqb n 2 ⇒ station else
+    eqb n 3 ⇒ status else
+    eqb n 4 ⇒ bike else
+    eqb n 5 ⇒ plan else zone
+
+pub leads-to : (n : ℕ) → 1 ≤ n → n ≤ 6 → Leads (fileShape table23 n) (path (eqb n 6)) (namesTo n) (shape.array shape.records ceiling.records (recordShape n))
+unfolding fileShape table23 listing file zones namesTo recordShape
+leads-to zero h i = absurd (omega arith)
+leads-to (suc zero) h i = into (below refl (below refl (below refl here))) (into here arrived)
+leads-to (suc (suc zero)) h i = into (below refl (below refl (below refl here))) (into here arrived)
+leads-to (suc (suc (suc zero))) h i = into (below refl (below refl (below refl here))) (into here arrived)
+leads-to (suc (suc (suc (suc zero)))) h i = into (below refl (below refl (below refl here))) (into here arrived)
+leads-to (suc (suc (suc (suc (suc zero))))) h i = into (below refl (below refl (below refl here))) (into here arrived)
+leads-to (suc (suc (suc (suc (suc (suc zero)))))) h i = into (below refl (below refl (below refl here))) (into here (into (below refl here) arrived))
+leads-to (suc (suc (suc (suc (suc (suc (suc n))))))) h i = absurd (omega arith)
+
+-- the items of the array p, picked
+abbrev pub pickedItems : Shape → List ℕ → List Picked
+pickedItems σ p = map (λ m. pick σ (treeOf (itemOf p m))) (itemsOf p)
+
+-- an array at a span, whose items l is picked from
+pub record Records (s : List ℕ) (span : Span) (σ : Shape) (l : List Picked) : Type 0 where
+  pub start : ℕ
+  pub end : ℕ
+  pub trees : Items
+  pub is : span ≡ Is start end
+  pub there : Stands s start end (tree.array trees)
+  pub picked : l ≡ pickedItems σ (part s start end)
+
+list-each : (f : Json → Picked) (ms : List Item) (g : Item → Json) → listOf (each f (tree.itemsOf (map g ms))) ≡ map (λ m. f (g m)) ms
+unfolding listOf each tree.itemsOf
+list-each f [] g = refl
+list-each f (m ∷ ms) g = ap (λ (l : List Picked). f (g m) ∷ l) (list-each f ms g)
+
+module _ (numbering : shape.Numbering) (most : ℕ) (σ : Shape) (is : PickedItems) where
+  array-of : (x : Json) → pick (shape.array numbering most σ) x ≡ items is → (js : Items) × (x ≡ tree.array js) × (is ≡ each (λ y. pick σ y) js)
+  unfolding pick
+  array-of (tree.array js) e = (js, refl, cc)
+  array-of tree.null e = let z : _≡_ {A = ℕ} 0 1 = cc in absurd (omega arith)
+  array-of (tree.boolean b) e = let z : _≡_ {A = ℕ} 0 1 = cc in absurd (omega arith)
+  array-of (tree.number t) e = let z : _≡_ {A = ℕ} 0 1 = cc in absurd (omega arith)
+  array-of (tree.string t) e = let z : _≡_ {A = ℕ} 0 1 = cc in absurd (omega arith)
+  array-of (tree.object ms) e = let z : _≡_ {A = ℕ} 0 1 = cc in absurd (omega arith)
+
+  pub array-records : {s : List ℕ} {span : Span} → Picks s span (shape.array numbering most σ) (items is) → Records s span σ (listOf is)
+  array-records {s} p =
+      let a = array-of (p .tree) (p .picked) in
+      let w : Stands s (p .start) (p .end) (tree.array (a .0)) = subst (Stands s (p .start) (p .end)) (a .1) (p .there) in
+      let q = part s (p .start) (p .end) in
+      record {
+        start = p .start;
+        end = p .end;
+        trees = a .0;
+        is = p .is;
+        there = w;
+        picked =
+            ap listOf (a .2) ∙ ap (λ js. listOf (each (λ y. pick σ y) js)) (array-parts q (w .whole))
+            ∙ list-each (λ y. pick σ y) (itemsOf q) (λ m. treeOf (itemOf q m));
+      }
+
+-- of a file that passes, where the path to its records is there
+pub records-stand : (n : ℕ) → 1 ≤ n → n ≤ 6 → (s : List ℕ) (t : Passed s) (is : PickedItems) → along (path (eqb n 6)) (pick (fileShape table23 n) (t .tree)) ≡ some (items is)
+    → Records s (recordsSpan n s) (recordShape n) (listOf is)
+unfolding recordsSpan
+records-stand n h i s t is e =
+    array-records shape.records ceiling.records (recordShape n) is (subst (λ (z : Span). Picks s (membersAlong s (namesTo n) z) (shape.array shape.records ceiling.records (recordShape n)) (items is)) (sym (top-is s t))
+    (leads-on (leads-to n h i) s (valueStart s) (t .end) (t .tree) (top-stands s t) (items is) e))
+
+-- items by number
+module _ (from : ℕ) where
+  pub nth-of : (ms : List Item) (k : ℕ) → k < length ms → (m : Item) × List·Memᴰ m ms × (nth from ms (suc k) ≡ Is (from + m .value) (from + m .«value_end»))
+      × ((f : Item → Picked) (d : Picked) → getD (map f ms) k d ≡ f m)
+  unfolding nth
+  nth-of [] k h = absurd (omega arith)
+  nth-of (m ∷ ms) zero h = (m, List·Memᴰ·head refl, refl, λ f d. refl)
+  nth-of (m ∷ ms) (suc k) h = let t = nth-of ms k (omega arith) in (t .0, List·Memᴰ·tail (t .1), t .2, t .3)
+
+  pub nth-past : (ms : List Item) (k : ℕ) → length ms ≤ k → nth from ms (suc k) ≡ None
+  unfolding nth
+  nth-past [] k h = refl
+  nth-past (m ∷ ms) zero h = absurd (omega arith)
+  nth-past (m ∷ ms) (suc k) h = nth-past ms k (omega arith)
+
+pub item-inside : (p : List ℕ) (m : Item) → List·Memᴰ m (itemsOf p) → (m .value < m .«value_end») × (m .«value_end» ≤ length p)
+unfolding itemsOf
+item-inside p =
+    iterated.each (itemSteps p) (λ m. (m .value < m .«value_end») × (m .«value_end» ≤ length p))
+    (λ at m e. let k = item-placed p at m e in (k .value, omega arith)) (length p) 1
+
+-- the record of a number, counted from 1
+pub record RecordAt (s : List ℕ) (span : Span) (σ : Shape) (y : Picked) : Type 0 where
+  pub start : ℕ
+  pub end : ℕ
+  pub is : span ≡ Is start end
+  pub there : Stands s start end (treeOf (part s start end))
+  pub picked : y ≡ pick σ (treeOf (part s start end))
+
+module _ {s : List ℕ} {span : Span} {σ : Shape} {l : List Picked} (r : Records s span σ l) where
+  as-many : length l ≡ length (itemsOf (part s (r .start) (r .end)))
+  as-many =
+      let p = part s (r .start) (r .end) in
+      ap length (r .picked) ∙ length-map (itemsOf p) (λ m. pick σ (treeOf (itemOf p m)))
+
+  pub record-at : (k : ℕ) → k < length l → (d : Picked) → RecordAt s (nthIn s span (suc k)) σ (getD l k d)
+  record-at k h d =
+      let p = part s (r .start) (r .end) in let a = r .start in
+      let t = nth-of a (itemsOf p) k (omega (arith, as-many)) in
+      let m = t .0 in
+      let i = item-inside p m (t .1) in
+      let n : length p ≡ r .end - a = part-inside s a (r .end) (r .there .inside) in
+      let fits : m .«value_end» ≤ r .end - a = omega arith in
+      let same : part p (m .value) (m .«value_end») ≡ part s (a + m .value) (a + m .«value_end») = part-part s a (r .end) (m .value) (m .«value_end») fits in
+      let outer = r .there .inside in let less = r .there .some in
+      record {
+        start = a + m .value;
+        end = a + m .«value_end»;
+        is = ap (λ (z : Span). nthIn s z (suc k)) (r .is) ∙ t .2;
+        there =
+            record {
+              whole = subst (λ (q : List ℕ). Whole q (treeOf q)) same (items-whole p m (t .1));
+              some = omega arith;
+              inside = omega arith;
+            };
+        picked = ap (λ (z : List Picked). getD z k d) (r .picked) ∙ t .3 _ d ∙ ap (λ (q : List ℕ). pick σ (treeOf q)) same;
+      }
+
+  pub record-past : (k : ℕ) → length l ≤ k → nthIn s span (suc k) ≡ None
+  record-past k h = ap (λ (z : Span). nthIn s z (suc k)) (r .is) ∙ nth-past (r .start) (itemsOf (part s (r .start) (r .end))) k (omega (arith, as-many))
