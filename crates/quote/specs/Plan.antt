@@ -1,4 +1,4 @@
--- A plan out of a picked file of plans, and what it quotes: document 01, the row "quote" and "Charges".
+-- A plan out of a picked file of plans, and what it quotes: document 01, "Charges".
 use mathlib.Core.Bool.{Bool, true, false}
 use mathlib.Core.List.{List, [], _∷_, map}
 use Prim.Native.Nat.{ℕ, _+_}

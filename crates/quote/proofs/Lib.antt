@@ -1,0 +1,7 @@
+pub mod Ways
+pub mod Values
+pub mod Fields
+pub mod Looking
+pub mod Tallying
+pub mod Trips
+pub mod Files

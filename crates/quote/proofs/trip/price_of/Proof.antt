@@ -1,0 +1,15 @@
+-- The price that stands under its name.
+use borrow.Author.Needs.{needs}
+use mathlib.Core.Path.{ap, _∙_}
+use Rattle.fare.specs.Folds.{ofPrice}
+use Rattle.quote.specs.Values.{priceBy}
+use Rattle.quote.proofs.trip.price_of.Statement.{statement}
+use Rattle.quote.proofs.trip.price_of.Tie as tie
+
+returns : tie.Need-returns
+returns c = c .of-price .ensures ∙ ap ofPrice (c .before .price-in .ensures ∙ ap priceBy (c .before .before .member .ensures))
+
+pub price-of-spec : {M : Type 1} → statement M
+price-of-spec =
+    tie.close
+    (tie.spec (λ c. search needs) (λ c κs. search needs) (λ c κs. search needs) (λ c κs. search needs) returns)

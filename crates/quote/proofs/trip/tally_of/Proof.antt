@@ -1,0 +1,15 @@
+-- The tally of the array that stands under the name.
+use borrow.Author.Needs.{needs}
+use mathlib.Core.Path.{ap, _∙_}
+use Rattle.quote.specs.Values.{arrayBy}
+use Rattle.quote.specs.Tally.{lengthOf, tally as tallyOf}
+use Rattle.quote.proofs.trip.tally_of.Statement.{statement}
+use Rattle.quote.proofs.trip.tally_of.Tie as tie
+
+returns : tie.Need-returns
+returns c =
+    let a = c .before .before .before .before .before .args in
+    c .tally .ensures ∙ ap (λ q. tallyOf q (a .sum) (lengthOf (a .ride))) (c .before .array-in .ensures ∙ ap arrayBy (c .before .before .member .ensures))
+
+pub tally-of-spec : {M : Type 1} → statement M
+tally-of-spec = tie.close (tie.spec (λ c κs. search needs) (λ c κs. search needs) (λ c κs. search needs) returns)

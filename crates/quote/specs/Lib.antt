@@ -1,0 +1,6 @@
+pub mod Plan
+pub mod Quote
+pub mod Values
+pub mod Lookup
+pub mod Tally
+pub mod Clean

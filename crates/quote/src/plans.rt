@@ -1,0 +1,56 @@
+// The plan of an id.
+use crate::Lookup;
+use crate::value::STRING;
+use crate::value::code_of;
+use crate::value::member;
+use crate::value::unquoted;
+use text::compare::text_is;
+use walk::ItemStep;
+use walk::next_item;
+ghost use mathlib.Core.Path.{_≡_};
+ghost use Rattle.json.specs.Tree.{Json};
+ghost use Rattle.walk.specs.Part.{Whole};
+ghost use Rattle.schema.specs.Pick.{pick};
+ghost use Rattle.schema.specs.Table23.{plan};
+ghost use Rattle.quote.specs.Values.{textBy};
+ghost use Rattle.quote.specs.Lookup.{isId, isPlan, lookup};
+
+// Whether a value is a text, and this one.
+fn is_id(q: &[u8], id: &[u8]) -> bool
+    ensures { λ r. ⌜ r ≡ isId (now (id .entry)) (textBy (now (q .entry))) ⌝ }
+{
+    if code_of(q) != STRING {
+        return false;
+    }
+    text_is(unquoted(q), id)
+}
+
+// Whether a record is the plan of the id.
+fn is_plan(p: &[u8], id: &[u8]) -> bool
+    ensures { λ r. ⌜ ((x : Json) → Whole (now (p .entry)) x → r ≡ isPlan (now (id .entry)) (pick plan x)) ⌝ }
+{
+    is_id(member(p, b"plan_id"), id)
+}
+
+// The first plan of the id among the items of the array `p`, by its place there.
+// Shut out: a plan found by an id that only begins as asked, or is spelled as asked and decodes to another; a later one of two.
+pub fn find_plan(p: &[u8], id: &[u8]) -> Lookup
+    ensures { λ r. ⌜ r ≡ lookup (now (p .entry)) (now (id .entry)) ⌝ }
+{
+    let mut at: usize = 1;
+    loop {
+        match next_item(p, at) {
+            ItemStep::End => {
+                return Lookup::Nothing;
+            }
+            ItemStep::Found(m) => {
+                let from = m.value;
+                let upto = m.value_end;
+                if is_plan(&p[from..upto], id) {
+                    return Lookup::Plan(from, upto);
+                }
+                at = m.next;
+            }
+        }
+    }
+}

@@ -1,0 +1,171 @@
+// Values of a plan by their bytes. No bytes stand for a value that is missing, twice there or "".
+use decimal::Amount;
+use decimal::Decimal;
+use decimal::Money;
+use decimal::Number;
+use decimal::Price;
+use decimal::quoted::read_price;
+use decimal::spelling::read_decimal;
+use document::cut;
+use document::find;
+use slots::Found;
+use slots::is_blank_text;
+use walk::ValueKind;
+use walk::value_kind;
+ghost use mathlib.Core.List.{[]};
+ghost use mathlib.Core.Path.{_≡_};
+ghost use Rattle.notation.specs.Choice.{_⇒_else_};
+ghost use Rattle.json.specs.Tree.{Json};
+ghost use Rattle.walk.specs.Part.{Whole, kindAt, inside};
+ghost use Rattle.slots.specs.Blank.{blankText};
+ghost use Rattle.decimal.specs.Decimals.{priceOf};
+ghost use Rattle.decimal.specs.Exact.{moneyOf};
+ghost use Rattle.decimal.specs.Formed.{Formed};
+ghost use Rattle.text.specs.Text.{textOf};
+ghost use Rattle.quote.specs.Plan.{nothing as nothingOf, amountIn, priced, integerIn, moneyIn};
+ghost use Rattle.quote.specs.Values.{code, memberOf, spelledBy, arrayBy, priceBy};
+
+// The kinds that are asked for.
+pub const NUMBER: u8 = 2;
+
+pub const STRING: u8 = 3;
+
+pub const ARRAY: u8 = 4;
+
+pub const OBJECT: u8 = 5;
+
+// The kind of a value, by number.
+pub fn code_of(q: &[u8]) -> u8
+    ensures { λ r. ⌜ r ≡ code (kindAt (now (q .entry))) ⌝ }
+{
+    match value_kind(q) {
+        ValueKind::Null => 0,
+        ValueKind::Boolean => 1,
+        ValueKind::Number => NUMBER,
+        ValueKind::String => STRING,
+        ValueKind::Array => ARRAY,
+        ValueKind::Object => OBJECT,
+    }
+}
+
+// No bytes.
+fn no_bytes(q: &[u8]) -> &[u8]
+    ensures { λ r. ⌜ now r ≡ [] ⌝ }
+{
+    cut(q, 0, 0)
+}
+
+// A value as it stands, and of "" nothing.
+fn unless_blank(q: &[u8]) -> &[u8]
+    ensures { λ r. ⌜ ((x : Json) → Whole (now (q .entry)) x → now r ≡ (blankText x ⇒ [] else now (q .entry))) ⌝ }
+{
+    if is_blank_text(q) {
+        return no_bytes(q);
+    }
+    q
+}
+
+// The member of a name, of the object `p`.
+pub fn member<'a>(p: &'a [u8], name: &[u8]) -> &'a [u8]
+    ensures { λ r. ⌜ now r ≡ memberOf (now (p .entry)) (now (name .entry)) ⌝ }
+{
+    if code_of(p) != OBJECT {
+        return no_bytes(p);
+    }
+    match find(p, name) {
+        Found::Missing => {
+            return no_bytes(p);
+        }
+        Found::Once(from, upto) => {
+            return unless_blank(cut(p, from, upto));
+        }
+        Found::Twice => {
+            return no_bytes(p);
+        }
+    }
+}
+
+// What stands between the quotation marks of a string.
+pub fn unquoted(q: &[u8]) -> &[u8]
+    ensures { λ r. ⌜ now r ≡ inside (now (q .entry)) ⌝ }
+{
+    if q.len() < 2 {
+        return no_bytes(q);
+    }
+    cut(q, 1, q.len() - 1)
+}
+
+// An array as it stands; of anything else nothing.
+pub fn array_in(q: &[u8]) -> &[u8]
+    ensures { λ r. ⌜ now r ≡ arrayBy (now (q .entry)) ⌝ }
+{
+    if code_of(q) != ARRAY {
+        return no_bytes(q);
+    }
+    q
+}
+
+// An integer that was found to be one.
+pub fn integer_in(q: &[u8]) -> u64
+    ensures { λ r. ⌜ r ≡ integerIn (spelledBy (now (q .entry))) ⌝ }
+{
+    if code_of(q) != NUMBER {
+        return 0;
+    }
+    let Number::Value(d) = read_decimal(q) else {
+        return 0;
+    };
+    d.whole
+}
+
+fn nothing() -> Amount
+    ensures { λ r. ⌜ r ≡ nothingOf ⌝ }
+{
+    Amount {
+        negative: false,
+        size: 0,
+    }
+}
+
+// A number as money.
+fn amount_of(d: Decimal) -> Amount
+    requires { ⌜ Formed d ⌝ }
+    ensures { λ r. ⌜ r ≡ amountIn (moneyOf d) ⌝ }
+{
+    let Money::Is(amount) = d.money() else {
+        return nothing();
+    };
+    amount
+}
+
+pub fn money_in(q: &[u8]) -> Amount
+    ensures { λ r. ⌜ r ≡ moneyIn (spelledBy (now (q .entry))) ⌝ }
+{
+    if code_of(q) != NUMBER {
+        return nothing();
+    }
+    let Number::Value(d) = read_decimal(q) else {
+        return nothing();
+    };
+    amount_of(d)
+}
+
+// A price in quotation marks.
+fn quoted_price(spelled: &[u8]) -> Amount
+    ensures { λ r. ⌜ r ≡ priced (priceOf (textOf (now (spelled .entry)))) ⌝ }
+{
+    match read_price(spelled) {
+        Price::Value(d) => amount_of(d),
+        Price::Unformed => nothing(),
+        Price::NoNumber => nothing(),
+    }
+}
+
+pub fn price_in(q: &[u8]) -> Amount
+    ensures { λ r. ⌜ r ≡ priceBy (now (q .entry)) ⌝ }
+{
+    if code_of(q) == STRING {
+        return quoted_price(unquoted(q));
+    }
+    money_in(q)
+}
