@@ -1,4 +1,4 @@
--- "Clean" judges one file alone: stages A and B, and then kind 12. Document 01, below the table of questions.
+-- A file without its set: document 01, below the table of questions. It is clean where neither stage A nor stage B nor kind 12 has anything against it.
 use mathlib.Core.List.{List, [], _∷_, _++_}
 use Prim.Native.Nat.{ℕ, _+_, _*_}
 use lib.Dec.{eqb}

@@ -1,4 +1,4 @@
--- The question "quote": document 01's table. Amounts, marks and parts that an answer doesn't give are zero or no.
+-- The question "quote" of document 01. Where an answer has no amount, mark or parts, zero and false stand in.
 use mathlib.Core.Bool.{Bool, true, false}
 use mathlib.Core.List.{List}
 use Prim.Native.Nat.{ℕ}
