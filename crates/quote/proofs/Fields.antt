@@ -18,47 +18,28 @@ use Rattle.fare.specs.declared.Segment.{Segment}
 use Rattle.document.specs.Document.{field, fieldItems, given, spelling, text}
 use Rattle.document.proofs.Fields.{Lists, here, below}
 use Rattle.document.proofs.Records.{pickedItems}
-use Rattle.quote.specs.Plan.{integerIn, moneyIn, priceIn, priceAt, segment}
-use Rattle.quote.specs.Values.{memberOf, spelledBy, textBy, arrayBy, thereBy, priceBy, segmentBy}
-use Rattle.quote.proofs.Values.{member-holds, holds-there, holds-spelled, holds-text, holds-items}
-
--- a field of one value
-module _ {f : ℕ} {name : List ℕ} {sort : Sort} {rows : Rows} (l : Lists f name (shape.scalar sort) rows) {p : List ℕ} {x : Json} (w : Whole p x) where
-  field-spelled : spelledBy (memberOf p name) ≡ spelling f (pick (shape.object rows) x)
-  unfolding spelling
-  field-spelled = holds-spelled sort (memberOf p name) (field f (pick (shape.object rows) x)) (member-holds l p x w)
-
-  field-text : textBy (memberOf p name) ≡ text f (pick (shape.object rows) x)
-  unfolding text
-  field-text = holds-text sort (memberOf p name) (field f (pick (shape.object rows) x)) (member-holds l p x w)
-
-  field-given : thereBy (memberOf p name) ≡ given (field f (pick (shape.object rows) x))
-  field-given = holds-there (shape.scalar sort) (memberOf p name) (field f (pick (shape.object rows) x)) (member-holds l p x w)
-
--- and of an array
-field-items : {f : ℕ} {name : List ℕ} {numbering : Numbering} {most : ℕ} {σ : Shape} {rows : Rows} → Lists f name (shape.array numbering most σ) rows
-    → {p : List ℕ} {x : Json} → Whole p x → pickedItems σ (arrayBy (memberOf p name)) ≡ fieldItems f (pick (shape.object rows) x)
-unfolding fieldItems
-field-items {f} {name} {numbering} {most} {σ} {rows} l {p} {x} w =
-    holds-items numbering most σ (memberOf p name) (field f (pick (shape.object rows) x)) (member-holds l p x w)
+use Rattle.fields.specs.Values.{memberOf, textBy, arrayBy, integerIn}
+use Rattle.fields.proofs.Fields.{field-spelled, field-text, field-given, field-items, rowOf, listed}
+use Rattle.quote.specs.Plan.{moneyIn, priceIn, priceAt, segment}
+use Rattle.quote.specs.Values.{priceBy, segmentBy}
 
 -- a plan
 module _ {p : List ℕ} {x : Json} (w : Whole p x) where
   pub plan-id : textBy (memberOf p (bytes "plan_id")) ≡ text 50 (pick table.plan x)
-  unfolding table.plan
-  plan-id = field-text here w
+  unfolding table.plan rowOf
+  plan-id = field-text (listed refl) w
 
   pub plan-price : priceBy (memberOf p (bytes "price")) ≡ priceAt (pick table.plan x)
-  unfolding table.plan priceBy priceAt
-  plan-price = ap₂ priceIn (field-spelled (below refl (below refl (below refl here))) w) (field-text (below refl (below refl (below refl here))) w)
+  unfolding table.plan rowOf priceBy priceAt
+  plan-price = ap₂ priceIn (field-spelled (listed refl) w) (field-text (listed refl) w)
 
   pub plan-kilometres : pickedItems (table.segment 57) (arrayBy (memberOf p (bytes "per_km_pricing"))) ≡ fieldItems 56 (pick table.plan x)
-  unfolding table.plan
-  plan-kilometres = field-items (below refl (below refl (below refl (below refl (below refl (below refl here)))))) w
+  unfolding table.plan rowOf
+  plan-kilometres = field-items (listed refl) w
 
   pub plan-minutes : pickedItems (table.segment 62) (arrayBy (memberOf p (bytes "per_min_pricing"))) ≡ fieldItems 61 (pick table.plan x)
-  unfolding table.plan
-  plan-minutes = field-items (below refl (below refl (below refl (below refl (below refl (below refl (below refl here))))))) w
+  unfolding table.plan rowOf
+  plan-minutes = field-items (listed refl) w
 
 -- a segment, whatever its fields' numbers
 abbrev made : ℕ → Amount → ℕ → Bool → ℕ → Segment

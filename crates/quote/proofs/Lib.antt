@@ -1,5 +1,4 @@
 pub mod Ways
-pub mod Values
 pub mod Fields
 pub mod Looking
 pub mod Tallying

@@ -37,7 +37,8 @@ use Rattle.fare.proofs.Bound.{room-less, room-next, payable}
 use Rattle.quote.specs.declared.Tally.{Tally}
 use Rattle.quote.specs.declared.Tally.the-variants.{Is, Crowded}
 use Rattle.quote.specs.Plan.{amountIn, amountOf, priced, moneyIn, priceIn, segment}
-use Rattle.quote.specs.Values.{spelledBy, textBy, memberOf, priceBy, segmentBy}
+use Rattle.fields.specs.Values.{spelledBy, textBy, memberOf}
+use Rattle.quote.specs.Values.{priceBy, segmentBy}
 use Rattle.quote.specs.Tally.{tallied, tally}
 use Rattle.quote.proofs.Fields.{segment-is}
 

@@ -20,7 +20,8 @@ use Rattle.fare.proofs.Fold.{amount-summed, tells-start}
 use Rattle.fare.proofs.Bound.{room-price, room-less}
 use Rattle.quote.specs.declared.Tally.the-variants.{Is, Crowded}
 use Rattle.quote.specs.Plan.{priceAt, perMinute, perKilometre, sum, pastMinutes, pastKilometres}
-use Rattle.quote.specs.Values.{memberOf, arrayBy, priceBy}
+use Rattle.fields.specs.Values.{memberOf, arrayBy}
+use Rattle.quote.specs.Values.{priceBy}
 use Rattle.quote.specs.Tally.{tally}
 use Rattle.quote.specs.Quote.{fareOf, planQuote}
 use Rattle.quote.specs.Clean.{Few}

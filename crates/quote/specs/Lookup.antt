@@ -1,22 +1,17 @@
 -- Where the plan of an id stands among the records of an array's bytes p.
-use mathlib.Core.Bool.{Bool, false}
+use mathlib.Core.Bool.{Bool}
 use mathlib.Core.List.{List, [], _∷_}
 use Prim.Native.Nat.{ℕ}
 use Rattle.notation.specs.Choice.{_⇒_else_}
-use Rattle.text.specs.Text.{same}
 use Rattle.walk.specs.declared.Item.{Item}
 use Rattle.walk.specs.Walk.{part, itemsOf}
 use Rattle.walk.specs.Part.{treeOf}
 use Rattle.schema.specs.Pick.{Picked, pick}
 use Rattle.schema.specs.Table23.{plan}
-use Rattle.document.specs.Document.{Maybe, none, some, text}
+use Rattle.document.specs.Document.{text}
+use Rattle.fields.specs.Values.{isId}
 use Rattle.quote.specs.declared.Lookup.{Lookup}
 use Rattle.quote.specs.declared.Lookup.the-variants.{Plan, Nothing}
-
--- a text that is the id
-abbrev pub isId : List ℕ → Maybe (List ℕ) → Bool
-isId id none = false
-isId id (some t) = same t id
 
 -- a record of the id
 abbrev pub isPlan : List ℕ → Picked → Bool

@@ -17,6 +17,7 @@ use Rattle.text.specs.Text.{same}
 use Rattle.notation.specs.Choice.{_⇒_else_, _and_}
 use Rattle.schema.specs.Pick.{Picked}
 use Rattle.document.specs.Document.{Maybe, none, some, along, elementsOf, field, fieldItems, text, textIn, spelling, spellingIn, given, then}
+use Rattle.fields.specs.Values.{integerIn}
 use Rattle.fare.specs.declared.Segment.{Segment}
 use Rattle.fare.specs.declared.Total.{Total}
 use Rattle.fare.specs.Charges.{minutesOf, kilometresOf, amount, past, total}
@@ -38,15 +39,7 @@ priced (price.Value d) = amountIn (moneyOf d)
 priced price.Unformed = nothing
 priced price.NoNumber = nothing
 
-abbrev pub wholeOf : Number → ℕ
-wholeOf (number.Value d) = d .whole
-wholeOf number.Unformed = 0
-
--- an integer and money of a field
-abbrev pub integerIn : Maybe (List ℕ) → ℕ
-integerIn none = 0
-integerIn (some s) = wholeOf (numberOf s)
-
+-- money of a field
 abbrev pub moneyIn : Maybe (List ℕ) → Amount
 moneyIn none = nothing
 moneyIn (some s) = amountOf (numberOf s)

@@ -1,57 +1,11 @@
--- What the bytes of a value say, as the code reads them: an object's member, and by its kind a number, a text, an array. No bytes stand for a
--- value that is not there. `proofs/Values` shows that these are the fields of the picked object.
-use mathlib.Core.Bool.{Bool}
-use mathlib.Core.List.{List, []}
+-- What the bytes of a plan's values say, as the code reads them.
+use mathlib.Core.List.{List}
 use Prim.Native.Nat.{ℕ}
-use lib.Dec.{eqb, ltb}
-use lib.ListN.{length}
 use Rattle.notation.specs.Ascii.{bytes}
-use Rattle.notation.specs.Choice.{_⇒_else_}
-use Rattle.text.specs.Text.{textOf}
-use Rattle.walk.specs.declared.ValueKind.{ValueKind}
-use Rattle.walk.specs.declared.ValueKind.the-variants as kind
-use Rattle.walk.specs.Walk.{part}
-use Rattle.walk.specs.Part.{treeOf, kindAt, inside}
-use Rattle.slots.specs.declared.Found.{Found}
-use Rattle.slots.specs.declared.Found.the-variants.{Missing, Once, Twice}
-use Rattle.slots.specs.Found.{foundIn}
-use Rattle.slots.specs.Blank.{blankText}
 use Rattle.decimal.specs.declared.Amount.{Amount}
-use Rattle.document.specs.Document.{Maybe, none, some}
+use Rattle.fields.specs.Values.{memberOf, spelledBy, textBy, thereBy, integerIn}
 use Rattle.fare.specs.declared.Segment.{Segment}
-use Rattle.quote.specs.Plan.{integerIn, moneyIn, priceIn}
-
--- a kind by number
-abbrev pub code : ValueKind → ℕ
-code kind.Null = 0
-code kind.Boolean = 1
-code kind.Number = 2
-code kind.String = 3
-code kind.Array = 4
-code kind.Object = 5
-
--- what is found in p, unless it is the text with nothing in it
-abbrev pub foundBytes : List ℕ → Found → List ℕ
-foundBytes p Missing = []
-foundBytes p (Once from upto) = blankText (treeOf (part p from upto)) ⇒ [] else part p from upto
-foundBytes p Twice = []
-
--- the member of a name, in the object p
-unfoldable pub memberOf : (p name : List ℕ) → List ℕ
-memberOf p name = eqb (code (kindAt p)) 5 ⇒ foundBytes p (foundIn p name) else []
-
--- the spelling of a number, the text of a string, an array with its brackets, whether there is a value
-unfoldable pub spelledBy : List ℕ → Maybe (List ℕ)
-spelledBy q = eqb (code (kindAt q)) 2 ⇒ some q else none
-
-unfoldable pub textBy : List ℕ → Maybe (List ℕ)
-textBy q = eqb (code (kindAt q)) 3 ⇒ some (textOf (inside q)) else none
-
-unfoldable pub arrayBy : List ℕ → List ℕ
-arrayBy q = eqb (code (kindAt q)) 4 ⇒ q else []
-
-abbrev pub thereBy : List ℕ → Bool
-thereBy q = ltb 0 (length q)
+use Rattle.quote.specs.Plan.{moneyIn, priceIn}
 
 -- a price, of its bytes; a segment, of those of its object
 unfoldable pub priceBy : List ℕ → Amount

@@ -19,10 +19,10 @@ ghost use Rattle.quote.specs.declared.Quote.the-variants.{TooLong};
 ghost use Rattle.quote.specs.Clean.{CleanPlans};
 ghost use Rattle.quote.specs.Quote.{short, cleanQuote};
 
+mod money;
 mod plans;
 mod segment;
 mod trip;
-mod value;
 
 // The answer to "quote": the ride is too long, the file is not clean, there is no such plan, the amount has no place in signed 64 bits, or the
 // amount in ten-thousandths with its two marks.

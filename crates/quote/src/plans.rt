@@ -1,10 +1,7 @@
 // The plan of an id.
 use crate::Lookup;
-use crate::value::STRING;
-use crate::value::code_of;
-use crate::value::member;
-use crate::value::unquoted;
-use text::compare::text_is;
+use fields::is_id;
+use fields::member;
 use walk::ItemStep;
 use walk::next_item;
 ghost use mathlib.Core.Path.{_≡_};
@@ -12,18 +9,7 @@ ghost use Rattle.json.specs.Tree.{Json};
 ghost use Rattle.walk.specs.Part.{Whole};
 ghost use Rattle.schema.specs.Pick.{pick};
 ghost use Rattle.schema.specs.Table23.{plan};
-ghost use Rattle.quote.specs.Values.{textBy};
-ghost use Rattle.quote.specs.Lookup.{isId, isPlan, lookup};
-
-// Whether a value is a text, and this one.
-fn is_id(q: &[u8], id: &[u8]) -> bool
-    ensures { λ r. ⌜ r ≡ isId (now (id .entry)) (textBy (now (q .entry))) ⌝ }
-{
-    if code_of(q) != STRING {
-        return false;
-    }
-    text_is(unquoted(q), id)
-}
+ghost use Rattle.quote.specs.Lookup.{isPlan, lookup};
 
 // Whether a record is the plan of the id.
 fn is_plan(p: &[u8], id: &[u8]) -> bool

@@ -1,12 +1,12 @@
 // The segments of a plan: read one by one, charged and marked.
 use crate::Ride;
 use crate::Tally;
-use crate::value::integer_in;
-use crate::value::member;
-use crate::value::money_in;
+use crate::money::money_in;
 use fare::Marks;
 use fare::Segment;
 use fare::Sum;
+use fields::integer_in;
+use fields::member;
 use limits::Limits;
 use walk::ItemStep;
 use walk::next_item;

@@ -1,7 +1,7 @@
 -- The tally of the array that stands under the name.
 use borrow.Author.Needs.{needs}
 use mathlib.Core.Path.{ap, _∙_}
-use Rattle.quote.specs.Values.{arrayBy}
+use Rattle.fields.specs.Values.{arrayBy}
 use Rattle.quote.specs.Tally.{lengthOf, tally as tallyOf}
 use Rattle.quote.proofs.trip.tally_of.Statement.{statement}
 use Rattle.quote.proofs.trip.tally_of.Tie as tie

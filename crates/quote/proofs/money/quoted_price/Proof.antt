@@ -4,8 +4,8 @@ use mathlib.Core.Path.{sym, ap, _∙_}
 use Rattle.text.specs.Text.{textOf}
 use Rattle.decimal.proofs.Formed.{price-formed}
 use Rattle.quote.specs.Plan.{priced}
-use Rattle.quote.proofs.value.quoted_price.Statement.{statement}
-use Rattle.quote.proofs.value.quoted_price.Tie as tie
+use Rattle.quote.proofs.money.quoted_price.Statement.{statement}
+use Rattle.quote.proofs.money.quoted_price.Tie as tie
 
 amount-of-requires : tie.Need-amount-of-requires
 amount-of-requires c κs =

@@ -1,7 +1,7 @@
 -- By whether the value is the text with nothing in it.
 use borrow.Author.Needs.{needs}
-use Rattle.quote.proofs.value.unless_blank.Statement.{statement}
-use Rattle.quote.proofs.value.unless_blank.Tie as tie
+use Rattle.fields.proofs.unless_blank.Statement.{statement}
+use Rattle.fields.proofs.unless_blank.Tie as tie
 
 returns : tie.Need-returns
 returns c x w = rw (← c .before .before .is-blank-text .ensures x w, c .before .if1 .taken) (c .no-bytes .ensures)

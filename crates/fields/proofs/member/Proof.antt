@@ -8,9 +8,9 @@ use Rattle.walk.specs.Part.{treeOf}
 use Rattle.slots.specs.declared.Found.the-variants.{Missing, Once, Twice}
 use Rattle.slots.specs.Blank.{blankText}
 use Rattle.slots.proofs.Finds.{found-value}
-use Rattle.quote.proofs.Ways.{member-none, member-found}
-use Rattle.quote.proofs.value.member.Statement.{statement}
-use Rattle.quote.proofs.value.member.Tie as tie
+use Rattle.fields.proofs.Ways.{member-none, member-found}
+use Rattle.fields.proofs.member.Statement.{statement}
+use Rattle.fields.proofs.member.Tie as tie
 
 returns : tie.Need-returns
 returns c = c .no-bytes .ensures ∙ member-none _ _ _ (c .before .before .code-of .ensures) (c .before .if1 .taken)

@@ -1,9 +1,9 @@
 -- By the kind of the value.
 use borrow.Author.Needs.{needs}
 use mathlib.Core.Path.{_∙_}
-use Rattle.quote.proofs.Ways.{array-none, array-some}
-use Rattle.quote.proofs.value.array_in.Statement.{statement}
-use Rattle.quote.proofs.value.array_in.Tie as tie
+use Rattle.fields.proofs.Ways.{array-none, array-some}
+use Rattle.fields.proofs.array_in.Statement.{statement}
+use Rattle.fields.proofs.array_in.Tie as tie
 
 returns : tie.Need-returns
 returns c = c .no-bytes .ensures ∙ array-none _ _ (c .before .before .code-of .ensures) (c .before .if1 .taken)

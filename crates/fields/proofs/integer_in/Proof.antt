@@ -1,10 +1,10 @@
 -- The whole part of a number that is in the form; zero of anything else.
 use borrow.Author.Needs.{needs}
 use mathlib.Core.Path.{sym, ap, _∙_}
-use Rattle.quote.specs.Plan.{wholeOf, integerIn}
-use Rattle.quote.proofs.Ways.{spelled-none, spelled-some}
-use Rattle.quote.proofs.value.integer_in.Statement.{statement}
-use Rattle.quote.proofs.value.integer_in.Tie as tie
+use Rattle.fields.specs.Values.{wholeOf, integerIn}
+use Rattle.fields.proofs.Ways.{spelled-none, spelled-some}
+use Rattle.fields.proofs.integer_in.Statement.{statement}
+use Rattle.fields.proofs.integer_in.Tie as tie
 
 returns : tie.Need-returns
 returns c = sym (ap integerIn (spelled-none _ _ (c .before .code-of .ensures) (c .if1 .taken)))

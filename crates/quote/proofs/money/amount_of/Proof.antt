@@ -2,8 +2,8 @@
 use borrow.Author.Needs.{needs}
 use mathlib.Core.Path.{sym, ap, _∙_}
 use Rattle.quote.specs.Plan.{amountIn}
-use Rattle.quote.proofs.value.amount_of.Statement.{statement}
-use Rattle.quote.proofs.value.amount_of.Tie as tie
+use Rattle.quote.proofs.money.amount_of.Statement.{statement}
+use Rattle.quote.proofs.money.amount_of.Tie as tie
 
 returns : tie.Need-returns
 returns c = c .nothing .ensures ∙ ap amountIn (sym (c .before .enum-told .given .1) ∙ c .before .before .before .money .ensures)

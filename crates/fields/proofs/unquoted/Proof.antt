@@ -1,9 +1,9 @@
 -- The part between the first byte and the last.
 use borrow.Author.Needs.{needs}
 use mathlib.Core.Path.{_∙_}
-use Rattle.quote.proofs.Ways.{inside-none, inside-part}
-use Rattle.quote.proofs.value.unquoted.Statement.{statement}
-use Rattle.quote.proofs.value.unquoted.Tie as tie
+use Rattle.fields.proofs.Ways.{inside-none, inside-part}
+use Rattle.fields.proofs.unquoted.Statement.{statement}
+use Rattle.fields.proofs.unquoted.Tie as tie
 
 returns : tie.Need-returns
 returns c = c .no-bytes .ensures ∙ inside-none (c .before .before .before .args .q .now) (c .before .if1 .taken)

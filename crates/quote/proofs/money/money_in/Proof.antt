@@ -3,9 +3,9 @@ use borrow.Author.Needs.{needs}
 use mathlib.Core.Path.{sym, ap, _∙_}
 use Rattle.decimal.proofs.Formed.{number-formed}
 use Rattle.quote.specs.Plan.{amountOf, moneyIn}
-use Rattle.quote.proofs.Ways.{spelled-none, spelled-some}
-use Rattle.quote.proofs.value.money_in.Statement.{statement}
-use Rattle.quote.proofs.value.money_in.Tie as tie
+use Rattle.fields.proofs.Ways.{spelled-none, spelled-some}
+use Rattle.quote.proofs.money.money_in.Statement.{statement}
+use Rattle.quote.proofs.money.money_in.Tie as tie
 
 returns : tie.Need-returns
 returns c = c .nothing .ensures ∙ sym (ap moneyIn (spelled-none _ _ (c .before .before .code-of .ensures) (c .before .if1 .taken)))

@@ -1,9 +1,9 @@
 -- Each kind has its number.
 use borrow.Author.Needs.{needs}
 use mathlib.Core.Path.{sym, ap, _∙_}
-use Rattle.quote.specs.Values.{code}
-use Rattle.quote.proofs.value.code_of.Statement.{statement}
-use Rattle.quote.proofs.value.code_of.Tie as tie
+use Rattle.fields.specs.Values.{code}
+use Rattle.fields.proofs.code_of.Statement.{statement}
+use Rattle.fields.proofs.code_of.Tie as tie
 
 returns : tie.Need-returns
 returns c = ap code (sym (c .enum-told .given .1) ∙ c .before .before .value-kind .ensures)

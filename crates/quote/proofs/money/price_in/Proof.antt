@@ -5,8 +5,8 @@ use Rattle.text.specs.Text.{textOf}
 use Rattle.decimal.specs.Decimals.{priceOf}
 use Rattle.quote.specs.Plan.{priced}
 use Rattle.quote.proofs.Ways.{price-text, price-number}
-use Rattle.quote.proofs.value.price_in.Statement.{statement}
-use Rattle.quote.proofs.value.price_in.Tie as tie
+use Rattle.quote.proofs.money.price_in.Statement.{statement}
+use Rattle.quote.proofs.money.price_in.Tie as tie
 
 returns : tie.Need-returns
 returns c =

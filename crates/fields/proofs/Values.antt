@@ -5,7 +5,7 @@ use mathlib.Core.List.{List, [], _∷_, map}
 use mathlib.Core.Path.{_≡_, refl, sym, ap, _∙_}
 use Prim.Native.Nat.{ℕ}
 use lib.Dec.{eqb}
-use lib.ListN.{length}
+use lib.ListN.{length, getD}
 use borrow.Author.Tests.{lt-ltb}
 use Rattle.notation.specs.Choice.{_⇒_else_}
 use Rattle.lexeme.specs.Character.{within}
@@ -16,7 +16,7 @@ use Rattle.json.specs.Tree.{Json}
 use Rattle.walk.specs.declared.Item.{Item}
 use Rattle.walk.specs.Walk.{part, itemsOf, itemsFrom}
 use Rattle.walk.specs.Part.{Whole, treeOf, kindOf, kindAt, inside}
-use Rattle.walk.proofs.Wholes.{whole-kind, whole-some, whole-number, whole-string}
+use Rattle.walk.proofs.Wholes.{whole-kind, whole-some, whole-boolean, whole-number, whole-string}
 use Rattle.walk.proofs.Parts.{itemOf}
 use Rattle.walk.proofs.Trees.{array-parts}
 use Rattle.text.specs.Text.{textOf}
@@ -30,10 +30,10 @@ use Rattle.slots.specs.Blank.{blankText}
 use Rattle.slots.proofs.Finds.{find-found, found-value}
 use Rattle.slots.proofs.Picks.{unless-blank}
 use Rattle.document.specs.Document as document
-use Rattle.document.specs.Document.{Maybe, none, some, onceOnly, field, elementsOf, listOf, then, textIn, spellingIn}
+use Rattle.document.specs.Document.{Maybe, none, some, onceOnly, field, elementsOf, listOf, then, textIn, spellingIn, truthIn}
 use Rattle.document.proofs.Fields.{Lists, over, at-row}
-use Rattle.document.proofs.Records.{pickedItems}
-use Rattle.quote.specs.Values.{code, foundBytes, memberOf, spelledBy, textBy, arrayBy, thereBy}
+use Rattle.document.proofs.Records.{pickedItems, list-each}
+use Rattle.fields.specs.Values.{code, foundBytes, memberOf, truthBy, spelledBy, textBy, arrayBy, thereBy}
 
 -- the bytes q hold what is picked by σ; or there is nothing
 abbrev pub Holds : Shape → List ℕ → Maybe Picked → Type 0
@@ -90,6 +90,10 @@ holds-there σ q (some y) h = lt-ltb 0 (length q) (whole-some (h .1))
 
 -- by the kind
 module _ (q : List ℕ) where
+  truth-is : (b : Bool) → eqb (code (kindAt q)) 1 ≡ b → truthBy q ≡ (b ⇒ some (eqb (getD q 0 0) 0x74) else none)
+  unfolding truthBy
+  truth-is b e = rw e
+
   spelled-is : (b : Bool) → eqb (code (kindAt q)) 2 ≡ b → spelledBy q ≡ (b ⇒ some q else none)
   unfolding spelledBy
   spelled-is b e = rw e
@@ -104,6 +108,14 @@ module _ (q : List ℕ) where
 
   whole-test : (k : ℕ) (x : Json) → Whole q x → eqb (code (kindAt q)) k ≡ eqb (code (kindOf x)) k
   whole-test k x w = ap (λ (n : ℕ). eqb n k) (whole-code w)
+
+  truth-whole : (x : Json) → Whole q x → truthBy q ≡ truthIn (bare (outline x))
+  truth-whole tree.null w = truth-is false (whole-test 1 _ w)
+  truth-whole (tree.boolean b) w = truth-is true (whole-test 1 _ w) ∙ ap some (whole-boolean w)
+  truth-whole (tree.number s) w = truth-is false (whole-test 1 _ w)
+  truth-whole (tree.string s) w = truth-is false (whole-test 1 _ w)
+  truth-whole (tree.array is) w = truth-is false (whole-test 1 _ w)
+  truth-whole (tree.object ms) w = truth-is false (whole-test 1 _ w)
 
   spelled-whole : (x : Json) → Whole q x → spelledBy q ≡ spellingIn (bare (outline x))
   spelled-whole tree.null w = spelled-is false (whole-test 2 _ w)
@@ -122,6 +134,11 @@ module _ (q : List ℕ) where
   text-whole (tree.object ms) w = text-is false (whole-test 3 _ w)
 
 module _ (sort : Sort) where
+  pub holds-truth : (q : List ℕ) (o : Maybe Picked) → Holds (shape.scalar sort) q o → truthBy q ≡ then o truthIn
+  unfolding pick
+  holds-truth q none h = ap truthBy h ∙ truth-is [] false (ap (λ (n : ℕ). eqb n 1) nothing-there)
+  holds-truth q (some y) h = truth-whole q (h .0) (h .1) ∙ ap truthIn (h .2)
+
   pub holds-spelled : (q : List ℕ) (o : Maybe Picked) → Holds (shape.scalar sort) q o → spelledBy q ≡ then o spellingIn
   unfolding pick
   holds-spelled q none h = ap spelledBy h ∙ spelled-is [] false (ap (λ (n : ℕ). eqb n 2) nothing-there)
@@ -133,11 +150,6 @@ module _ (sort : Sort) where
   holds-text q (some y) h = text-whole q (h .0) (h .1) ∙ ap textIn (h .2)
 
 -- the items of an array
-picked-each : (f : Json → Picked) (ms : List Item) (g : Item → Json) → listOf (each f (tree.itemsOf (map g ms))) ≡ map (λ m. f (g m)) ms
-unfolding listOf each tree.itemsOf
-picked-each f [] g = refl
-picked-each f (m ∷ ms) g = ap (λ (l : List Picked). f (g m) ∷ l) (picked-each f ms g)
-
 module _ (numbering : Numbering) (most : ℕ) (σ : Shape) where
   no-items : (q : List ℕ) → eqb (code (kindAt q)) 4 ≡ false → pickedItems σ (arrayBy q) ≡ []
   unfolding itemsOf itemsFrom
@@ -151,7 +163,7 @@ module _ (numbering : Numbering) (most : ℕ) (σ : Shape) where
   items-whole q (tree.string s) w = no-items q (whole-test q 4 _ w)
   items-whole q (tree.array is) w =
       ap (pickedItems σ) (array-is q true (whole-test q 4 _ w))
-      ∙ sym (ap (λ js. listOf (each (λ y. pick σ y) js)) (array-parts q w) ∙ picked-each (λ y. pick σ y) (itemsOf q) (λ m. treeOf (itemOf q m)))
+      ∙ sym (ap (λ js. listOf (each (λ y. pick σ y) js)) (array-parts q w) ∙ list-each (λ y. pick σ y) (itemsOf q) (λ m. treeOf (itemOf q m)))
   items-whole q (tree.object ms) w = no-items q (whole-test q 4 _ w)
 
   pub holds-items : (q : List ℕ) (o : Maybe Picked) → Holds (shape.array numbering most σ) q o → pickedItems σ (arrayBy q) ≡ elementsOf o

@@ -1,15 +1,11 @@
-// Values of a plan by their bytes. No bytes stand for a value that is missing, twice there or "".
-use decimal::Amount;
-use decimal::Decimal;
-use decimal::Money;
+// The values of an object's fields by their bytes. No bytes stand for a value that is missing, twice there or "".
 use decimal::Number;
-use decimal::Price;
-use decimal::quoted::read_price;
 use decimal::spelling::read_decimal;
 use document::cut;
 use document::find;
 use slots::Found;
 use slots::is_blank_text;
+use text::compare::text_is;
 use walk::ValueKind;
 use walk::value_kind;
 ghost use mathlib.Core.List.{[]};
@@ -18,12 +14,7 @@ ghost use Rattle.notation.specs.Choice.{_⇒_else_};
 ghost use Rattle.json.specs.Tree.{Json};
 ghost use Rattle.walk.specs.Part.{Whole, kindAt, inside};
 ghost use Rattle.slots.specs.Blank.{blankText};
-ghost use Rattle.decimal.specs.Decimals.{priceOf};
-ghost use Rattle.decimal.specs.Exact.{moneyOf};
-ghost use Rattle.decimal.specs.Formed.{Formed};
-ghost use Rattle.text.specs.Text.{textOf};
-ghost use Rattle.quote.specs.Plan.{nothing as nothingOf, amountIn, priced, integerIn, moneyIn};
-ghost use Rattle.quote.specs.Values.{code, memberOf, spelledBy, arrayBy, priceBy};
+ghost use Rattle.fields.specs.Values.{code, memberOf, spelledBy, textBy, arrayBy, integerIn, isId};
 
 // The kinds that are asked for.
 pub const NUMBER: u8 = 2;
@@ -118,54 +109,12 @@ pub fn integer_in(q: &[u8]) -> u64
     d.whole
 }
 
-fn nothing() -> Amount
-    ensures { λ r. ⌜ r ≡ nothingOf ⌝ }
+// Whether a value is a text, and this one.
+pub fn is_id(q: &[u8], id: &[u8]) -> bool
+    ensures { λ r. ⌜ r ≡ isId (now (id .entry)) (textBy (now (q .entry))) ⌝ }
 {
-    Amount {
-        negative: false,
-        size: 0,
+    if code_of(q) != STRING {
+        return false;
     }
-}
-
-// A number as money.
-fn amount_of(d: Decimal) -> Amount
-    requires { ⌜ Formed d ⌝ }
-    ensures { λ r. ⌜ r ≡ amountIn (moneyOf d) ⌝ }
-{
-    let Money::Is(amount) = d.money() else {
-        return nothing();
-    };
-    amount
-}
-
-pub fn money_in(q: &[u8]) -> Amount
-    ensures { λ r. ⌜ r ≡ moneyIn (spelledBy (now (q .entry))) ⌝ }
-{
-    if code_of(q) != NUMBER {
-        return nothing();
-    }
-    let Number::Value(d) = read_decimal(q) else {
-        return nothing();
-    };
-    amount_of(d)
-}
-
-// A price in quotation marks.
-fn quoted_price(spelled: &[u8]) -> Amount
-    ensures { λ r. ⌜ r ≡ priced (priceOf (textOf (now (spelled .entry)))) ⌝ }
-{
-    match read_price(spelled) {
-        Price::Value(d) => amount_of(d),
-        Price::Unformed => nothing(),
-        Price::NoNumber => nothing(),
-    }
-}
-
-pub fn price_in(q: &[u8]) -> Amount
-    ensures { λ r. ⌜ r ≡ priceBy (now (q .entry)) ⌝ }
-{
-    if code_of(q) == STRING {
-        return quoted_price(unquoted(q));
-    }
-    money_in(q)
+    text_is(unquoted(q), id)
 }

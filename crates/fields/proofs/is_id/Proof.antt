@@ -2,10 +2,10 @@
 use borrow.Author.Needs.{needs}
 use mathlib.Core.Path.{sym, ap, _∙_}
 use Rattle.text.specs.Text.{textOf, same}
-use Rattle.quote.specs.Lookup.{isId}
-use Rattle.quote.proofs.Ways.{text-none, text-some}
-use Rattle.quote.proofs.plans.is_id.Statement.{statement}
-use Rattle.quote.proofs.plans.is_id.Tie as tie
+use Rattle.fields.specs.Values.{isId}
+use Rattle.fields.proofs.Ways.{text-none, text-some}
+use Rattle.fields.proofs.is_id.Statement.{statement}
+use Rattle.fields.proofs.is_id.Tie as tie
 
 returns : tie.Need-returns
 returns c =
