@@ -18,13 +18,13 @@ use Rattle.json.specs.Tree.{Json, Items, Members}
 use Rattle.schema.specs.Shape as shape
 use Rattle.schema.specs.Shape.{Shape, Rows, Need, Sort, fileShape}
 use Rattle.schema.specs.Table23.{table23, listing, file, zones, vehicleType, station, status, bike, plan}
-use Rattle.schema.specs.Pick.{Picked, PickedItems, items, noItem, item, Slots, Slot, missing, once, twice, given, put, each, pick, pickRows, find}
+use Rattle.schema.specs.Pick.{Picked, PickedItems, items, noItem, item, Slots, Slot, missing, once, twice, given, put, each, pick, pickRows, find, listOf}
 use Rattle.fault.specs.declared.Fault.{Fault}
 use Rattle.scalar.specs.Scalars.{unless, kindsOf, numberKinds, booleanKinds}
 use Rattle.rings.specs.Rings as rings
 use Rattle.judge.specs.declared.Place.{Place}
 use Rattle.judge.specs.Faults.{Judge, faulty, absence, itemPlace, eachItem, slotFaults, faults, rowFaults}
-use Rattle.document.specs.Document.{Maybe, some, onceOnly, field, along, listOf, path}
+use Rattle.document.specs.Document.{Maybe, some, onceOnly, field, along, path}
 use Rattle.document.proofs.Fields as fields
 use Rattle.document.proofs.Fields.{Lists, over, at-row}
 use Rattle.document.proofs.Records.{recordShape}

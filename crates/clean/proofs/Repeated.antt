@@ -27,8 +27,7 @@ use Rattle.walk.proofs.Files.{Passed, passed}
 use Rattle.schema.specs.Shape as shape
 use Rattle.schema.specs.Shape.{Shape, Rows, Sort, fileShape}
 use Rattle.schema.specs.Table23.{table23, zone}
-use Rattle.schema.specs.Pick as picking
-use Rattle.schema.specs.Pick.{Picked, PickedItems, items, Slot, missing, once, twice, given, pick, find}
+use Rattle.schema.specs.Pick.{Picked, PickedItems, items, Slot, missing, once, twice, given, pick, find, listOf}
 use Rattle.slots.specs.declared.Found.{Found}
 use Rattle.slots.specs.declared.Found.the-variants.{Missing, Once, Twice}
 use Rattle.slots.specs.Found.{foundIn}
@@ -46,7 +45,7 @@ use Rattle.clean.specs.Ids.{among}
 use Rattle.document.specs.declared.Span.{Span}
 use Rattle.document.specs.declared.Span.the-variants as span
 use Rattle.document.specs.Document as document
-use Rattle.document.specs.Document.{Maybe, none, some, then, textIn, listOf, elementsOf, along, path}
+use Rattle.document.specs.Document.{Maybe, none, some, then, textIn, elementsOf, along, path}
 use Rattle.document.specs.Spans.{moved, recordsSpan}
 use Rattle.document.proofs.Cuts.{part-part, part-inside}
 use Rattle.document.proofs.Fields.{Stands, reached, noRow, past, field-lacks}
@@ -166,11 +165,6 @@ mem-map : {A B : Type 0} (g : A → B) (l : List A) (x : A) → List·Memᴰ x l
 mem-map g [] x i = absurd (List·Memᴰ·not-nil i)
 mem-map g (y ∷ l) x i = let ih = mem-map g l x in ⊎-elim (λ e. List·Memᴰ·head (ap g e)) (λ k. List·Memᴰ·tail (ih k)) (List·Memᴰ·cases-cons i)
 
-lists-same : (is : PickedItems) → rings.listOf is ≡ listOf is
-unfolding rings.listOf listOf
-lists-same picking.noItem = refl
-lists-same (picking.item x is) = ap (λ (l : List Picked). x ∷ l) (lists-same is)
-
 paths-same : (t : Bool) → (t ⇒ 4 ∷ 5 ∷ 7 ∷ [] else 4 ∷ 5 ∷ []) ≡ path t
 paths-same true = refl
 paths-same false = refl
@@ -194,7 +188,7 @@ held n h i s t e =
       list = listOf (a .0);
       are = ap (λ (fs : List ℕ). elementsOf (along fs (pick (fileShape table23 n) (t .tree)))) (paths-same (eqb n 6)) ∙ ap elementsOf way;
       there = records-stand n h i s t (a .0) way;
-      few = omega (arith, leb-true (rings.count (a .0)) ceiling.records (a .2), ap length (lists-same (a .0)));
+      few = leb-true (rings.count (a .0)) ceiling.records (a .2);
       field = d .1;
       sound = items-there top (d .1) (λ q f y. faults (recordShape n) q f y) 0 (a .0) (a .3);
     }

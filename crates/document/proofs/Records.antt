@@ -21,10 +21,10 @@ use Rattle.walk.proofs.Files.{valueStart, Passed}
 use Rattle.schema.specs.Shape as shape
 use Rattle.schema.specs.Shape.{Shape, Rows, fileShape}
 use Rattle.schema.specs.Table23.{table23, listing, file, zones, vehicleType, station, status, bike, plan, zone}
-use Rattle.schema.specs.Pick.{Picked, PickedItems, items, pick, each}
+use Rattle.schema.specs.Pick.{Picked, PickedItems, items, pick, each, listOf}
 use Rattle.document.specs.declared.Span.{Span}
 use Rattle.document.specs.declared.Span.the-variants.{None, Is}
-use Rattle.document.specs.Document.{Maybe, none, some, field, listOf, along, path}
+use Rattle.document.specs.Document.{Maybe, none, some, field, along, path}
 use Rattle.document.specs.Spans.{memberAt, membersAlong, topSpan, namesTo, recordsSpan, nth, nthIn}
 use Rattle.document.proofs.Cuts.{part-part, part-inside}
 use Rattle.document.proofs.Along.{top-there}

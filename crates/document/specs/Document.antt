@@ -5,7 +5,7 @@ use mathlib.Core.List.{List, [], _∷_}
 use Prim.Native.Nat.{ℕ}
 use Rattle.json.specs.Tree as tree
 use Rattle.json.specs.Tree.{Json}
-use Rattle.schema.specs.Pick.{Picked, PickedItems, Slots, Slot, bare, items, slots, noItem, item, missing, once, twice, at}
+use Rattle.schema.specs.Pick.{Picked, Slots, Slot, bare, items, slots, listOf, missing, once, twice, at}
 
 -- a value, or none
 pub data Maybe (A : Type 0) : Type 0 where
@@ -24,10 +24,6 @@ field f (bare x) = none
 field f (items is) = none
 
 -- the items of an array
-unfoldable pub listOf : PickedItems → List Picked
-listOf noItem = []
-listOf (item x is) = x ∷ listOf is
-
 abbrev pub elements : Picked → List Picked
 elements (items is) = listOf is
 elements (bare x) = []

@@ -12,14 +12,14 @@ use Rattle.json.specs.Tree.{Json}
 use Rattle.schema.specs.Shape as shape
 use Rattle.schema.specs.Shape.{Shape, Rows, Need, Numbering, Sort, fileShape}
 use Rattle.schema.specs.Table23.{table23, written23}
-use Rattle.schema.specs.Pick.{Picked, PickedItems, Slots, bare, items, slots, noItem, item, noSlot, absent, repeated, present, pick}
+use Rattle.schema.specs.Pick.{Picked, PickedItems, Slots, bare, items, slots, noItem, item, noSlot, absent, repeated, present, pick, listOf}
 use Rattle.schema.proofs.Tests.{and-left, and-right}
 use Rattle.fault.specs.declared.Fault.{Fault}
 use Rattle.fault.specs.declared.Least.{Least}
 use Rattle.fault.specs.declared.Least.the-variants.{Is}
 use Rattle.fault.specs.Fault.{fault, before, least}
 use Rattle.fault.proofs.Order.{by-test, true-false, later-record}
-use Rattle.rings.specs.Rings.{listOf, count}
+use Rattle.rings.specs.Rings.{count}
 use Rattle.judge.specs.declared.Place.{Place}
 use Rattle.judge.specs.Faults.{top, Judge, faulty, absence, itemPlace, eachItem, arrayFaults, coordinateFaults, scalarFaults, objectFaults, byNumbering, slotFaults, faults, rowFaults, fileFaults}
 use Rattle.judge.specs.Bounds.{Level, header, inRecord, inItem, OfStageB, Fitting, greatest, fields, tidyArray, tidy, tidyRows}

@@ -25,7 +25,7 @@ use Rattle.schema.specs.Shape as shape
 use Rattle.schema.specs.Shape.{Shape, Rows, Need, Numbering}
 use Rattle.schema.specs.Line.{lineAt, numberingLetter}
 use Rattle.schema.specs.Pick as picking
-use Rattle.schema.specs.Pick.{Slot, missing, once, twice, given, find, put, Picked, PickedItems, pick, pickRows, each}
+use Rattle.schema.specs.Pick.{Slot, missing, once, twice, given, find, put, Picked, PickedItems, pick, pickRows, each, listOf}
 use Rattle.schema.specs.Sound.{distinctRows}
 use Rattle.schema.specs.Table23.{table23}
 use Rattle.schema.proofs.Tests.{and-left, and-right}
@@ -40,7 +40,7 @@ use Rattle.fault.specs.Fault.{lesser, least}
 use Rattle.fault.proofs.Leasts.{lesser-none, none-lesser, lesser-assoc, least-append}
 use Rattle.scalar.specs.Scalars.{unless}
 use Rattle.judge.specs.declared.Place.{Place}
-use Rattle.rings.specs.Rings.{count, listOf}
+use Rattle.rings.specs.Rings.{count}
 use Rattle.judge.specs.Faults.{Judge, faulty, itemPlace, eachItem, arrayFaults, faults, rowFaults}
 use Rattle.judge.specs.Ready.{plain, under, ready, readyRows}
 use Rattle.judge.specs.Judged.{bracketsOf, itemPlaceOf, memberFaults, Single, Array, Row, Object}

@@ -12,7 +12,7 @@ use Rattle.limits.specs.Ceilings as ceiling
 use Rattle.notation.specs.Choice.{_⇒_else_, _and_}
 use Rattle.word.specs.Kinds.{wrongType, tooMany, badRing}
 use Rattle.schema.specs.Shape as sort
-use Rattle.schema.specs.Pick.{Picked, PickedItems, bare, items, slots}
+use Rattle.schema.specs.Pick.{Picked, PickedItems, bare, items, slots, listOf}
 use Rattle.fault.specs.declared.Fault.{Fault}
 use Rattle.fault.specs.declared.Least.{Least}
 use Rattle.fault.specs.Fault.{fault, lesser, least}
@@ -20,7 +20,7 @@ use Rattle.fault.proofs.Order.{by-test}
 use Rattle.fault.proofs.Leasts.{least-one, least-append}
 use Rattle.scalar.specs.Scalars.{unless}
 use Rattle.geometry.specs.Ring.{sound}
-use Rattle.rings.specs.Rings.{Found, at, listOf, count, ordinateKinds, numberKinds, positionKinds, position, allSound, positionsFound, ringFound, ring, ringPositions, ringsFound, ringsPositions, polygon, polygonPositions, polygonsFound, coordinatesFound}
+use Rattle.rings.specs.Rings.{Found, at, count, ordinateKinds, numberKinds, positionKinds, position, allSound, positionsFound, ringFound, ring, ringPositions, ringsFound, ringsPositions, polygon, polygonPositions, polygonsFound, coordinatesFound}
 use Rattle.judge.specs.declared.Place.{Place}
 use Rattle.judge.specs.Faults.{numbered}
 use Rattle.judge.specs.Bounds.{OfStageB, Fitting, greatest, fields}

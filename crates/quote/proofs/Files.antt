@@ -16,10 +16,10 @@ use Rattle.walk.specs.Part.{Whole, treeOf}
 use Rattle.walk.proofs.Parts.{itemOf, items-whole}
 use Rattle.schema.specs.Shape.{fileShape}
 use Rattle.schema.specs.Table23.{table23, plan}
-use Rattle.schema.specs.Pick.{Picked, pick, items}
+use Rattle.schema.specs.Pick.{Picked, pick, items, listOf}
 use Rattle.schema.proofs.Tests.{and-left, and-right}
 use Rattle.document.specs.declared.Span.the-variants as span
-use Rattle.document.specs.Document.{some, elementsOf, listOf, along}
+use Rattle.document.specs.Document.{some, elementsOf, along}
 use Rattle.document.specs.Spans.{recordsSpan}
 use Rattle.document.proofs.Records.{Records, recordShape, pickedItems, records-stand}
 use Rattle.quote.specs.declared.Lookup.the-variants as found

@@ -8,8 +8,8 @@ use Rattle.json.specs.Tree.{Json}
 use Rattle.walk.proofs.Files.{Passed}
 use Rattle.schema.specs.Shape.{fileShape}
 use Rattle.schema.specs.Table23.{table23}
-use Rattle.schema.specs.Pick.{Picked, PickedItems, items, pick}
-use Rattle.document.specs.Document.{some, fieldItems, listOf, along}
+use Rattle.schema.specs.Pick.{Picked, PickedItems, items, pick, listOf}
+use Rattle.document.specs.Document.{some, fieldItems, along}
 
 -- of a plan
 pub record Few (plan : Picked) : Type 0 where

@@ -17,8 +17,7 @@ use Rattle.walk.proofs.Wholes.{whole-kind}
 use Rattle.walk.proofs.Trees.{array-parts}
 use Rattle.schema.specs.Shape as shape
 use Rattle.schema.specs.Shape.{Shape, Numbering}
-use Rattle.schema.specs.Pick.{Picked, PickedItems, bare, items, each, pick}
-use Rattle.rings.specs.Rings.{listOf}
+use Rattle.schema.specs.Pick.{Picked, PickedItems, bare, items, each, pick, listOf}
 use Rattle.rings.specs.Parts.{picked, partsOf, Left, isArray}
 
 -- a loop over the items of p

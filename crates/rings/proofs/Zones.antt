@@ -12,9 +12,9 @@ use Rattle.json.specs.Tree.{Json}
 use Rattle.walk.specs.Part.{Whole, kindAt}
 use Rattle.schema.specs.Shape as shape
 use Rattle.schema.specs.Table23.{coordinates}
-use Rattle.schema.specs.Pick.{Picked, PickedItems, items, pick}
+use Rattle.schema.specs.Pick.{Picked, PickedItems, items, pick, listOf}
 use Rattle.scalar.specs.Scalars.{unless}
-use Rattle.rings.specs.Rings.{Found, at, listOf, count, ring, ringPositions, ringFound, ringsFound, ringsPositions, polygon, polygonPositions, polygonsFound, coordinatesFound}
+use Rattle.rings.specs.Rings.{Found, at, count, ring, ringPositions, ringFound, ringsFound, ringsPositions, polygon, polygonPositions, polygonsFound, coordinatesFound}
 use Rattle.rings.specs.Least.{lesser, leastFound}
 use Rattle.rings.specs.Parts.{positionShape, ringShape, polygonShape, partsOf, isArray, positionsIn, foundIn, Tells, Tallied}
 use Rattle.rings.specs.declared.LeastFound.{LeastFound}

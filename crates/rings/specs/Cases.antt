@@ -9,9 +9,9 @@ use Rattle.walk.specs.Part.{treeOf}
 use Rattle.decimal.specs.Cases.{deciding}
 use Rattle.geometry.specs.Cases.{holding}
 use Rattle.schema.specs.Table23.{coordinates, written23}
-use Rattle.schema.specs.Pick.{Picked, PickedItems, bare, items, slots, noItem, item, each, pick}
+use Rattle.schema.specs.Pick.{Picked, PickedItems, bare, items, slots, noItem, item, each, pick, listOf}
 use Rattle.scalar.specs.Scalars as scalar
-use Rattle.rings.specs.Rings.{Found, at, listOf, count, ordinateKinds, numberKinds, positionKinds, pointOf, position, none, allSound, positionsFound, ringFound, ringsFound, ringsPositions, polygonsFound, coordinatesFound}
+use Rattle.rings.specs.Rings.{Found, at, count, ordinateKinds, numberKinds, positionKinds, pointOf, position, none, allSound, positionsFound, ringFound, ringsFound, ringsPositions, polygonsFound, coordinatesFound}
 use Rattle.rings.specs.Least.{earlier, lesser, leastFound}
 use Rattle.rings.specs.Parts.{polygonShape, positionShape}
 use Rattle.rings.specs.declared.LeastFound.{LeastFound}

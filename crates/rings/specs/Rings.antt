@@ -16,7 +16,7 @@ use Rattle.decimal.specs.Decimals.{numberOf}
 use Rattle.decimal.specs.Exact.{millionths}
 use Rattle.geometry.specs.Ring.{Point, sound}
 use Rattle.schema.specs.Shape as sort
-use Rattle.schema.specs.Pick.{Picked, PickedItems, bare, items, slots, noItem, item}
+use Rattle.schema.specs.Pick.{Picked, PickedItems, bare, items, slots, listOf}
 use Rattle.scalar.specs.Scalars.{unless, kindsOf}
 
 -- what is found at a position's number: its kind
@@ -28,11 +28,7 @@ unfoldable pub at : ℕ → List ℕ → List Found
 at n [] = []
 at n (k ∷ ks) = record { number = n; kind = k } ∷ at n ks
 
--- items as a list
-unfoldable pub listOf : PickedItems → List Picked
-listOf noItem = []
-listOf (item x is) = x ∷ listOf is
-
+-- how many items
 unfoldable pub count : PickedItems → ℕ
 count is = length (listOf is)
 

@@ -18,8 +18,8 @@ ghost use Rattle.limits.specs.Ceilings.{fileBytes, positions};
 ghost use Rattle.notation.specs.Choice.{_⇒_else_};
 ghost use Rattle.json.specs.Tree.{Json};
 ghost use Rattle.walk.specs.Part.{Whole};
-ghost use Rattle.schema.specs.Pick.{PickedItems, items as itemsAre, pick};
-ghost use Rattle.rings.specs.Rings.{listOf, ring, ringPositions, ringFound};
+ghost use Rattle.schema.specs.Pick.{PickedItems, items as itemsAre, pick, listOf};
+ghost use Rattle.rings.specs.Rings.{ring, ringPositions, ringFound};
 ghost use Rattle.rings.specs.Parts.{positionShape, ringShape, partsOf, RingRead, Outlined, Charted, areaLeast, Tells};
 
 // Into the place of position i, where there is one for it.

@@ -110,3 +110,8 @@ at field noSlot = missing
 at field (absent f rest) = eqb field f ⇒ missing else at field rest
 at field (repeated f rest) = eqb field f ⇒ twice else at field rest
 at field (present f x rest) = eqb field f ⇒ once x else at field rest
+
+-- the items of an array as a list
+unfoldable pub listOf : PickedItems → List Picked
+listOf noItem = []
+listOf (item x is) = x ∷ listOf is
