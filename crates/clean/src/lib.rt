@@ -48,7 +48,7 @@ pub struct Place {
 }
 
 // The parts of a word for a fault of a file.
-fn parts_of(file: u8, f: Fault) -> Parts
+pub fn parts_of(file: u8, f: Fault) -> Parts
     requires { ⌜ (f .«record» < 65_536) × (f .sub < 65_536) ⌝ }
     ensures { λ r. ⌜ r ≡ place file f ⌝ }
 {
