@@ -1,4 +1,4 @@
-// The question `show F1 F2 F3 F4 F5 F6 F N`: where record N of file F stands in its bytes.
+// The question `show`, six files and then the numbers of one of them and of a record: where the record stands in its file.
 use crate::files;
 use crate::number;
 use crate::number::Number;
