@@ -7,6 +7,7 @@ mod print;
 mod questions;
 mod read_word;
 mod show;
+mod verdict;
 mod words;
 
 // The most bytes of a line, without its line feed.

@@ -2,6 +2,7 @@
 use crate::print;
 use crate::read_word;
 use crate::show;
+use crate::verdict;
 use crate::words;
 
 pub fn answer(line: &[u8]) {
@@ -16,6 +17,9 @@ fn ask(line: &[u8], bytes: &mut [u8]) -> bool {
     let name = words::at(line, 0);
     if words::same(name, b"word") {
         return read_word::answer(line, bytes);
+    }
+    if words::same(name, b"verdict") {
+        return verdict::answer(line, bytes);
     }
     if words::same(name, b"show") {
         return show::answer(line, bytes);

@@ -1,4 +1,4 @@
--- `stage_b` hands the file's value to the judge.
+-- `first_fault` hands the file's value to the judge.
 use borrow.Author.Needs.{needs}
 use mathlib.Core.Path.{_≡_, sym, ap, subst, _∙_}
 use mathlib.Core.List.{List}
@@ -8,8 +8,8 @@ use Rattle.limits.specs.Ceilings.{fileBytes}
 use Rattle.walk.specs.Part.{Whole}
 use Rattle.clean.specs.Clean.{treeOf}
 use Rattle.clean.proofs.Judged.{top-there, top-short, top-whole}
-use Rattle.clean.proofs.stage_b.Statement.{statement}
-use Rattle.clean.proofs.stage_b.Tie as tie
+use Rattle.clean.proofs.first_fault.Statement.{statement}
+use Rattle.clean.proofs.first_fault.Tie as tie
 
 returns : tie.Need-returns
 returns c = let t = c .before .before in absurd (top-there _ (t .before .before .pre) (sym (t .top-span .ensures) ∙ c .enum-told .given .1))
@@ -25,7 +25,7 @@ returns-2 c =
     c .judge-file .ensures (treeOf s)
     (subst (λ (p : List ℕ). Whole p (treeOf s)) (sym (u .cut .ensures)) (top-whole s (t .before .before .pre) _ _ (sym (t .top-span .ensures) ∙ f .from .given .1)))
 
-pub stage-b-spec : {M : Type 1} → statement M
-stage-b-spec =
+pub first-fault-spec : {M : Type 1} → statement M
+first-fault-spec =
     tie.close
     (tie.spec (λ c κs. search needs) (λ c. search needs) returns (λ c. search needs) (λ c κs. search needs) judge-file-requires returns-2)

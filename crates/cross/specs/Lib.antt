@@ -1,0 +1,4 @@
+pub mod References
+pub mod Cross
+pub mod Known
+pub mod Judged
