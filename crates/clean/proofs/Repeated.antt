@@ -178,11 +178,19 @@ pub record Held (n : ℕ) (s : List ℕ) (x : Json) : Type 0 where
   pub field : ℕ
   pub sound : (y : Picked) → List·Memᴰ y list → (q : Place) × (faults (recordShape n) q field y ≡ [])
 
+-- the records at a span, by its places
+pub records-at : {s : List ℕ} {at : Span} {σ : Shape} {l : List Picked} → Records s at σ l → {from upto : ℕ} → at ≡ span.Is from upto → l ≡ pickedItems σ (part s from upto)
+records-at {s} {σ = σ} r {from} {upto} k =
+    let i = r .is in
+    let a : r .start ≡ from = cc in
+    let b : r .end ≡ upto = cc in
+    r .picked ∙ ap (λ (z : ℕ). pickedItems σ (part s z (r .end))) a ∙ ap (λ (z : ℕ). pickedItems σ (part s from z)) b
+
 pub held : (n : ℕ) → 1 ≤ n → n ≤ 6 → (s : List ℕ) (t : Passed s) → fileFaults (fileShape table23 n) (t .tree) ≡ [] → Held n s (t .tree)
 unfolding fileFaults recordsOf rings.count
 held n h i s t e =
     let d = demands-there (demands-to n h i) top 0 (t .tree) e in
-    let a = array-there top (d .1) ceiling.records (recordShape n) (d .0) (d .3) in
+    let a = array-there top (d .1) shape.records (λ b c. refl) ceiling.records (recordShape n) (d .0) (d .3) in
     let way : along (path (eqb n 6)) (pick (fileShape table23 n) (t .tree)) ≡ some (items (a .0)) = d .2 ∙ ap some (a .1) in
     record {
       list = listOf (a .0);
@@ -190,7 +198,7 @@ held n h i s t e =
       there = records-stand n h i s t (a .0) way;
       few = leb-true (rings.count (a .0)) ceiling.records (a .2);
       field = d .1;
-      sound = items-there top (d .1) (λ q f y. faults (recordShape n) q f y) 0 (a .0) (a .3);
+      sound = items-there top (d .1) (λ q f y. faults (recordShape n) q f y) shape.records 0 (a .0) (a .3);
     }
 
 -- kind 12 in bytes
@@ -216,20 +224,13 @@ module _ (n : ℕ) (h : 1 ≤ n) (i : n ≤ 5) where
       (sym (d .1)) (id-read (d .2) p m (treeOf (itemOf p m)) there q φ))
 
   module _ (s : List ℕ) (t : Passed s) (e : fileFaults (fileShape table23 n) (t .tree) ≡ []) where
-    found : (from upto : ℕ) → recordsSpan n s ≡ span.Is from upto → (r : Held n s (t .tree)) → r .list ≡ map (λ m. pick (recordShape n) (treeOf (itemOf (part s from upto) m))) (itemsOf (part s from upto))
-    found from upto k r =
-        let w = r .there in
-        let a : w .start ≡ from = cc in
-        let b : w .end ≡ upto = cc in
-        w .picked ∙ ap (λ (z : ℕ). pickedItems (recordShape n) (part s z (w .end))) a ∙ ap (λ (z : ℕ). pickedItems (recordShape n) (part s from z)) b
-
     pub repeats-are : (from upto : ℕ) → recordsSpan n s ≡ span.Is from upto → Repeats n s (t .tree) from upto
     unfolding repeats ids.repeats idsIn
     repeats-are from upto k =
         let r = held n h (omega arith) s t e in
         let p = part s from upto in
         let g : Item → Picked = λ m. pick (recordShape n) (treeOf (itemOf p m)) in
-        let l = found from upto k r in
+        let l = records-at (r .there) k in
         let names : Named (idField n) (map g (itemsOf p)) (map (idIn (idName n) p) (itemsOf p)) =
         named-each (idField n) g (idIn (idName n) p) (itemsOf p) (λ m j.
         let y = r .sound (g m) (subst (List·Memᴰ (g m)) (sym l) (mem-map g (itemsOf p) m j)) in id-of p m j (y .0) (r .field) (y .1)) in
