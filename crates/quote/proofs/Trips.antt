@@ -22,9 +22,8 @@ use Rattle.quote.specs.declared.Tally.the-variants.{Is, Crowded}
 use Rattle.quote.specs.Plan.{priceAt, perMinute, perKilometre, sum, pastMinutes, pastKilometres}
 use Rattle.fields.specs.Values.{memberOf, arrayBy}
 use Rattle.quote.specs.Values.{priceBy}
-use Rattle.quote.specs.Tally.{tally}
+use Rattle.quote.specs.Tally.{tally, Few}
 use Rattle.quote.specs.Quote.{fareOf, planQuote}
-use Rattle.quote.specs.Clean.{Few}
 use Rattle.quote.proofs.Fields.{plan-price, plan-minutes, plan-kilometres}
 use Rattle.quote.proofs.Tallying.{price-most, tally-picked}
 

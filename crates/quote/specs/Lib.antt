@@ -3,4 +3,3 @@ pub mod Quote
 pub mod Values
 pub mod Lookup
 pub mod Tally
-pub mod Clean
