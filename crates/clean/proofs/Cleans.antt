@@ -21,7 +21,7 @@ use Rattle.judge.specs.Faults.{fileFaults}
 use Rattle.document.specs.declared.Span.the-variants as span
 use Rattle.document.specs.Spans.{membersAlong, topSpan, namesTo, recordsSpan}
 use Rattle.clean.specs.declared.Cleanness.{Cleanness}
-use Rattle.clean.specs.declared.Cleanness.the-variants.{Clean, Broken}
+use Rattle.clean.specs.declared.Cleanness.the-variants.{Clean}
 use Rattle.clean.specs.Clean.{treeOf, repeats, broken, judged, cleanOf}
 use Rattle.clean.proofs.Judged.{clean-there}
 use Rattle.clean.proofs.Repeated.{Held, held, tree-is}

@@ -1,20 +1,18 @@
 -- What a file without a fault of stage B is sure to hold: each required member once, of its shape, and so an array of records, no more than
 -- the ceiling, in each of which no fault is found either. And of a row of any need: its field is not there, or faultless.
 use mathlib.Core.Bool.{Bool, true, false}
-use mathlib.Core.List.{List, [], _∷_, _++_, List·Memᴰ, List·Memᴰ·head, List·Memᴰ·tail, List·Memᴰ·cases-cons, List·Memᴰ·not-nil}
+use mathlib.Core.List.{List, [], _∷_, _++_, List·Memᴰ, List·Memᴰ·cases-cons, List·Memᴰ·not-nil}
 use mathlib.Core.Logic.{_⊎_, inl, inr, ⊎-elim}
-use mathlib.Core.Path.{_≡_, refl, sym, ap, subst, _∙_}
+use mathlib.Core.Path.{_≡_, refl, sym, ap, _∙_}
 use Prim.Native.Nat.{ℕ, zero, suc, _+_, _*_, _≤_}
 use native.Mathlib.Omega.{arith}
 use lib.Dec.{eqb, leb}
 use lib.ListN.{length}
 use borrow.Author.Tests.{leb-true}
 use Rattle.limits.specs.Ceilings as ceiling
-use Rattle.notation.specs.Choice.{_⇒_else_}
-use Rattle.lexeme.proofs.Steps.{by-test}
 use Rattle.word.specs.Kinds.{nameTwice, tooMany}
 use Rattle.json.specs.Tree as tree
-use Rattle.json.specs.Tree.{Json, Items, Members}
+use Rattle.json.specs.Tree.{Json, Members}
 use Rattle.schema.specs.Shape as shape
 use Rattle.schema.specs.Shape.{Shape, Rows, Need, Numbering, Sort, fileShape}
 use Rattle.schema.specs.Table23.{table23, listing, file, zones, vehicleType, station, status, bike, plan}
@@ -24,7 +22,7 @@ use Rattle.scalar.specs.Scalars.{unless, kindsOf, numberKinds, booleanKinds}
 use Rattle.rings.specs.Rings as rings
 use Rattle.judge.specs.declared.Place.{Place}
 use Rattle.judge.specs.Faults.{Judge, faulty, absence, itemPlace, byNumbering, eachItem, coordinateFaults, slotFaults, faults, rowFaults}
-use Rattle.document.specs.Document.{Maybe, none, some, onceOnly, field, fieldItems, along, path}
+use Rattle.document.specs.Document.{none, some, onceOnly, field, fieldItems, along, path}
 use Rattle.document.proofs.Fields as fields
 use Rattle.document.proofs.Fields.{Lists, over, at-row}
 use Rattle.document.proofs.Records.{recordShape}

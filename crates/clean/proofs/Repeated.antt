@@ -1,13 +1,13 @@
 -- Kind 12 of a file without a stage B fault: its records in bytes have the ids that their picked values have, so the first id that repeats in
 -- bytes is the least fault of all repeats.
 use mathlib.Core.Bool.{Bool, true, false}
-use mathlib.Core.List.{List, [], _∷_, _++_, map, List·Memᴰ, List·Memᴰ·head, List·Memᴰ·tail, List·Memᴰ·cases-cons, List·Memᴰ·not-nil}
+use mathlib.Core.List.{List, [], _∷_, map, List·Memᴰ, List·Memᴰ·head, List·Memᴰ·tail, List·Memᴰ·cases-cons, List·Memᴰ·not-nil}
 use mathlib.Core.Logic.{⊎-elim}
 use mathlib.Core.Path.{_≡_, refl, sym, ap, subst, _∙_}
-use Prim.Native.Nat.{ℕ, zero, suc, _+_, _-_, _*_, _≤_, _<_}
+use Prim.Native.Nat.{ℕ, zero, suc, _+_, _-_, _*_, _≤_}
 use native.Mathlib.Decide.{ℕ-discrete}
 use native.Mathlib.Omega.{arith}
-use lib.Dec.{eqb, leb}
+use lib.Dec.{eqb}
 use lib.ListN.{length, take, drop, length-map}
 use borrow.Author.Tests.{leb-true, ne-eqb}
 use Rattle.limits.specs.Ceilings as ceiling
@@ -15,7 +15,7 @@ use Rattle.notation.specs.Choice.{_⇒_else_}
 use Rattle.lexeme.proofs.Steps.{by-test}
 use Rattle.word.specs.Kinds.{idTwice}
 use Rattle.json.specs.Tree as tree
-use Rattle.json.specs.Tree.{Json, Members}
+use Rattle.json.specs.Tree.{Json}
 use Rattle.text.specs.Text.{textOf, same}
 use Rattle.text.proofs.Laws.{same-sym}
 use Rattle.walk.specs.declared.Item.{Item}
@@ -27,12 +27,11 @@ use Rattle.walk.proofs.Files.{Passed, passed}
 use Rattle.schema.specs.Shape as shape
 use Rattle.schema.specs.Shape.{Shape, Rows, Sort, fileShape}
 use Rattle.schema.specs.Table23.{table23, zone}
-use Rattle.schema.specs.Pick.{Picked, PickedItems, items, Slot, missing, once, twice, given, pick, find, listOf}
+use Rattle.schema.specs.Pick.{Picked, items, Slot, missing, once, twice, given, pick, find, listOf}
 use Rattle.slots.specs.declared.Found.{Found}
 use Rattle.slots.specs.declared.Found.the-variants.{Missing, Once, Twice}
 use Rattle.slots.specs.Found.{foundIn}
 use Rattle.fault.specs.declared.Fault.{Fault}
-use Rattle.fault.specs.declared.Least.{Least}
 use Rattle.fault.specs.declared.Least.the-variants.{None, Is}
 use Rattle.fault.specs.Fault.{fault, least}
 use Rattle.fault.proofs.Order.{later-record}
@@ -52,7 +51,7 @@ use Rattle.document.proofs.Fields.{Stands, reached, noRow, past, field-lacks}
 use Rattle.document.proofs.Records.{recordShape, pickedItems, Records, records-stand, item-inside}
 use Rattle.clean.specs.Clean as clean
 use Rattle.clean.specs.Clean.{recordsOf, usedBefore, repeatedId, repeatsFrom, repeats, idField}
-use Rattle.clean.specs.Noted.{idName, textPlace, idPlace, idIn, idsIn, repeatAt, blamed, Blames}
+use Rattle.clean.specs.Noted.{idName, textPlace, idIn, idsIn, repeatAt, blamed, Blames}
 use Rattle.clean.proofs.Noting.{repeat-here, repeat-later, repeat-none}
 use Rattle.clean.proofs.Faultless.{Requires, required-there, object-there, array-there, items-there, id-there, field-there, demands-there, demands-to, id-demanded}
 

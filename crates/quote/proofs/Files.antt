@@ -7,7 +7,6 @@ use Prim.Native.Nat.{ℕ, _≤_, _<_}
 use native.Mathlib.Omega.{arith}
 use lib.Dec.{leb}
 use borrow.Author.Tests.{le-leb, lt-leb, leb-true}
-use Rattle.notation.specs.Choice.{_and_}
 use Rattle.lexeme.proofs.Steps.{by-test}
 use Rattle.lexeme.specs.Read as read
 use Rattle.lexeme.specs.Tokens.{blanks}
@@ -29,7 +28,7 @@ use Rattle.document.specs.Spans.{recordsSpan}
 use Rattle.document.proofs.Records.{recordShape, pickedItems}
 use Rattle.fields.proofs.Fields.{rowOf, listed}
 use Rattle.clean.specs.declared.Cleanness.{Cleanness}
-use Rattle.clean.specs.declared.Cleanness.the-variants.{Clean, Broken}
+use Rattle.clean.specs.declared.Cleanness.the-variants.{Clean}
 use Rattle.clean.specs.Clean as clean
 use Rattle.clean.specs.Clean.{recordsOf, cleanOf}
 use Rattle.clean.proofs.Faultless.{items-few}

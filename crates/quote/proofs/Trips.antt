@@ -13,7 +13,7 @@ use Rattle.document.specs.Document.{some, fieldItems}
 use Rattle.fare.specs.declared.Sum.{Sum}
 use Rattle.fare.specs.declared.Marks.{Marks}
 use Rattle.fare.specs.Charges as charges
-use Rattle.fare.specs.Charges.{minutesOf, kilometresOf, amount}
+use Rattle.fare.specs.Charges.{minutesOf, kilometresOf}
 use Rattle.fare.specs.Folds.{worth, ofPrice, withCharges, unmarked, withEnds, marked}
 use Rattle.fare.specs.Bounds.{Room}
 use Rattle.fare.proofs.Fold.{amount-summed, tells-start}

@@ -1,5 +1,5 @@
 -- The question "quote" of document 01. Where an answer has no amount, mark or parts, zero and false stand in.
-use mathlib.Core.Bool.{Bool, true, false}
+use mathlib.Core.Bool.{Bool, false}
 use mathlib.Core.List.{List}
 use Prim.Native.Nat.{ℕ}
 use lib.Dec.{leb}

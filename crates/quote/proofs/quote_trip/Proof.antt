@@ -1,7 +1,7 @@
 -- `quote_trip` asks for the ride's length first, then whether the file is clean; only of a clean one is there more to tell.
 use borrow.Author.Needs.{needs}
 use borrow.Author.Tests.{not-true, not-false}
-use mathlib.Core.Bool.{true, false}
+use mathlib.Core.Bool.{true}
 use mathlib.Core.Path.{_≡_, sym, _∙_}
 use Rattle.clean.specs.declared.Cleanness.the-variants.{Clean, Broken}
 use Rattle.quote.specs.Quote.{short}
