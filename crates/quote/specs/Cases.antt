@@ -65,7 +65,7 @@ i : quotes "0,'per_min_pricing':[{'start':20,'rate':1,'interval':1,'end':20}]" (
 unfolding quoting file plan quotes
 i = refl
 
--- document 002's second plan: a kilometre in ten minutes; and a kilometre less
+-- document 002's second plan: ten minutes for a kilometre; and for a metre less
 by-both : map (quoteOf (file (plan "p" "3,'per_km_pricing':[{'start':0,'rate':0.25,'interval':1}],'per_min_pricing':[{'start':0,'rate':0.50,'interval':1}]")) (bytes "p") 600) (1000 ∷ 999 ∷ [])
     ≡ fare 90000 ∷ fare 87500 ∷ []
 unfolding quoting file plan

@@ -88,10 +88,10 @@ fn quote_clean(s: &[u8], id: &[u8], seconds: u64, metres: u64) -> Quote
     quote_plan(cut(records, start, end), seconds, metres)
 }
 
-// What a trip costs by the plan of an id, of the bytes of file 5; an absent file has no plans. The file is read a constant number of times: to judge
-// it, to find its records, and to find the plan.
-// Shut out: an amount, or a word's parts, for a ride that is too long; a plan of a file that is not clean quoted; the first plan of the file taken
-// where none has the id.
+// What a trip costs by the plan of an id, of the bytes of file 5; an absent file has no plans. The file is read a constant number of times: once by
+// stage A, once by stage B for each level of the table, once for its ids, once for each name on the way to its records, and once for the plan.
+// Shut out: a file's faults, or an amount, told of a ride that is too long; a plan quoted from a file that only stage A passes; the first plan of the
+// file taken where none has the id.
 pub fn quote_trip(s: &[u8], id: &[u8], seconds: u64, metres: u64) -> Quote
     ensures { λ r. ⌜ r ≡ quoteOf (now (s .entry)) (now (id .entry)) seconds metres ⌝ }
 {
