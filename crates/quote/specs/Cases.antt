@@ -15,9 +15,9 @@ use Rattle.fare.specs.Cases.{charging}
 use Rattle.judge.specs.Cases.{judging}
 use Rattle.clean.specs.Clean.{treeOf, idField, recordsOf, usedBefore, repeatedId, repeatsFrom, repeats, cleanOf}
 use Rattle.quote.specs.declared.Quote.{Quote}
-use Rattle.quote.specs.declared.Quote.the-variants.{TooLong, NotClean, NoPlan, Fare}
+use Rattle.quote.specs.declared.Quote.the-variants.{TooLong, NotClean, NoPlan, Outside, Fare}
 use Rattle.quote.specs.Plan.{priceAt, segment, perKilometre, perMinute, planOf, plans, sum, pastMinutes, pastKilometres}
-use Rattle.quote.specs.Quote.{cleanQuote, short, quoteOf}
+use Rattle.quote.specs.Quote.{noParts, answer, cleanQuote, short, quoteOf}
 
 -- opens every definition of a quote
 unfoldable pub quoting : Unit {0}
@@ -72,6 +72,9 @@ unfolding quoting file plan
 by-both = refl
 
 -- refusals
+
+numbers : map (λ (q : Quote). answer q .number) (TooLong ∷ NotClean noParts ∷ NoPlan ∷ Outside ∷ fare 0 ∷ []) ≡ 4 ∷ 5 ∷ 6 ∷ 7 ∷ 0 ∷ []
+numbers = refl
 
 too-long-first : map (λ seconds. quoteOf (bytes "[") (bytes "p") seconds 1_000_000) (2_678_400 ∷ 2_678_401 ∷ [])
     ≡ NotClean (record { file = 5; kind = 2; field = 0; «record» = 0; sub = 0; offset = 1 }) ∷ TooLong ∷ []
