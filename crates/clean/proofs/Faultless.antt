@@ -145,24 +145,14 @@ module _ {f : ℕ} {name : List ℕ} {rows : Rows} (p : Place) (φ : ℕ) (x : J
       λ s k. ap (λ (y : Json). field f (pick (shape.object rows) y)) (o .1) ∙ ap onceOnly (at-row l (o .0)) ∙ ap (λ (t : Slot Json). onceOnly (over (pick σ) t)) k in
       ⊎-elim (λ k. inl (is missing k)) (λ k. inr (k .0, is (once (k .0)) (k .1), k .2)) (row-sound l p (o .0) (o .2))
 
-  -- and, where it is an array, has no more items than it may, in each of which nothing is found; none where it is not there
-  module _ {numbering : Numbering} {most : ℕ} {σ : Shape} (l : Lists f name (shape.array numbering most σ) rows)
-      (single : (a b : List Fault) → byNumbering numbering a b ≡ a) where
-    pub items-few : length (fieldItems f (pick (shape.object rows) x)) ≤ most
-    unfolding fieldItems rings.count
-    items-few =
-        ⊎-elim (λ k. rw (k) (omega arith))
-        (λ k. let a = array-there p f numbering single most σ (k .0) (k .2) in rw (k .1, a .1) (leb-true (rings.count (a .0)) most (a .2)))
-        (field-sound l)
-
-    pub items-sound : (y : Picked) → List·Memᴰ y (fieldItems f (pick (shape.object rows) x)) → (q : Place) × (faults σ q f y ≡ [])
-    unfolding fieldItems
-    items-sound y i =
-        ⊎-elim (λ k. absurd (List·Memᴰ·not-nil (rw (k) at i)))
-        (λ k.
-        let a = array-there p f numbering single most σ (k .0) (k .2) in
-        items-there p f (λ q g z. faults σ q g z) numbering 0 (a .0) (a .3) y (rw (k .1, a .1) at i))
-        (field-sound l)
+  -- and, where it is an array, has no more items than it may; none where it is not there
+  pub items-few : {numbering : Numbering} {most : ℕ} {σ : Shape} → Lists f name (shape.array numbering most σ) rows → ((a b : List Fault) → byNumbering numbering a b ≡ a)
+      → length (fieldItems f (pick (shape.object rows) x)) ≤ most
+  unfolding fieldItems rings.count
+  items-few {numbering} {most} {σ} l single =
+      ⊎-elim (λ k. rw (k) (omega arith))
+      (λ k. let a = array-there p f numbering single most σ (k .0) (k .2) in rw (k .1, a .1) (leb-true (rings.count (a .0)) most (a .2)))
+      (field-sound l)
 
 -- an id is a string
 pub id-there : (p : Place) (φ : ℕ) (x : Json) → faults (shape.scalar Sort.id) p φ (pick (shape.scalar Sort.id) x) ≡ [] → (t : List ℕ) × (x ≡ tree.string t)
