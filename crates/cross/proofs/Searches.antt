@@ -5,7 +5,8 @@ use mathlib.Core.List.{List, [], _∷_}
 use mathlib.Core.Path.{_≡_, refl, sym, ap, _∙_}
 use Prim.Native.Nat.{ℕ, suc, _+_, _≤_, _<_}
 use native.Mathlib.Numerals.{add-one}
-use lib.ListN.{length, getD, drop, drop-of-length-le}
+use native.Mathlib.Omega.{arith}
+use lib.ListN.{length, getD, drop, drop-of-length-le, length-map}
 use lib.Seq.{drop-cons}
 use lib.Dec.{eqb}
 use borrow.Author.Tests.{eqb-true, eqb-false}
@@ -13,14 +14,16 @@ use Rattle.notation.specs.Choice.{_⇒_else_, _and_}
 use Rattle.lexeme.proofs.Steps.{by-test}
 use Rattle.text.specs.Text.{textOf, same, digest}
 use Rattle.text.proofs.Laws.{digest-same}
+use Rattle.walk.specs.Walk.{part, itemsOf}
 use Rattle.walk.specs.Part.{kindAt, inside}
+use Rattle.walk.proofs.Parts.{itemOf}
 use Rattle.slots.specs.declared.Found.{Found}
 use Rattle.slots.specs.Found.{foundIn}
 use Rattle.document.specs.Document.{Maybe, none, some}
 use Rattle.fields.specs.Values.{code, foundBytes, textBy}
 use Rattle.fields.proofs.Ways.{text-none, text-some}
 use Rattle.clean.specs.Noted.{idName}
-use Rattle.cross.specs.Known.{idValue, idText, passing, meeting, anyMeets}
+use Rattle.cross.specs.Known.{all, recordBytes, idValue, idText, passing, meeting, anyMeets, Noted}
 
 -- what is found under the name of the id
 pub id-found : (file : ℕ) (q : List ℕ) (o : Found) → o ≡ foundIn q (idName file) → foundBytes q o ≡ idValue file q
@@ -46,7 +49,7 @@ module _ (file : ℕ) (tested : Bool) (id q v : List ℕ) (is : v ≡ idValue fi
   this-id h s = by-text h ∙ ap (λ (t : Bool). t and (tested ⇒ passing file q else true)) s
 
 -- of another digest, of another text
-pub apart : (file : ℕ) (tested : Bool) (id q : List ℕ) → (digest (idText file q) ≡ digest id → ⊥) → meeting file tested id q ≡ false
+apart : (file : ℕ) (tested : Bool) (id q : List ℕ) → (digest (idText file q) ≡ digest id → ⊥) → meeting file tested id q ≡ false
 apart file tested id q n =
     let v = idValue file q in
     by-test (eqb (code (kindAt v)) 3)
@@ -61,7 +64,7 @@ module _ (file : ℕ) (tested : Bool) (id : List ℕ) (rs : List (List ℕ)) whe
   abbrev pub Left : ℕ → Bool
   Left j = anyMeets file tested id (drop j rs)
 
-  pub none-left : (j : ℕ) → length rs ≤ j → false ≡ Left j
+  none-left : (j : ℕ) → length rs ≤ j → false ≡ Left j
   unfolding anyMeets
   none-left j h = sym (ap (anyMeets file tested id) (drop-of-length-le rs h))
 
@@ -69,8 +72,43 @@ module _ (file : ℕ) (tested : Bool) (id : List ℕ) (rs : List (List ℕ)) whe
   unfolding anyMeets
   step j h = rw (drop-cons rs j [] h, add-one j)
 
-  pub met-here : (j : ℕ) → j < length rs → meeting file tested id (getD rs j []) ≡ true → true ≡ Left j
+  met-here : (j : ℕ) → j < length rs → meeting file tested id (getD rs j []) ≡ true → true ≡ Left j
   met-here j h e = sym (step j h ∙ ap (λ (t : Bool). t ⇒ true else Left (j + 1)) e)
 
-  pub met-later : (j : ℕ) → j < length rs → meeting file tested id (getD rs j []) ≡ false → Left (j + 1) ≡ Left j
+  met-later : (j : ℕ) → j < length rs → meeting file tested id (getD rs j []) ≡ false → Left (j + 1) ≡ Left j
   met-later j h e = sym (step j h ∙ ap (λ (t : Bool). t ⇒ true else Left (j + 1)) e)
+
+-- a file whose records are noted: past the last, and at the j-th
+pub past-last : {file : ℕ} {p : List ℕ} {first count : ℕ} {digests starts ends : List ℕ} → Noted file p first count digests starts ends → (j : ℕ) → count ≤ j
+    → (tested : Bool) (id : List ℕ) → false ≡ Left file tested id (recordBytes p) j
+unfolding recordBytes
+past-last {file} {p} k j h tested id = none-left file tested id (recordBytes p) j (omega (arith, k .counted, length-map (itemsOf p) (itemOf p)))
+
+module _ {file : ℕ} {p : List ℕ} {first count : ℕ} {digests starts ends : List ℕ} (k : Noted file p first count digests starts ends) (j : ℕ) (h : j < count) where
+  pub noted-room : first + j < all
+  noted-room = omega (arith, k .few, k .room)
+
+  noted-inside : j < length (recordBytes p)
+  unfolding recordBytes
+  noted-inside = omega (arith, k .counted, length-map (itemsOf p) (itemOf p))
+
+  noted-at : j < length (itemsOf p)
+  noted-at = omega (arith, k .counted)
+
+  module _ (tested : Bool) (id : List ℕ) where
+    -- not where digests differ
+    pub past-digest : (d : ℕ) → d ≡ digest id → (getD digests (first + j) 0 ≡ d → ⊥) → Left file tested id (recordBytes p) (j + 1) ≡ Left file tested id (recordBytes p) j
+    past-digest d is n =
+        met-later file tested id (recordBytes p) j noted-inside
+        (apart file tested id (getD (recordBytes p) j []) (λ e. n (k .notes j noted-at .1 ∙ e ∙ sym is)))
+
+    -- the record itself
+    module _ (q : List ℕ) (is : q ≡ part p (getD starts (first + j) 0) (getD ends (first + j) 0)) where
+      this : q ≡ getD (recordBytes p) j []
+      this = is ∙ k .notes j noted-at .0
+
+      pub past-record : meeting file tested id q ≡ false → Left file tested id (recordBytes p) (j + 1) ≡ Left file tested id (recordBytes p) j
+      past-record e = met-later file tested id (recordBytes p) j noted-inside (ap (meeting file tested id) (sym this) ∙ e)
+
+      pub met-record : meeting file tested id q ≡ true → true ≡ Left file tested id (recordBytes p) j
+      met-record e = met-here file tested id (recordBytes p) j noted-inside (ap (meeting file tested id) (sym this) ∙ e)
