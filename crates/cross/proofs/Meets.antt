@@ -11,16 +11,15 @@ use Rattle.json.specs.Tree.{Json, Members}
 use Rattle.text.specs.Text.{same}
 use Rattle.walk.specs.declared.Item.{Item}
 use Rattle.walk.specs.Walk.{itemsOf}
-use Rattle.walk.specs.Part.{Whole, treeOf, kindAt}
+use Rattle.walk.specs.Part.{Whole, treeOf}
 use Rattle.walk.proofs.Wholes.{whole-kind}
 use Rattle.walk.proofs.Parts.{itemOf, items-whole}
-use Rattle.schema.specs.Shape.{Shape}
 use Rattle.schema.specs.Table23.{vehicleType, station, plan}
 use Rattle.schema.specs.Pick.{Picked, pick}
 use Rattle.slots.specs.Found.{foundIn}
 use Rattle.document.specs.Document.{Maybe, none, some, text}
 use Rattle.document.proofs.Records.{recordShape, pickedItems}
-use Rattle.fields.specs.Values.{code, foundBytes, memberOf, textBy}
+use Rattle.fields.specs.Values.{code, memberOf, textBy}
 use Rattle.fields.proofs.Ways.{member-found}
 use Rattle.fields.proofs.Fields.{rowOf, listed, field-text, field-given}
 use Rattle.clean.specs.Noted.{idName}

@@ -1,31 +1,22 @@
 -- `meets_in` goes over the records and passes those whose digest is another. The outer loop's invariant: nothing is met yet, and the records that are
 -- left decide as all do; the inner loop counts the record's ids as `find` does.
 use borrow.Author.Needs.{needs}
-use mathlib.Core.Bool.{true, false}
+use mathlib.Core.Bool.{false}
 use mathlib.Core.Logic.{⊎-elim}
-use mathlib.Core.Path.{_≡_, refl, sym, ap, subst, _∙_}
+use mathlib.Core.Path.{_≡_, refl, sym, _∙_}
 use Prim.Native.Nat.{_+_, _-_, _<_}
 use native.Mathlib.Omega.{arith}
-use lib.ListN.{length, getD}
-use Rattle.text.specs.Text.{textOf, digest}
-use Rattle.walk.specs.Walk.{part}
+use lib.ListN.{length}
+use Rattle.text.specs.Text.{textOf}
 use Rattle.walk.proofs.Places.{Placed, member-placed}
 use Rattle.walk.proofs.Folds.{Walk, memberSteps, members-start, walk-more, walk-end}
 use Rattle.slots.specs.declared.Found.the-variants.{Missing}
 use Rattle.slots.specs.Found.{noted, foundIn}
 use Rattle.clean.specs.Noted.{idName}
-use Rattle.cross.specs.Known.{recordBytes, meeting, anyMeets}
+use Rattle.cross.specs.Known.{all, recordBytes, anyMeets}
 use Rattle.cross.proofs.Searches.{Left, past-last, noted-room, past-digest, past-record, met-record}
 use Rattle.cross.proofs.search.meets_in.Statement.{statement}
 use Rattle.cross.proofs.search.meets_in.Tie as tie
-use Rattle.cross.proofs.search.meets_in.Reads as reads
-use Rattle.cross.proofs.search.meets_in.Lts as lts
-use Rattle.cross.proofs.search.counted.Reads as counted-reads
-use Rattle.cross.proofs.search.is_met.Reads as is-met-reads
-use Rattle.cross.proofs.search.names_id.Reads as names-id-reads
-use Rattle.document.proofs.cut.Reads as cut-reads
-use Rattle.text.proofs.digest.digest_of.Reads as digest-of-reads
-use Rattle.walk.proofs.next_member.Reads as next-member-reads
 
 abbrev Inv-loop : tie.InvT-loop
 Inv-loop file p first count digests starts ends id tested digest met₀ j «record» found₀ at₀ met found at =
@@ -46,14 +37,11 @@ unfolding foundIn
 loop-holds c = (c .before .before .before .before .before .before .search .inv .0, members-start _ _ Missing)
 
 -- the index is within the arrays
-room : (c : tie.In-search Inv-loop μ-loop Inv-search μ-search) → let l = c .before in let g = l .before .before .before .before in g .args .first + l .search .j < 12285
+room : (c : tie.In-search Inv-loop μ-loop Inv-search μ-search) → let l = c .before in let g = l .before .before .before .before in g .args .first + l .search .j < all
 room c = let l = c .before in let g = l .before .before .before .before in noted-room (g .pre) (l .search .j) (c .search-test .taken)
 
 -- where a member was found
-abbrev Found-member : Type 0
-Found-member = tie.After-known-told Inv-loop μ-loop Inv-search μ-search
-
-placed : (c : Found-member) → Placed (c .before .before .before .before .before .cut .result .now) (c .before .before .before .before .loop .at) (c .before .m .given .0 .0)
+placed : (c : tie.After-known-told Inv-loop μ-loop Inv-search μ-search) → Placed (c .before .before .before .before .before .cut .result .now) (c .before .before .before .before .loop .at) (c .before .m .given .0 .0)
 placed c = let n = c .before .before .before in member-placed _ _ _ (sym (n .next-member .ensures) ∙ c .before .m .given .1)
 
 loop-again : tie.Need-loop-again Inv-loop μ-loop Inv-search μ-search
