@@ -84,7 +84,8 @@ module _ (file : ℕ) (alike : (q : List ℕ) (ms : Members) → Whole q (tree.o
   meets-picked tested id p o =
       alike-all file tested id (itemOf p) (λ m. pick (recordShape file) (treeOf (itemOf p m))) (itemsOf p) (λ m i.
       let t = o m i in
-      subst (λ (x : Json). Alike file (itemOf p m) (pick (recordShape file) x)) (sym (t .1)) (alike (itemOf p m) (t .0) (subst (Whole (itemOf p m)) (t .1) (items-whole p m i))))
+      subst (λ (x : Json). Alike file (itemOf p m) (pick (recordShape file) x)) (sym (t .1))
+      (alike (itemOf p m) (t .0) (subst (Whole (itemOf p m)) (t .1) (items-whole p m i))))
 
 -- of each file that references name
 module _ (tested : Bool) (id types stations plans : List ℕ) where

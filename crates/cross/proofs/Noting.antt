@@ -103,7 +103,9 @@ module _ (file : ℕ) (p : List ℕ) (first : ℕ) where
                 };
             noted = λ i h.
                 elim (ℕ-discrete i n) [
-                  | yes z ↦ rw z (entry-new file p first digests starts ends s n d (m .value) (m .«value_end») room (sym record-is) (is ∙ ap (λ q. digest (idText file q)) (sym record-is)))
+                  | yes z ↦
+                      rw z (entry-new file p first digests starts ends s n d (m .value) (m .«value_end») room (sym record-is)
+                      (is ∙ ap (λ q. digest (idText file q)) (sym record-is)))
                   | no z ↦ let k : i < n = omega arith in entry-old file p first digests starts ends s n d (m .value) (m .«value_end») i k (w .noted i k)
                 ];
           }

@@ -35,7 +35,8 @@ returns-2 c =
 room : (c : tie.Else1 Inv-loop μ-loop) → let l = c .before .before .before .before .before in let g = l .before .before in g .args .first + l .loop .n < all
 room c = let g = c .before .before .before .before .before .before .before in omega (arith, g .pre .1, c .if1 .left)
 
-placed : (c : tie.Else1 Inv-loop μ-loop) → ItemPlaced (c .before .before .before .before .before .before .before .args .p .now) (c .before .before .before .before .before .loop .at) (c .before .before .m .given .0 .0)
+placed : (c : tie.Else1 Inv-loop μ-loop) →
+    let d = c .before .before in let k = d .before .before .before in ItemPlaced (k .before .before .args .p .now) (k .loop .at) (d .m .given .0 .0)
 placed c = let d = c .before .before in item-placed _ _ _ (sym (d .before .before .next-item .ensures) ∙ d .m .given .1)
 
 loop-again : tie.Need-loop-again Inv-loop μ-loop

@@ -15,7 +15,8 @@ use Rattle.cross.proofs.search.is_met.Statement.{statement}
 use Rattle.cross.proofs.search.is_met.Tie as tie
 
 -- the value that is looked at
-held : (c : tie.After-value-at) → let a = c .before .before .before .args in a .found ≡ foundIn (a .q .now) (idName (a .file)) → c .value-at .result .now ≡ idValue (a .file) (a .q .now)
+held : (c : tie.After-value-at) → let a = c .before .before .before .args in
+    a .found ≡ foundIn (a .q .now) (idName (a .file)) → c .value-at .result .now ≡ idValue (a .file) (a .q .now)
 held c h = c .value-at .ensures (found-standing _ _ _ h) ∙ id-found _ _ _ h
 
 compared : (c : tie.After-same-text) → let v = c .before .before .before .before in let a = v .before .before .before .args in

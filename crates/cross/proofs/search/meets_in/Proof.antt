@@ -41,29 +41,32 @@ room : (c : tie.In-search Inv-loop μ-loop Inv-search μ-search) → let l = c .
 room c = let l = c .before in let g = l .before .before .before .before in noted-room (g .pre) (l .search .j) (c .search-test .taken)
 
 -- where a member was found
-placed : (c : tie.After-known-told Inv-loop μ-loop Inv-search μ-search) → Placed (c .before .before .before .before .before .cut .result .now) (c .before .before .before .before .loop .at) (c .before .m .given .0 .0)
+placed : (c : tie.After-known-told Inv-loop μ-loop Inv-search μ-search) →
+    let d = c .before in let k = d .before .before .before in Placed (k .before .cut .result .now) (k .loop .at) (d .m .given .0 .0)
 placed c = let n = c .before .before .before in member-placed _ _ _ (sym (n .next-member .ensures) ∙ c .before .m .given .1)
 
 loop-again : tie.Need-loop-again Inv-loop μ-loop Inv-search μ-search
 loop-again c =
     let t = c .before in let d = t .before .before .before in let n = d .before .before in let k = n .before in let u = k .before in
-    let a = u .before .before .before .before .before .before .before .before .before .before .args in let q = u .cut .result .now in (
+    let a = u .before .before .before .before .before .before .before .before .before .before .args in let q = u .cut .result .now in let name = idName (a .file) in (
       k .loop .inv .0,
       rw (c .counted .ensures, t .names-id .ensures)
-          (walk-more (memberSteps q) (noted q (idName (a .file))) (k .loop .found) (k .loop .at) _ (d .m .given .0 .0) (sym (n .next-member .ensures) ∙ d .m .given .1) (k .loop .inv .1)),
+          (walk-more (memberSteps q) (noted q name) (k .loop .found) (k .loop .at) _ (d .m .given .0 .0)
+          (sym (n .next-member .ensures) ∙ d .m .given .1) (k .loop .inv .1)),
     )
 
 -- past this record
 search-again : tie.Need-search-again Inv-loop μ-loop Inv-search μ-search
 search-again c =
     let s = c .before .before in let l = s .before in let o = l .before in let g = o .before .before .before in let a = g .args in
+    let id = textOf (a .id .now) in let h = s .search-test .taken in
     ⊎-elim
     (λ w.
     let q = w .3 .result .now in let name = idName (a .file) in
     let f = walk-end (memberSteps q) (noted q name) (w .4 .found) (w .4 .at) (foundIn q name) (sym (w .5 .ensures) ∙ w .7 .given .1) (w .4 .inv .1) in
-    (w .10 ∙ w .4 .inv .0, past-record (g .pre) (l .search .j) (s .search-test .taken) (a .tested) (textOf (a .id .now)) q (w .3 .ensures) (sym (w .8 .ensures f) ∙ w .9 .left) ∙ l .search .inv .1))
+    (w .10 ∙ w .4 .inv .0, past-record (g .pre) (l .search .j) h (a .tested) id q (w .3 .ensures) (sym (w .8 .ensures f) ∙ w .9 .left) ∙ l .search .inv .1))
     (λ w.
-    (w .1 ∙ l .search .inv .0, past-digest (g .pre) (l .search .j) (s .search-test .taken) (a .tested) (textOf (a .id .now)) _ (o .digest-of .ensures) (w .0 .left) ∙ l .search .inv .1))
+    (w .1 ∙ l .search .inv .0, past-digest (g .pre) (l .search .j) h (a .tested) id _ (o .digest-of .ensures) (w .0 .left) ∙ l .search .inv .1))
     (c .if1 .came)
 
 returns : tie.Need-returns Inv-loop μ-loop Inv-search μ-search
@@ -77,8 +80,11 @@ returns-2 c =
     let i = c .before in let t = i .before in let n = t .before .before in let k = n .before in let u = k .before in
     let s = u .before .before .before .before .before in let l = s .before in let g = l .before .before .before .before in let a = g .args in
     let q = u .cut .result .now in let name = idName (a .file) in
-    let f = walk-end (memberSteps q) (noted q name) (k .loop .found) (k .loop .at) (foundIn q name) (sym (n .next-member .ensures) ∙ t .enum-told .given .1) (k .loop .inv .1) in
-    met-record (g .pre) (l .search .j) (s .search-test .taken) (a .tested) (textOf (a .id .now)) q (u .cut .ensures) (sym (i .is-met .ensures f) ∙ c .if2 .taken) ∙ l .search .inv .1
+    let e = sym (n .next-member .ensures) ∙ t .enum-told .given .1 in
+    let f = walk-end (memberSteps q) (noted q name) (k .loop .found) (k .loop .at) (foundIn q name) e (k .loop .inv .1) in
+    met-record (g .pre) (l .search .j) (s .search-test .taken) (a .tested) (textOf (a .id .now)) q (u .cut .ensures)
+    (sym (i .is-met .ensures f) ∙ c .if2 .taken)
+    ∙ l .search .inv .1
 
 pub meets-in-spec : {M : Type 1} → statement M
 meets-in-spec =
