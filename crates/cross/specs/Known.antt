@@ -76,6 +76,12 @@ recordsOf file types stations plans =
 abbrev pub Objects : List ℕ → Type 0
 Objects p = (m : Item) → List·Memᴰ m (itemsOf p) → (ms : Members) × (treeOf (itemOf p m) ≡ tree.object ms)
 
+-- an entry for each id that may be noted
+pub record Sized (digests starts ends : List ℕ) : Type 0 where
+  pub digestsLong : length digests ≡ all
+  pub startsLong : length starts ≡ all
+  pub endsLong : length ends ≡ all
+
 -- from the place `first` on stand the places of the records of p, and the digests of their ids
 abbrev pub Notes : (file : ℕ) (p : List ℕ) (first : ℕ) (digests starts ends : List ℕ) → Type 0
 Notes file p first digests starts ends =

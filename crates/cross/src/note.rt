@@ -12,7 +12,7 @@ ghost use Prim.Native.Nat.{_+_, _≤_};
 ghost use lib.ListN.{length};
 ghost use Rattle.text.specs.Text.{digest};
 ghost use Rattle.walk.specs.Walk.{itemsOf};
-ghost use Rattle.cross.specs.Known.{all, each, idText, Notes, Keeps};
+ghost use Rattle.cross.specs.Known.{all, each, idText, Notes, Keeps, Sized};
 
 // The digest of the id of the record `q`.
 fn id_digest(file: u8, q: &[u8]) -> u32
@@ -22,6 +22,7 @@ fn id_digest(file: u8, q: &[u8]) -> u32
 }
 
 // Notes the records of the array `p`, from the place `first` on; how many they are.
+// Shut out: the records of one file noted over those of another; an id noted by the digest of its spelling.
 pub fn note(
     file: u8,
     p: &[u8],
@@ -30,8 +31,8 @@ pub fn note(
     starts: &mut [usize; ALL],
     ends: &mut [usize; ALL],
 ) -> usize
-    requires { ⌜ (length (itemsOf (now p)) ≤ each) × (first + each ≤ all) ⌝ }
-    ensures { λ r. ⌜ (r ≡ length (itemsOf (now (p .entry)))) × Notes file (now (p .entry)) first (now (digests .exit)) (now (starts .exit)) (now (ends .exit)) × Keeps first (now (digests .entry)) (now (digests .exit)) × Keeps first (now (starts .entry)) (now (starts .exit)) × Keeps first (now (ends .entry)) (now (ends .exit)) ⌝ }
+    requires { ⌜ (length (itemsOf (now p)) ≤ each) × (first + each ≤ all) × Sized (now digests) (now starts) (now ends) ⌝ }
+    ensures { λ r. ⌜ (r ≡ length (itemsOf (now (p .entry)))) × Notes file (now (p .entry)) first (now (digests .exit)) (now (starts .exit)) (now (ends .exit)) × Keeps first (now (digests .entry)) (now (digests .exit)) × Keeps first (now (starts .entry)) (now (starts .exit)) × Keeps first (now (ends .entry)) (now (ends .exit)) × Sized (now (digests .exit)) (now (starts .exit)) (now (ends .exit)) ⌝ }
 {
     let mut n: usize = 0;
     let mut at: usize = 1;

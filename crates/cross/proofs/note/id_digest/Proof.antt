@@ -1,34 +1,22 @@
+-- What is found under the name of the id stands there whole, so its text is that of the id.
 use borrow.Author.Needs.{needs}
+use mathlib.Core.Path.{ap, _∙_}
+use Rattle.text.specs.Text.{textOf, digest}
+use Rattle.walk.specs.Part.{inside}
+use Rattle.fields.specs.Values.{foundBytes}
+use Rattle.fields.proofs.Ways.{found-standing}
+use Rattle.cross.specs.Known.{idValue}
 use Rattle.cross.proofs.note.id_digest.Statement.{statement}
 use Rattle.cross.proofs.note.id_digest.Tie as tie
-use Rattle.cross.proofs.note.id_digest.Reads as reads
-use Rattle.cross.proofs.note.id_digest.Lts as lts
-use Rattle.clean.proofs.ids.find_id.Reads as find-id-reads
-use Rattle.fields.proofs.unquoted.Reads as unquoted-reads
-use Rattle.fields.proofs.value_at.Reads as value-at-reads
-use Rattle.text.proofs.digest.digest_of.Reads as digest-of-reads
 
--- src/note.rt:21:36
-find-id-requires : tie.Need-find-id-requires
-find-id-requires c κs = search needs
-
--- src/note.rt:21:24
-value-at-requires : tie.Need-value-at-requires
-value-at-requires c κs = search needs
-
--- src/note.rt:21:15
-unquoted-requires : tie.Need-unquoted-requires
-unquoted-requires c κs = search needs
-
--- src/note.rt:21:5
-digest-of-requires : tie.Need-digest-of-requires
-digest-of-requires c κs = search needs
-
--- src/note.rt:18:1
 returns : tie.Need-returns
-returns c = ?
+unfolding idValue
+returns c =
+    let u = c .before in let v = u .before in let f = v .before in let a = f .before .before .args in
+    c .digest-of .ensures
+    ∙ ap (λ q. digest (textOf q)) (u .unquoted .ensures)
+    ∙ ap (λ q. digest (textOf (inside q))) (v .value-at .ensures (found-standing _ _ _ (f .find-id .ensures)) ∙ ap (foundBytes (a .q .now)) (f .find-id .ensures))
 
 pub id-digest-spec : {M : Type 1} → statement M
 id-digest-spec =
-    tie.close
-    (tie.spec find-id-requires value-at-requires unquoted-requires digest-of-requires returns)
+    tie.close (tie.spec (λ c κs. search needs) (λ c κs. search needs) (λ c κs. search needs) (λ c κs. search needs) returns)

@@ -1,19 +1,24 @@
+-- What is needed and not given breaks the condition, and nothing else does.
+use mathlib.Core.Bool.{Bool, true}
+use mathlib.Core.Path.{sym, ap, _∙_}
+use borrow.Author.Tests.{lt-ltb, le-ltb, not-true, not-false}
+use Rattle.fields.specs.Values.{thereBy}
+use Rattle.cross.specs.References.{demanded}
 use Rattle.cross.proofs.reference.demanded.Statement.{statement}
 use Rattle.cross.proofs.reference.demanded.Tie as tie
-use Rattle.cross.proofs.reference.demanded.Reads as reads
-use Rattle.cross.proofs.reference.demanded.Lts as lts
 
--- src/reference.rt:20:9
 returns : tie.Need-returns
-returns c = ?
+returns c = let a = c .before .args in sym (ap (λ (t : Bool). demanded t (thereBy (a .value .now))) (not-true (a .needed) (c .if1 .taken)))
 
--- src/reference.rt:23:9
 returns-2 : tie.Need-returns-2
-returns-2 c = ?
+returns-2 c =
+    let a = c .before .before .args in
+    sym (ap (λ (t : Bool). demanded t (thereBy (a .value .now))) (not-false (a .needed) (c .before .if1 .left)) ∙ ap (demanded true) (lt-ltb 0 _ (c .if2 .taken)))
 
--- src/reference.rt:16:1
 returns-3 : tie.Need-returns-3
-returns-3 c = ?
+returns-3 c =
+    let a = c .before .before .args in
+    sym (ap (λ (t : Bool). demanded t (thereBy (a .value .now))) (not-false (a .needed) (c .before .if1 .left)) ∙ ap (demanded true) (le-ltb 0 _ (c .if2 .left)))
 
 pub demanded-spec : {M : Type 1} → statement M
 demanded-spec = tie.close (tie.spec returns returns-2 returns-3)

@@ -1,32 +1,26 @@
+-- A reference that is a text is searched for; nothing else names a record.
 use borrow.Author.Needs.{needs}
+use mathlib.Core.Path.{sym, ap, _∙_}
+use Rattle.text.specs.Text.{textOf}
+use Rattle.fields.proofs.Ways.{text-none, text-some}
+use Rattle.cross.specs.References.{anyWith, named}
+use Rattle.cross.specs.Known.{fieldOf, testOf, recordsOf}
 use Rattle.cross.proofs.reference.named.Statement.{statement}
 use Rattle.cross.proofs.reference.named.Tie as tie
-use Rattle.cross.proofs.reference.named.Reads as reads
-use Rattle.cross.proofs.reference.named.Lts as lts
-use Rattle.cross.proofs.search.meets.Reads as meets-reads
-use Rattle.fields.proofs.code_of.Reads as code-of-reads
-use Rattle.fields.proofs.unquoted.Reads as unquoted-reads
 
--- src/reference.rt:43:8
-code-of-requires : tie.Need-code-of-requires
-code-of-requires c κs = search needs
-
--- src/reference.rt:44:9
 returns : tie.Need-returns
-returns c = ?
+returns c =
+    let k = c .before in let a = k .before .before .before .before .before .args in let l = recordsOf (a .file) (a .types .now) (a .stations .now) (a .plans .now) in
+    sym (ap (named (testOf (a .file)) (fieldOf (a .file)) l) (text-none (a .value .now) _ (k .code-of .ensures) (c .if1 .taken)))
 
--- src/reference.rt:48:9
-unquoted-requires : tie.Need-unquoted-requires
-unquoted-requires c κs = search needs
-
--- src/reference.rt:46:5
-meets-requires : tie.Need-meets-requires
-meets-requires c κs = search needs
-
--- src/reference.rt:29:1
 returns-2 : tie.Need-returns-2
-returns-2 c = ?
+returns-2 c =
+    let u = c .before in let i = u .before in let k = i .before in let a = k .before .before .before .before .before .args in
+    let l = recordsOf (a .file) (a .types .now) (a .stations .now) (a .plans .now) in
+    c .meets .ensures
+    ∙ ap (λ q. anyWith (testOf (a .file)) (fieldOf (a .file)) l (textOf q)) (u .unquoted .ensures)
+    ∙ sym (ap (named (testOf (a .file)) (fieldOf (a .file)) l) (text-some (a .value .now) _ (k .code-of .ensures) (i .if1 .left)))
 
 pub named-spec : {M : Type 1} → statement M
 named-spec =
-    tie.close (tie.spec code-of-requires returns unquoted-requires meets-requires returns-2)
+    tie.close (tie.spec (λ c κs. search needs) returns (λ c κs. search needs) (λ c κs. c .before .before .before .before .before .before .before .pre) returns-2)

@@ -1,37 +1,38 @@
+-- A reference that is a text dangles where the search meets no record; nothing else refers.
 use borrow.Author.Needs.{needs}
+use mathlib.Core.Bool.{Bool, not}
+use mathlib.Core.Path.{_≡_, sym, ap, _∙_}
+use Rattle.word.specs.Kinds.{dangling}
+use Rattle.text.specs.Text.{textOf}
+use Rattle.fields.specs.Values.{textBy}
+use Rattle.fields.proofs.Ways.{text-none, text-some}
+use Rattle.cross.specs.References.{when, any, anyWith, refers}
+use Rattle.cross.specs.Known.{fieldOf, recordsOf}
 use Rattle.cross.proofs.reference.refers.Statement.{statement}
 use Rattle.cross.proofs.reference.refers.Tie as tie
-use Rattle.cross.proofs.reference.refers.Reads as reads
-use Rattle.cross.proofs.reference.refers.Lts as lts
-use Rattle.cross.proofs.search.meets.Reads as meets-reads
-use Rattle.fields.proofs.code_of.Reads as code-of-reads
-use Rattle.fields.proofs.unquoted.Reads as unquoted-reads
 
--- src/reference.rt:76:8
-code-of-requires : tie.Need-code-of-requires
-code-of-requires c κs = search needs
-
--- src/reference.rt:77:9
 returns : tie.Need-returns
-returns c = ?
+returns c =
+    let k = c .before in let a = k .before .before .before .before .before .args in let l = recordsOf (a .file) (a .types .now) (a .stations .now) (a .plans .now) in
+    sym (ap (λ o. refers o (fieldOf (a .file)) l) (text-none (a .value .now) _ (k .code-of .ensures) (c .if1 .taken)))
 
--- src/reference.rt:81:9
-unquoted-requires : tie.Need-unquoted-requires
-unquoted-requires c κs = search needs
+-- where the record was searched for
+searched : (c : tie.After-meets) →
+    let a = c .before .before .before .before .before .before .before .before .args in
+    when (not (c .meets .result)) dangling ≡ refers (textBy (a .value .now)) (fieldOf (a .file)) (recordsOf (a .file) (a .types .now) (a .stations .now) (a .plans .now))
+searched c =
+    let u = c .before in let i = u .before in let k = i .before in let a = k .before .before .before .before .before .args in
+    let l = recordsOf (a .file) (a .types .now) (a .stations .now) (a .plans .now) in
+    ap (λ (t : Bool). when (not t) dangling) (c .meets .ensures ∙ ap (λ q. anyWith any (fieldOf (a .file)) l (textOf q)) (u .unquoted .ensures))
+    ∙ sym (ap (λ o. refers o (fieldOf (a .file)) l) (text-some (a .value .now) _ (k .code-of .ensures) (i .if1 .left)))
 
--- src/reference.rt:79:8
-meets-requires : tie.Need-meets-requires
-meets-requires c κs = search needs
-
--- src/reference.rt:91:9
 returns-2 : tie.Need-returns-2
-returns-2 c = ?
+returns-2 c = sym (ap (λ (t : Bool). when (not t) dangling) (c .if2 .taken)) ∙ searched (c .before)
 
--- src/reference.rt:62:1
 returns-3 : tie.Need-returns-3
-returns-3 c = ?
+returns-3 c = sym (ap (λ (t : Bool). when (not t) dangling) (c .if2 .left)) ∙ searched (c .before)
 
 pub refers-spec : {M : Type 1} → statement M
 refers-spec =
     tie.close
-    (tie.spec code-of-requires returns unquoted-requires meets-requires returns-2 returns-3)
+    (tie.spec (λ c κs. search needs) returns (λ c κs. search needs) (λ c κs. c .before .before .before .before .before .before .before .pre) returns-2 returns-3)

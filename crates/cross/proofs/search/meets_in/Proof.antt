@@ -1,178 +1,98 @@
+-- `meets_in` goes over the records and passes those whose digest is another. The outer loop's invariant: nothing is met yet, and the records that are
+-- left decide as all do; the inner loop counts the record's ids as `find` does.
+use borrow.Author.Needs.{needs}
+use mathlib.Core.Bool.{false}
+use mathlib.Core.Logic.{⊎-elim}
+use mathlib.Core.Path.{_≡_, refl, sym, _∙_}
+use Prim.Native.Nat.{_+_, _-_, _<_}
+use native.Mathlib.Omega.{arith}
+use lib.ListN.{length}
+use Rattle.text.specs.Text.{textOf}
+use Rattle.walk.proofs.Places.{Placed, member-placed}
+use Rattle.walk.proofs.Folds.{Walk, memberSteps, members-start, walk-more, walk-end}
+use Rattle.slots.specs.declared.Found.the-variants.{Missing}
+use Rattle.slots.specs.Found.{noted, foundIn}
+use Rattle.clean.specs.Noted.{idName}
+use Rattle.cross.specs.Known.{all, recordBytes, anyMeets}
+use Rattle.cross.proofs.Searches.{Left, past-last, noted-room, past-digest, past-record, met-record}
 use Rattle.cross.proofs.search.meets_in.Statement.{statement}
 use Rattle.cross.proofs.search.meets_in.Tie as tie
-use Rattle.cross.proofs.search.meets_in.Reads as reads
-use Rattle.cross.proofs.search.meets_in.Lts as lts
-use Rattle.cross.proofs.search.counted.Reads as counted-reads
-use Rattle.cross.proofs.search.is_met.Reads as is-met-reads
-use Rattle.cross.proofs.search.names_id.Reads as names-id-reads
-use Rattle.document.proofs.cut.Reads as cut-reads
-use Rattle.text.proofs.digest.digest_of.Reads as digest-of-reads
-use Rattle.walk.proofs.next_member.Reads as next-member-reads
 
 abbrev Inv-loop : tie.InvT-loop
 Inv-loop file p first count digests starts ends id tested digest met₀ j «record» found₀ at₀ met found at =
-    ?
+    (met ≡ false) × Walk (memberSteps «record») (noted «record» (idName file)) found at (foundIn «record» (idName file))
 
 abbrev μ-loop : tie.MeasureT-loop
-μ-loop file p first count digests starts ends id tested digest met₀ j «record» found₀ at₀ met found at =
-    ?
+μ-loop file p first count digests starts ends id tested digest met₀ j «record» found₀ at₀ met found at = length «record» - at
 
 abbrev Inv-search : tie.InvT-search
-Inv-search file p first count digests starts ends id tested digest met₀ j₀ met j = ?
+Inv-search file p first count digests starts ends id tested digest met₀ j₀ met j =
+    (met ≡ false) × (Left file tested (textOf id) (recordBytes p) j ≡ anyMeets file tested (textOf id) (recordBytes p))
 
 abbrev μ-search : tie.MeasureT-search
-μ-search file p first count digests starts ends id tested digest met₀ j₀ met j = ?
+μ-search file p first count digests starts ends id tested digest met₀ j₀ met j = count - j
 
--- src/search.rt:108:9
-digest-of-requires : tie.Need-digest-of-requires Inv-loop μ-loop Inv-search μ-search
-digest-of-requires c κs = ?
-
--- src/search.rt:111:5
-search-holds : tie.Need-search-holds Inv-loop μ-loop Inv-search μ-search
-search-holds c = ?
-
--- src/search.rt:112:20
-add-if1 : tie.Need-add-if1 Inv-loop μ-loop Inv-search μ-search
-add-if1 c = ?
-
--- src/search.rt:112:12
-mul-if1 : tie.Need-mul-if1 Inv-loop μ-loop Inv-search μ-search
-mul-if1 c = ?
-
--- src/search.rt:112:12
-element-copy-out-if1 : tie.Need-element-copy-out-if1 Inv-loop μ-loop Inv-search μ-search
-element-copy-out-if1 c = ?
-
--- src/search.rt:113:40
-add-cut : tie.Need-add-cut Inv-loop μ-loop Inv-search μ-search
-add-cut c = ?
-
--- src/search.rt:113:33
-mul-cut : tie.Need-mul-cut Inv-loop μ-loop Inv-search μ-search
-mul-cut c = ?
-
--- src/search.rt:113:33
-element-copy-out-cut : tie.Need-element-copy-out-cut Inv-loop μ-loop Inv-search μ-search
-element-copy-out-cut c = ?
-
--- src/search.rt:113:57
-add-cut-2 : tie.Need-add-cut-2 Inv-loop μ-loop Inv-search μ-search
-add-cut-2 c = ?
-
--- src/search.rt:113:52
-mul-cut-2 : tie.Need-mul-cut-2 Inv-loop μ-loop Inv-search μ-search
-mul-cut-2 c = ?
-
--- src/search.rt:113:52
-element-copy-out-cut-2 : tie.Need-element-copy-out-cut-2 Inv-loop μ-loop Inv-search μ-search
-element-copy-out-cut-2 c = ?
-
--- src/search.rt:113:17
-cut-requires : tie.Need-cut-requires Inv-loop μ-loop Inv-search μ-search
-cut-requires c κs = ?
-
--- src/search.rt:116:13
 loop-holds : tie.Need-loop-holds Inv-loop μ-loop Inv-search μ-search
-loop-holds c = ?
+unfolding foundIn
+loop-holds c = (c .before .before .before .before .before .before .search .inv .0, members-start _ _ Missing)
 
--- src/search.rt:117:23
-next-member-requires : tie.Need-next-member-requires Inv-loop μ-loop Inv-search μ-search
-next-member-requires c κs = ?
+-- the index is within the arrays
+room : (c : tie.In-search Inv-loop μ-loop Inv-search μ-search) → let l = c .before in let g = l .before .before .before .before in g .args .first + l .search .j < all
+room c = let l = c .before in let g = l .before .before .before .before in noted-room (g .pre) (l .search .j) (c .search-test .taken)
 
--- src/search.rt:119:28
-enum-told : tie.Need-enum-told Inv-loop μ-loop Inv-search μ-search
-enum-told c = ?
+-- where a member was found
+placed : (c : tie.After-known-told Inv-loop μ-loop Inv-search μ-search) →
+    let d = c .before in let k = d .before .before .before in Placed (k .before .cut .result .now) (k .loop .at) (d .m .given .0 .0)
+placed c = let n = c .before .before .before in member-placed _ _ _ (sym (n .next-member .ensures) ∙ c .before .m .given .1)
 
--- src/search.rt:119:28
-is-met-requires : tie.Need-is-met-requires Inv-loop μ-loop Inv-search μ-search
-is-met-requires c κs = ?
-
--- src/search.rt:125:39
-enum-known-m : tie.Need-enum-known-m Inv-loop μ-loop Inv-search μ-search
-enum-known-m c = ?
-
--- src/search.rt:128:52
-sub-names-id : tie.Need-sub-names-id Inv-loop μ-loop Inv-search μ-search
-sub-names-id c = ?
-
--- src/search.rt:128:52
-part-names-id-start : tie.Need-part-names-id-start Inv-loop μ-loop Inv-search μ-search
-part-names-id-start c = ?
-
--- src/search.rt:128:52
-part-names-id-end : tie.Need-part-names-id-end Inv-loop μ-loop Inv-search μ-search
-part-names-id-end c = ?
-
--- src/search.rt:128:29
-names-id-requires : tie.Need-names-id-requires Inv-loop μ-loop Inv-search μ-search
-names-id-requires c κs = ?
-
--- src/search.rt:129:25
-counted-requires : tie.Need-counted-requires Inv-loop μ-loop Inv-search μ-search
-counted-requires c κs = ?
-
--- src/search.rt:116:13
-loop-less : tie.Need-loop-less Inv-loop μ-loop Inv-search μ-search
-loop-less c = ?
-
--- src/search.rt:116:13
 loop-again : tie.Need-loop-again Inv-loop μ-loop Inv-search μ-search
-loop-again c = ?
+loop-again c =
+    let t = c .before in let d = t .before .before .before in let n = d .before .before in let k = n .before in let u = k .before in
+    let a = u .before .before .before .before .before .before .before .before .before .before .args in let q = u .cut .result .now in let name = idName (a .file) in (
+      k .loop .inv .0,
+      rw (c .counted .ensures, t .names-id .ensures)
+          (walk-more (memberSteps q) (noted q name) (k .loop .found) (k .loop .at) _ (d .m .given .0 .0)
+          (sym (n .next-member .ensures) ∙ d .m .given .1) (k .loop .inv .1)),
+    )
 
--- src/search.rt:135:9
-add-j : tie.Need-add-j Inv-loop μ-loop Inv-search μ-search
-add-j c = ?
-
--- src/search.rt:111:5
-search-less : tie.Need-search-less Inv-loop μ-loop Inv-search μ-search
-search-less c = ?
-
--- src/search.rt:111:5
+-- past this record
 search-again : tie.Need-search-again Inv-loop μ-loop Inv-search μ-search
-search-again c = ?
+search-again c =
+    let s = c .before .before in let l = s .before in let o = l .before in let g = o .before .before .before in let a = g .args in
+    let id = textOf (a .id .now) in let h = s .search-test .taken in
+    ⊎-elim
+    (λ w.
+    let q = w .3 .result .now in let name = idName (a .file) in
+    let f = walk-end (memberSteps q) (noted q name) (w .4 .found) (w .4 .at) (foundIn q name) (sym (w .5 .ensures) ∙ w .7 .given .1) (w .4 .inv .1) in
+    (w .10 ∙ w .4 .inv .0, past-record (g .pre) (l .search .j) h (a .tested) id q (w .3 .ensures) (sym (w .8 .ensures f) ∙ w .9 .left) ∙ l .search .inv .1))
+    (λ w.
+    (w .1 ∙ l .search .inv .0, past-digest (g .pre) (l .search .j) h (a .tested) id _ (o .digest-of .ensures) (w .0 .left) ∙ l .search .inv .1))
+    (c .if1 .came)
 
--- src/search.rt:94:1
 returns : tie.Need-returns Inv-loop μ-loop Inv-search μ-search
-returns c = ?
+returns c =
+    let l = c .before in let g = l .before .before .before .before in let a = g .args in
+    l .search .inv .0 ∙ past-last (g .pre) (l .search .j) (c .search-test .left) (a .tested) (textOf (a .id .now)) ∙ l .search .inv .1
 
--- src/search.rt:94:1
+-- met
 returns-2 : tie.Need-returns-2 Inv-loop μ-loop Inv-search μ-search
-returns-2 c = ?
+returns-2 c =
+    let i = c .before in let t = i .before in let n = t .before .before in let k = n .before in let u = k .before in
+    let s = u .before .before .before .before .before in let l = s .before in let g = l .before .before .before .before in let a = g .args in
+    let q = u .cut .result .now in let name = idName (a .file) in
+    let e = sym (n .next-member .ensures) ∙ t .enum-told .given .1 in
+    let f = walk-end (memberSteps q) (noted q name) (k .loop .found) (k .loop .at) (foundIn q name) e (k .loop .inv .1) in
+    met-record (g .pre) (l .search .j) (s .search-test .taken) (a .tested) (textOf (a .id .now)) q (u .cut .ensures)
+    (sym (i .is-met .ensures f) ∙ c .if2 .taken)
+    ∙ l .search .inv .1
 
 pub meets-in-spec : {M : Type 1} → statement M
 meets-in-spec =
     tie.close
-    (tie.spec
-    Inv-loop
-    μ-loop
-    Inv-search
-    μ-search
-    digest-of-requires
-    search-holds
-    add-if1
-    mul-if1
-    element-copy-out-if1
-    add-cut
-    mul-cut
-    element-copy-out-cut
-    add-cut-2
-    mul-cut-2
-    element-copy-out-cut-2
-    cut-requires
-    loop-holds
-    next-member-requires
-    enum-told
-    is-met-requires
-    enum-known-m
-    sub-names-id
-    part-names-id-start
-    part-names-id-end
-    names-id-requires
-    counted-requires
-    loop-less
-    loop-again
-    add-j
-    search-less
-    search-again
-    returns
-    returns-2)
+    (tie.spec Inv-loop μ-loop Inv-search μ-search (λ c κs. search needs) (λ c. (refl, refl)) (λ c. let h = room c in omega arith) (λ c. let h = room c in omega arith)
+    (λ c. let h = room c in omega arith) (λ c. let h = room (c .before .before) in omega arith) (λ c. let h = room (c .before .before) in omega arith)
+    (λ c. let h = room (c .before .before) in omega arith) (λ c. let h = room (c .before .before .before) in omega arith)
+    (λ c. let h = room (c .before .before .before) in omega arith) (λ c. let h = room (c .before .before .before) in omega arith) (λ c κs. search needs)
+    loop-holds (λ c κs. search needs) (λ c. search needs) (λ c κs. search needs) (λ c. search needs) (λ c. let m = placed c in omega arith)
+    (λ c. let m = placed c in omega arith) (λ c. let m = placed c in omega arith) (λ c κs. search needs) (λ c κs. search needs)
+    (λ c. let m = placed (c .before .before .before) in omega arith) loop-again (λ c. search needs) (λ c. search needs) search-again returns returns-2)

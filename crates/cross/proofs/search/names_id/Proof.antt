@@ -1,86 +1,45 @@
+-- `names_id` compares with the name of the file's number.
 use borrow.Author.Needs.{needs}
+use mathlib.Core.Path.{sym, ap, _∙_}
+use Prim.Native.Nat.{ℕ}
+use Rattle.text.specs.Text.{textOf, same}
+use Rattle.clean.specs.Noted.{idName}
+use Rattle.clean.proofs.Noting.{id-name-else}
 use Rattle.cross.proofs.search.names_id.Statement.{statement}
 use Rattle.cross.proofs.search.names_id.Tie as tie
-use Rattle.cross.proofs.search.names_id.Reads as reads
-use Rattle.cross.proofs.search.names_id.Lts as lts
-use Rattle.text.proofs.compare.text_is.Reads as text-is-reads
 
--- src/search.rt:32:31
-slice-aggregate-text-is : tie.Need-slice-aggregate-text-is
-slice-aggregate-text-is c = search needs
-
--- src/search.rt:32:14
-text-is-requires : tie.Need-text-is-requires
-text-is-requires c κs = search needs
-
--- src/search.rt:33:31
-slice-aggregate-text-is-2 : tie.Need-slice-aggregate-text-is-2
-slice-aggregate-text-is-2 c = search needs
-
--- src/search.rt:33:14
-text-is-requires-2 : tie.Need-text-is-requires-2
-text-is-requires-2 c κs = search needs
-
--- src/search.rt:34:31
-slice-aggregate-text-is-3 : tie.Need-slice-aggregate-text-is-3
-slice-aggregate-text-is-3 c = search needs
-
--- src/search.rt:34:14
-text-is-requires-3 : tie.Need-text-is-requires-3
-text-is-requires-3 c κs = search needs
-
--- src/search.rt:35:31
-slice-aggregate-text-is-4 : tie.Need-slice-aggregate-text-is-4
-slice-aggregate-text-is-4 c = search needs
-
--- src/search.rt:35:14
-text-is-requires-4 : tie.Need-text-is-requires-4
-text-is-requires-4 c κs = search needs
-
--- src/search.rt:36:31
-slice-aggregate-text-is-5 : tie.Need-slice-aggregate-text-is-5
-slice-aggregate-text-is-5 c = search needs
-
--- src/search.rt:36:14
-text-is-requires-5 : tie.Need-text-is-requires-5
-text-is-requires-5 c κs = search needs
-
--- src/search.rt:28:1
 returns : tie.Need-returns
-returns c = ?
+unfolding idName
+returns c =
+    let m = c .before .before in
+    c .text-is .ensures ∙ ap (λ (f : ℕ). same (textOf (m .before .before .args .spelled .now)) (idName f)) (sym (m .match .keys1))
 
--- src/search.rt:28:1
 returns-2 : tie.Need-returns-2
-returns-2 c = ?
+unfolding idName
+returns-2 c =
+    let m = c .before .before in
+    c .text-is2 .ensures ∙ ap (λ (f : ℕ). same (textOf (m .before .before .args .spelled .now)) (idName f)) (sym (m .match .keys2))
 
--- src/search.rt:28:1
 returns-3 : tie.Need-returns-3
-returns-3 c = ?
+unfolding idName
+returns-3 c =
+    let m = c .before .before in
+    c .text-is3 .ensures ∙ ap (λ (f : ℕ). same (textOf (m .before .before .args .spelled .now)) (idName f)) (sym (m .match .keys3))
 
--- src/search.rt:28:1
 returns-4 : tie.Need-returns-4
-returns-4 c = ?
+unfolding idName
+returns-4 c =
+    let m = c .before .before in
+    c .text-is4 .ensures ∙ ap (λ (f : ℕ). same (textOf (m .before .before .args .spelled .now)) (idName f)) (sym (m .match .keys4))
 
--- src/search.rt:28:1
 returns-5 : tie.Need-returns-5
-returns-5 c = ?
+returns-5 c =
+    let m = c .before .before in let r = m .match .rest in
+    c .text-is5 .ensures
+    ∙ ap (same (textOf (m .before .before .args .spelled .now))) (id-name-else _ (r .0 .0 .0 .1) (r .0 .0 .1) (r .0 .1) (r .1))
 
 pub names-id-spec : {M : Type 1} → statement M
 names-id-spec =
     tie.close
-    (tie.spec
-    slice-aggregate-text-is
-    text-is-requires
-    slice-aggregate-text-is-2
-    text-is-requires-2
-    slice-aggregate-text-is-3
-    text-is-requires-3
-    slice-aggregate-text-is-4
-    text-is-requires-4
-    slice-aggregate-text-is-5
-    text-is-requires-5
-    returns
-    returns-2
-    returns-3
-    returns-4
-    returns-5)
+    (tie.spec (λ c. search needs) (λ c κs. search needs) (λ c. search needs) (λ c κs. search needs) (λ c. search needs) (λ c κs. search needs)
+    (λ c. search needs) (λ c κs. search needs) (λ c. search needs) (λ c κs. search needs) returns returns-2 returns-3 returns-4 returns-5)
