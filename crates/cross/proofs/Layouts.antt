@@ -1,0 +1,60 @@
+-- Where the rows of a record stand among the table's lines; and so what a slot gives is the member of its row's name.
+use mathlib.Core.Bool.{true}
+use mathlib.Core.List.{List, []}
+use mathlib.Core.Path.{_≡_, refl, sym, ap, _∙_}
+use Prim.Native.Nat.{ℕ, _≤_, _<_}
+use native.Mathlib.Omega.{arith}
+use lib.ListN.{length, getD, drop}
+use Rattle.text.specs.Text.{same}
+use Rattle.json.specs.Tree as tree
+use Rattle.json.specs.Tree.{Members}
+use Rattle.walk.specs.Part.{Whole}
+use Rattle.walk.proofs.Wholes.{whole-kind}
+use Rattle.schema.specs.Shape as shape
+use Rattle.schema.specs.Shape.{Shape, Rows}
+use Rattle.schema.specs.Later.{listedIn}
+use Rattle.schema.specs.Line.{entries, entriesOf, laidOut}
+use Rattle.schema.specs.Sound.{distinctRows}
+use Rattle.schema.specs.Table23.{table23, written23, vehicleType, status, bike}
+use Rattle.schema.proofs.Walk.{Laid, linesIn}
+use Rattle.slots.specs.declared.Found.{Found}
+use Rattle.slots.specs.declared.Slots.{Slots}
+use Rattle.slots.specs.Found.{foundIn}
+use Rattle.slots.specs.Rows.{mostRows, namesIn}
+use Rattle.slots.specs.Slots.{slotAt, Gathered}
+use Rattle.fields.specs.Values.{code, foundBytes, Standing, memberOf}
+use Rattle.fields.proofs.Ways.{found-standing, member-found}
+
+-- rows that fill so many lines from `first` on, with a slot each
+pub record Layout (first count : ℕ) (rows : Rows) : Type 0 where
+  pub laid : Laid table23 first rows
+  pub lines : linesIn rows ≡ count
+  pub distinct : distinctRows rows ≡ true
+  pub few : length (namesIn rows) ≤ mostRows
+
+-- the rows of an object
+abbrev pub rowsIn : Shape → Rows
+rowsIn shape.unlisted = shape.noRow
+rowsIn (shape.scalar sort) = shape.noRow
+rowsIn (shape.array numbering most σ) = shape.noRow
+rowsIn (shape.object rows) = rows
+
+pub type-layout : Layout 5 5 (rowsIn vehicleType)
+unfolding laidOut written23 distinctRows listedIn same namesIn
+type-layout = record { laid = record { rest = drop 10 (entriesOf table23); splits = refl; fits = omega arith }; lines = refl; distinct = refl; few = omega arith }
+
+pub status-layout : Layout 25 10 (rowsIn status)
+unfolding laidOut written23 distinctRows listedIn same namesIn
+status-layout = record { laid = record { rest = drop 35 (entriesOf table23); splits = refl; fits = omega arith }; lines = refl; distinct = refl; few = omega arith }
+
+pub bike-layout : Layout 40 10 (rowsIn bike)
+unfolding laidOut written23 distinctRows listedIn same namesIn
+bike-layout = record { laid = record { rest = drop 50 (entriesOf table23); splits = refl; fits = omega arith }; lines = refl; distinct = refl; few = omega arith }
+
+module _ {p : List ℕ} {ms : Members} (w : Whole p (tree.object ms)) {first count : ℕ} {s : Slots} (g : Gathered p first count s) {rows : Rows}
+    (l : Layout first count rows) (j : ℕ) (h : j < length (namesIn rows)) {o : Found} (e : o ≡ slotAt s j) where
+  -- the value that is read at a slot
+  pub slot-member : {q : List ℕ} → (Standing p o → q ≡ foundBytes p o) → q ≡ memberOf p (getD (namesIn rows) j [])
+  slot-member read =
+      let f : o ≡ foundIn p (getD (namesIn rows) j []) = e ∙ g .slot rows (l .laid) (l .lines) (l .distinct) (l .few) j h in
+      read (found-standing p (getD (namesIn rows) j []) o f) ∙ member-found p (getD (namesIn rows) j []) 5 (sym (ap code (whole-kind w))) refl o f
