@@ -30,7 +30,7 @@ use Rattle.fields.specs.Values.{memberOf, spelledBy, textBy, arrayBy, wholeOf, 
 use Rattle.fields.proofs.Values.{Holds, member-holds, holds-text, holds-items}
 use Rattle.fields.proofs.Fields.{field-spelled, field-text, field-items, rowOf, listed}
 use Rattle.cross.specs.References.{refers}
-use Rattle.cross.specs.Cross.{at, each, availableFaults, idFaults, ruleFaults, zoneFaults}
+use Rattle.cross.specs.Cross.{at, each, availableFaults, idFaults, ruleFaults, zoneFaults, faultsOf}
 
 -- no bytes, no value
 pub none-there : (n : ℕ) → eqb n 0 ≡ not (ltb 0 n)
@@ -108,3 +108,9 @@ module _ (types : List Picked) (n : ℕ) where
       → ruleFaults types n 1 (pickedItems rule (arrayBy (memberOf (memberOf p (bytes "properties")) (bytes "rules")))) ≡ zoneFaults types n (pick zone x)
   unfolding zoneFaults zone rowOf
   zone-rules {p} {x} w = in-properties (listed refl) (memberOf p (bytes "properties")) (field 74 (pick zone x)) (member-holds (listed refl) p x w)
+
+-- records of other files than 1, 3, 4 and 6 break nothing
+pub breaks-nothing : (typed planned : Bool) (types stations plans : List Picked) (file n : ℕ) → (file ≡ 1 → ⊥) → (file ≡ 3 → ⊥) → (file ≡ 4 → ⊥) → (file ≡ 6 → ⊥)
+    → (x : Picked) → faultsOf typed planned types stations plans file n x ≡ []
+unfolding faultsOf
+breaks-nothing typed planned types stations plans file n a b c d x = rw (faultsOf, ne-eqb file 1 a, ne-eqb file 3 b, ne-eqb file 4 c, ne-eqb file 6 d)
