@@ -1,13 +1,14 @@
 -- What the fields of a record break, by the bytes of the record: each field is the member of its row's name.
-use mathlib.Core.Bool.{Bool, not}
+use mathlib.Core.Bool.{Bool, true, false, not}
 use mathlib.Core.List.{List, [], _∷_, _++_}
 use mathlib.Core.Path.{_≡_, refl, sym, ap, _∙_}
 use Prim.Native.Nat.{ℕ, zero, suc, _+_, _^_, _<_}
 use native.Mathlib.Omega.{arith}
 use lib.Dec.{eqb, ltb}
-use borrow.Author.Tests.{ne-eqb, lt-ltb}
+use borrow.Author.Tests.{eq-eqb, ne-eqb, lt-ltb}
 use Rattle.limits.specs.Ceilings as ceiling
 use Rattle.notation.specs.Ascii.{bytes}
+use Rattle.notation.specs.Choice.{_and_}
 use Rattle.lexeme.specs.Character.{within}
 use Rattle.lexeme.specs.Numbers.{digit}
 use Rattle.lexeme.specs.Tokens.{start}
@@ -29,7 +30,7 @@ use Rattle.document.proofs.Records.{pickedItems}
 use Rattle.fields.specs.Values.{memberOf, spelledBy, textBy, arrayBy, wholeOf, integerIn}
 use Rattle.fields.proofs.Values.{Holds, member-holds, holds-text, holds-items}
 use Rattle.fields.proofs.Fields.{field-spelled, field-text, field-items, rowOf, listed}
-use Rattle.cross.specs.References.{refers}
+use Rattle.cross.specs.References.{when, refers}
 use Rattle.cross.specs.Cross.{at, each, availableFaults, idFaults, ruleFaults, zoneFaults, faultsOf}
 
 -- no bytes, no value
@@ -48,6 +49,17 @@ spelled-small (some s) = number-small s (numberOf s) refl
 
 pub count-small : (q : List ℕ) → integerIn (spelledBy q) < 10 ^ 12
 count-small q = spelled-small (spelledBy q)
+
+-- a sum that is there and differs
+pub sum-none : (n : ℕ) → n ≡ 0 → (differs : Bool) (kind : ℕ) → [] ≡ when (ltb 0 n and differs) kind
+sum-none n e differs kind = rw e
+
+pub sum-same : (there : Bool) (a b kind : ℕ) → a ≡ b → [] ≡ when (there and not (eqb a b)) kind
+sum-same true a b kind e = rw (eq-eqb a b e)
+sum-same false a b kind e = refl
+
+pub sum-apart : (n a b kind : ℕ) → (n ≡ 0 → ⊥) → (a ≡ b → ⊥) → kind ∷ [] ≡ when (ltb 0 n and not (eqb a b)) kind
+sum-apart n a b kind h e = rw (lt-ltb 0 n (omega arith), ne-eqb a b e)
 
 -- items of field 37, rules, and items of field 78
 module _ {p : List ℕ} {x : Json} (w : Whole p x) where

@@ -11,14 +11,17 @@ use Rattle.walk.specs.Part.{treeOf}
 use Rattle.walk.proofs.Folds.{itemSteps, one-more}
 use Rattle.walk.proofs.Parts.{itemOf}
 use Rattle.schema.specs.Shape.{Shape}
+use Rattle.schema.specs.Table23.{available}
 use Rattle.schema.specs.Pick.{Picked, pick}
 use Rattle.fault.specs.declared.Fault.{Fault}
 use Rattle.fault.specs.declared.Least.{Least}
 use Rattle.fault.specs.declared.Least.the-variants.{None}
 use Rattle.fault.specs.Fault.{lesser, least}
 use Rattle.fault.proofs.Leasts.{lesser-none, none-lesser, lesser-assoc, least-append}
+use Rattle.document.specs.Document.{spelling}
 use Rattle.document.proofs.Records.{pickedItems}
-use Rattle.cross.specs.Cross.{each}
+use Rattle.fields.specs.Values.{integerIn}
+use Rattle.cross.specs.Cross.{sumOf, each}
 
 -- what is picked of an item
 abbrev pub pickedItem : Shape → List ℕ → Item → Picked
@@ -86,3 +89,23 @@ module _ (faults : ℕ → Picked → List Fault) where
       goes-more m f {this} e {now′} h =
           left-more σ p (going n acc) at w m f (going (n + 1) now′)
           (λ l. ap (λ (a : Least). going (n + 1) a l) (h ∙ ap (lesser acc) e) ∙ going-more n acc (pickedItem σ p m) l)
+
+-- the counts of items, summed
+module _ (p : List ℕ) where
+  abbrev pub Sums : (sum at : ℕ) → Type 0
+  Sums sum at = Left available p (λ l. sum + sumOf l) at (sumOf (pickedItems available p))
+
+  pub sums-start : Sums 0 1
+  sums-start =
+      let z : 0 + sumOf (pickedItems available p) ≡ sumOf (pickedItems available p) = omega arith in
+      subst (Left available p (λ l. 0 + sumOf l) 1) z (left-start available p (λ l. 0 + sumOf l))
+
+  module _ (sum at : ℕ) (w : Sums sum at) where
+    pub sums-end : itemSteps p .Ends at → sum ≡ sumOf (pickedItems available p)
+    unfolding sumOf
+    sums-end f = let z : sum ≡ sum + 0 = omega arith in z ∙ left-end available p (λ l. sum + sumOf l) at w f
+
+    pub sums-more : (m : Item) → itemSteps p .Finds at m → {count : ℕ} → count ≡ integerIn (spelling 39 (pickedItem available p m)) → Sums (sum + count) (m .next)
+    unfolding sumOf
+    sums-more m f {count} e =
+        left-more available p (λ l. sum + sumOf l) at w m f (λ l. sum + count + sumOf l) (λ l. rw (sumOf, ← e) (omega arith))
