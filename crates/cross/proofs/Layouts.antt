@@ -24,6 +24,7 @@ use Rattle.slots.specs.Rows.{mostRows, namesIn}
 use Rattle.slots.specs.Slots.{slotAt, Gathered}
 use Rattle.fields.specs.Values.{code, foundBytes, Standing, memberOf}
 use Rattle.fields.proofs.Ways.{found-standing, member-found}
+use Rattle.cross.proofs.Sizes.{found-short}
 
 -- rows that fill so many lines from `first` on, with a slot each
 pub record Layout (first count : ℕ) (rows : Rows) : Type 0 where
@@ -51,10 +52,20 @@ pub bike-layout : Layout 40 10 (rowsIn bike)
 unfolding laidOut written23 distinctRows listedIn same namesIn
 bike-layout = record { laid = record { rest = drop 50 (entriesOf table23); splits = refl; fits = omega arith }; lines = refl; distinct = refl; few = omega arith }
 
-module _ {p : List ℕ} {ms : Members} (w : Whole p (tree.object ms)) {first count : ℕ} {s : Slots} (g : Gathered p first count s) {rows : Rows}
-    (l : Layout first count rows) (j : ℕ) (h : j < length (namesIn rows)) {o : Found} (e : o ≡ slotAt s j) where
-  -- the value that is read at a slot
-  pub slot-member : {q : List ℕ} → (Standing p o → q ≡ foundBytes p o) → q ≡ memberOf p (getD (namesIn rows) j [])
-  slot-member read =
-      let f : o ≡ foundIn p (getD (namesIn rows) j []) = e ∙ g .slot rows (l .laid) (l .lines) (l .distinct) (l .few) j h in
-      read (found-standing p (getD (namesIn rows) j []) o f) ∙ member-found p (getD (namesIn rows) j []) 5 (sym (ap code (whole-kind w))) refl o f
+-- q is the value that is read at a slot
+abbrev pub Reads : List ℕ → Slots → ℕ → List ℕ → Type 0
+Reads p s j q = (o : Found) × (o ≡ slotAt s j) × (Standing p o → q ≡ foundBytes p o)
+
+module _ {p : List ℕ} {first count : ℕ} {s : Slots} (g : Gathered p first count s) {rows : Rows} (l : Layout first count rows) (j : ℕ) (h : j < length (namesIn rows))
+    {q : List ℕ} (r : Reads p s j q) where
+  slot-found : r .0 ≡ foundIn p (getD (namesIn rows) j [])
+  slot-found = r .1 ∙ g .slot rows (l .laid) (l .lines) (l .distinct) (l .few) j h
+
+  slot-value : q ≡ foundBytes p (r .0)
+  slot-value = r .2 (found-standing p (getD (namesIn rows) j []) (r .0) slot-found)
+
+  pub slot-short : length q ≤ length p
+  slot-short = omega (arith, ap length slot-value, found-short p (r .0))
+
+  pub slot-member : {ms : Members} → Whole p (tree.object ms) → q ≡ memberOf p (getD (namesIn rows) j [])
+  slot-member w = slot-value ∙ member-found p (getD (namesIn rows) j []) 5 (sym (ap code (whole-kind w))) refl (r .0) slot-found

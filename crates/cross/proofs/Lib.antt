@@ -1,5 +1,6 @@
 pub mod Joined
-pub mod Layouts
 pub mod Sizes
+pub mod Layouts
 pub mod Fielded
 pub mod Walked
+pub mod Gathering
