@@ -49,7 +49,11 @@ module _ (planned : Bool) (plans : List Picked) (n : ℕ) where
       same-type (ap textBy (slot-member g type-layout 2 (omega arith) a w) ∙ field-text (listed refl) w)
       (ap thereBy (slot-member g type-layout 3 (omega arith) b w) ∙ field-given (listed refl) w) (ap textBy plan ∙ field-text (listed refl) w) (ap thereBy plan ∙ field-given (listed refl) w)
 
--- a status
+-- a status; its field 37 is no longer than the record
+pub counts-short : {p : List ℕ} {s : Slots} → Gathered p 25 10 s → {counts : List ℕ} → Reads p s 7 counts → length counts ≤ length p
+unfolding status namesIn
+counts-short g c = slot-short g status-layout 7 (omega arith) c
+
 module _ (typed : Bool) (types stations : List Picked) (n : ℕ) where
   abbrev statusOf : (station : Maybe (List ℕ)) (docks : Bool) (listed : Bool) (counts : List Picked) (bikes : Maybe (List ℕ)) → List Fault
   statusOf station docks listed counts bikes =
@@ -75,11 +79,6 @@ module _ (typed : Bool) (types stations : List Picked) (n : ℕ) where
       (ap (λ q. pickedItems available (arrayBy q)) listing ∙ field-items (listed refl) w)
       (ap spelledBy (slot-member g status-layout 1 (omega arith) d w) ∙ field-spelled (listed refl) w) in
       e ∙ simp append-assoc
-
-  -- field 37 is no longer than the record
-  pub counts-short : {p : List ℕ} {s : Slots} → Gathered p 25 10 s → {counts : List ℕ} → Reads p s 7 counts → length counts ≤ length p
-  unfolding status namesIn
-  counts-short g c = slot-short g status-layout 7 (omega arith) c
 
 -- a bike
 module _ (typed : Bool) (types stations plans : List Picked) (n : ℕ) where
