@@ -13,7 +13,7 @@ use Rattle.walk.proofs.Wholes.{whole-kind}
 use Rattle.schema.specs.Shape as shape
 use Rattle.schema.specs.Shape.{Shape, Rows}
 use Rattle.schema.specs.Later.{listedIn}
-use Rattle.schema.specs.Line.{entries, entriesOf, laidOut}
+use Rattle.schema.specs.Line.{entriesOf, laidOut}
 use Rattle.schema.specs.Sound.{distinctRows}
 use Rattle.schema.specs.Table23.{table23, written23, vehicleType, status, bike}
 use Rattle.schema.proofs.Walk.{Laid, linesIn}

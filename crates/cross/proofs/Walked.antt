@@ -1,6 +1,6 @@
 -- A loop over the items of an array, for any list function of what is picked of them: what is left decides the whole. And the loops that ask each
 -- item for its faults: the least so far, with the faults of the items left, makes the least of all.
-use mathlib.Core.List.{List, [], _∷_, _++_, map, List·Memᴰ, List·Memᴰ·head, List·Memᴰ·tail}
+use mathlib.Core.List.{List, [], _∷_, map, List·Memᴰ, List·Memᴰ·head, List·Memᴰ·tail}
 use mathlib.Core.Path.{_≡_, refl, sym, ap, subst, _∙_}
 use Prim.Native.Nat.{ℕ, _+_, _≤_}
 use native.Mathlib.Omega.{arith}

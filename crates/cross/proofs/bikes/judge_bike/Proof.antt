@@ -1,6 +1,6 @@
 -- `judge_bike` gathers the record's members and joins what the fields of its position, its type, its station and its plan break.
 use borrow.Author.Needs.{needs}
-use mathlib.Core.Path.{_≡_, ap, _∙_}
+use mathlib.Core.Path.{ap, _∙_}
 use Rattle.fault.specs.Fault.{least}
 use Rattle.document.proofs.Records.{recordShape}
 use Rattle.cross.specs.Known.{recordsOf}

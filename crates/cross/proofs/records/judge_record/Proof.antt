@@ -1,8 +1,7 @@
 -- `judge_record` goes by the file's number; the records of files 2 and 5 break nothing.
 use borrow.Author.Needs.{needs}
-use mathlib.Core.Path.{_≡_, sym, ap, subst, _∙_}
+use mathlib.Core.Path.{sym}
 use Rattle.fault.proofs.Leasts.{none-least}
-use Rattle.cross.specs.Judged.{Judges}
 use Rattle.cross.proofs.Fielded.{breaks-nothing}
 use Rattle.cross.proofs.records.judge_record.Statement.{statement}
 use Rattle.cross.proofs.records.judge_record.Tie as tie

@@ -1,7 +1,7 @@
 -- `judge_records` walks over the records of a file. The loop's invariant: the least so far, with what the records left break, makes the least of all;
 -- each record takes a byte at least, so no number is past the bytes.
 use borrow.Author.Needs.{needs}
-use mathlib.Core.Path.{_≡_, sym, ap, subst, _∙_}
+use mathlib.Core.Path.{sym, ap, subst, _∙_}
 use Prim.Native.Nat.{_+_, _-_, _<_}
 use native.Mathlib.Omega.{arith}
 use lib.ListN.{length}
@@ -66,10 +66,12 @@ loop-again c =
     let s = k .before .before .before .before .before in let a = s .args in let m = d .item .given .0 .0 in let p = a .p .now in
     let f = sym (t .next-item .ensures) ∙ d .item .given .1 in let i = item-placed _ _ _ f in
     let faults = broken (a .set) (a .types .now) (a .stations .now) (a .plans .now) (a .file) in let σ = recordShape (a .file) in
-    let o = s .pre .2 m (left-among σ p _ (k .loop .at) (k .loop .inv .1) m f) in
-    (omega (arith, k .loop .inv .0), goes-more faults σ p (k .loop .n) (k .loop .at) (k .loop .least) (k .loop .inv .1) m f
-    (j .judge-record .ensures (o .0) (subst (Whole (itemOf p m)) (o .1) (item-whole p (k .loop .at) m f)) ∙ ap (λ x. leastOf (faults (k .loop .n + 1) (pick σ x))) (sym (o .1)))
-    (c .lesser .ensures))
+    let o = s .pre .2 m (left-among σ p _ (k .loop .at) (k .loop .inv .1) m f) in (
+      omega (arith, k .loop .inv .0),
+      goes-more faults σ p (k .loop .n) (k .loop .at) (k .loop .least) (k .loop .inv .1) m f
+          (j .judge-record .ensures (o .0) (subst (Whole (itemOf p m)) (o .1) (item-whole p (k .loop .at) m f)) ∙ ap (λ x. leastOf (faults (k .loop .n + 1) (pick σ x))) (sym (o .1)))
+          (c .lesser .ensures),
+    )
 
 pub judge-records-spec : {M : Type 1} → statement M
 judge-records-spec =

@@ -1,7 +1,7 @@
 -- `judge_available` walks over the items of field 37. The loop's invariant: the least so far, with what the items left break, makes the least of all;
 -- each item takes a byte at least, so no number is past the bytes.
 use borrow.Author.Needs.{needs}
-use mathlib.Core.Path.{_≡_, sym, ap, _∙_}
+use mathlib.Core.Path.{sym, ap, _∙_}
 use Prim.Native.Nat.{_+_, _-_, _<_}
 use native.Mathlib.Omega.{arith}
 use lib.ListN.{length}
@@ -62,11 +62,13 @@ loop-again c =
     let b = c .before in let r = b .before in let q = r .before in let d = q .before .before .before .before in let t = d .before .before in let k = t .before in
     let a = k .before .before .before .before .before .args in let m = d .item .given .0 .0 in
     let f = sym (t .next-item .ensures) ∙ d .item .given .1 in let i = item-placed _ _ _ f in
-    let types = recordsOf 1 (a .types .now) (a .stations .now) (a .plans .now) in
-    (omega (arith, k .loop .inv .0), goes-more (availableItem types (a .n)) available (a .p .now) (k .loop .sub) (k .loop .at) (k .loop .least) (k .loop .inv .1) m f
-    (breaks (placeAt (a .n) (k .loop .sub + 1)) 38 (r .refers .result) (b .broken .ensures)
-    (r .refers .ensures ∙ ap (λ z. refersTo z 10 types) (ap textBy (q .member .ensures) ∙ available-text (item-whole (a .p .now) (k .loop .at) m f))))
-    (c .lesser .ensures))
+    let types = recordsOf 1 (a .types .now) (a .stations .now) (a .plans .now) in (
+      omega (arith, k .loop .inv .0),
+      goes-more (availableItem types (a .n)) available (a .p .now) (k .loop .sub) (k .loop .at) (k .loop .least) (k .loop .inv .1) m f
+          (breaks (placeAt (a .n) (k .loop .sub + 1)) 38 (r .refers .result) (b .broken .ensures)
+          (r .refers .ensures ∙ ap (λ z. refersTo z 10 types) (ap textBy (q .member .ensures) ∙ available-text (item-whole (a .p .now) (k .loop .at) m f))))
+          (c .lesser .ensures),
+    )
 
 pub judge-available-spec : {M : Type 1} → statement M
 judge-available-spec =

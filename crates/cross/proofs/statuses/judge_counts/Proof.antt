@@ -1,9 +1,8 @@
 -- `judge_counts` joins what field 37 breaks in two ways, and what its items break.
 use borrow.Author.Needs.{needs}
-use mathlib.Core.Path.{_≡_, ap, _∙_}
+use mathlib.Core.Path.{ap, _∙_}
 use native.Mathlib.Omega.{arith}
 use lib.ListN.{length}
-use Rattle.limits.specs.Ceilings.{fileBytes}
 use Rattle.schema.specs.Table23.{available}
 use Rattle.fault.specs.Fault.{least}
 use Rattle.document.proofs.Records.{pickedItems}

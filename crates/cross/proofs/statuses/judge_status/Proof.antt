@@ -1,9 +1,7 @@
 -- `judge_status` gathers the record's members and joins what the fields of its station and of its counts break.
 use borrow.Author.Needs.{needs}
-use mathlib.Core.Path.{_≡_, ap, _∙_}
+use mathlib.Core.Path.{ap, _∙_}
 use native.Mathlib.Omega.{arith}
-use lib.ListN.{length}
-use Rattle.limits.specs.Ceilings.{fileBytes}
 use Rattle.fault.specs.Fault.{least}
 use Rattle.document.proofs.Records.{recordShape}
 use Rattle.cross.specs.Known.{recordsOf}

@@ -3,7 +3,6 @@ use borrow.Author.Needs.{needs}
 use mathlib.Core.Path.{_≡_, sym, ap, _∙_}
 use native.Mathlib.Omega.{arith}
 use lib.ListN.{length}
-use Rattle.limits.specs.Ceilings.{fileBytes}
 use Rattle.word.specs.Kinds.{sumDiffers}
 use Rattle.schema.specs.Table23.{available}
 use Rattle.document.proofs.Records.{pickedItems}

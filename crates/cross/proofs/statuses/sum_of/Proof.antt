@@ -1,7 +1,7 @@
 -- `sum_of` walks over the items of field 37. The loop's invariant: the sum so far, with the counts left, makes the sum of all. A count has at most
 -- twelve digits and an item a byte at least, so the sum fits.
 use borrow.Author.Needs.{needs}
-use mathlib.Core.Path.{_≡_, sym, ap, _∙_}
+use mathlib.Core.Path.{sym, ap, _∙_}
 use Prim.Native.Nat.{_*_, _-_, _^_, _≤_}
 use native.Mathlib.Omega.{arith}
 use lib.ListN.{length}
@@ -53,10 +53,11 @@ loop-again : tie.Need-loop-again Inv-loop μ-loop
 loop-again c =
     let q = c .before in let d = q .before .before .before .before in let t = d .before .before in let k = t .before in
     let p = k .before .before .args .p .now in let m = d .item .given .0 .0 in
-    let f = sym (t .next-item .ensures) ∙ d .item .given .1 in let i = item-placed _ _ _ f in
-    (omega (arith, k .loop .inv .0, c .integer-in .ensures, count-small (q .member .result .now)),
-    sums-more p (k .loop .sum) (k .loop .at) (k .loop .inv .1) m f
-    (c .integer-in .ensures ∙ ap integerIn (ap spelledBy (q .member .ensures) ∙ available-count (item-whole p (k .loop .at) m f))))
+    let f = sym (t .next-item .ensures) ∙ d .item .given .1 in let i = item-placed _ _ _ f in (
+      omega (arith, k .loop .inv .0, c .integer-in .ensures, count-small (q .member .result .now)),
+      sums-more p (k .loop .sum) (k .loop .at) (k .loop .inv .1) m f
+          (c .integer-in .ensures ∙ ap integerIn (ap spelledBy (q .member .ensures) ∙ available-count (item-whole p (k .loop .at) m f))),
+    )
 
 pub sum-of-spec : {M : Type 1} → statement M
 sum-of-spec =

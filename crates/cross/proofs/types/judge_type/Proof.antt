@@ -1,6 +1,6 @@
 -- `judge_type` gathers the record's members and joins what fields 13 and 14 break.
 use borrow.Author.Needs.{needs}
-use mathlib.Core.Path.{_≡_, ap, _∙_}
+use mathlib.Core.Path.{ap, _∙_}
 use Rattle.fault.specs.Fault.{least}
 use Rattle.document.proofs.Records.{recordShape}
 use Rattle.fields.specs.Values.{thereBy}

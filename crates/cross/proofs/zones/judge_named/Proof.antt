@@ -1,7 +1,7 @@
 -- `judge_named` walks over the ids of a rule. The loop's invariant: the least so far, with what the ids left break, makes the least of all; all ids
 -- of a rule stand at one place, so any number serves for them.
 use borrow.Author.Needs.{needs}
-use mathlib.Core.Path.{_≡_, sym, ap, _∙_}
+use mathlib.Core.Path.{sym, ap, _∙_}
 use Prim.Native.Nat.{ℕ, _+_, _-_}
 use native.Mathlib.Omega.{arith}
 use lib.ListN.{length}
@@ -57,10 +57,12 @@ loop-again c =
     let b = c .before in let r = b .before in let d = r .before .before .before in let t = d .before .before in let k = t .before in
     let a = k .before .before .before .before .before .args in let m = d .item .given .0 .0 in
     let f = sym (t .next-item .ensures) ∙ d .item .given .1 in
-    let types = recordsOf 1 (a .types .now) (a .stations .now) (a .plans .now) in
-    (k .loop .inv .0 + 1, goes-more (idItem types (a .place .«record») (a .place .sub)) (scalar Sort.id) (a .p .now) (k .loop .inv .0) (k .loop .at) (k .loop .least) (k .loop .inv .1) m f
-    (breaks (a .place) 78 (r .refers .result) (b .broken .ensures) (r .refers .ensures ∙ ap (λ z. refersTo z 10 types) (id-text (item-whole (a .p .now) (k .loop .at) m f))))
-    (c .lesser .ensures))
+    let types = recordsOf 1 (a .types .now) (a .stations .now) (a .plans .now) in (
+      k .loop .inv .0 + 1,
+      goes-more (idItem types (a .place .«record») (a .place .sub)) (scalar Sort.id) (a .p .now) (k .loop .inv .0) (k .loop .at) (k .loop .least) (k .loop .inv .1) m f
+          (breaks (a .place) 78 (r .refers .result) (b .broken .ensures) (r .refers .ensures ∙ ap (λ z. refersTo z 10 types) (id-text (item-whole (a .p .now) (k .loop .at) m f))))
+          (c .lesser .ensures),
+    )
 
 pub judge-named-spec : {M : Type 1} → statement M
 judge-named-spec =

@@ -4,7 +4,6 @@ use mathlib.Core.Path.{_≡_, ap, _∙_}
 use native.Mathlib.Omega.{arith}
 use lib.ListN.{length}
 use Rattle.notation.specs.Ascii.{bytes}
-use Rattle.limits.specs.Ceilings.{fileBytes}
 use Rattle.schema.specs.Table23.{rule}
 use Rattle.fault.specs.Fault.{least}
 use Rattle.document.proofs.Records.{recordShape, pickedItems}
