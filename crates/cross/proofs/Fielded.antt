@@ -110,10 +110,13 @@ module _ (types : List Picked) (n : ℕ) where
   rule-each sub (x ∷ l) = ap (λ (z : List Fault). ruleItem sub x ++ z) (rule-each (sub + 1) l)
 
   -- the rules of a zone stand in its properties
-  in-properties : {rows : Rows} → Lists 77 (bytes "rules") (shape.array shape.subs ceiling.rules rule) rows → (p : List ℕ) (o : Maybe Picked) → Holds (shape.object rows) p o
-      → ruleFaults types n 1 (pickedItems rule (arrayBy (memberOf p (bytes "rules")))) ≡ elim o [ none ↦ [] | some y ↦ ruleFaults types n 1 (fieldItems 77 y) ]
+  in-properties : {rows : Rows} → Lists 77 (bytes "rules") (shape.array shape.subs ceiling.rules rule) rows
+      → (p : List ℕ) (o : Maybe Picked) → Holds (shape.object rows) p o
+      → ruleFaults types n 1 (pickedItems rule (arrayBy (memberOf p (bytes "rules"))))
+      ≡ elim o [ none ↦ [] | some y ↦ ruleFaults types n 1 (fieldItems 77 y) ]
   unfolding ruleFaults
-  in-properties l p none h = ap (ruleFaults types n 1) (ap (λ q. pickedItems rule (arrayBy (memberOf q (bytes "rules")))) h ∙ nothing-in rule (bytes "rules"))
+  in-properties l p none h =
+      ap (ruleFaults types n 1) (ap (λ q. pickedItems rule (arrayBy (memberOf q (bytes "rules")))) h ∙ nothing-in rule (bytes "rules"))
   in-properties l p (some y) h = ap (ruleFaults types n 1) (field-items l (h .1) ∙ ap (fieldItems 77) (h .2))
 
   pub zone-rules : {p : List ℕ} {x : Json} → Whole p x
@@ -122,7 +125,9 @@ module _ (types : List Picked) (n : ℕ) where
   zone-rules {p} {x} w = in-properties (listed refl) (memberOf p (bytes "properties")) (field 74 (pick zone x)) (member-holds (listed refl) p x w)
 
 -- records of other files than 1, 3, 4 and 6 break nothing
-pub breaks-nothing : (typed planned : Bool) (types stations plans : List Picked) (file n : ℕ) → (file ≡ 1 → ⊥) → (file ≡ 3 → ⊥) → (file ≡ 4 → ⊥) → (file ≡ 6 → ⊥)
+pub breaks-nothing : (typed planned : Bool) (types stations plans : List Picked) (file n : ℕ)
+    → (file ≡ 1 → ⊥) → (file ≡ 3 → ⊥) → (file ≡ 4 → ⊥) → (file ≡ 6 → ⊥)
     → (x : Picked) → faultsOf typed planned types stations plans file n x ≡ []
 unfolding faultsOf
-breaks-nothing typed planned types stations plans file n a b c d x = rw (faultsOf, ne-eqb file 1 a, ne-eqb file 3 b, ne-eqb file 4 c, ne-eqb file 6 d)
+breaks-nothing typed planned types stations plans file n a b c d x =
+    rw (faultsOf, ne-eqb file 1 a, ne-eqb file 3 b, ne-eqb file 4 c, ne-eqb file 6 d)

@@ -1,4 +1,5 @@
--- The records that are gathered by their rows: what the values at their slots break is what the record breaks.
+-- The records that are gathered by their rows: what the values at their slots break is what the record breaks. `…Of` is what a record breaks by the
+-- values of its fields, in the order in which the code joins it, and `…By` the same by the bytes of the values.
 use mathlib.Core.Bool.{Bool, not}
 use mathlib.Core.List.{List, _++_, append-assoc}
 use mathlib.Core.Path.{_≡_, refl, ap, _∙_}
@@ -31,9 +32,9 @@ use Rattle.cross.proofs.Layouts.{Reads, slot-member, slot-short, type-l
 
 -- a vehicle type
 module _ (planned : Bool) (plans : List Picked) (n : ℕ) where
-  abbrev typeOf : (motor : Maybe (List ℕ)) (range : Bool) (plan : Maybe (List ℕ)) (planned′ : Bool) → List Fault
-  typeOf motor range plan planned′ =
-      faulty (at n 0) 13 (demanded (notHuman motor) range) ++ faulty (at n 0) 14 (demanded planned planned′ ++ refers plan 50 plans)
+  abbrev typeOf : (motor : Maybe (List ℕ)) (range : Bool) (plan : Maybe (List ℕ)) (priced : Bool) → List Fault
+  typeOf motor range plan priced =
+      faulty (at n 0) 13 (demanded (notHuman motor) range) ++ faulty (at n 0) 14 (demanded planned priced ++ refers plan 50 plans)
 
   same-type : {a b e f : Maybe (List ℕ)} {c d g h : Bool} → a ≡ b → c ≡ d → e ≡ f → g ≡ h → typeOf a c e g ≡ typeOf b d f h
   same-type i j k l = rw (i, j, k, l)
@@ -47,7 +48,8 @@ module _ (planned : Bool) (plans : List Picked) (n : ℕ) where
   type-is g a b c w =
       let plan = slot-member g type-layout 4 (omega arith) c w in
       same-type (ap textBy (slot-member g type-layout 2 (omega arith) a w) ∙ field-text (listed refl) w)
-      (ap thereBy (slot-member g type-layout 3 (omega arith) b w) ∙ field-given (listed refl) w) (ap textBy plan ∙ field-text (listed refl) w) (ap thereBy plan ∙ field-given (listed refl) w)
+      (ap thereBy (slot-member g type-layout 3 (omega arith) b w) ∙ field-given (listed refl) w)
+      (ap textBy plan ∙ field-text (listed refl) w) (ap thereBy plan ∙ field-given (listed refl) w)
 
 -- a status; its field 37 is no longer than the record
 pub counts-short : {p : List ℕ} {s : Slots} → Gathered p 25 10 s → {counts : List ℕ} → Reads p s 7 counts → length counts ≤ length p
@@ -55,12 +57,14 @@ unfolding status namesIn
 counts-short g c = slot-short g status-layout 7 (omega arith) c
 
 module _ (typed : Bool) (types stations : List Picked) (n : ℕ) where
-  abbrev statusOf : (station : Maybe (List ℕ)) (docks : Bool) (listed : Bool) (counts : List Picked) (bikes : Maybe (List ℕ)) → List Fault
-  statusOf station docks listed counts bikes =
+  abbrev statusOf : (station : Maybe (List ℕ)) (docks there : Bool) (counts : List Picked) (bikes : Maybe (List ℕ)) → List Fault
+  statusOf station docks there counts bikes =
       (faulty (at n 0) 30 (refers station 20 stations) ++ faulty (at n 0) 32 (demanded (named roomy 20 stations station) docks)) ++
-      (faulty (at n 0) 37 (demanded typed listed ++ when (listed and not (eqb (sumOf counts) (integerIn bikes))) sumDiffers) ++ availableFaults types n 1 counts)
+      (faulty (at n 0) 37 (demanded typed there ++ when (there and not (eqb (sumOf counts) (integerIn bikes))) sumDiffers) ++
+      availableFaults types n 1 counts)
 
-  same-status : {a b i j : Maybe (List ℕ)} {c d e f : Bool} {g h : List Picked} → a ≡ b → c ≡ d → e ≡ f → g ≡ h → i ≡ j → statusOf a c e g i ≡ statusOf b d f h j
+  same-status : {a b i j : Maybe (List ℕ)} {c d e f : Bool} {g h : List Picked}
+      → a ≡ b → c ≡ d → e ≡ f → g ≡ h → i ≡ j → statusOf a c e g i ≡ statusOf b d f h j
   same-status k l m o q = rw (k, l, m, o, q)
 
   abbrev pub statusBy : (station docks counts bikes : List ℕ) → List Fault
@@ -82,7 +86,8 @@ module _ (typed : Bool) (types stations : List Picked) (n : ℕ) where
 
 -- a bike
 module _ (typed : Bool) (types stations plans : List Picked) (n : ℕ) where
-  abbrev bikeOf : (lat lon : Bool) (type : Maybe (List ℕ)) (typeGiven range : Bool) (station : Maybe (List ℕ)) (docked : Bool) (plan : Maybe (List ℕ)) → List Fault
+  abbrev bikeOf : (lat lon : Bool) (type : Maybe (List ℕ)) (typeGiven range : Bool) (station : Maybe (List ℕ)) (docked : Bool) (plan : Maybe (List ℕ))
+      → List Fault
   bikeOf lat lon type typeGiven range station docked plan =
       ((faulty (at n 0) 41 (demanded (not docked) lat) ++ faulty (at n 0) 42 (demanded (not docked) lon)) ++
       (faulty (at n 0) 45 (demanded typed typeGiven ++ refers type 10 types) ++ faulty (at n 0) 46 (demanded (named driven 10 types type) range))) ++
@@ -93,14 +98,17 @@ module _ (typed : Bool) (types stations plans : List Picked) (n : ℕ) where
   same-bike r s t w x y z m = rw (r, s, t, w, x, y, z, m)
 
   abbrev pub bikeBy : (lat lon type range station plan : List ℕ) → List Fault
-  bikeBy lat lon type range station plan = bikeOf (thereBy lat) (thereBy lon) (textBy type) (thereBy type) (thereBy range) (textBy station) (thereBy station) (textBy plan)
+  bikeBy lat lon type range station plan =
+      bikeOf (thereBy lat) (thereBy lon) (textBy type) (thereBy type) (thereBy range) (textBy station) (thereBy station) (textBy plan)
 
   pub bike-is : {p : List ℕ} {s : Slots} → Gathered p 40 10 s → {lat lon type range station plan : List ℕ}
-      → Reads p s 1 lat → Reads p s 2 lon → Reads p s 5 type → Reads p s 6 range → Reads p s 7 station → Reads p s 8 plan → {ms : Members} → Whole p (tree.object ms)
+      → Reads p s 1 lat → Reads p s 2 lon → Reads p s 5 type → Reads p s 6 range → Reads p s 7 station → Reads p s 8 plan
+      → {ms : Members} → Whole p (tree.object ms)
       → bikeBy lat lon type range station plan ≡ bikeFaults typed types stations plans n (pick bike (tree.object ms))
   unfolding bikeFaults bike rowOf namesIn
   bike-is g {lat} {lon} {type} {range} {station} {plan} a b c d e f {ms} w =
-      let kind = slot-member g bike-layout 5 (omega arith) c w in let dock = slot-member g bike-layout 7 (omega arith) e w in let x = pick bike (tree.object ms) in
+      let kind = slot-member g bike-layout 5 (omega arith) c w in let dock = slot-member g bike-layout 7 (omega arith) e w in
+      let x = pick bike (tree.object ms) in
       let i : bikeBy lat lon type range station plan ≡
       bikeOf (given (field 41 x)) (given (field 42 x)) (text 45 x) (given (field 45 x)) (given (field 46 x)) (text 47 x) (given (field 47 x)) (text 48 x) =
       same-bike (ap thereBy (slot-member g bike-layout 1 (omega arith) a w) ∙ field-given (listed refl) w)

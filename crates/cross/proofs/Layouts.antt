@@ -42,22 +42,40 @@ rowsIn (shape.object rows) = rows
 
 pub type-layout : Layout 5 5 (rowsIn vehicleType)
 unfolding laidOut written23 distinctRows listedIn same namesIn
-type-layout = record { laid = record { rest = drop 10 (entriesOf table23); splits = refl; fits = omega arith }; lines = refl; distinct = refl; few = omega arith }
+type-layout =
+    record {
+      laid = record { rest = drop 10 (entriesOf table23); splits = refl; fits = omega arith };
+      lines = refl;
+      distinct = refl;
+      few = omega arith;
+    }
 
 pub status-layout : Layout 25 10 (rowsIn status)
 unfolding laidOut written23 distinctRows listedIn same namesIn
-status-layout = record { laid = record { rest = drop 35 (entriesOf table23); splits = refl; fits = omega arith }; lines = refl; distinct = refl; few = omega arith }
+status-layout =
+    record {
+      laid = record { rest = drop 35 (entriesOf table23); splits = refl; fits = omega arith };
+      lines = refl;
+      distinct = refl;
+      few = omega arith;
+    }
 
 pub bike-layout : Layout 40 10 (rowsIn bike)
 unfolding laidOut written23 distinctRows listedIn same namesIn
-bike-layout = record { laid = record { rest = drop 50 (entriesOf table23); splits = refl; fits = omega arith }; lines = refl; distinct = refl; few = omega arith }
+bike-layout =
+    record {
+      laid = record { rest = drop 50 (entriesOf table23); splits = refl; fits = omega arith };
+      lines = refl;
+      distinct = refl;
+      few = omega arith;
+    }
 
 -- q is the value that is read at a slot
 abbrev pub Reads : List ℕ → Slots → ℕ → List ℕ → Type 0
 Reads p s j q = (o : Found) × (o ≡ slotAt s j) × (Standing p o → q ≡ foundBytes p o)
 
-module _ {p : List ℕ} {first count : ℕ} {s : Slots} (g : Gathered p first count s) {rows : Rows} (l : Layout first count rows) (j : ℕ) (h : j < length (namesIn rows))
-    {q : List ℕ} (r : Reads p s j q) where
+module _ {p : List ℕ} {first count : ℕ} {s : Slots} (g : Gathered p first count s) {rows : Rows}
+    (l : Layout first count rows) (j : ℕ) (h : j < length (namesIn rows)) {q : List ℕ} (r : Reads p s j q) where
   slot-found : r .0 ≡ foundIn p (getD (namesIn rows) j [])
   slot-found = r .1 ∙ g .slot rows (l .laid) (l .lines) (l .distinct) (l .few) j h
 

@@ -17,7 +17,8 @@ use Rattle.fault.specs.declared.Fault.{Fault}
 use Rattle.fault.specs.declared.Least.{Least}
 use Rattle.fault.specs.declared.Least.the-variants.{None}
 use Rattle.fault.specs.Fault.{lesser, least}
-use Rattle.fault.proofs.Leasts.{lesser-none, none-lesser, lesser-assoc, least-append}
+use Rattle.fault.proofs.Leasts.{lesser-none, none-lesser, least-append}
+use Rattle.judge.proofs.Going.{passed}
 use Rattle.document.specs.Document.{spelling}
 use Rattle.document.proofs.Records.{pickedItems}
 use Rattle.fields.specs.Values.{integerIn}
@@ -68,10 +69,10 @@ module _ (faults : ℕ → Picked → List Fault) where
   unfolding each least
   going-none n acc = lesser-none acc
 
-  going-more : (n : ℕ) (acc : Least) (x : Picked) (l : List Picked) → lesser (lesser acc (least (faults (n + 1) x))) (least (each faults (n + 1 + 1) l)) ≡ going n acc (x ∷ l)
+  going-more : (n : ℕ) (acc : Least) (x : Picked) (l : List Picked)
+      → lesser (lesser acc (least (faults (n + 1) x))) (least (each faults (n + 1 + 1) l)) ≡ going n acc (x ∷ l)
   unfolding each
-  going-more n acc x l =
-      lesser-assoc acc (least (faults (n + 1) x)) (least (each faults (n + 1 + 1) l)) ∙ ap (lesser acc) (sym (least-append (faults (n + 1) x) (each faults (n + 1 + 1) l)))
+  going-more n acc x l = passed acc (least (faults (n + 1) x)) (least (each faults (n + 1 + 1) l)) (least-append (faults (n + 1) x) (each faults (n + 1 + 1) l)) refl
 
   module _ (σ : Shape) (p : List ℕ) where
     abbrev pub Goes : (n at : ℕ) → Least → Type 0
@@ -105,7 +106,8 @@ module _ (p : List ℕ) where
     unfolding sumOf
     sums-end f = let z : sum ≡ sum + 0 = omega arith in z ∙ left-end available p (λ l. sum + sumOf l) at w f
 
-    pub sums-more : (m : Item) → itemSteps p .Finds at m → {count : ℕ} → count ≡ integerIn (spelling 39 (pickedItem available p m)) → Sums (sum + count) (m .next)
+    pub sums-more : (m : Item) → itemSteps p .Finds at m
+        → {count : ℕ} → count ≡ integerIn (spelling 39 (pickedItem available p m)) → Sums (sum + count) (m .next)
     unfolding sumOf
     sums-more m f {count} e =
         left-more available p (λ l. sum + sumOf l) at w m f (λ l. sum + count + sumOf l) (λ l. rw (sumOf, ← e) (omega arith))

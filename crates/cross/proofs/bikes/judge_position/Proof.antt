@@ -10,7 +10,8 @@ returns : tie.Need-returns
 returns c =
     let b = c .before in let e = b .before in let a = e .before in let d = a .before in
     rw (← none-there (length (d .before .before .before .before .args .station .now)))
-    (both _ _ (c .lesser .ensures) (breaks _ 41 (d .demanded .result) (a .broken .ensures) (d .demanded .ensures)) (breaks _ 42 (e .demanded2 .result) (b .broken2 .ensures) (e .demanded2 .ensures)))
+    (both _ _ (c .lesser .ensures) (breaks _ 41 (d .demanded .result) (a .broken .ensures) (d .demanded .ensures))
+    (breaks _ 42 (e .demanded2 .result) (b .broken2 .ensures) (e .demanded2 .ensures)))
 
 pub judge-position-spec : {M : Type 1} → statement M
 judge-position-spec =

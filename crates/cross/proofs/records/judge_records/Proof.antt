@@ -36,20 +36,9 @@ returns c =
 abbrev Met : Type 0
 Met = tie.After-known-told Inv-loop μ-loop
 
-placed : (c : Met) → ItemPlaced (c .before .before .before .before .before .before .before .before .before .args .p .now) (c .before .before .before .before .loop .at) (c .before .item .given .0 .0)
+placed : (c : Met) →
+    let k = c .before .before .before .before in ItemPlaced (k .before .before .before .before .before .args .p .now) (k .loop .at) (c .before .item .given .0 .0)
 placed c = item-placed _ _ _ (sym (c .before .before .before .next-item .ensures) ∙ c .before .item .given .1)
-
-add-n : tie.Need-add-n Inv-loop μ-loop
-add-n c = let m = placed c in omega arith
-
-sub-judge-record : tie.Need-sub-judge-record Inv-loop μ-loop
-sub-judge-record c = let m = placed c in omega arith
-
-part-judge-record-start : tie.Need-part-judge-record-start Inv-loop μ-loop
-part-judge-record-start c = let m = placed c in omega arith
-
-part-judge-record-end : tie.Need-part-judge-record-end Inv-loop μ-loop
-part-judge-record-end c = let m = placed c in omega arith
 
 judge-record-requires : tie.Need-judge-record-requires Inv-loop μ-loop
 judge-record-requires c κs =
@@ -69,12 +58,14 @@ loop-again c =
     let o = s .pre .2 m (left-among σ p _ (k .loop .at) (k .loop .inv .1) m f) in (
       omega (arith, k .loop .inv .0),
       goes-more faults σ p (k .loop .n) (k .loop .at) (k .loop .least) (k .loop .inv .1) m f
-          (j .judge-record .ensures (o .0) (subst (Whole (itemOf p m)) (o .1) (item-whole p (k .loop .at) m f)) ∙ ap (λ x. leastOf (faults (k .loop .n + 1) (pick σ x))) (sym (o .1)))
+          (j .judge-record .ensures (o .0) (subst (Whole (itemOf p m)) (o .1) (item-whole p (k .loop .at) m f))
+          ∙ ap (λ x. leastOf (faults (k .loop .n + 1) (pick σ x))) (sym (o .1)))
           (c .lesser .ensures),
     )
 
 pub judge-records-spec : {M : Type 1} → statement M
 judge-records-spec =
     tie.close
-    (tie.spec Inv-loop μ-loop loop-holds (λ c κs. search needs) (λ c. search needs) (λ c. search needs) returns add-n sub-judge-record part-judge-record-start
-    part-judge-record-end judge-record-requires (λ c κs. search needs) loop-less loop-again)
+    (tie.spec Inv-loop μ-loop loop-holds (λ c κs. search needs) (λ c. search needs) (λ c. search needs) returns
+    (λ c. let m = placed c in omega arith) (λ c. let m = placed c in omega arith) (λ c. let m = placed c in omega arith)
+    (λ c. let m = placed c in omega arith) judge-record-requires (λ c κs. search needs) loop-less loop-again)

@@ -27,7 +27,9 @@ returns c =
     let a = d .before .before .before .before .before .before .args in
     let types = recordsOf 1 (a .types .now) (a .stations .now) (a .plans .now) in let place = at (a .n) 0 in
     both _ _ (c .lesser2 .ensures)
-    (joined place 37 _ _ (l .lesser .ensures) (breaks place 37 (d .demanded .result) (b₁ .broken .ensures) (d .demanded .ensures)) (breaks place 37 (k .sum-kind .result) (b .broken2 .ensures) (k .sum-kind .ensures)))
+    (joined place 37 _ _ (l .lesser .ensures)
+    (breaks place 37 (d .demanded .result) (b₁ .broken .ensures) (d .demanded .ensures))
+    (breaks place 37 (k .sum-kind .result) (b .broken2 .ensures) (k .sum-kind .ensures)))
     (j .judge-available .ensures ∙ ap (λ q. least (availableFaults types (a .n) 1 (pickedItems available q))) (r .array-in .ensures))
 
 pub judge-counts-spec : {M : Type 1} → statement M

@@ -25,7 +25,8 @@ sum-of-requires c κs =
 abbrev Read : Type 0
 Read = tie.After-integer-in
 
-summed : (c : Read) → c .before .sum-of .result ≡ sumOf (pickedItems available (arrayBy (c .before .before .before .before .before .before .args .available .now)))
+summed : (c : Read)
+    → c .before .sum-of .result ≡ sumOf (pickedItems available (arrayBy (c .before .before .before .before .before .before .args .available .now)))
 summed c = let s = c .before in s .sum-of .ensures ∙ ap (λ q. sumOf (pickedItems available q)) (s .before .array-in .ensures)
 
 returns-2 : tie.Need-returns-2

@@ -31,17 +31,9 @@ returns c =
 abbrev Met : Type 0
 Met = tie.After-known-told Inv-loop μ-loop
 
-placed : (c : Met) → ItemPlaced (c .before .before .before .before .before .before .args .p .now) (c .before .before .before .before .loop .at) (c .before .item .given .0 .0)
+placed : (c : Met) →
+    let k = c .before .before .before .before in ItemPlaced (k .before .before .args .p .now) (k .loop .at) (c .before .item .given .0 .0)
 placed c = item-placed _ _ _ (sym (c .before .before .before .next-item .ensures) ∙ c .before .item .given .1)
-
-sub-member : tie.Need-sub-member Inv-loop μ-loop
-sub-member c = let m = placed c in omega arith
-
-part-member-start : tie.Need-part-member-start Inv-loop μ-loop
-part-member-start c = let m = placed c in omega arith
-
-part-member-end : tie.Need-part-member-end Inv-loop μ-loop
-part-member-end c = let m = placed c in omega arith
 
 add-sum : tie.Need-add-sum Inv-loop μ-loop
 add-sum c = let m = placed (c .before .before .before .before) in omega (arith, c .integer-in .ensures, count-small (c .before .member .result .now))
@@ -62,5 +54,6 @@ loop-again c =
 pub sum-of-spec : {M : Type 1} → statement M
 sum-of-spec =
     tie.close
-    (tie.spec Inv-loop μ-loop loop-holds (λ c κs. search needs) (λ c. search needs) (λ c. search needs) returns sub-member part-member-start part-member-end
-    (λ c. search needs) (λ c κs. search needs) (λ c κs. search needs) add-sum loop-less loop-again)
+    (tie.spec Inv-loop μ-loop loop-holds (λ c κs. search needs) (λ c. search needs) (λ c. search needs) returns
+    (λ c. let m = placed c in omega arith) (λ c. let m = placed c in omega arith) (λ c. let m = placed c in omega arith) (λ c. search needs)
+    (λ c κs. search needs) (λ c κs. search needs) add-sum loop-less loop-again)

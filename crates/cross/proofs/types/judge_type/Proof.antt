@@ -19,7 +19,8 @@ returns c ms w =
     let v₃ = d .before in let s₃ = v₃ .before in let v₂ = s₃ .before in let s₂ = v₂ .before in let i = s₂ .before in let v = i .before in let s = v .before in
     let g = s .before in let a = g .before .before .before .before .before .args in let place = at (a .n) 0 in
     both _ _ (c .lesser2 .ensures)
-    (breaks place 13 (d .demanded .result) (b .broken .ensures) (d .demanded .ensures ∙ ap (λ t. demandedOf t (thereBy (v₃ .value-at3 .result .now))) (i .is-driven .ensures)))
+    (breaks place 13 (d .demanded .result) (b .broken .ensures)
+    (d .demanded .ensures ∙ ap (λ t. demandedOf t (thereBy (v₃ .value-at3 .result .now))) (i .is-driven .ensures)))
     (joined place 14 _ _ (l .lesser .ensures) (breaks place 14 (d₂ .demanded2 .result) (b₂ .broken2 .ensures) (d₂ .demanded2 .ensures))
     (breaks place 14 (f .refers .result) (b₃ .broken3 .ensures) (f .refers .ensures)))
     ∙ ap least
@@ -30,5 +31,7 @@ returns c ms w =
 pub judge-type-spec : {M : Type 1} → statement M
 judge-type-spec =
     tie.close
-    (tie.spec (λ c κs. search needs) (λ c κs. search needs) (λ c κs. search needs) (λ c κs. search needs) (λ c κs. search needs) (λ c κs. search needs) (λ c κs. search needs) (λ c κs. search needs) (λ c κs. search needs)
-    (λ c κs. search needs) (λ c κs. search needs) (λ c κs. search needs) (λ c κs. search needs) (λ c κs. search needs) (λ c κs. search needs) (λ c κs. search needs) returns)
+    (tie.spec (λ c κs. search needs) (λ c κs. search needs) (λ c κs. search needs) (λ c κs. search needs) (λ c κs. search needs)
+    (λ c κs. search needs) (λ c κs. search needs) (λ c κs. search needs) (λ c κs. search needs)
+    (λ c κs. search needs) (λ c κs. search needs) (λ c κs. search needs) (λ c κs. search needs) (λ c κs. search needs) (λ c κs. search needs)
+    (λ c κs. search needs) returns)

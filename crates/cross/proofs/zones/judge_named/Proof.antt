@@ -37,17 +37,9 @@ returns c =
 abbrev Met : Type 0
 Met = tie.After-known-told Inv-loop μ-loop
 
-placed : (c : Met) → ItemPlaced (c .before .before .before .before .before .before .before .before .before .args .p .now) (c .before .before .before .before .loop .at) (c .before .item .given .0 .0)
+placed : (c : Met) →
+    let k = c .before .before .before .before in ItemPlaced (k .before .before .before .before .before .args .p .now) (k .loop .at) (c .before .item .given .0 .0)
 placed c = item-placed _ _ _ (sym (c .before .before .before .next-item .ensures) ∙ c .before .item .given .1)
-
-sub-refers : tie.Need-sub-refers Inv-loop μ-loop
-sub-refers c = let m = placed c in omega arith
-
-part-refers-start : tie.Need-part-refers-start Inv-loop μ-loop
-part-refers-start c = let m = placed c in omega arith
-
-part-refers-end : tie.Need-part-refers-end Inv-loop μ-loop
-part-refers-end c = let m = placed c in omega arith
 
 loop-less : tie.Need-loop-less Inv-loop μ-loop
 loop-less c = let m = placed (c .before .before .before .before) in omega arith
@@ -59,13 +51,16 @@ loop-again c =
     let f = sym (t .next-item .ensures) ∙ d .item .given .1 in
     let types = recordsOf 1 (a .types .now) (a .stations .now) (a .plans .now) in (
       k .loop .inv .0 + 1,
-      goes-more (idItem types (a .place .«record») (a .place .sub)) (scalar Sort.id) (a .p .now) (k .loop .inv .0) (k .loop .at) (k .loop .least) (k .loop .inv .1) m f
-          (breaks (a .place) 78 (r .refers .result) (b .broken .ensures) (r .refers .ensures ∙ ap (λ z. refersTo z 10 types) (id-text (item-whole (a .p .now) (k .loop .at) m f))))
+      goes-more (idItem types (a .place .«record») (a .place .sub)) (scalar Sort.id) (a .p .now) (k .loop .inv .0)
+          (k .loop .at) (k .loop .least) (k .loop .inv .1) m f
+          (breaks (a .place) 78 (r .refers .result) (b .broken .ensures)
+          (r .refers .ensures ∙ ap (λ z. refersTo z 10 types) (id-text (item-whole (a .p .now) (k .loop .at) m f))))
           (c .lesser .ensures),
     )
 
 pub judge-named-spec : {M : Type 1} → statement M
 judge-named-spec =
     tie.close
-    (tie.spec Inv-loop μ-loop loop-holds (λ c κs. search needs) (λ c. search needs) (λ c. search needs) returns sub-refers part-refers-start part-refers-end
-    (λ c κs. search needs) (λ c κs. search needs) (λ c κs. search needs) loop-less loop-again)
+    (tie.spec Inv-loop μ-loop loop-holds (λ c κs. search needs) (λ c. search needs) (λ c. search needs) returns
+    (λ c. let m = placed c in omega arith) (λ c. let m = placed c in omega arith) (λ c. let m = placed c in omega arith) (λ c κs. search needs)
+    (λ c κs. search needs) (λ c κs. search needs) loop-less loop-again)

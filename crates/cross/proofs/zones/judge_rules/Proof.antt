@@ -39,23 +39,9 @@ returns c =
 abbrev Met : Type 0
 Met = tie.After-known-told Inv-loop μ-loop
 
-placed : (c : Met) → ItemPlaced (c .before .before .before .before .before .before .before .before .before .args .p .now) (c .before .before .before .before .loop .at) (c .before .item .given .0 .0)
+placed : (c : Met) →
+    let k = c .before .before .before .before in ItemPlaced (k .before .before .before .before .before .args .p .now) (k .loop .at) (c .before .item .given .0 .0)
 placed c = item-placed _ _ _ (sym (c .before .before .before .next-item .ensures) ∙ c .before .item .given .1)
-
-add-sub : tie.Need-add-sub Inv-loop μ-loop
-add-sub c = let m = placed c in omega arith
-
-sub-member : tie.Need-sub-member Inv-loop μ-loop
-sub-member c = let m = placed c in omega arith
-
-part-member-start : tie.Need-part-member-start Inv-loop μ-loop
-part-member-start c = let m = placed c in omega arith
-
-part-member-end : tie.Need-part-member-end Inv-loop μ-loop
-part-member-end c = let m = placed c in omega arith
-
-judge-named-requires : tie.Need-judge-named-requires Inv-loop μ-loop
-judge-named-requires c κs = search needs
 
 loop-less : tie.Need-loop-less Inv-loop μ-loop
 loop-less c = let m = placed (c .before .before .before .before .before .before) in omega arith
@@ -76,5 +62,7 @@ loop-again c =
 pub judge-rules-spec : {M : Type 1} → statement M
 judge-rules-spec =
     tie.close
-    (tie.spec Inv-loop μ-loop loop-holds (λ c κs. search needs) (λ c. search needs) (λ c. search needs) returns add-sub sub-member part-member-start part-member-end
-    (λ c. search needs) (λ c κs. search needs) (λ c κs. search needs) judge-named-requires (λ c κs. search needs) loop-less loop-again)
+    (tie.spec Inv-loop μ-loop loop-holds (λ c κs. search needs) (λ c. search needs) (λ c. search needs) returns
+    (λ c. let m = placed c in omega arith) (λ c. let m = placed c in omega arith) (λ c. let m = placed c in omega arith)
+    (λ c. let m = placed c in omega arith) (λ c. search needs) (λ c κs. search needs) (λ c κs. search needs) (λ c κs. search needs)
+    (λ c κs. search needs) loop-less loop-again)

@@ -19,7 +19,9 @@ use Rattle.cross.proofs.zones.judge_zone.Tie as tie
 abbrev Read : Type 0
 Read = tie.After-array-in
 
-rules-are : (c : Read) → c .array-in .result .now ≡ arrayBy (memberOf (memberOf (c .before .before .before .before .before .before .before .before .before .args .p .now) (bytes "properties")) (bytes "rules"))
+rules-are : (c : Read) →
+    let p = c .before .before .before .before .before .before .before .before .before .args .p .now in
+    c .array-in .result .now ≡ arrayBy (memberOf (memberOf p (bytes "properties")) (bytes "rules"))
 rules-are c =
     let m = c .before in let k = m .before .before in
     c .array-in .ensures ∙ ap arrayBy (m .member2 .ensures ∙ ap (λ q. memberOf q (bytes "rules")) (k .member .ensures))
