@@ -1,3 +1,9 @@
 pub mod Noting
 pub mod Searches
 pub mod Meets
+pub mod Joined
+pub mod Sizes
+pub mod Layouts
+pub mod Fielded
+pub mod Walked
+pub mod Gathering

@@ -44,7 +44,8 @@ fn judge_record(
     }
 }
 
-// All records of the array `p`.
+// All records of the array `p`, numbered from 1.
+// Shut out: the first broken rule in the order of the bytes; one that stops at a record which breaks nothing.
 pub fn judge_records(
     file: u8,
     p: &[u8],

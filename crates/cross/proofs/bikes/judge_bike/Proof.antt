@@ -1,133 +1,51 @@
+-- `judge_bike` gathers the record's members and joins what the fields of its position, its type, its station and its plan break.
 use borrow.Author.Needs.{needs}
+use mathlib.Core.Path.{ap, _∙_}
+use Rattle.fault.specs.Fault.{least}
+use Rattle.document.proofs.Records.{recordShape}
+use Rattle.cross.specs.Known.{recordsOf}
+use Rattle.cross.specs.Cross.{at, faultsOf}
+use Rattle.cross.proofs.Joined.{both, breaks}
+use Rattle.cross.proofs.Gathering.{bike-is}
 use Rattle.cross.proofs.bikes.judge_bike.Statement.{statement}
 use Rattle.cross.proofs.bikes.judge_bike.Tie as tie
-use Rattle.cross.proofs.bikes.judge_bike.Reads as reads
-use Rattle.cross.proofs.bikes.judge_bike.Lts as lts
-use Rattle.cross.proofs.bikes.judge_position.Reads as judge-position-reads
-use Rattle.cross.proofs.bikes.judge_vehicle.Reads as judge-vehicle-reads
-use Rattle.cross.proofs.reference.refers.Reads as refers-reads
-use Rattle.fault.proofs.lesser.Reads as lesser-reads
-use Rattle.fields.proofs.value_at.Reads as value-at-reads
-use Rattle.judge.proofs.Place.broken.Reads as broken-reads
-use Rattle.slots.proofs.Slots.slot.Reads as slot-reads
-use Rattle.slots.proofs.gather.Reads as gather-reads
 
--- src/bikes.rt:93:9
-gather-requires : tie.Need-gather-requires
-gather-requires c κs = search needs
-
--- src/bikes.rt:95:31
-slot-requires : tie.Need-slot-requires
-slot-requires c κs = search needs
-
--- src/bikes.rt:95:9
-value-at-requires : tie.Need-value-at-requires
-value-at-requires c κs = search needs
-
--- src/bikes.rt:98:21
-slot-requires-2 : tie.Need-slot-requires-2
-slot-requires-2 c κs = search needs
-
--- src/bikes.rt:98:9
-value-at-requires-2 : tie.Need-value-at-requires-2
-value-at-requires-2 c κs = search needs
-
--- src/bikes.rt:99:21
-slot-requires-3 : tie.Need-slot-requires-3
-slot-requires-3 c κs = search needs
-
--- src/bikes.rt:99:9
-value-at-requires-3 : tie.Need-value-at-requires-3
-value-at-requires-3 c κs = search needs
-
--- src/bikes.rt:96:9
-judge-position-requires : tie.Need-judge-position-requires
-judge-position-requires c κs = search needs
-
--- src/bikes.rt:103:21
-slot-requires-4 : tie.Need-slot-requires-4
-slot-requires-4 c κs = search needs
-
--- src/bikes.rt:103:9
-value-at-requires-4 : tie.Need-value-at-requires-4
-value-at-requires-4 c κs = search needs
-
--- src/bikes.rt:104:21
-slot-requires-5 : tie.Need-slot-requires-5
-slot-requires-5 c κs = search needs
-
--- src/bikes.rt:104:9
-value-at-requires-5 : tie.Need-value-at-requires-5
-value-at-requires-5 c κs = search needs
-
--- src/bikes.rt:102:9
 judge-vehicle-requires : tie.Need-judge-vehicle-requires
-judge-vehicle-requires c κs = ?
+judge-vehicle-requires c κs =
+    c .before .before .before .before .before .before .before .before .before .before .before .before .before .before .before .before .pre
 
--- src/bikes.rt:116:9
 refers-requires : tie.Need-refers-requires
-refers-requires c κs = ?
+refers-requires c κs =
+    c .before .before .before .before .before .before .before .before .before .before .before .before .before .before .before .before .before .pre
 
--- src/bikes.rt:114:9
-broken-requires : tie.Need-broken-requires
-broken-requires c κs = search needs
-
--- src/bikes.rt:131:25
-slot-requires-6 : tie.Need-slot-requires-6
-slot-requires-6 c κs = search needs
-
--- src/bikes.rt:131:13
-value-at-requires-6 : tie.Need-value-at-requires-6
-value-at-requires-6 c κs = search needs
-
--- src/bikes.rt:130:9
 refers-requires-2 : tie.Need-refers-requires-2
-refers-requires-2 c κs = ?
+refers-requires-2 c κs =
+    let j = c .before .before .before .before in
+    j .before .before .before .before .before .before .before .before .before .before .before .before .before .before .before .before .before .pre
 
--- src/bikes.rt:128:9
-broken-requires-2 : tie.Need-broken-requires-2
-broken-requires-2 c κs = search needs
-
--- src/bikes.rt:142:12
-lesser-requires : tie.Need-lesser-requires
-lesser-requires c κs = search needs
-
--- src/bikes.rt:142:26
-lesser-requires-2 : tie.Need-lesser-requires-2
-lesser-requires-2 c κs = search needs
-
--- src/bikes.rt:142:5
-lesser-requires-3 : tie.Need-lesser-requires-3
-lesser-requires-3 c κs = search needs
-
--- src/bikes.rt:79:1
 returns : tie.Need-returns
-returns c = ?
+unfolding faultsOf recordShape
+returns c ms w =
+    let l₂ = c .before in let l = l₂ .before in let b₂ = l .before in let f₂ = b₂ .before in let v₆ = f₂ .before in let s₆ = v₆ .before in
+    let b = s₆ .before in let f = b .before in let j = f .before in let v₅ = j .before in let s₅ = v₅ .before in let v₄ = s₅ .before in
+    let s₄ = v₄ .before in let i = s₄ .before in let v₃ = i .before in let s₃ = v₃ .before in let v₂ = s₃ .before in let s₂ = v₂ .before in
+    let v = s₂ .before in let s = v .before in let g = s .before in
+    let a = g .before .before .before .before .before .args in let place = at (a .n) 0 in
+    let types = a .types .now in let stations = a .stations .now in let plans = a .plans .now in
+    both _ _ (c .lesser3 .ensures) (both _ _ (l .lesser .ensures) (i .judge-position .ensures) (j .judge-vehicle .ensures))
+    (both _ _ (l₂ .lesser2 .ensures) (breaks place 47 (f .refers .result) (b .broken .ensures) (f .refers .ensures))
+    (breaks place 48 (f₂ .refers2 .result) (b₂ .broken2 .ensures) (f₂ .refers2 .ensures)))
+    ∙ ap least
+    (bike-is (a .set .«types_here») (recordsOf 1 types stations plans) (recordsOf 2 types stations plans) (recordsOf 5 types stations plans) (a .n)
+    (g .gather .ensures)
+    (s₂ .slot2 .result, s₂ .slot2 .ensures, v₂ .value-at2 .ensures) (s₃ .slot3 .result, s₃ .slot3 .ensures, v₃ .value-at3 .ensures)
+    (s₄ .slot4 .result, s₄ .slot4 .ensures, v₄ .value-at4 .ensures) (s₅ .slot5 .result, s₅ .slot5 .ensures, v₅ .value-at5 .ensures)
+    (s .slot .result, s .slot .ensures, v .value-at .ensures) (s₆ .slot6 .result, s₆ .slot6 .ensures, v₆ .value-at6 .ensures) w)
 
 pub judge-bike-spec : {M : Type 1} → statement M
 judge-bike-spec =
     tie.close
-    (tie.spec
-    gather-requires
-    slot-requires
-    value-at-requires
-    slot-requires-2
-    value-at-requires-2
-    slot-requires-3
-    value-at-requires-3
-    judge-position-requires
-    slot-requires-4
-    value-at-requires-4
-    slot-requires-5
-    value-at-requires-5
-    judge-vehicle-requires
-    refers-requires
-    broken-requires
-    slot-requires-6
-    value-at-requires-6
-    refers-requires-2
-    broken-requires-2
-    lesser-requires
-    lesser-requires-2
-    lesser-requires-3
-    returns)
+    (tie.spec (λ c κs. search needs) (λ c κs. search needs) (λ c κs. search needs) (λ c κs. search needs) (λ c κs. search needs) (λ c κs. search needs)
+    (λ c κs. search needs) (λ c κs. search needs) (λ c κs. search needs) (λ c κs. search needs) (λ c κs. search needs) (λ c κs. search needs)
+    judge-vehicle-requires refers-requires (λ c κs. search needs) (λ c κs. search needs) (λ c κs. search needs) refers-requires-2
+    (λ c κs. search needs) (λ c κs. search needs) (λ c κs. search needs) (λ c κs. search needs) returns)

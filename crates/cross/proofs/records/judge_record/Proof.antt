@@ -1,59 +1,29 @@
+-- `judge_record` goes by the file's number; the records of files 2 and 5 break nothing.
 use borrow.Author.Needs.{needs}
+use mathlib.Core.Path.{sym}
+use Rattle.fault.proofs.Leasts.{none-least}
+use Rattle.cross.proofs.Fielded.{breaks-nothing}
 use Rattle.cross.proofs.records.judge_record.Statement.{statement}
 use Rattle.cross.proofs.records.judge_record.Tie as tie
-use Rattle.cross.proofs.records.judge_record.Reads as reads
-use Rattle.cross.proofs.records.judge_record.Lts as lts
-use Rattle.cross.proofs.bikes.judge_bike.Reads as judge-bike-reads
-use Rattle.cross.proofs.statuses.judge_status.Reads as judge-status-reads
-use Rattle.cross.proofs.types.judge_type.Reads as judge-type-reads
-use Rattle.cross.proofs.zones.judge_zone.Reads as judge-zone-reads
 
--- src/records.rt:39:14
-judge-type-requires : tie.Need-judge-type-requires
-judge-type-requires c κs = search needs
-
--- src/records.rt:40:14
-judge-status-requires : tie.Need-judge-status-requires
-judge-status-requires c κs = search needs
-
--- src/records.rt:41:14
-judge-bike-requires : tie.Need-judge-bike-requires
-judge-bike-requires c κs = search needs
-
--- src/records.rt:42:14
-judge-zone-requires : tie.Need-judge-zone-requires
-judge-zone-requires c κs = search needs
-
--- src/records.rt:23:1
 returns : tie.Need-returns
-returns c = ?
+returns c = let m = c .before in rw (m .match .keys1) (c .judge-type .ensures)
 
--- src/records.rt:23:1
 returns-2 : tie.Need-returns-2
-returns-2 c = ?
+returns-2 c = let m = c .before in rw (m .match .keys2) (c .judge-status .ensures)
 
--- src/records.rt:23:1
 returns-3 : tie.Need-returns-3
-returns-3 c = ?
+returns-3 c = let m = c .before in rw (m .match .keys3) (c .judge-bike .ensures)
 
--- src/records.rt:23:1
 returns-4 : tie.Need-returns-4
-returns-4 c = ?
+returns-4 c = let m = c .before in rw (m .match .keys4) (c .judge-zone .ensures)
 
--- src/records.rt:23:1
 returns-5 : tie.Need-returns-5
-returns-5 c = ?
+returns-5 c ms w =
+    let r = c .match .rest in
+    sym (none-least _ (breaks-nothing _ _ _ _ _ _ _ (r .0 .0 .0 .1) (r .0 .0 .1) (r .0 .1) (r .1) _))
 
 pub judge-record-spec : {M : Type 1} → statement M
 judge-record-spec =
     tie.close
-    (tie.spec
-    judge-type-requires
-    judge-status-requires
-    judge-bike-requires
-    judge-zone-requires
-    returns
-    returns-2
-    returns-3
-    returns-4
-    returns-5)
+    (tie.spec (λ c κs. search needs) (λ c κs. search needs) (λ c κs. search needs) (λ c κs. search needs) returns returns-2 returns-3 returns-4 returns-5)

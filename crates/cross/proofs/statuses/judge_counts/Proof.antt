@@ -1,61 +1,39 @@
+-- `judge_counts` joins what field 37 breaks in two ways, and what its items break.
 use borrow.Author.Needs.{needs}
+use mathlib.Core.Path.{ap, _∙_}
+use native.Mathlib.Omega.{arith}
+use lib.ListN.{length}
+use Rattle.schema.specs.Table23.{available}
+use Rattle.fault.specs.Fault.{least}
+use Rattle.document.proofs.Records.{pickedItems}
+use Rattle.cross.specs.Known.{recordsOf}
+use Rattle.cross.specs.Cross.{at, availableFaults}
+use Rattle.cross.proofs.Joined.{both, breaks, joined}
+use Rattle.cross.proofs.Sizes.{array-short}
 use Rattle.cross.proofs.statuses.judge_counts.Statement.{statement}
 use Rattle.cross.proofs.statuses.judge_counts.Tie as tie
-use Rattle.cross.proofs.statuses.judge_counts.Reads as reads
-use Rattle.cross.proofs.statuses.judge_counts.Lts as lts
-use Rattle.cross.proofs.reference.demanded.Reads as demanded-reads
-use Rattle.cross.proofs.statuses.judge_available.Reads as judge-available-reads
-use Rattle.cross.proofs.statuses.sum_kind.Reads as sum-kind-reads
-use Rattle.fault.proofs.lesser.Reads as lesser-reads
-use Rattle.fields.proofs.array_in.Reads as array-in-reads
-use Rattle.judge.proofs.Place.broken.Reads as broken-reads
 
--- src/statuses.rt:184:30
-demanded-requires : tie.Need-demanded-requires
-demanded-requires c κs = search needs
-
--- src/statuses.rt:184:9
-broken-requires : tie.Need-broken-requires
-broken-requires c κs = search needs
-
--- src/statuses.rt:185:30
 sum-kind-requires : tie.Need-sum-kind-requires
-sum-kind-requires c κs = search needs
+sum-kind-requires c κs = c .before .before .before .before .before .before .before .pre .1
 
--- src/statuses.rt:185:9
-broken-requires-2 : tie.Need-broken-requires-2
-broken-requires-2 c κs = search needs
-
--- src/statuses.rt:187:9
-array-in-requires : tie.Need-array-in-requires
-array-in-requires c κs = search needs
-
--- src/statuses.rt:186:9
 judge-available-requires : tie.Need-judge-available-requires
-judge-available-requires c κs = ?
+judge-available-requires c κs =
+    let s = c .before .before .before .before .before .before .before .before .before .before in
+    (s .pre .0, omega (arith, ap length (c .array-in .ensures), array-short (s .args .available .now), s .pre .1))
 
--- src/statuses.rt:197:12
-lesser-requires : tie.Need-lesser-requires
-lesser-requires c κs = search needs
-
--- src/statuses.rt:197:5
-lesser-requires-2 : tie.Need-lesser-requires-2
-lesser-requires-2 c κs = search needs
-
--- src/statuses.rt:168:1
 returns : tie.Need-returns
-returns c = ?
+returns c =
+    let l = c .before in let j = l .before in let r = j .before in let b = r .before in let k = b .before in let b₁ = k .before in let d = b₁ .before in
+    let a = d .before .before .before .before .before .before .args in
+    let types = recordsOf 1 (a .types .now) (a .stations .now) (a .plans .now) in let place = at (a .n) 0 in
+    both _ _ (c .lesser2 .ensures)
+    (joined place 37 _ _ (l .lesser .ensures)
+    (breaks place 37 (d .demanded .result) (b₁ .broken .ensures) (d .demanded .ensures))
+    (breaks place 37 (k .sum-kind .result) (b .broken2 .ensures) (k .sum-kind .ensures)))
+    (j .judge-available .ensures ∙ ap (λ q. least (availableFaults types (a .n) 1 (pickedItems available q))) (r .array-in .ensures))
 
 pub judge-counts-spec : {M : Type 1} → statement M
 judge-counts-spec =
     tie.close
-    (tie.spec
-    demanded-requires
-    broken-requires
-    sum-kind-requires
-    broken-requires-2
-    array-in-requires
-    judge-available-requires
-    lesser-requires
-    lesser-requires-2
-    returns)
+    (tie.spec (λ c κs. search needs) (λ c κs. search needs) sum-kind-requires (λ c κs. search needs) (λ c κs. search needs) judge-available-requires
+    (λ c κs. search needs) (λ c κs. search needs) returns)

@@ -1,50 +1,17 @@
+-- `judge_station` joins what field 30 breaks, and what field 32 breaks by the station that 30 names.
 use borrow.Author.Needs.{needs}
+use Rattle.cross.proofs.Joined.{both, breaks}
 use Rattle.cross.proofs.statuses.judge_station.Statement.{statement}
 use Rattle.cross.proofs.statuses.judge_station.Tie as tie
-use Rattle.cross.proofs.statuses.judge_station.Reads as reads
-use Rattle.cross.proofs.statuses.judge_station.Lts as lts
-use Rattle.cross.proofs.reference.demanded.Reads as demanded-reads
-use Rattle.cross.proofs.reference.named.Reads as named-reads
-use Rattle.cross.proofs.reference.refers.Reads as refers-reads
-use Rattle.fault.proofs.lesser.Reads as lesser-reads
-use Rattle.judge.proofs.Place.broken.Reads as broken-reads
 
--- src/statuses.rt:140:9
-refers-requires : tie.Need-refers-requires
-refers-requires c κs = search needs
-
--- src/statuses.rt:138:9
-broken-requires : tie.Need-broken-requires
-broken-requires c κs = search needs
-
--- src/statuses.rt:152:9
-named-requires : tie.Need-named-requires
-named-requires c κs = search needs
-
--- src/statuses.rt:163:30
-demanded-requires : tie.Need-demanded-requires
-demanded-requires c κs = search needs
-
--- src/statuses.rt:163:9
-broken-requires-2 : tie.Need-broken-requires-2
-broken-requires-2 c κs = search needs
-
--- src/statuses.rt:164:5
-lesser-requires : tie.Need-lesser-requires
-lesser-requires c κs = search needs
-
--- src/statuses.rt:123:1
 returns : tie.Need-returns
-returns c = ?
+returns c =
+    let b = c .before in let d = b .before in let n = d .before in let a = n .before in let f = a .before in
+    let place = f .before .before .before .before .before .before .args .place in
+    both _ _ (c .lesser .ensures) (breaks place 30 (f .refers .result) (a .broken .ensures) (f .refers .ensures))
+    (rw (← n .named .ensures) (breaks place 32 (d .demanded .result) (b .broken2 .ensures) (d .demanded .ensures)))
 
 pub judge-station-spec : {M : Type 1} → statement M
 judge-station-spec =
     tie.close
-    (tie.spec
-    refers-requires
-    broken-requires
-    named-requires
-    demanded-requires
-    broken-requires-2
-    lesser-requires
-    returns)
+    (tie.spec (λ c κs. search needs) (λ c κs. search needs) (λ c κs. search needs) (λ c κs. search needs) (λ c κs. search needs) (λ c κs. search needs) returns)

@@ -1,90 +1,59 @@
+-- `sum_of` walks over the items of field 37. The loop's invariant: the sum so far, with the counts left, makes the sum of all. A count has at most
+-- twelve digits and an item a byte at least, so the sum fits.
+use borrow.Author.Needs.{needs}
+use mathlib.Core.Path.{sym, ap, _∙_}
+use Prim.Native.Nat.{_*_, _-_, _^_, _≤_}
+use native.Mathlib.Omega.{arith}
+use lib.ListN.{length}
+use Rattle.walk.proofs.Places.{ItemPlaced, item-placed}
+use Rattle.walk.proofs.Parts.{item-whole}
+use Rattle.fields.specs.Values.{spelledBy, integerIn}
+use Rattle.cross.proofs.Walked.{Sums, sums-start, sums-end, sums-more}
+use Rattle.cross.proofs.Fielded.{count-small, available-count}
 use Rattle.cross.proofs.statuses.sum_of.Statement.{statement}
 use Rattle.cross.proofs.statuses.sum_of.Tie as tie
-use Rattle.cross.proofs.statuses.sum_of.Reads as reads
-use Rattle.cross.proofs.statuses.sum_of.Lts as lts
-use Rattle.fields.proofs.integer_in.Reads as integer-in-reads
-use Rattle.fields.proofs.member.Reads as member-reads
-use Rattle.walk.proofs.next_item.Reads as next-item-reads
 
 abbrev Inv-loop : tie.InvT-loop
-Inv-loop p sum₀ at₀ t7 sum at = ?
+Inv-loop p sum₀ at₀ t7 sum at = (sum ≤ at * 10 ^ 12) × Sums p sum at
 
 abbrev μ-loop : tie.MeasureT-loop
-μ-loop p sum₀ at₀ t7 sum at = ?
+μ-loop p sum₀ at₀ t7 sum at = length p - at
 
--- src/statuses.rt:46:5
 loop-holds : tie.Need-loop-holds Inv-loop μ-loop
-loop-holds c = ?
+loop-holds c = (omega arith, sums-start _)
 
--- src/statuses.rt:47:37
-next-item-requires : tie.Need-next-item-requires Inv-loop μ-loop
-next-item-requires c κs = ?
-
--- src/statuses.rt:47:29
-enum-known-item : tie.Need-enum-known-item Inv-loop μ-loop
-enum-known-item c = ?
-
--- src/statuses.rt:48:13
-enum-told : tie.Need-enum-told Inv-loop μ-loop
-enum-told c = ?
-
--- src/statuses.rt:48:13
 returns : tie.Need-returns Inv-loop μ-loop
-returns c = ?
+returns c =
+    let t = c .before .before in let k = t .before in
+    sums-end _ (k .loop .sum) (k .loop .at) (k .loop .inv .1) (sym (t .next-item .ensures) ∙ c .enum-told .given .1)
 
--- src/statuses.rt:52:34
-sub-member : tie.Need-sub-member Inv-loop μ-loop
-sub-member c = ?
+-- where an item was found
+abbrev Met : Type 0
+Met = tie.After-known-told Inv-loop μ-loop
 
--- src/statuses.rt:52:34
-part-member-start : tie.Need-part-member-start Inv-loop μ-loop
-part-member-start c = ?
+placed : (c : Met) →
+    let k = c .before .before .before .before in ItemPlaced (k .before .before .args .p .now) (k .loop .at) (c .before .item .given .0 .0)
+placed c = item-placed _ _ _ (sym (c .before .before .before .next-item .ensures) ∙ c .before .item .given .1)
 
--- src/statuses.rt:52:34
-part-member-end : tie.Need-part-member-end Inv-loop μ-loop
-part-member-end c = ?
-
--- src/statuses.rt:52:50
-slice-aggregate-member : tie.Need-slice-aggregate-member Inv-loop μ-loop
-slice-aggregate-member c = ?
-
--- src/statuses.rt:52:27
-member-requires : tie.Need-member-requires Inv-loop μ-loop
-member-requires c κs = ?
-
--- src/statuses.rt:52:16
-integer-in-requires : tie.Need-integer-in-requires Inv-loop μ-loop
-integer-in-requires c κs = ?
-
--- src/statuses.rt:52:9
 add-sum : tie.Need-add-sum Inv-loop μ-loop
-add-sum c = ?
+add-sum c = let m = placed (c .before .before .before .before) in omega (arith, c .integer-in .ensures, count-small (c .before .member .result .now))
 
--- src/statuses.rt:46:5
 loop-less : tie.Need-loop-less Inv-loop μ-loop
-loop-less c = ?
+loop-less c = let m = placed (c .before .before .before .before) in omega arith
 
--- src/statuses.rt:46:5
 loop-again : tie.Need-loop-again Inv-loop μ-loop
-loop-again c = ?
+loop-again c =
+    let q = c .before in let d = q .before .before .before .before in let t = d .before .before in let k = t .before in
+    let p = k .before .before .args .p .now in let m = d .item .given .0 .0 in
+    let f = sym (t .next-item .ensures) ∙ d .item .given .1 in let i = item-placed _ _ _ f in (
+      omega (arith, k .loop .inv .0, c .integer-in .ensures, count-small (q .member .result .now)),
+      sums-more p (k .loop .sum) (k .loop .at) (k .loop .inv .1) m f
+          (c .integer-in .ensures ∙ ap integerIn (ap spelledBy (q .member .ensures) ∙ available-count (item-whole p (k .loop .at) m f))),
+    )
 
 pub sum-of-spec : {M : Type 1} → statement M
 sum-of-spec =
     tie.close
-    (tie.spec
-    Inv-loop
-    μ-loop
-    loop-holds
-    next-item-requires
-    enum-known-item
-    enum-told
-    returns
-    sub-member
-    part-member-start
-    part-member-end
-    slice-aggregate-member
-    member-requires
-    integer-in-requires
-    add-sum
-    loop-less
-    loop-again)
+    (tie.spec Inv-loop μ-loop loop-holds (λ c κs. search needs) (λ c. search needs) (λ c. search needs) returns
+    (λ c. let m = placed c in omega arith) (λ c. let m = placed c in omega arith) (λ c. let m = placed c in omega arith) (λ c. search needs)
+    (λ c κs. search needs) (λ c κs. search needs) add-sum loop-less loop-again)

@@ -1,103 +1,37 @@
+-- `judge_type` gathers the record's members and joins what fields 13 and 14 break.
 use borrow.Author.Needs.{needs}
+use mathlib.Core.Path.{ap, _∙_}
+use Rattle.fault.specs.Fault.{least}
+use Rattle.document.proofs.Records.{recordShape}
+use Rattle.fields.specs.Values.{thereBy}
+use Rattle.cross.specs.References.{demanded as demandedOf}
+use Rattle.cross.specs.Known.{recordsOf}
+use Rattle.cross.specs.Cross.{at, faultsOf}
+use Rattle.cross.proofs.Joined.{both, breaks, joined}
+use Rattle.cross.proofs.Gathering.{type-is}
 use Rattle.cross.proofs.types.judge_type.Statement.{statement}
 use Rattle.cross.proofs.types.judge_type.Tie as tie
-use Rattle.cross.proofs.types.judge_type.Reads as reads
-use Rattle.cross.proofs.types.judge_type.Lts as lts
-use Rattle.cross.proofs.reference.demanded.Reads as demanded-reads
-use Rattle.cross.proofs.reference.refers.Reads as refers-reads
-use Rattle.cross.proofs.search.is_driven.Reads as is-driven-reads
-use Rattle.fault.proofs.lesser.Reads as lesser-reads
-use Rattle.fields.proofs.value_at.Reads as value-at-reads
-use Rattle.judge.proofs.Place.broken.Reads as broken-reads
-use Rattle.slots.proofs.Slots.slot.Reads as slot-reads
-use Rattle.slots.proofs.gather.Reads as gather-reads
 
--- src/types.rt:30:9
-gather-requires : tie.Need-gather-requires
-gather-requires c κs = search needs
-
--- src/types.rt:32:40
-slot-requires : tie.Need-slot-requires
-slot-requires c κs = search needs
-
--- src/types.rt:32:28
-value-at-requires : tie.Need-value-at-requires
-value-at-requires c κs = search needs
-
--- src/types.rt:32:9
-is-driven-requires : tie.Need-is-driven-requires
-is-driven-requires c κs = search needs
-
--- src/types.rt:33:33
-slot-requires-2 : tie.Need-slot-requires-2
-slot-requires-2 c κs = search needs
-
--- src/types.rt:33:9
-value-at-requires-2 : tie.Need-value-at-requires-2
-value-at-requires-2 c κs = search needs
-
--- src/types.rt:34:59
-slot-requires-3 : tie.Need-slot-requires-3
-slot-requires-3 c κs = search needs
-
--- src/types.rt:34:47
-value-at-requires-3 : tie.Need-value-at-requires-3
-value-at-requires-3 c κs = search needs
-
--- src/types.rt:34:30
-demanded-requires : tie.Need-demanded-requires
-demanded-requires c κs = search needs
-
--- src/types.rt:34:9
-broken-requires : tie.Need-broken-requires
-broken-requires c κs = search needs
-
--- src/types.rt:35:30
-demanded-requires-2 : tie.Need-demanded-requires-2
-demanded-requires-2 c κs = search needs
-
--- src/types.rt:35:9
-broken-requires-2 : tie.Need-broken-requires-2
-broken-requires-2 c κs = search needs
-
--- src/types.rt:38:9
-refers-requires : tie.Need-refers-requires
-refers-requires c κs = search needs
-
--- src/types.rt:36:9
-broken-requires-3 : tie.Need-broken-requires-3
-broken-requires-3 c κs = search needs
-
--- src/types.rt:50:15
-lesser-requires : tie.Need-lesser-requires
-lesser-requires c κs = search needs
-
--- src/types.rt:50:5
-lesser-requires-2 : tie.Need-lesser-requires-2
-lesser-requires-2 c κs = search needs
-
--- src/types.rt:16:1
 returns : tie.Need-returns
-returns c = ?
+unfolding faultsOf recordShape
+returns c ms w =
+    let l = c .before in let b₃ = l .before in let f = b₃ .before in let b₂ = f .before in let d₂ = b₂ .before in let b = d₂ .before in let d = b .before in
+    let v₃ = d .before in let s₃ = v₃ .before in let v₂ = s₃ .before in let s₂ = v₂ .before in let i = s₂ .before in let v = i .before in let s = v .before in
+    let g = s .before in let a = g .before .before .before .before .before .args in let place = at (a .n) 0 in
+    both _ _ (c .lesser2 .ensures)
+    (breaks place 13 (d .demanded .result) (b .broken .ensures)
+    (d .demanded .ensures ∙ ap (λ t. demandedOf t (thereBy (v₃ .value-at3 .result .now))) (i .is-driven .ensures)))
+    (joined place 14 _ _ (l .lesser .ensures) (breaks place 14 (d₂ .demanded2 .result) (b₂ .broken2 .ensures) (d₂ .demanded2 .ensures))
+    (breaks place 14 (f .refers .result) (b₃ .broken3 .ensures) (f .refers .ensures)))
+    ∙ ap least
+    (type-is (a .set .«plans_here») (recordsOf 5 (a .types .now) (a .stations .now) (a .plans .now)) (a .n) (g .gather .ensures)
+    (s .slot .result, s .slot .ensures, v .value-at .ensures) (s₃ .slot3 .result, s₃ .slot3 .ensures, v₃ .value-at3 .ensures)
+    (s₂ .slot2 .result, s₂ .slot2 .ensures, v₂ .value-at2 .ensures) w)
 
 pub judge-type-spec : {M : Type 1} → statement M
 judge-type-spec =
     tie.close
-    (tie.spec
-    gather-requires
-    slot-requires
-    value-at-requires
-    is-driven-requires
-    slot-requires-2
-    value-at-requires-2
-    slot-requires-3
-    value-at-requires-3
-    demanded-requires
-    broken-requires
-    demanded-requires-2
-    broken-requires-2
-    refers-requires
-    broken-requires-3
-    lesser-requires
-    lesser-requires-2
-    returns)
+    (tie.spec (λ c κs. search needs) (λ c κs. search needs) (λ c κs. search needs) (λ c κs. search needs) (λ c κs. search needs)
+    (λ c κs. search needs) (λ c κs. search needs) (λ c κs. search needs) (λ c κs. search needs)
+    (λ c κs. search needs) (λ c κs. search needs) (λ c κs. search needs) (λ c κs. search needs) (λ c κs. search needs) (λ c κs. search needs)
+    (λ c κs. search needs) returns)

@@ -1,48 +1,45 @@
+-- `judge_zone` judges the rules that stand in the properties of a zone.
 use borrow.Author.Needs.{needs}
+use mathlib.Core.Path.{_≡_, ap, _∙_}
+use native.Mathlib.Omega.{arith}
+use lib.ListN.{length}
+use Rattle.notation.specs.Ascii.{bytes}
+use Rattle.schema.specs.Table23.{rule}
+use Rattle.fault.specs.Fault.{least}
+use Rattle.document.proofs.Records.{recordShape, pickedItems}
+use Rattle.fields.specs.Values.{memberOf, arrayBy}
+use Rattle.cross.specs.Known.{recordsOf}
+use Rattle.cross.specs.Cross.{ruleFaults, faultsOf}
+use Rattle.cross.proofs.Sizes.{member-short, array-short}
+use Rattle.cross.proofs.Fielded.{zone-rules}
 use Rattle.cross.proofs.zones.judge_zone.Statement.{statement}
 use Rattle.cross.proofs.zones.judge_zone.Tie as tie
-use Rattle.cross.proofs.zones.judge_zone.Reads as reads
-use Rattle.cross.proofs.zones.judge_zone.Lts as lts
-use Rattle.cross.proofs.zones.judge_rules.Reads as judge-rules-reads
-use Rattle.fields.proofs.array_in.Reads as array-in-reads
-use Rattle.fields.proofs.member.Reads as member-reads
 
--- src/zones.rt:131:43
-slice-aggregate-member : tie.Need-slice-aggregate-member
-slice-aggregate-member c = search needs
+-- where the rules were looked for
+abbrev Read : Type 0
+Read = tie.After-array-in
 
--- src/zones.rt:131:33
-member-requires : tie.Need-member-requires
-member-requires c κs = search needs
+rules-are : (c : Read) →
+    let p = c .before .before .before .before .before .before .before .before .before .args .p .now in
+    c .array-in .result .now ≡ arrayBy (memberOf (memberOf p (bytes "properties")) (bytes "rules"))
+rules-are c =
+    let m = c .before in let k = m .before .before in
+    c .array-in .ensures ∙ ap arrayBy (m .member2 .ensures ∙ ap (λ q. memberOf q (bytes "rules")) (k .member .ensures))
 
--- src/zones.rt:131:59
-slice-aggregate-member-2 : tie.Need-slice-aggregate-member-2
-slice-aggregate-member-2 c = search needs
-
--- src/zones.rt:131:26
-member-requires-2 : tie.Need-member-requires-2
-member-requires-2 c κs = search needs
-
--- src/zones.rt:131:9
-array-in-requires : tie.Need-array-in-requires
-array-in-requires c κs = search needs
-
--- src/zones.rt:132:5
 judge-rules-requires : tie.Need-judge-rules-requires
-judge-rules-requires c κs = ?
+judge-rules-requires c κs =
+    let s = c .before .before .before .before .before .before .before .before .before in let p = s .args .p .now in
+    let inner = memberOf p (bytes "properties") in let deep = memberOf inner (bytes "rules") in
+    (s .pre .0, omega (arith, ap length (rules-are c), s .pre .1, array-short deep, member-short inner (bytes "rules"), member-short p (bytes "properties")))
 
--- src/zones.rt:117:1
 returns : tie.Need-returns
-returns c = ?
+unfolding faultsOf recordShape
+returns c ms w =
+    let r = c .before in let a = r .before .before .before .before .before .before .before .before .before .args in
+    let types = recordsOf 1 (a .types .now) (a .stations .now) (a .plans .now) in
+    c .judge-rules .ensures ∙ ap (λ q. least (ruleFaults types (a .n) 1 (pickedItems rule q))) (rules-are r) ∙ ap least (zone-rules types (a .n) w)
 
 pub judge-zone-spec : {M : Type 1} → statement M
 judge-zone-spec =
     tie.close
-    (tie.spec
-    slice-aggregate-member
-    member-requires
-    slice-aggregate-member-2
-    member-requires-2
-    array-in-requires
-    judge-rules-requires
-    returns)
+    (tie.spec (λ c. search needs) (λ c κs. search needs) (λ c. search needs) (λ c κs. search needs) (λ c κs. search needs) judge-rules-requires returns)
