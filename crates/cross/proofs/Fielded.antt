@@ -30,7 +30,7 @@ use Rattle.document.proofs.Records.{pickedItems}
 use Rattle.fields.specs.Values.{memberOf, spelledBy, textBy, arrayBy, wholeOf, integerIn}
 use Rattle.fields.proofs.Values.{Holds, member-holds, holds-text, holds-items}
 use Rattle.fields.proofs.Fields.{field-spelled, field-text, field-items, rowOf, listed}
-use Rattle.cross.specs.References.{when, refers}
+use Rattle.references.specs.References.{when, refers}
 use Rattle.cross.specs.Cross.{at, each, availableFaults, idFaults, ruleFaults, zoneFaults, faultsOf}
 
 -- no bytes, no value

@@ -26,7 +26,7 @@ use Rattle.document.proofs.Records.{pickedItems}
 use Rattle.fields.specs.Values.{textBy, thereBy, arrayBy, spelledBy, integerIn}
 use Rattle.fields.proofs.Values.{member-holds, holds-there}
 use Rattle.fields.proofs.Fields.{field-text, field-given, field-spelled, field-items, rowOf, listed}
-use Rattle.cross.specs.References.{when, roomy, driven, notHuman, named, refers, demanded}
+use Rattle.references.specs.References.{when, roomy, driven, notHuman, named, refers, demanded}
 use Rattle.cross.specs.Cross.{at, sumOf, availableFaults, typeFaults, statusFaults, bikeFaults}
 use Rattle.cross.proofs.Layouts.{Reads, slot-member, slot-short, type-layout, status-layout, bike-layout}
 

@@ -1,6 +1,3 @@
-pub mod Noting
-pub mod Searches
-pub mod Meets
 pub mod Joined
 pub mod Sizes
 pub mod Layouts

@@ -13,7 +13,7 @@ use Rattle.judge.specs.Faults.{top, faulty}
 use Rattle.document.specs.Document.{none, some, fieldItems, field, text, textIn, spelling, given}
 use Rattle.fields.specs.Values.{integerIn}
 use Rattle.clean.specs.Clean.{recordsOf, repeats}
-use Rattle.cross.specs.References.{when, roomy, driven, named, refers, demanded}
+use Rattle.references.specs.References.{when, roomy, driven, named, refers, demanded}
 
 -- a file of the set: absent, or present with what is picked of it
 pub data File : Type 0 where

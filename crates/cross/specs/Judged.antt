@@ -10,8 +10,8 @@ use Rattle.fault.specs.declared.Fault.{Fault}
 use Rattle.fault.specs.declared.Least.{Least}
 use Rattle.fault.specs.Fault.{least}
 use Rattle.document.proofs.Records.{recordShape}
-use Rattle.cross.specs.declared.Set.{Set}
-use Rattle.cross.specs.Known.{recordsOf}
+use Rattle.references.specs.declared.Set.{Set}
+use Rattle.references.specs.Known.{recordsOf}
 use Rattle.cross.specs.Cross.{faultsOf}
 
 module _ (set : Set) (types stations plans : List ℕ) where

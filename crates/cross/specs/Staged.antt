@@ -19,13 +19,13 @@ use Rattle.document.specs.declared.Span.the-variants as span
 use Rattle.document.specs.Spans.{recordsSpan}
 use Rattle.document.proofs.Records.{recordShape, pickedItems}
 use Rattle.clean.specs.Noted.{idName, idsIn, repeatAt, blamed}
-use Rattle.cross.specs.declared.Set.{Set}
+use Rattle.references.specs.declared.Set.{Set}
 use Rattle.cross.specs.declared.stage.Crossed.{Crossed}
 use Rattle.cross.specs.declared.stage.Crossed.the-variants.{Nothing, At}
-use Rattle.cross.specs.References.{when}
+use Rattle.references.specs.References.{when}
 use Rattle.cross.specs.Cross.{each}
-use Rattle.cross.specs.Known as known
-use Rattle.cross.specs.Known.{Objects}
+use Rattle.references.specs.Known as known
+use Rattle.references.specs.Known.{Objects}
 use Rattle.cross.specs.Judged as judged
 
 -- the array of a file's records, by the file's bytes
@@ -41,33 +41,6 @@ pub record Recorded (p : List ℕ) : Type 0 where
   pub short : length p ≤ fileBytes
   pub objects : Objects p
   pub few : length (itemsOf p) ≤ known.each
-
--- the files that are there, with nothing counted; and with their records counted
-abbrev pub setOf : (types stations statuses bikes plans : List ℕ) → Set
-setOf types stations statuses bikes plans =
-    record {
-      «types_here» = ltb 0 (length types);
-      «stations_here» = ltb 0 (length stations);
-      «statuses_here» = ltb 0 (length statuses);
-      «bikes_here» = ltb 0 (length bikes);
-      «plans_here» = ltb 0 (length plans);
-      types = 0;
-      stations = 0;
-      plans = 0;
-    }
-
-abbrev pub counting : Set → (types stations plans : ℕ) → Set
-counting s n m k =
-    record {
-      «types_here» = s .«types_here»;
-      «stations_here» = s .«stations_here»;
-      «statuses_here» = s .«statuses_here»;
-      «bikes_here» = s .«bikes_here»;
-      «plans_here» = s .«plans_here»;
-      types = n;
-      stations = m;
-      plans = k;
-    }
 
 -- another file calls for this one
 unfoldable pub calledFor : ℕ → Set → Bool

@@ -1,13 +1,13 @@
 // A record of file 4: a position of its own unless it stands at a station, and what it refers to.
-use crate::ALL;
-use crate::Set;
-use crate::reference::demanded;
-use crate::reference::named;
-use crate::reference::refers;
 use fault::Least;
 use fault::lesser;
 use fields::value_at;
 use judge::Place;
+use references::ALL;
+use references::Set;
+use references::rules::demanded;
+use references::rules::named;
+use references::rules::refers;
 use slots::gather;
 ghost use mathlib.Core.Bool.{not};
 ghost use mathlib.Core.List.{_++_};
@@ -15,8 +15,8 @@ ghost use mathlib.Core.Path.{_≡_};
 ghost use Rattle.fault.specs.Fault.{least};
 ghost use Rattle.judge.specs.Faults.{faulty};
 ghost use Rattle.fields.specs.Values.{textBy, thereBy};
-ghost use Rattle.cross.specs.References.{demanded as demandedOf, refers as refersTo, named as namedBy, driven as drivenOf};
-ghost use Rattle.cross.specs.Known.{Known, recordsOf};
+ghost use Rattle.references.specs.References.{demanded as demandedOf, refers as refersTo, named as namedBy, driven as drivenOf};
+ghost use Rattle.references.specs.Known.{Known, recordsOf};
 ghost use Rattle.cross.specs.Judged.{Judges};
 
 // Fields 41 and 42, by their values and that of field 47.

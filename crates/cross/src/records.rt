@@ -1,12 +1,12 @@
 // The records of a file, one by one.
-use crate::ALL;
-use crate::Set;
 use crate::bikes::judge_bike;
 use crate::statuses::judge_status;
 use crate::types::judge_type;
 use crate::zones::judge_zone;
 use fault::Least;
 use fault::lesser;
+use references::ALL;
+use references::Set;
 use walk::ItemStep;
 use walk::next_item;
 ghost use mathlib.Core.Path.{_≡_};
@@ -16,7 +16,7 @@ ghost use Rattle.limits.specs.Ceilings.{fileBytes};
 ghost use Rattle.fault.specs.Fault.{least};
 ghost use Rattle.document.proofs.Records.{recordShape, pickedItems};
 ghost use Rattle.cross.specs.Cross.{each};
-ghost use Rattle.cross.specs.Known.{Known, Objects};
+ghost use Rattle.references.specs.Known.{Known, Objects};
 ghost use Rattle.cross.specs.Judged.{broken, Judges};
 
 // The n-th record `p` of a file. Those of files 2 and 5 refer to nothing.

@@ -1,8 +1,4 @@
 // Stage C of a set: file by file whether it is called for, which id repeats, and what its records demand.
-use crate::ALL;
-use crate::EACH;
-use crate::Set;
-use crate::note::note;
 use crate::records::judge_records;
 use clean::Cleanness;
 use clean::ids::first_repeat;
@@ -14,6 +10,10 @@ use fault::Fault;
 use fault::Least;
 use fault::lesser;
 use judge::Place;
+use references::ALL;
+use references::EACH;
+use references::Set;
+use references::note::note;
 use word::kind::Kind;
 ghost use mathlib.Core.Path.{_≡_};
 ghost use Prim.Native.Nat.{_≤_};
@@ -22,8 +22,8 @@ ghost use Rattle.walk.specs.Walk.{itemsOf};
 ghost use Rattle.word.specs.Kinds.{condition};
 ghost use Rattle.fault.specs.Fault.{least};
 ghost use Rattle.judge.specs.Faults.{top, faulty};
-ghost use Rattle.cross.specs.References.{when};
-ghost use Rattle.cross.specs.Known.{Known, each};
+ghost use Rattle.references.specs.References.{when};
+ghost use Rattle.references.specs.Known.{Known, each};
 ghost use Rattle.cross.specs.Stage.{Through, filesOf, stageC};
 ghost use Rattle.cross.specs.Staged.{Recorded, recordsPart, calledFor, idsLeast, fileLeast, numberedLeast, firstFrom};
 

@@ -1,9 +1,4 @@
 // A record of file 3: its station, and the types that are available there.
-use crate::ALL;
-use crate::Set;
-use crate::reference::demanded;
-use crate::reference::named;
-use crate::reference::refers;
 use fault::Least;
 use fault::lesser;
 use fields::array_in;
@@ -11,6 +6,11 @@ use fields::integer_in;
 use fields::member;
 use fields::value_at;
 use judge::Place;
+use references::ALL;
+use references::Set;
+use references::rules::demanded;
+use references::rules::named;
+use references::rules::refers;
 use slots::gather;
 use walk::ItemStep;
 use walk::next_item;
@@ -31,9 +31,9 @@ ghost use Rattle.fault.specs.Fault.{least};
 ghost use Rattle.judge.specs.Faults.{faulty};
 ghost use Rattle.document.proofs.Records.{pickedItems};
 ghost use Rattle.fields.specs.Values.{textBy, thereBy, arrayBy, spelledBy, integerIn};
-ghost use Rattle.cross.specs.References.{when, demanded as demandedOf, refers as refersTo, named as namedBy, roomy as roomyOf};
+ghost use Rattle.references.specs.References.{when, demanded as demandedOf, refers as refersTo, named as namedBy, roomy as roomyOf};
 ghost use Rattle.cross.specs.Cross.{at, sumOf, availableFaults};
-ghost use Rattle.cross.specs.Known.{Known, recordsOf};
+ghost use Rattle.references.specs.Known.{Known, recordsOf};
 ghost use Rattle.cross.specs.Judged.{Judges};
 
 // The counts of the items of the array `p`, summed.

@@ -1,15 +1,15 @@
 // A record of file 1: a range unless a human drives, and a plan.
-use crate::ALL;
-use crate::Set;
-use crate::reference::demanded;
-use crate::reference::refers;
-use crate::search::is_driven;
 use fault::Least;
 use fault::lesser;
 use fields::value_at;
 use judge::Place;
+use references::ALL;
+use references::Set;
+use references::rules::demanded;
+use references::rules::refers;
+use references::search::is_driven;
 use slots::gather;
-ghost use Rattle.cross.specs.Known.{Known};
+ghost use Rattle.references.specs.Known.{Known};
 ghost use Rattle.cross.specs.Judged.{Judges};
 
 // The n-th record `p`. Its rows begin at line 5 of the table.

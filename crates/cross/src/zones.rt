@@ -1,12 +1,12 @@
 // A record of file 6: the types that its rules name.
-use crate::ALL;
-use crate::Set;
-use crate::reference::refers;
 use fault::Least;
 use fault::lesser;
 use fields::array_in;
 use fields::member;
 use judge::Place;
+use references::ALL;
+use references::Set;
+use references::rules::refers;
 use walk::ItemStep;
 use walk::next_item;
 ghost use mathlib.Core.Path.{_≡_};
@@ -18,7 +18,7 @@ ghost use Rattle.schema.specs.Table23.{rule as ruleShape};
 ghost use Rattle.fault.specs.Fault.{least};
 ghost use Rattle.document.proofs.Records.{pickedItems};
 ghost use Rattle.cross.specs.Cross.{idFaults, ruleFaults};
-ghost use Rattle.cross.specs.Known.{Known, recordsOf};
+ghost use Rattle.references.specs.Known.{Known, recordsOf};
 ghost use Rattle.cross.specs.Judged.{Judges};
 
 // The items of field 78, in the array `p`.

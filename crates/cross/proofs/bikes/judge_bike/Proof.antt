@@ -3,7 +3,7 @@ use borrow.Author.Needs.{needs}
 use mathlib.Core.Path.{ap, _∙_}
 use Rattle.fault.specs.Fault.{least}
 use Rattle.document.proofs.Records.{recordShape}
-use Rattle.cross.specs.Known.{recordsOf}
+use Rattle.references.specs.Known.{recordsOf}
 use Rattle.cross.specs.Cross.{at, faultsOf}
 use Rattle.cross.proofs.Joined.{both, breaks}
 use Rattle.cross.proofs.Gathering.{bike-is}

@@ -10,8 +10,8 @@ use Rattle.walk.proofs.Parts.{item-whole}
 use Rattle.schema.specs.Table23.{available}
 use Rattle.fault.specs.Fault.{least as leastOf}
 use Rattle.fields.specs.Values.{textBy}
-use Rattle.cross.specs.References.{refers as refersTo}
-use Rattle.cross.specs.Known.{recordsOf}
+use Rattle.references.specs.References.{refers as refersTo}
+use Rattle.references.specs.Known.{recordsOf}
 use Rattle.cross.specs.Cross.{at as placeAt}
 use Rattle.cross.proofs.Joined.{breaks}
 use Rattle.cross.proofs.Walked.{Goes, goes-start, goes-end, goes-more}

@@ -6,7 +6,7 @@ use lib.ListN.{length}
 use Rattle.schema.specs.Table23.{available}
 use Rattle.fault.specs.Fault.{least}
 use Rattle.document.proofs.Records.{pickedItems}
-use Rattle.cross.specs.Known.{recordsOf}
+use Rattle.references.specs.Known.{recordsOf}
 use Rattle.cross.specs.Cross.{at, availableFaults}
 use Rattle.cross.proofs.Joined.{both, breaks, joined}
 use Rattle.cross.proofs.Sizes.{array-short}

@@ -4,7 +4,7 @@ use mathlib.Core.Path.{ap, _∙_}
 use native.Mathlib.Omega.{arith}
 use Rattle.fault.specs.Fault.{least}
 use Rattle.document.proofs.Records.{recordShape}
-use Rattle.cross.specs.Known.{recordsOf}
+use Rattle.references.specs.Known.{recordsOf}
 use Rattle.cross.specs.Cross.{faultsOf}
 use Rattle.cross.proofs.Joined.{both}
 use Rattle.cross.proofs.Gathering.{status-is, counts-short}

@@ -4,8 +4,8 @@ use mathlib.Core.Path.{ap, _∙_}
 use Rattle.fault.specs.Fault.{least}
 use Rattle.document.proofs.Records.{recordShape}
 use Rattle.fields.specs.Values.{thereBy}
-use Rattle.cross.specs.References.{demanded as demandedOf}
-use Rattle.cross.specs.Known.{recordsOf}
+use Rattle.references.specs.References.{demanded as demandedOf}
+use Rattle.references.specs.Known.{recordsOf}
 use Rattle.cross.specs.Cross.{at, faultsOf}
 use Rattle.cross.proofs.Joined.{both, breaks, joined}
 use Rattle.cross.proofs.Gathering.{type-is}

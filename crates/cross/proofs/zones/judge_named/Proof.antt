@@ -9,8 +9,8 @@ use Rattle.walk.proofs.Places.{ItemPlaced, item-placed}
 use Rattle.walk.proofs.Parts.{item-whole}
 use Rattle.schema.specs.Shape.{Sort, scalar}
 use Rattle.fault.specs.Fault.{least as leastOf}
-use Rattle.cross.specs.References.{refers as refersTo}
-use Rattle.cross.specs.Known.{recordsOf}
+use Rattle.references.specs.References.{refers as refersTo}
+use Rattle.references.specs.Known.{recordsOf}
 use Rattle.cross.proofs.Joined.{breaks}
 use Rattle.cross.proofs.Walked.{Goes, goes-start, goes-end, goes-more}
 use Rattle.cross.proofs.Fielded.{idItem, id-each, id-text}

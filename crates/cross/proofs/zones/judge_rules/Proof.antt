@@ -12,7 +12,7 @@ use Rattle.schema.specs.Table23.{rule}
 use Rattle.fault.specs.Fault.{least as leastOf}
 use Rattle.document.proofs.Records.{pickedItems}
 use Rattle.fields.specs.Values.{arrayBy}
-use Rattle.cross.specs.Known.{recordsOf}
+use Rattle.references.specs.Known.{recordsOf}
 use Rattle.cross.specs.Cross.{idFaults}
 use Rattle.cross.proofs.Walked.{Goes, goes-start, goes-end, goes-more}
 use Rattle.cross.proofs.Fielded.{ruleItem, rule-each, rule-ids}

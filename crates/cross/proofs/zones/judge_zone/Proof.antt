@@ -8,7 +8,7 @@ use Rattle.schema.specs.Table23.{rule}
 use Rattle.fault.specs.Fault.{least}
 use Rattle.document.proofs.Records.{recordShape, pickedItems}
 use Rattle.fields.specs.Values.{memberOf, arrayBy}
-use Rattle.cross.specs.Known.{recordsOf}
+use Rattle.references.specs.Known.{recordsOf}
 use Rattle.cross.specs.Cross.{ruleFaults, faultsOf}
 use Rattle.cross.proofs.Sizes.{member-short, array-short}
 use Rattle.cross.proofs.Fielded.{zone-rules}
