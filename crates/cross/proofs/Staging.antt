@@ -29,18 +29,72 @@ use Rattle.cross.specs.Known as known
 use Rattle.cross.specs.Stage.{fileOf, filesOf, stageC, Through}
 use Rattle.cross.specs.Staged.{recordsPart, setOf, counting, calledFor, idsLeast, fileLeast, numberedLeast, crossing, firstFrom}
 use Rattle.cross.proofs.Files.{InBytes, file-bytes}
+use Rattle.cross.proofs.Bounds.{Fitting, cross-fits}
 
--- One file.
+-- The first of the files.
+
+-- how many records there are does not change which files there are
+pub counted-same : (set : Set) (n m k : ℕ) (types stations plans statuses bikes zones : List ℕ)
+    → firstFrom (numberedLeast (counting set n m k) types stations plans statuses bikes zones) 1 6 ≡ firstFrom (numberedLeast set types stations plans statuses bikes zones) 1 6
+unfolding numberedLeast fileLeast calledFor
+counted-same set n m k types stations plans statuses bikes zones = refl
+
+-- from a file on, of six
+module _ (least′ : ℕ → Least) where
+  abbrev pub firstOn : ℕ → Crossed
+  firstOn file = firstFrom least′ file (7 - file)
+
+  pub first-end : (file : ℕ) → 7 ≤ file → firstOn file ≡ Nothing
+  unfolding firstFrom
+  first-end file h = let z : 7 - file ≡ 0 = omega arith in ap (firstFrom least′ file) z
+
+  first-on : (file : ℕ) → file ≤ 6 → (x : Least) → least′ file ≡ x → firstOn file ≡ crossing file x (firstOn (file + 1))
+  unfolding firstFrom
+  first-on file h x e =
+      let z : 7 - file ≡ suc (7 - (file + 1)) = omega arith in
+      ap (firstFrom least′ file) z ∙ ap (λ (y : Least). crossing file y (firstOn (file + 1))) e
+
+  pub first-here : (file : ℕ) → file ≤ 6 → (f : Fault) → least′ file ≡ Is f → firstOn file ≡ At file f
+  first-here file h f e = first-on file h (Is f) e
+
+  pub first-later : (file : ℕ) → file ≤ 6 → least′ file ≡ None → firstOn (file + 1) ≡ firstOn file
+  first-later file h e = sym (first-on file h None e)
+
+  -- a file that is named breaks the rule that is named
+  first-at : (n start file : ℕ) (f : Fault) → firstFrom least′ start n ≡ At file f → (start ≤ file) × (file < start + n) × (least′ file ≡ Is f)
+  unfolding firstFrom
+  first-at zero start file f e = let z : _≡_ {A = ℕ} 0 1 = cc in absurd (omega arith)
+  first-at (suc n) start file f e = go (least′ start) refl e (first-at n (start + 1) file f)
+    where
+      go : (x : Least) → least′ start ≡ x → crossing start x (firstFrom least′ (start + 1) n) ≡ At file f
+          → (firstFrom least′ (start + 1) n ≡ At file f → (start + 1 ≤ file) × (file < start + 1 + n) × (least′ file ≡ Is f))
+          → (start ≤ file) × (file < start + suc n) × (least′ file ≡ Is f)
+      go None h k ih = let t = ih k in let a = t .0 in let b = t .1 in (omega arith, omega arith, t .2)
+      go (Is g) h k ih = let a : start ≡ file = cc in let b : g ≡ f = cc in (omega arith, omega arith, ap least′ (sym a) ∙ h ∙ ap Is b)
+
+-- a file's rule as a word's parts
+abbrev pub cleanness : Crossed → Cleanness
+cleanness Nothing = Clean
+cleanness (At file f) = Broken (place file f)
+
+crossing-broken : (file : ℕ) (x : Least) (rest : Crossed) → cleanness (crossing file x rest) ≡ broken file x (cleanness rest)
+crossing-broken file None rest = refl
+crossing-broken file (Is f) rest = refl
+
+next-file : (file : ℕ) (rest : Crossed) {x y : Least} {c : Cleanness} → x ≡ y → cleanness rest ≡ c → cleanness (crossing file x rest) ≡ broken file y c
+next-file file rest {x} {y} e k = crossing-broken file x rest ∙ ap (λ (u : Least). broken file u (cleanness rest)) e ∙ ap (broken file y) k
+
+-- Files that are through stages A and B.
 
 least-three : (xs ys zs : List Fault) → lesser (least xs) (lesser (least ys) (least zs)) ≡ least (xs ++ ys ++ zs)
-least-three xs ys zs = sym (least-append (xs ++ ys) zs ∙ ap (λ (u : Least). lesser u (least zs)) (least-append xs ys) ∙ lesser-assoc (least xs) (least ys) (least zs))
+least-three xs ys zs =
+    sym (least-append (xs ++ ys) zs ∙ ap (λ (u : Least). lesser u (least zs)) (least-append xs ys) ∙ lesser-assoc (least xs) (least ys) (least zs))
 
 -- a file is there just where it has bytes
 there-is : (n : ℕ) (s : List ℕ) → here (fileOf n s) ≡ ltb 0 (length s)
 there-is n [] = refl
 there-is n (b ∷ s) = sym (lt-ltb 0 (length (b ∷ s)) (omega arith))
 
--- six files that are through stages A and B
 pub record AllThrough (types stations statuses bikes plans zones : List ℕ) : Type 0 where
   pub first : Through 1 types
   pub second : Through 2 stations
@@ -50,11 +104,16 @@ pub record AllThrough (types stations statuses bikes plans zones : List ℕ) : T
   pub sixth : Through 6 zones
 
 module _ (types stations statuses bikes plans zones : List ℕ) (through : AllThrough types stations statuses bikes plans zones) where
-  abbrev pub files : Files
+  abbrev files : Files
   files = filesOf types stations statuses bikes plans zones
 
-  abbrev pub set : Set
+  abbrev set : Set
   set = setOf types stations statuses bikes plans
+
+  -- the least of a file, from the records of all in bytes
+  abbrev numbered : ℕ → Least
+  numbered =
+      numberedLeast set (recordsPart 1 types) (recordsPart 2 stations) (recordsPart 5 plans) (recordsPart 3 statuses) (recordsPart 4 bikes) (recordsPart 6 zones)
 
   presence : (file : ℕ) → calledFor file set ≡ absentees files file
   unfolding absentees calledFor
@@ -70,47 +129,43 @@ module _ (types stations statuses bikes plans zones : List ℕ) (through : AllTh
       rw (fileLeast, crossFaults, e, presence file, x .picked, y .picked, z .picked, b .picked, there-is 1 types, there-is 5 plans, ← b .repeated)
       (least-three _ _ _)
 
-  pub numbered-least : (file : ℕ) → 1 ≤ file → file ≤ 6
-      → numberedLeast set (recordsPart 1 types) (recordsPart 2 stations) (recordsPart 5 plans) (recordsPart 3 statuses) (recordsPart 4 bikes) (recordsPart 6 zones) file
-      ≡ least (crossFaults files file)
+  -- the file of a number
+  record Numbered (file : ℕ) : Type 0 where
+    bytes : List ℕ
+    is : fileIn files file ≡ fileOf file bytes
+    held : InBytes file bytes (recordsPart file bytes)
+    judged : numbered file ≡ fileLeast set (recordsPart 1 types) (recordsPart 2 stations) (recordsPart 5 plans) file (recordsPart file bytes)
+
+  number : (file : ℕ) → 1 ≤ file → file ≤ 6 → Numbered file
   unfolding numberedLeast fileIn
-  numbered-least zero h i = absurd (omega arith)
-  numbered-least (suc zero) h i = file-least 1 types refl (file-bytes 1 h i types (through .first))
-  numbered-least (suc (suc zero)) h i = file-least 2 stations refl (file-bytes 2 h i stations (through .second))
-  numbered-least (suc (suc (suc zero))) h i = file-least 3 statuses refl (file-bytes 3 h i statuses (through .third))
-  numbered-least (suc (suc (suc (suc zero)))) h i = file-least 4 bikes refl (file-bytes 4 h i bikes (through .fourth))
-  numbered-least (suc (suc (suc (suc (suc zero))))) h i = file-least 5 plans refl (file-bytes 5 h i plans (through .fifth))
-  numbered-least (suc (suc (suc (suc (suc (suc zero)))))) h i = file-least 6 zones refl (file-bytes 6 h i zones (through .sixth))
-  numbered-least (suc (suc (suc (suc (suc (suc (suc file))))))) h i = absurd (omega arith)
+  number zero h i = absurd (omega arith)
+  number (suc zero) h i = record { bytes = types; is = refl; held = file-bytes 1 h i types (through .first); judged = refl }
+  number (suc (suc zero)) h i = record { bytes = stations; is = refl; held = file-bytes 2 h i stations (through .second); judged = refl }
+  number (suc (suc (suc zero))) h i = record { bytes = statuses; is = refl; held = file-bytes 3 h i statuses (through .third); judged = refl }
+  number (suc (suc (suc (suc zero)))) h i = record { bytes = bikes; is = refl; held = file-bytes 4 h i bikes (through .fourth); judged = refl }
+  number (suc (suc (suc (suc (suc zero))))) h i = record { bytes = plans; is = refl; held = file-bytes 5 h i plans (through .fifth); judged = refl }
+  number (suc (suc (suc (suc (suc (suc zero)))))) h i = record { bytes = zones; is = refl; held = file-bytes 6 h i zones (through .sixth); judged = refl }
+  number (suc (suc (suc (suc (suc (suc (suc file))))))) h i = absurd (omega arith)
 
--- The first of the files.
+  numbered-least : (file : ℕ) → 1 ≤ file → file ≤ 6 → numbered file ≡ least (crossFaults files file)
+  numbered-least file h i = let t = number file h i in t .judged ∙ file-least file (t .bytes) (t .is) (t .held)
 
--- how many records there are of other files tells nothing of which files there are
-pub counted-same : (set : Set) (n m k : ℕ) (types stations plans statuses bikes zones : List ℕ)
-    → firstFrom (numberedLeast (counting set n m k) types stations plans statuses bikes zones) 1 6 ≡ firstFrom (numberedLeast set types stations plans statuses bikes zones) 1 6
-unfolding numberedLeast fileLeast calledFor
-counted-same set n m k types stations plans statuses bikes zones = refl
+  pub stage-is : cleanness (firstFrom numbered 1 6) ≡ stageC files
+  unfolding firstFrom stageC
+  stage-is =
+      let e : (file : ℕ) → 1 ≤ file → file ≤ 6 → numbered file ≡ least (crossFaults files file) = numbered-least in
+      next-file 1 (firstFrom numbered 2 5) (e 1 (omega arith) (omega arith))
+      (next-file 2 (firstFrom numbered 3 4) (e 2 (omega arith) (omega arith))
+      (next-file 3 (firstFrom numbered 4 3) (e 3 (omega arith) (omega arith))
+      (next-file 4 (firstFrom numbered 5 2) (e 4 (omega arith) (omega arith))
+      (next-file 5 (firstFrom numbered 6 1) (e 5 (omega arith) (omega arith))
+      (next-file 6 (firstFrom numbered 7 0) (e 6 (omega arith) (omega arith)) refl)))))
 
-module _ (least′ : ℕ → Least) where
-  pub first-end : (file : ℕ) → 7 ≤ file → firstFrom least′ file (7 - file) ≡ Nothing
-  unfolding firstFrom
-  first-end file h = let z : 7 - file ≡ 0 = omega arith in ap (firstFrom least′ file) z
-
-  more : (file : ℕ) → file ≤ 6 → firstFrom least′ file (7 - file) ≡ crossing file (least′ file) (firstFrom least′ (file + 1) (7 - (file + 1)))
-  unfolding firstFrom
-  more file h = let z : 7 - file ≡ suc (7 - (file + 1)) = omega arith in ap (firstFrom least′ file) z
-
-  pub first-here : (file : ℕ) → file ≤ 6 → (f : Fault) → least′ file ≡ Is f → firstFrom least′ file (7 - file) ≡ At file f
-  first-here file h f e = more file h ∙ ap (λ (x : Least). crossing file x (firstFrom least′ (file + 1) (7 - (file + 1)))) e
-
-  pub first-later : (file : ℕ) → file ≤ 6 → least′ file ≡ None → firstFrom least′ (file + 1) (7 - (file + 1)) ≡ firstFrom least′ file (7 - file)
-  first-later file h e = sym (more file h ∙ ap (λ (x : Least). crossing file x (firstFrom least′ (file + 1) (7 - (file + 1)))) e)
-
--- a file's rule as a word's parts
-abbrev pub cleanness : Crossed → Cleanness
-cleanness Nothing = Clean
-cleanness (At file f) = Broken (place file f)
-
-crossing-broken : (file : ℕ) (x : Least) (next : Crossed) → cleanness (crossing file x next) ≡ broken file x (cleanness next)
-crossing-broken file None next = refl
-crossing-broken file (Is f) next = refl
+  -- the first file's rule fits the word
+  pub stage-fits : (file : ℕ) (f : Fault) → firstFrom numbered 1 6 ≡ At file f → Fitting f
+  stage-fits file f e =
+      let t = first-at numbered 6 1 file f e in
+      let h : 1 ≤ file = t .0 in
+      let i : file ≤ 6 = omega (arith, t .1) in
+      let n = number file h i in
+      cross-fits files file h i (n .is) (n .held) f (sym (numbered-least file h i) ∙ t .2)
