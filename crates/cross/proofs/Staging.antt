@@ -3,11 +3,11 @@
 use mathlib.Core.Bool.{Bool, true, false, not}
 use mathlib.Core.List.{List, [], _∷_, _++_}
 use mathlib.Core.Path.{_≡_, refl, sym, ap, _∙_}
-use Prim.Native.Nat.{ℕ, zero, suc, _+_, _-_, _≤_, _<_}
+use Prim.Native.Nat.{ℕ, zero, suc, _+_, _-_, _*_, _≤_, _<_}
 use native.Mathlib.Omega.{arith}
 use lib.Dec.{eqb, ltb}
 use lib.ListN.{length}
-use borrow.Author.Tests.{lt-ltb}
+use borrow.Author.Tests.{lt-ltb, le-ltb, ne-eqb}
 use Rattle.notation.specs.Choice.{_⇒_else_, _and_}
 use Rattle.word.specs.Kinds.{condition}
 use Rattle.fault.specs.declared.Fault.{Fault}
@@ -20,6 +20,7 @@ use Rattle.document.proofs.Records.{recordShape, pickedItems}
 use Rattle.clean.specs.declared.Cleanness.{Cleanness}
 use Rattle.clean.specs.declared.Cleanness.the-variants.{Clean, Broken}
 use Rattle.clean.specs.Clean.{place, broken}
+use Rattle.clean.specs.Noted.{idName, idsIn, repeatAt, blamed}
 use Rattle.cross.specs.declared.Set.{Set}
 use Rattle.cross.specs.declared.stage.Crossed.{Crossed}
 use Rattle.cross.specs.declared.stage.Crossed.the-variants.{Nothing, At}
@@ -30,6 +31,22 @@ use Rattle.cross.specs.Stage.{fileOf, filesOf, stageC, Through}
 use Rattle.cross.specs.Staged.{recordsPart, setOf, counting, calledFor, idsLeast, fileLeast, numberedLeast, crossing, firstFrom}
 use Rattle.cross.proofs.Files.{InBytes, file-bytes}
 use Rattle.cross.proofs.Bounds.{Fitting, cross-fits}
+
+-- What one file is asked.
+
+pub called-else : (file : ℕ) (set : Set) → (file ≡ 2 → ⊥) → (file ≡ 3 → ⊥) → (file ≡ 4 → ⊥) → false ≡ calledFor file set
+unfolding calledFor
+called-else file set h i j = rw (calledFor, ne-eqb file 2 h, ne-eqb file 3 i, ne-eqb file 4 j)
+
+-- ids, by the number of the record that repeats one
+module _ (file : ℕ) (p : List ℕ) where
+  pub ids-unasked : 5 < file → None ≡ idsLeast file p
+  unfolding idsLeast
+  ids-unasked h = rw (idsLeast, lt-ltb 5 file h)
+
+  pub ids-asked : file ≤ 5 → (n : ℕ) → n ≡ repeatAt 1 [] (idsIn (idName file) p) → blamed (file * 10) n ≡ idsLeast file p
+  unfolding idsLeast
+  ids-asked h n e = rw (idsLeast, le-ltb 5 file h, e)
 
 -- The first of the files.
 
