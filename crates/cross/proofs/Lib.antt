@@ -1,3 +1,4 @@
 pub mod Files
 pub mod Bounds
+pub mod Keeping
 pub mod Staging

@@ -9,11 +9,11 @@ use lib.Dec.{eqb, ltb}
 use lib.ListN.{length}
 use borrow.Author.Tests.{lt-ltb, le-ltb, ne-eqb}
 use Rattle.notation.specs.Choice.{_⇒_else_, _and_}
-use Rattle.word.specs.Kinds.{condition}
+use Rattle.word.specs.Kinds.{idTwice, condition}
 use Rattle.fault.specs.declared.Fault.{Fault}
 use Rattle.fault.specs.declared.Least.{Least}
 use Rattle.fault.specs.declared.Least.the-variants.{None, Is}
-use Rattle.fault.specs.Fault.{least, lesser}
+use Rattle.fault.specs.Fault.{fault, least, lesser}
 use Rattle.fault.proofs.Leasts.{lesser-assoc, least-append}
 use Rattle.judge.specs.Faults.{top, faulty}
 use Rattle.document.proofs.Records.{recordShape, pickedItems}
@@ -44,9 +44,25 @@ module _ (file : ℕ) (p : List ℕ) where
   unfolding idsLeast
   ids-unasked h = rw (idsLeast, lt-ltb 5 file h)
 
-  pub ids-asked : file ≤ 5 → (n : ℕ) → n ≡ repeatAt 1 [] (idsIn (idName file) p) → blamed (file * 10) n ≡ idsLeast file p
-  unfolding idsLeast
-  ids-asked h n e = rw (idsLeast, le-ltb 5 file h, e)
+  module _ (h : file ≤ 5) (n : ℕ) (e : n ≡ repeatAt 1 [] (idsIn (idName file) p)) where
+    ids-asked : blamed (file * 10) n ≡ idsLeast file p
+    unfolding idsLeast
+    ids-asked = rw (idsLeast, le-ltb 5 file h, e)
+
+    pub ids-single : n ≡ 0 → None ≡ idsLeast file p
+    ids-single z = ap (blamed (file * 10)) (sym z) ∙ ids-asked
+
+    pub ids-repeated : (n ≡ 0 → ⊥) → Is (fault n (file * 10) 0 idTwice) ≡ idsLeast file p
+    ids-repeated z = ap (λ (t : Bool). t ⇒ None else Is (fault n (file * 10) 0 idTwice)) (sym (ne-eqb n 0 z)) ∙ ids-asked
+
+pub lesser-both : {a b c d : Least} → a ≡ c → b ≡ d → lesser a b ≡ lesser c d
+lesser-both {b = b} {c = c} e k = ap (λ (x : Least). lesser x b) e ∙ ap (lesser c) k
+
+pub numbered-else : (set : Set) (types stations plans statuses bikes zones : List ℕ) (file : ℕ) → (file ≡ 1 → ⊥) → (file ≡ 2 → ⊥) → (file ≡ 3 → ⊥) → (file ≡ 4 → ⊥) → (file ≡ 5 → ⊥)
+    → fileLeast set types stations plans 6 zones ≡ numberedLeast set types stations plans statuses bikes zones file
+unfolding numberedLeast
+numbered-else set types stations plans statuses bikes zones file h i j k l =
+    rw (numberedLeast, ne-eqb file 1 h, ne-eqb file 2 i, ne-eqb file 3 j, ne-eqb file 4 k, ne-eqb file 5 l)
 
 -- The first of the files.
 
