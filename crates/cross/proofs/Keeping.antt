@@ -9,37 +9,37 @@ use Rattle.cross.specs.declared.Set.{Set}
 use Rattle.cross.specs.Known.{each, Notes, Keeps, Known}
 use Rattle.cross.specs.Staged.{Recorded, counting}
 
--- three arrays with the notes of r records from the place `first` on, and what stood before that place
-pub record Made (file : ℕ) (p : List ℕ) (first : ℕ) (digests₀ starts₀ ends₀ digests starts ends : List ℕ) (r : ℕ) : Type 0 where
-  pub counted : r ≡ length (itemsOf p)
-  pub notes : Notes file p first digests starts ends
-  pub digests-keep : Keeps first digests₀ digests
-  pub starts-keep : Keeps first starts₀ starts
-  pub ends-keep : Keeps first ends₀ ends
+-- arrays after the r records of a file are noted from the place `first` on
+abbrev Noting : (file : ℕ) (p : List ℕ) (first : ℕ) (d s e d′ s′ e′ : List ℕ) (r : ℕ) → Type 0
+Noting file p first d s e d′ s′ e′ r = (r ≡ length (itemsOf p)) × Notes file p first d′ s′ e′ × Keeps first d d′ × Keeps first s s′ × Keeps first e e′
 
-module _ {file first r file₁ first₁ r₁ : ℕ} {p p₁ d s e d₁ s₁ e₁ d₂ s₂ e₂ : List ℕ} where
-  still : Made file p first d s e d₁ s₁ e₁ r → first + each ≤ first₁ → length (itemsOf p) ≤ each → Made file₁ p₁ first₁ d₁ s₁ e₁ d₂ s₂ e₂ r₁
-      → Made file p first d s e d₂ s₂ e₂ r
-  still a h few b =
-      record {
-        counted = a .counted;
-        notes = λ j i. rw (b .digests-keep (first + j) (omega arith), b .starts-keep (first + j) (omega arith), b .ends-keep (first + j) (omega arith)) (a .notes j i);
-        digests-keep = λ k i. rw (b .digests-keep k (omega arith)) (a .digests-keep k i);
-        starts-keep = λ k i. rw (b .starts-keep k (omega arith)) (a .starts-keep k i);
-        ends-keep = λ k i. rw (b .ends-keep k (omega arith)) (a .ends-keep k i);
-      }
+still : (file : ℕ) (p : List ℕ) (first k : ℕ) (d s e d′ s′ e′ : List ℕ) → first + each ≤ k → length (itemsOf p) ≤ each → Notes file p first d s e
+    → Keeps k d d′ → Keeps k s s′ → Keeps k e e′ → Notes file p first d′ s′ e′
+still file p first k d s e d′ s′ e′ h few notes keep-d keep-s keep-e j i =
+    rw (keep-d (first + j) (omega arith), keep-s (first + j) (omega arith), keep-e (first + j) (omega arith)) (notes j i)
 
-module _ (set here : Set) (n m k : ℕ) {types stations plans d s e d₁ s₁ e₁ d₂ s₂ e₂ d₃ s₃ e₃ : List ℕ} where
-  pub all-known : set ≡ counting here n m k → Made 1 types 0 d s e d₁ s₁ e₁ n → Made 2 stations each d₁ s₁ e₁ d₂ s₂ e₂ m
-      → Made 5 plans (2 * each) d₂ s₂ e₂ d₃ s₃ e₃ k → Recorded types → Recorded stations → Recorded plans → Known set types stations plans d₃ s₃ e₃
-  all-known is a b c x y z =
-      let a₃ = still (still a (omega arith) (x .few) b) (omega arith) (x .few) c in
-      let b₃ = still b (omega arith) (y .few) c in
+module _ (here : Set) (n m k : ℕ) (types stations plans : List ℕ) (d₁ s₁ e₁ d₂ s₂ e₂ d₃ s₃ e₃ : List ℕ) where
+  pub all-known : {set : Set} → set ≡ counting here n m k → n ≡ length (itemsOf types) → Notes 1 types 0 d₁ s₁ e₁ → Noting 2 stations each d₁ s₁ e₁ d₂ s₂ e₂ m
+      → Noting 5 plans (2 * each) d₂ s₂ e₂ d₃ s₃ e₃ k → Recorded types → Recorded stations → Recorded plans → Known set types stations plans d₃ s₃ e₃
+  all-known is count notes b c x y z =
+      let later = still 1 types 0 each d₁ s₁ e₁ d₂ s₂ e₂ (omega arith) (x .few) notes (b .2) (b .3) (b .4) in
       subst (λ (u : Set). Known u types stations plans d₃ s₃ e₃) (sym is)
       (record {
-        vehicleTypes = record { counted = a .counted; few = omega (arith, a .counted, x .few); room = omega arith; notes = a₃ .notes };
-        docks = record { counted = b .counted; few = omega (arith, b .counted, y .few); room = omega arith; notes = b₃ .notes };
-        prices = record { counted = c .counted; few = omega (arith, c .counted, z .few); room = omega arith; notes = c .notes };
+        vehicleTypes =
+            record {
+              counted = count;
+              few = omega (arith, x .few);
+              room = omega arith;
+              notes = still 1 types 0 (2 * each) d₂ s₂ e₂ d₃ s₃ e₃ (omega arith) (x .few) later (c .2) (c .3) (c .4);
+            };
+        docks =
+            record {
+              counted = b .0;
+              few = omega (arith, b .0, y .few);
+              room = omega arith;
+              notes = still 2 stations each (2 * each) d₂ s₂ e₂ d₃ s₃ e₃ (omega arith) (y .few) (b .1) (c .2) (c .3) (c .4);
+            };
+        prices = record { counted = c .0; few = omega (arith, c .0, z .few); room = omega arith; notes = c .1 };
         typeObjects = x .objects;
         stationObjects = y .objects;
         planObjects = z .objects;

@@ -67,10 +67,10 @@ numbered-else set types stations plans statuses bikes zones file h i j k l =
 -- The first of the files.
 
 -- how many records there are does not change which files there are
-pub counted-same : (set : Set) (n m k : ℕ) (types stations plans statuses bikes zones : List ℕ)
-    → firstFrom (numberedLeast (counting set n m k) types stations plans statuses bikes zones) 1 6 ≡ firstFrom (numberedLeast set types stations plans statuses bikes zones) 1 6
+pub counted-same : {set : Set} (here′ : Set) (n m k : ℕ) → set ≡ counting here′ n m k → (types stations plans statuses bikes zones : List ℕ)
+    → firstFrom (numberedLeast set types stations plans statuses bikes zones) 1 6 ≡ firstFrom (numberedLeast here′ types stations plans statuses bikes zones) 1 6
 unfolding numberedLeast fileLeast calledFor
-counted-same set n m k types stations plans statuses bikes zones = refl
+counted-same here′ n m k e types stations plans statuses bikes zones = ap (λ (u : Set). firstFrom (numberedLeast u types stations plans statuses bikes zones) 1 6) e
 
 -- from a file on, of six
 module _ (least′ : ℕ → Least) where
