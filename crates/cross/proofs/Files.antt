@@ -139,3 +139,7 @@ pub file-bytes : (n : ℕ) → 1 ≤ n → n ≤ 6 → (s : List ℕ) → Throug
 unfolding recordsPart
 file-bytes n h i [] t = subst (InBytes n []) (sym (nothing-cut (recordsSpan n []))) (absent-bytes n)
 file-bytes n h i (b ∷ r) t = subst (InBytes n (b ∷ r)) (sym (ap (atSpan (b ∷ r)) (through n h i b r t .there .is))) (there-bytes n h i b r t)
+
+-- the records of such a file, cut out
+pub part-recorded : (n : ℕ) → 1 ≤ n → n ≤ 6 → (s : List ℕ) → Through n s → {p : List ℕ} → p ≡ recordsPart n s → Recorded p
+part-recorded n h i s t e = subst Recorded (sym e) (file-bytes n h i s t .recorded)

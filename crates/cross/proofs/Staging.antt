@@ -2,14 +2,17 @@
 -- first file that breaks a rule is stage C's.
 use mathlib.Core.Bool.{Bool, true, false, not}
 use mathlib.Core.List.{List, [], _∷_, _++_}
-use mathlib.Core.Path.{_≡_, refl, sym, ap, _∙_}
+use mathlib.Core.Path.{_≡_, refl, sym, ap, subst, _∙_}
 use Prim.Native.Nat.{ℕ, zero, suc, _+_, _-_, _*_, _≤_, _<_}
 use native.Mathlib.Omega.{arith}
 use lib.Dec.{eqb, ltb}
 use lib.ListN.{length}
 use borrow.Author.Tests.{lt-ltb, le-ltb, ne-eqb}
 use Rattle.notation.specs.Choice.{_⇒_else_, _and_}
+use Rattle.word.specs.declared.Parts.{Parts}
 use Rattle.word.specs.Kinds.{idTwice, condition}
+use Rattle.word.specs.Form.{form1}
+use Rattle.word.specs.Word.{Fits}
 use Rattle.fault.specs.declared.Fault.{Fault}
 use Rattle.fault.specs.declared.Least.{Least}
 use Rattle.fault.specs.declared.Least.the-variants.{None, Is}
@@ -128,6 +131,17 @@ there-is : (n : ℕ) (s : List ℕ) → here (fileOf n s) ≡ ltb 0 (length s)
 there-is n [] = refl
 there-is n (b ∷ s) = sym (lt-ltb 0 (length (b ∷ s)) (omega arith))
 
+-- what the code answers, from the records of all files in bytes
+abbrev pub numbered : (types stations statuses bikes plans zones : List ℕ) → ℕ → Least
+numbered types stations statuses bikes plans zones =
+    numberedLeast (setOf types stations statuses bikes plans) (recordsPart 1 types) (recordsPart 2 stations) (recordsPart 5 plans) (recordsPart 3 statuses)
+    (recordsPart 4 bikes) (recordsPart 6 zones)
+
+pub crossed-is : (types stations statuses bikes plans zones : List ℕ) {set : Set} {a b c d e g : List ℕ} → set ≡ setOf types stations statuses bikes plans
+    → a ≡ recordsPart 1 types → b ≡ recordsPart 2 stations → c ≡ recordsPart 3 statuses → d ≡ recordsPart 4 bikes → e ≡ recordsPart 5 plans → g ≡ recordsPart 6 zones
+    → firstFrom (numberedLeast set a b e c d g) 1 6 ≡ firstFrom (numbered types stations statuses bikes plans zones) 1 6
+crossed-is types stations statuses bikes plans zones h i j k l m n = rw (h, i, j, k, l, m, n)
+
 pub record AllThrough (types stations statuses bikes plans zones : List ℕ) : Type 0 where
   pub first : Through 1 types
   pub second : Through 2 stations
@@ -143,10 +157,8 @@ module _ (types stations statuses bikes plans zones : List ℕ) (through : AllTh
   abbrev set : Set
   set = setOf types stations statuses bikes plans
 
-  -- the least of a file, from the records of all in bytes
-  abbrev numbered : ℕ → Least
-  numbered =
-      numberedLeast set (recordsPart 1 types) (recordsPart 2 stations) (recordsPart 5 plans) (recordsPart 3 statuses) (recordsPart 4 bikes) (recordsPart 6 zones)
+  abbrev leasts : ℕ → Least
+  leasts = numbered types stations statuses bikes plans zones
 
   presence : (file : ℕ) → calledFor file set ≡ absentees files file
   unfolding absentees calledFor
@@ -167,7 +179,7 @@ module _ (types stations statuses bikes plans zones : List ℕ) (through : AllTh
     bytes : List ℕ
     is : fileIn files file ≡ fileOf file bytes
     held : InBytes file bytes (recordsPart file bytes)
-    judged : numbered file ≡ fileLeast set (recordsPart 1 types) (recordsPart 2 stations) (recordsPart 5 plans) file (recordsPart file bytes)
+    judged : leasts file ≡ fileLeast set (recordsPart 1 types) (recordsPart 2 stations) (recordsPart 5 plans) file (recordsPart file bytes)
 
   number : (file : ℕ) → 1 ≤ file → file ≤ 6 → Numbered file
   unfolding numberedLeast fileIn
@@ -180,25 +192,40 @@ module _ (types stations statuses bikes plans zones : List ℕ) (through : AllTh
   number (suc (suc (suc (suc (suc (suc zero)))))) h i = record { bytes = zones; is = refl; held = file-bytes 6 h i zones (through .sixth); judged = refl }
   number (suc (suc (suc (suc (suc (suc (suc file))))))) h i = absurd (omega arith)
 
-  numbered-least : (file : ℕ) → 1 ≤ file → file ≤ 6 → numbered file ≡ least (crossFaults files file)
+  numbered-least : (file : ℕ) → 1 ≤ file → file ≤ 6 → leasts file ≡ least (crossFaults files file)
   numbered-least file h i = let t = number file h i in t .judged ∙ file-least file (t .bytes) (t .is) (t .held)
 
-  pub stage-is : cleanness (firstFrom numbered 1 6) ≡ stageC files
+  pub stage-is : cleanness (firstFrom leasts 1 6) ≡ stageC files
   unfolding firstFrom stageC
   stage-is =
-      let e : (file : ℕ) → 1 ≤ file → file ≤ 6 → numbered file ≡ least (crossFaults files file) = numbered-least in
-      next-file 1 (firstFrom numbered 2 5) (e 1 (omega arith) (omega arith))
-      (next-file 2 (firstFrom numbered 3 4) (e 2 (omega arith) (omega arith))
-      (next-file 3 (firstFrom numbered 4 3) (e 3 (omega arith) (omega arith))
-      (next-file 4 (firstFrom numbered 5 2) (e 4 (omega arith) (omega arith))
-      (next-file 5 (firstFrom numbered 6 1) (e 5 (omega arith) (omega arith))
-      (next-file 6 (firstFrom numbered 7 0) (e 6 (omega arith) (omega arith)) refl)))))
+      let e : (file : ℕ) → 1 ≤ file → file ≤ 6 → leasts file ≡ least (crossFaults files file) = numbered-least in
+      next-file 1 (firstFrom leasts 2 5) (e 1 (omega arith) (omega arith))
+      (next-file 2 (firstFrom leasts 3 4) (e 2 (omega arith) (omega arith))
+      (next-file 3 (firstFrom leasts 4 3) (e 3 (omega arith) (omega arith))
+      (next-file 4 (firstFrom leasts 5 2) (e 4 (omega arith) (omega arith))
+      (next-file 5 (firstFrom leasts 6 1) (e 5 (omega arith) (omega arith))
+      (next-file 6 (firstFrom leasts 7 0) (e 6 (omega arith) (omega arith)) refl)))))
 
-  -- the first file's rule fits the word
-  pub stage-fits : (file : ℕ) (f : Fault) → firstFrom numbered 1 6 ≡ At file f → Fitting f
-  stage-fits file f e =
-      let t = first-at numbered 6 1 file f e in
+  -- the rule of the first file fits the word
+  first-fits : (file : ℕ) (f : Fault) → firstFrom leasts 1 6 ≡ At file f → (file ≤ 6) × Fitting f
+  first-fits file f e =
+      let t = first-at leasts 6 1 file f e in
       let h : 1 ≤ file = t .0 in
       let i : file ≤ 6 = omega (arith, t .1) in
       let n = number file h i in
-      cross-fits files file h i (n .is) (n .held) f (sym (numbered-least file h i) ∙ t .2)
+      (i, cross-fits files file h i (n .is) (n .held) f (sym (numbered-least file h i) ∙ t .2))
+
+  pub first-small : (file : ℕ) (f : Fault) → firstFrom leasts 1 6 ≡ At file f → (f .«record» < 65_536) × (f .sub < 65_536)
+  first-small file f e = let t = first-fits file f e in (omega (arith, t .1 .rec), omega (arith, t .1 .sub))
+
+  pub stage-fits : (p : Parts) → stageC files ≡ Broken p → Fits form1 p
+  stage-fits p e = go (firstFrom leasts 1 6) refl
+    where
+      go : (x : Crossed) → firstFrom leasts 1 6 ≡ x → Fits form1 p
+      go Nothing h = let k : Clean ≡ Broken p = ap cleanness (sym h) ∙ stage-is ∙ e in let z : _≡_ {A = ℕ} 0 1 = cc in absurd (omega arith)
+      go (At file f) h =
+          let k : Broken (place file f) ≡ Broken p = ap cleanness (sym h) ∙ stage-is ∙ e in
+          let is : place file f ≡ p = cc in
+          let t = first-fits file f h in
+          let r = t .1 .rec in let s = t .1 .sub in let φ = t .1 .field in let κ = t .1 .kind .most in
+          subst (Fits form1) is (omega arith, (omega arith, (omega arith, (omega arith, (omega arith, (omega arith, (omega arith, tt)))))))
