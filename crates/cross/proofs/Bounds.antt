@@ -1,14 +1,14 @@
 -- Every broken rule of stage C fits the word: a file has no more records than the word can number, nor a record more items or rules.
 use mathlib.Core.Bool.{Bool, true, false, not}
-use mathlib.Core.List.{List, [], _∷_, _++_, map, List·Memᴰ, List·Memᴰ·head, List·Memᴰ·tail}
+use mathlib.Core.List.{List, [], _∷_, map, List·Memᴰ, List·Memᴰ·head, List·Memᴰ·tail}
 use mathlib.Core.Logic.{_⊎_, inl, inr, ⊎-elim}
-use mathlib.Core.Path.{_≡_, refl, sym, ap, _∙_}
+use mathlib.Core.Path.{_≡_, refl}
 use Prim.Native.Nat.{ℕ, zero, suc, _+_, _*_, _≤_}
 use native.Mathlib.Omega.{arith}
 use lib.Dec.{eqb, ltb}
 use lib.ListN.{length, length-map}
 use borrow.Author.Tests.{ltb-false}
-use Rattle.notation.specs.Choice.{_⇒_else_, _and_}
+use Rattle.notation.specs.Choice.{_and_}
 use Rattle.lexeme.proofs.Steps.{by-test}
 use Rattle.word.specs.Kinds.{idTwice, dangling, condition, sumDiffers}
 use Rattle.json.specs.Tree.{Json}
@@ -16,25 +16,25 @@ use Rattle.walk.specs.declared.Item.{Item}
 use Rattle.walk.specs.Walk.{itemsOf}
 use Rattle.walk.specs.Part.{treeOf}
 use Rattle.walk.proofs.Parts.{itemOf}
-use Rattle.schema.specs.Table23.{status, available, zone, rule}
+use Rattle.schema.specs.Table23.{status, zone}
 use Rattle.schema.specs.Pick.{Picked, pick}
 use Rattle.fault.specs.declared.Fault.{Fault}
-use Rattle.fault.specs.declared.Least.the-variants.{None, Is}
+use Rattle.fault.specs.declared.Least.the-variants.{Is}
 use Rattle.fault.specs.Fault.{fault, least}
 use Rattle.judge.specs.declared.Place.{Place}
-use Rattle.judge.specs.Faults.{top, faulty, faults}
+use Rattle.judge.specs.Faults.{faulty, faults}
 use Rattle.judge.specs.Bounds.{greatest, fields}
 use Rattle.judge.proofs.Holds.{All, none, more, only, all-append, Holds, nothing, holding, holds-is, holds-least, holds-append}
 use Rattle.document.specs.Document as document
 use Rattle.document.specs.Document.{Maybe, field, fieldItems, text, textIn, spelling, given}
 use Rattle.fields.specs.Values.{integerIn}
-use Rattle.document.proofs.Records.{recordShape, pickedItems}
+use Rattle.document.proofs.Records.{recordShape}
 use Rattle.fields.proofs.Fields.{rowOf, listed}
 use Rattle.clean.specs.Ids.{among}
 use Rattle.clean.specs.Noted.{idName, idIn, idsIn, repeatAt, blamed}
 use Rattle.clean.proofs.Faultless.{field-sound, items-few}
 use Rattle.cross.specs.References.{when, anyWith, any, roomy, driven, named, refers, demanded}
-use Rattle.cross.specs.Cross.{Files, at, absentees, recordsIn, repeatsIn, sumOf, availableFaults, idFaults, ruleFaults, typeFaults, statusFaults, bikeFaults, zoneFaults, each, faultsOf, fileIn, crossFaults}
+use Rattle.cross.specs.Cross.{Files, at, absentees, sumOf, availableFaults, idFaults, ruleFaults, typeFaults, statusFaults, bikeFaults, zoneFaults, each, faultsOf, fileIn, crossFaults}
 use Rattle.cross.specs.Stage.{fileOf}
 use Rattle.cross.specs.Staged.{idsLeast}
 use Rattle.cross.proofs.Files.{InBytes}

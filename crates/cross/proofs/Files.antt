@@ -1,15 +1,13 @@
 -- A file of the set that is through stages A and B: in its bytes stand the records that are picked of it, each of them an object, and the first
 -- id that repeats there is the least of its repeats. An absent file has no records either way.
-use mathlib.Core.Bool.{true, false}
-use mathlib.Core.List.{List, [], _∷_, map, List·Memᴰ, List·Memᴰ·not-nil, Memᴰ·map}
+use mathlib.Core.List.{List, [], _∷_, List·Memᴰ, List·Memᴰ·not-nil, Memᴰ·map}
 use mathlib.Core.Path.{_≡_, refl, sym, ap, subst, _∙_}
-use Prim.Native.Nat.{ℕ, zero, suc, _-_, _*_, _≤_}
+use Prim.Native.Nat.{ℕ, zero, suc, _-_, _≤_}
 use native.Mathlib.Omega.{arith}
 use lib.Dec.{ltb}
 use lib.ListN.{length, take, length-map}
 use lib.Seq.{take-nil, drop-nil}
 use borrow.Author.Tests.{ltb-true, ltb-false}
-use Rattle.notation.specs.Choice.{_⇒_else_}
 use Rattle.lexeme.proofs.Steps.{by-test}
 use Rattle.json.specs.Tree as tree
 use Rattle.json.specs.Tree.{Json, Members}

@@ -1,9 +1,9 @@
 -- What is noted of a file stays when a later one is noted behind it, so that after three files all is known that references ask for.
 use mathlib.Core.List.{List}
 use mathlib.Core.Path.{_≡_, sym, subst}
-use Prim.Native.Nat.{ℕ, _+_, _*_, _≤_, _<_}
+use Prim.Native.Nat.{ℕ, _+_, _*_, _≤_}
 use native.Mathlib.Omega.{arith}
-use lib.ListN.{length, getD}
+use lib.ListN.{length}
 use Rattle.walk.specs.Walk.{itemsOf}
 use Rattle.cross.specs.declared.Set.{Set}
 use Rattle.cross.specs.Known.{each, Notes, Keeps, Known}

@@ -1,6 +1,6 @@
 -- `is_called_for` asks of each file that another calls for.
 use borrow.Author.Needs.{needs}
-use mathlib.Core.Path.{_≡_, sym, ap, _∙_}
+use mathlib.Core.Path.{sym, ap, _∙_}
 use Rattle.cross.specs.Staged.{calledFor}
 use Rattle.cross.proofs.Staging.{called-else}
 use Rattle.cross.proofs.stage.is_called_for.Statement.{statement}

@@ -1,6 +1,6 @@
 -- `judge_file` takes the least of three judgements.
 use borrow.Author.Needs.{needs}
-use mathlib.Core.Path.{_≡_, _∙_}
+use mathlib.Core.Path.{_∙_}
 use Rattle.cross.specs.Staged.{fileLeast}
 use Rattle.cross.proofs.Staging.{lesser-both}
 use Rattle.cross.proofs.stage.judge_file.Statement.{statement}

@@ -27,7 +27,8 @@ returns c =
 loop-again : tie.Need-loop-again Inv-loop μ-loop
 loop-again c =
     let n = c .before .before in let t = n .before in let k = t .before in
-    (omega (arith, t .loop-test .taken), first-later _ (k .loop .file) (t .loop-test .taken) (sym (n .judge-numbered .ensures) ∙ c .enum-told .given .1) ∙ k .loop .inv .1)
+    let less = t .loop-test .taken in
+    (omega (arith, less), first-later _ (k .loop .file) less (sym (n .judge-numbered .ensures) ∙ c .enum-told .given .1) ∙ k .loop .inv .1)
 
 returns-2 : tie.Need-returns-2 Inv-loop μ-loop
 returns-2 c = let k = c .before in sym (first-end _ (k .loop .file) (c .loop-test .left)) ∙ k .loop .inv .1

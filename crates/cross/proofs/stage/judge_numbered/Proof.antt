@@ -1,6 +1,6 @@
 -- `judge_numbered` judges the file of each number.
 use borrow.Author.Needs.{needs}
-use mathlib.Core.Path.{_≡_, sym, ap, _∙_}
+use mathlib.Core.Path.{sym, ap, _∙_}
 use Rattle.cross.specs.Staged.{numberedLeast}
 use Rattle.cross.proofs.Staging.{numbered-else}
 use Rattle.cross.proofs.stage.judge_numbered.Statement.{statement}

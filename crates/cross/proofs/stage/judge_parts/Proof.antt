@@ -1,6 +1,6 @@
 -- `judge_parts` notes the three files one behind another, so that all is known when the files are judged.
 use borrow.Author.Needs.{needs}
-use mathlib.Core.Path.{_≡_, _∙_}
+use mathlib.Core.Path.{_∙_}
 use Rattle.cross.proofs.Keeping.{all-known}
 use Rattle.cross.proofs.Staging.{counted-same}
 use Rattle.cross.proofs.stage.judge_parts.Statement.{statement}

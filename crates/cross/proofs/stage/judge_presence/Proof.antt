@@ -1,7 +1,7 @@
 -- `judge_presence` names the header where the file is called for.
 use borrow.Author.Needs.{needs}
 use mathlib.Core.Bool.{Bool}
-use mathlib.Core.Path.{_≡_, sym, ap, _∙_}
+use mathlib.Core.Path.{sym, ap, _∙_}
 use Rattle.word.specs.Kinds.{condition}
 use Rattle.fault.specs.Fault.{least}
 use Rattle.judge.specs.Faults.{top, faulty}

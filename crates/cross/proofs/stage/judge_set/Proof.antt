@@ -1,12 +1,11 @@
 -- `judge_set` cuts out the records of each file; the first file that breaks a rule is stage C's, and its rule fits the word.
 use borrow.Author.Needs.{needs}
 use mathlib.Core.Path.{_≡_, sym, ap, _∙_}
-use Prim.Native.Nat.{_≤_}
 use native.Mathlib.Omega.{arith}
 use Rattle.clean.specs.declared.Cleanness.the-variants.{Broken}
 use Rattle.cross.specs.Staged.{firstFrom}
 use Rattle.cross.proofs.Files.{part-recorded}
-use Rattle.cross.proofs.Staging.{AllThrough, numbered, crossed-is, cleanness, stage-is, first-small}
+use Rattle.cross.proofs.Sets.{AllThrough, numbered, crossed-is, cleanness, stage-is, first-small}
 use Rattle.cross.proofs.stage.judge_set.Statement.{statement}
 use Rattle.cross.proofs.stage.judge_set.Tie as tie
 

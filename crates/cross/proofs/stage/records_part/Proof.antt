@@ -1,6 +1,6 @@
 -- `records_part` cuts the array of records out of the file's bytes.
 use borrow.Author.Needs.{needs}
-use mathlib.Core.Path.{_≡_, sym, ap, _∙_}
+use mathlib.Core.Path.{sym, ap, _∙_}
 use Rattle.cross.specs.Staged.{atSpan, recordsPart}
 use Rattle.cross.proofs.stage.records_part.Statement.{statement}
 use Rattle.cross.proofs.stage.records_part.Tie as tie
