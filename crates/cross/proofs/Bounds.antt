@@ -77,7 +77,8 @@ module _ (n : ℕ) (h : n ≤ greatest) where
   available-fit : (types : List Picked) (sub : ℕ) (l : List Picked) → sub + length l ≤ greatest + 1 → All Fitting (availableFaults types n sub l)
   unfolding availableFaults
   available-fit types sub [] i = none
-  available-fit types sub (x ∷ l) i = all-append (field-fits sub 38 (omega arith) (omega arith) (refers-kinds (text 38 x) 10 types)) (available-fit types (sub + 1) l (omega arith))
+  available-fit types sub (x ∷ l) i =
+      all-append (field-fits sub 38 (omega arith) (omega arith) (refers-kinds (text 38 x) 10 types)) (available-fit types (sub + 1) l (omega arith))
 
   ids-fit : (types : List Picked) (sub : ℕ) → sub ≤ greatest → (l : List Picked) → All Fitting (idFaults types n sub l)
   unfolding idFaults
@@ -182,7 +183,8 @@ module _ (files : Files) (file : ℕ) (h : 1 ≤ file) (i : file ≤ 6) {s p : L
   file-holds : Holds Fitting (least (crossFaults files file))
   unfolding crossFaults
   file-holds =
-      let presence = field-fits 0 (omega arith) 0 0 (omega arith) (omega arith) (when-kinds (absentees files file) condition (record { least = omega arith; most = omega arith })) in
+      let kinds = when-kinds (absentees files file) condition (record { least = omega arith; most = omega arith }) in
+      let presence = own-fits 0 (omega arith) 0 (omega arith) kinds in
       let few = b .recorded .few in
       rw (crossFaults, e, b .picked)
       (holds-append _ _ (holds-append _ _ (holds-least presence) (rw (b .repeated) (ids-least-fits file p few)))

@@ -22,16 +22,17 @@ judge-numbered-requires c κs = c .before .before .before .before .before .befor
 returns : tie.Need-returns Inv-loop μ-loop
 returns c =
     let d = c .before in let n = d .before .before in let t = n .before in let k = t .before in
-    sym (first-here _ (k .loop .file) (t .loop-test .taken) _ (sym (n .judge-numbered .ensures) ∙ d .f .given .1)) ∙ k .loop .inv .1
+    let less : k .loop .file ≤ 6 = omega (arith, t .loop-test .taken) in
+    sym (first-here _ (k .loop .file) less _ (sym (n .judge-numbered .ensures) ∙ d .f .given .1)) ∙ k .loop .inv .1
 
 loop-again : tie.Need-loop-again Inv-loop μ-loop
 loop-again c =
     let n = c .before .before in let t = n .before in let k = t .before in
-    let less = t .loop-test .taken in
+    let less : k .loop .file ≤ 6 = omega (arith, t .loop-test .taken) in
     (omega (arith, less), first-later _ (k .loop .file) less (sym (n .judge-numbered .ensures) ∙ c .enum-told .given .1) ∙ k .loop .inv .1)
 
 returns-2 : tie.Need-returns-2 Inv-loop μ-loop
-returns-2 c = let k = c .before in sym (first-end _ (k .loop .file) (c .loop-test .left)) ∙ k .loop .inv .1
+returns-2 c = let k = c .before in let past : 7 ≤ k .loop .file = omega (arith, c .loop-test .left) in sym (first-end _ (k .loop .file) past) ∙ k .loop .inv .1
 
 pub judge-noted-spec : {M : Type 1} → statement M
 judge-noted-spec =
