@@ -15,9 +15,11 @@ use references::EACH;
 use references::Set;
 use references::note::note;
 use word::kind::Kind;
+ghost use mathlib.Core.Bool.{not};
 ghost use mathlib.Core.Path.{_≡_};
 ghost use Prim.Native.Nat.{_≤_};
 ghost use lib.ListN.{length};
+ghost use Rattle.notation.specs.Choice.{_and_};
 ghost use Rattle.walk.specs.Walk.{itemsOf};
 ghost use Rattle.word.specs.Kinds.{condition};
 ghost use Rattle.fault.specs.Fault.{least};
@@ -47,18 +49,29 @@ fn records_part(file: u8, s: &[u8]) -> &[u8]
     }
 }
 
+// Whether a file that is needed is lacking.
+fn is_lacking(needed: bool, here: bool) -> bool
+    ensures { λ r. ⌜ r ≡ needed and not here ⌝ }
+{
+    if needed {
+        return !here;
+    }
+    false
+}
+
 // Another file calls for this one, and it is not there.
 fn is_called_for(file: u8, set: Set) -> bool
     ensures { λ r. ⌜ r ≡ calledFor file set ⌝ }
 {
     match file {
-        2 => set.statuses_here && !set.stations_here,
-        3 => set.stations_here && !set.statuses_here,
-        4 => !set.stations_here && !set.bikes_here,
+        2 => is_lacking(set.statuses_here, set.stations_here),
+        3 => is_lacking(set.stations_here, set.statuses_here),
+        4 => is_lacking(!set.stations_here, set.bikes_here),
         _ => false,
     }
 }
 
+// The rule that a file breaks which is called for and not there; it stands in the header.
 fn judge_presence(file: u8, set: Set) -> Least
     ensures { λ r. ⌜ r ≡ least (faulty top 0 (when (calledFor file set) condition)) ⌝ }
 {

@@ -1,44 +1,23 @@
+-- `judge_file` takes the least of three judgements.
 use borrow.Author.Needs.{needs}
+use mathlib.Core.Path.{_∙_}
+use Rattle.cross.specs.Staged.{fileLeast}
+use Rattle.cross.proofs.Staging.{lesser-both}
 use Rattle.cross.proofs.stage.judge_file.Statement.{statement}
 use Rattle.cross.proofs.stage.judge_file.Tie as tie
-use Rattle.cross.proofs.stage.judge_file.Reads as reads
-use Rattle.cross.proofs.stage.judge_file.Lts as lts
-use Rattle.cross.proofs.records.judge_records.Reads as judge-records-reads
-use Rattle.cross.proofs.stage.judge_ids.Reads as judge-ids-reads
-use Rattle.cross.proofs.stage.judge_presence.Reads as judge-presence-reads
-use Rattle.fault.proofs.lesser.Reads as lesser-reads
 
--- src/stage.rt:107:9
-judge-presence-requires : tie.Need-judge-presence-requires
-judge-presence-requires c κs = search needs
-
--- src/stage.rt:108:9
 judge-ids-requires : tie.Need-judge-ids-requires
-judge-ids-requires c κs = search needs
+judge-ids-requires c κs = c .before .before .before .before .before .pre .1 .few
 
--- src/stage.rt:109:9
 judge-records-requires : tie.Need-judge-records-requires
-judge-records-requires c κs = search needs
+judge-records-requires c κs = let g = c .before .before .before .before .before .before .pre in (g .0, g .1 .short, g .1 .objects)
 
--- src/stage.rt:110:15
-lesser-requires : tie.Need-lesser-requires
-lesser-requires c κs = search needs
-
--- src/stage.rt:110:5
-lesser-requires-2 : tie.Need-lesser-requires-2
-lesser-requires-2 c κs = search needs
-
--- src/stage.rt:93:1
 returns : tie.Need-returns
-returns c = ?
+unfolding fileLeast
+returns c =
+    let l = c .before in let k = l .before in let i = k .before in let p = i .before in
+    c .lesser2 .ensures ∙ lesser-both (p .judge-presence .ensures) (l .lesser .ensures ∙ lesser-both (i .judge-ids .ensures) (k .judge-records .ensures))
 
 pub judge-file-spec : {M : Type 1} → statement M
 judge-file-spec =
-    tie.close
-    (tie.spec
-    judge-presence-requires
-    judge-ids-requires
-    judge-records-requires
-    lesser-requires
-    lesser-requires-2
-    returns)
+    tie.close (tie.spec (λ c κs. search needs) judge-ids-requires judge-records-requires (λ c κs. search needs) (λ c κs. search needs) returns)

@@ -1,34 +1,18 @@
+-- `judge_ids` names the first record whose id is used before, in the files whose records have ids.
 use borrow.Author.Needs.{needs}
+use Rattle.cross.proofs.Staging.{ids-unasked, ids-single, ids-repeated}
 use Rattle.cross.proofs.stage.judge_ids.Statement.{statement}
 use Rattle.cross.proofs.stage.judge_ids.Tie as tie
-use Rattle.cross.proofs.stage.judge_ids.Reads as reads
-use Rattle.cross.proofs.stage.judge_ids.Lts as lts
-use Rattle.clean.proofs.ids.first_repeat.Reads as first-repeat-reads
 
--- src/stage.rt:78:9
 returns : tie.Need-returns
-returns c = ?
+returns c = ids-unasked _ _ (c .if1 .taken)
 
--- src/stage.rt:80:9
-first-repeat-requires : tie.Need-first-repeat-requires
-first-repeat-requires c κs = search needs
-
--- src/stage.rt:82:9
 returns-2 : tie.Need-returns-2
-returns-2 c = ?
+returns-2 c = let r = c .before in let i = r .before in ids-single _ _ (i .if1 .left) _ (r .first-repeat .ensures (i .before .before .pre)) (c .if2 .taken)
 
--- src/stage.rt:85:17
-cast-t5 : tie.Need-cast-t5
-cast-t5 c = search needs
-
--- src/stage.rt:86:16
-mul-t6 : tie.Need-mul-t6
-mul-t6 c = search needs
-
--- src/stage.rt:73:1
 returns-3 : tie.Need-returns-3
-returns-3 c = ?
+returns-3 c = let r = c .before in let i = r .before in ids-repeated _ _ (i .if1 .left) _ (r .first-repeat .ensures (i .before .before .pre)) (c .if2 .left)
 
 pub judge-ids-spec : {M : Type 1} → statement M
 judge-ids-spec =
-    tie.close (tie.spec returns first-repeat-requires returns-2 cast-t5 mul-t6 returns-3)
+    tie.close (tie.spec returns (λ c κs. search needs) returns-2 (λ c. search needs) (λ c. search needs) returns-3)

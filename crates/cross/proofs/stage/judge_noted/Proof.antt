@@ -1,63 +1,41 @@
+-- `judge_noted` goes from file to file. The loop's invariant: none before breaks a rule, so from here on the first file is the first of all.
+use borrow.Author.Needs.{needs}
+use mathlib.Core.Path.{_≡_, refl, sym, _∙_}
+use Prim.Native.Nat.{_-_, _≤_}
+use native.Mathlib.Omega.{arith}
+use Rattle.cross.specs.Staged.{numberedLeast, firstFrom}
+use Rattle.cross.proofs.Staging.{firstOn, first-end, first-here, first-later}
 use Rattle.cross.proofs.stage.judge_noted.Statement.{statement}
 use Rattle.cross.proofs.stage.judge_noted.Tie as tie
-use Rattle.cross.proofs.stage.judge_noted.Reads as reads
-use Rattle.cross.proofs.stage.judge_noted.Lts as lts
-use Rattle.cross.proofs.stage.judge_numbered.Reads as judge-numbered-reads
 
 abbrev Inv-loop : tie.InvT-loop
-Inv-loop statuses bikes zones set types stations plans digests starts ends file₀ file = ?
+Inv-loop statuses bikes zones set types stations plans digests starts ends file₀ file =
+    (file ≤ 7)
+    × (firstOn (numberedLeast set types stations plans statuses bikes zones) file ≡ firstFrom (numberedLeast set types stations plans statuses bikes zones) 1 6)
 
 abbrev μ-loop : tie.MeasureT-loop
-μ-loop statuses bikes zones set types stations plans digests starts ends file₀ file = ?
+μ-loop statuses bikes zones set types stations plans digests starts ends file₀ file = 7 - file
 
--- src/stage.rt:177:5
-loop-holds : tie.Need-loop-holds Inv-loop μ-loop
-loop-holds c = ?
-
--- src/stage.rt:178:15
 judge-numbered-requires : tie.Need-judge-numbered-requires Inv-loop μ-loop
-judge-numbered-requires c κs = ?
+judge-numbered-requires c κs = c .before .before .before .before .before .before .before .before .pre
 
--- src/stage.rt:191:23
-enum-known-f : tie.Need-enum-known-f Inv-loop μ-loop
-enum-known-f c = ?
-
--- src/stage.rt:192:17
 returns : tie.Need-returns Inv-loop μ-loop
-returns c = ?
+returns c =
+    let d = c .before in let n = d .before .before in let t = n .before in let k = t .before in
+    let less : k .loop .file ≤ 6 = omega (arith, t .loop-test .taken) in
+    sym (first-here _ (k .loop .file) less _ (sym (n .judge-numbered .ensures) ∙ d .f .given .1)) ∙ k .loop .inv .1
 
--- src/stage.rt:195:17
-enum-told : tie.Need-enum-told Inv-loop μ-loop
-enum-told c = ?
-
--- src/stage.rt:195:17
-add-file : tie.Need-add-file Inv-loop μ-loop
-add-file c = ?
-
--- src/stage.rt:177:5
-loop-less : tie.Need-loop-less Inv-loop μ-loop
-loop-less c = ?
-
--- src/stage.rt:177:5
 loop-again : tie.Need-loop-again Inv-loop μ-loop
-loop-again c = ?
+loop-again c =
+    let n = c .before .before in let t = n .before in let k = t .before in
+    let less : k .loop .file ≤ 6 = omega (arith, t .loop-test .taken) in
+    (omega (arith, less), first-later _ (k .loop .file) less (sym (n .judge-numbered .ensures) ∙ c .enum-told .given .1) ∙ k .loop .inv .1)
 
--- src/stage.rt:161:1
 returns-2 : tie.Need-returns-2 Inv-loop μ-loop
-returns-2 c = ?
+returns-2 c = let k = c .before in let past : 7 ≤ k .loop .file = omega (arith, c .loop-test .left) in sym (first-end _ (k .loop .file) past) ∙ k .loop .inv .1
 
 pub judge-noted-spec : {M : Type 1} → statement M
 judge-noted-spec =
     tie.close
-    (tie.spec
-    Inv-loop
-    μ-loop
-    loop-holds
-    judge-numbered-requires
-    enum-known-f
-    returns
-    enum-told
-    add-file
-    loop-less
-    loop-again
-    returns-2)
+    (tie.spec Inv-loop μ-loop (λ c. (omega arith, refl)) judge-numbered-requires (λ c. search needs) returns (λ c. search needs) (λ c. search needs) (λ c. search needs)
+    loop-again returns-2)

@@ -1,71 +1,53 @@
+-- `judge_numbered` judges the file of each number.
 use borrow.Author.Needs.{needs}
+use mathlib.Core.Path.{sym, ap, _∙_}
+use Rattle.cross.specs.Staged.{numberedLeast}
+use Rattle.cross.proofs.Staging.{numbered-else}
 use Rattle.cross.proofs.stage.judge_numbered.Statement.{statement}
 use Rattle.cross.proofs.stage.judge_numbered.Tie as tie
-use Rattle.cross.proofs.stage.judge_numbered.Reads as reads
-use Rattle.cross.proofs.stage.judge_numbered.Lts as lts
-use Rattle.cross.proofs.stage.judge_file.Reads as judge-file-reads
 
--- src/stage.rt:131:14
-judge-file-requires : tie.Need-judge-file-requires
-judge-file-requires c κs = search needs
-
--- src/stage.rt:132:14
-judge-file-requires-2 : tie.Need-judge-file-requires-2
-judge-file-requires-2 c κs = search needs
-
--- src/stage.rt:143:14
-judge-file-requires-3 : tie.Need-judge-file-requires-3
-judge-file-requires-3 c κs = search needs
-
--- src/stage.rt:154:14
-judge-file-requires-4 : tie.Need-judge-file-requires-4
-judge-file-requires-4 c κs = search needs
-
--- src/stage.rt:155:14
-judge-file-requires-5 : tie.Need-judge-file-requires-5
-judge-file-requires-5 c κs = search needs
-
--- src/stage.rt:156:14
-judge-file-requires-6 : tie.Need-judge-file-requires-6
-judge-file-requires-6 c κs = search needs
-
--- src/stage.rt:114:1
 returns : tie.Need-returns
-returns c = ?
+unfolding numberedLeast
+returns c =
+    let m = c .before in let a = m .before .before .before .before .before .before .before .args in
+    c .judge-file .ensures
+    ∙ ap (numberedLeast (a .set) (a .types .now) (a .stations .now) (a .plans .now) (a .statuses .now) (a .bikes .now) (a .zones .now)) (sym (m .match .keys1))
 
--- src/stage.rt:114:1
 returns-2 : tie.Need-returns-2
-returns-2 c = ?
+unfolding numberedLeast
+returns-2 c =
+    let m = c .before in let a = m .before .before .before .before .before .before .before .args in
+    c .judge-file2 .ensures
+    ∙ ap (numberedLeast (a .set) (a .types .now) (a .stations .now) (a .plans .now) (a .statuses .now) (a .bikes .now) (a .zones .now)) (sym (m .match .keys2))
 
--- src/stage.rt:114:1
 returns-3 : tie.Need-returns-3
-returns-3 c = ?
+unfolding numberedLeast
+returns-3 c =
+    let m = c .before in let a = m .before .before .before .before .before .before .before .args in
+    c .judge-file3 .ensures
+    ∙ ap (numberedLeast (a .set) (a .types .now) (a .stations .now) (a .plans .now) (a .statuses .now) (a .bikes .now) (a .zones .now)) (sym (m .match .keys3))
 
--- src/stage.rt:114:1
 returns-4 : tie.Need-returns-4
-returns-4 c = ?
+unfolding numberedLeast
+returns-4 c =
+    let m = c .before in let a = m .before .before .before .before .before .before .before .args in
+    c .judge-file4 .ensures
+    ∙ ap (numberedLeast (a .set) (a .types .now) (a .stations .now) (a .plans .now) (a .statuses .now) (a .bikes .now) (a .zones .now)) (sym (m .match .keys4))
 
--- src/stage.rt:114:1
 returns-5 : tie.Need-returns-5
-returns-5 c = ?
+unfolding numberedLeast
+returns-5 c =
+    let m = c .before in let a = m .before .before .before .before .before .before .before .args in
+    c .judge-file5 .ensures
+    ∙ ap (numberedLeast (a .set) (a .types .now) (a .stations .now) (a .plans .now) (a .statuses .now) (a .bikes .now) (a .zones .now)) (sym (m .match .keys5))
 
--- src/stage.rt:114:1
 returns-6 : tie.Need-returns-6
-returns-6 c = ?
+returns-6 c =
+    let r = c .before .match .rest in
+    c .judge-file6 .ensures ∙ numbered-else _ _ _ _ _ _ _ _ (r .0 .0 .0 .0 .1) (r .0 .0 .0 .1) (r .0 .0 .1) (r .0 .1) (r .1)
 
 pub judge-numbered-spec : {M : Type 1} → statement M
 judge-numbered-spec =
     tie.close
-    (tie.spec
-    judge-file-requires
-    judge-file-requires-2
-    judge-file-requires-3
-    judge-file-requires-4
-    judge-file-requires-5
-    judge-file-requires-6
-    returns
-    returns-2
-    returns-3
-    returns-4
-    returns-5
-    returns-6)
+    (tie.spec (λ c κs. search needs) (λ c κs. search needs) (λ c κs. search needs) (λ c κs. search needs) (λ c κs. search needs) (λ c κs. search needs)
+    returns returns-2 returns-3 returns-4 returns-5 returns-6)

@@ -1,26 +1,22 @@
+-- `judge_presence` names the header where the file is called for.
 use borrow.Author.Needs.{needs}
+use mathlib.Core.Bool.{Bool}
+use mathlib.Core.Path.{sym, ap, _∙_}
+use Rattle.word.specs.Kinds.{condition}
+use Rattle.fault.specs.Fault.{least}
+use Rattle.judge.specs.Faults.{top, faulty}
+use Rattle.references.specs.References.{when}
 use Rattle.cross.proofs.stage.judge_presence.Statement.{statement}
 use Rattle.cross.proofs.stage.judge_presence.Tie as tie
-use Rattle.cross.proofs.stage.judge_presence.Reads as reads
-use Rattle.cross.proofs.stage.judge_presence.Lts as lts
-use Rattle.cross.proofs.stage.is_called_for.Reads as is-called-for-reads
-use Rattle.judge.proofs.Place.broken.Reads as broken-reads
 
--- src/stage.rt:66:8
-is-called-for-requires : tie.Need-is-called-for-requires
-is-called-for-requires c κs = search needs
-
--- src/stage.rt:67:9
-broken-requires : tie.Need-broken-requires
-broken-requires c κs = search needs
-
--- src/stage.rt:67:9
 returns : tie.Need-returns
-returns c = ?
+returns c =
+    let i = c .before in
+    c .broken .ensures ∙ ap (λ (t : Bool). least (faulty top 0 (when t condition))) (sym (i .if1 .taken) ∙ i .before .is-called-for .ensures)
 
--- src/stage.rt:62:1
 returns-2 : tie.Need-returns-2
-returns-2 c = ?
+unfolding faulty least
+returns-2 c = ap (λ (t : Bool). least (faulty top 0 (when t condition))) (sym (c .if1 .left) ∙ c .before .is-called-for .ensures)
 
 pub judge-presence-spec : {M : Type 1} → statement M
-judge-presence-spec = tie.close (tie.spec is-called-for-requires broken-requires returns returns-2)
+judge-presence-spec = tie.close (tie.spec (λ c κs. search needs) (λ c κs. search needs) returns returns-2)

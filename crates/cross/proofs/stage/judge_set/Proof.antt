@@ -1,79 +1,56 @@
+-- `judge_set` cuts out the records of each file; the first file that breaks a rule is stage C's, and its rule fits the word.
 use borrow.Author.Needs.{needs}
+use mathlib.Core.Path.{_≡_, sym, ap, _∙_}
+use native.Mathlib.Omega.{arith}
+use Rattle.clean.specs.declared.Cleanness.the-variants.{Broken}
+use Rattle.cross.specs.Staged.{firstFrom}
+use Rattle.cross.proofs.Files.{part-recorded}
+use Rattle.cross.proofs.Sets.{AllThrough, numbered, crossed-is, cleanness, stage-is, first-small}
 use Rattle.cross.proofs.stage.judge_set.Statement.{statement}
 use Rattle.cross.proofs.stage.judge_set.Tie as tie
-use Rattle.cross.proofs.stage.judge_set.Reads as reads
-use Rattle.cross.proofs.stage.judge_set.Lts as lts
-use Rattle.clean.proofs.parts_of.Reads as parts-of-reads
-use Rattle.cross.proofs.Set.of.Reads as of-reads
-use Rattle.cross.proofs.stage.judge_parts.Reads as judge-parts-reads
-use Rattle.cross.proofs.stage.records_part.Reads as records-part-reads
 
--- src/stage.rt:250:9
-records-part-requires : tie.Need-records-part-requires
-records-part-requires c κs = search needs
-
--- src/stage.rt:251:9
-records-part-requires-2 : tie.Need-records-part-requires-2
-records-part-requires-2 c κs = search needs
-
--- src/stage.rt:252:9
-records-part-requires-3 : tie.Need-records-part-requires-3
-records-part-requires-3 c κs = search needs
-
--- src/stage.rt:253:9
-records-part-requires-4 : tie.Need-records-part-requires-4
-records-part-requires-4 c κs = search needs
-
--- src/stage.rt:254:9
-records-part-requires-5 : tie.Need-records-part-requires-5
-records-part-requires-5 c κs = search needs
-
--- src/stage.rt:255:9
-records-part-requires-6 : tie.Need-records-part-requires-6
-records-part-requires-6 c κs = search needs
-
--- src/stage.rt:256:9
-of-requires : tie.Need-of-requires
-of-requires c κs = search needs
-
--- src/stage.rt:249:9
 judge-parts-requires : tie.Need-judge-parts-requires
-judge-parts-requires c κs = ?
+judge-parts-requires c κs =
+    let p₆ = c .before in let p₅ = p₆ .before in let p₄ = p₅ .before in let p₃ = p₄ .before in let p₂ = p₃ .before in let p₁ = p₂ .before in
+    let x = p₁ .before .before .before .before .before .before .before .pre in (
+      part-recorded 1 (omega arith) (omega arith) _ (x .0) (p₁ .records-part .ensures),
+      part-recorded 2 (omega arith) (omega arith) _ (x .1) (p₂ .records-part2 .ensures),
+      part-recorded 3 (omega arith) (omega arith) _ (x .2) (p₃ .records-part3 .ensures),
+      part-recorded 4 (omega arith) (omega arith) _ (x .3) (p₄ .records-part4 .ensures),
+      part-recorded 5 (omega arith) (omega arith) _ (x .4) (p₅ .records-part5 .ensures),
+      part-recorded 6 (omega arith) (omega arith) _ (x .5) (p₆ .records-part6 .ensures),
+    )
 
--- src/stage.rt:259:29
-enum-told : tie.Need-enum-told
-enum-told c = search needs
+-- where the function began
+abbrev start : tie.After-judge-parts → tie.Start
+start c = c .before .before .before .before .before .before .before .before .before .before .before .before .before .before
 
--- src/stage.rt:260:21
-enum-known-crossed : tie.Need-enum-known-crossed
-enum-known-crossed c = search needs
+abbrev through : (c : tie.Start) → let a = c .args in AllThrough (a .types .now) (a .stations .now) (a .statuses .now) (a .bikes .now) (a .plans .now) (a .zones .now)
+through c = let x = c .pre in record { first = x .0; second = x .1; third = x .2; fourth = x .3; fifth = x .4; sixth = x .5 }
 
--- src/stage.rt:260:51
+crossed : (c : tie.After-judge-parts) → let a = start c .args in
+    c .judge-parts .result ≡ firstFrom (numbered (a .types .now) (a .stations .now) (a .statuses .now) (a .bikes .now) (a .plans .now) (a .zones .now)) 1 6
+crossed c =
+    let o = c .before in let p₆ = o .before in let p₅ = p₆ .before in let p₄ = p₅ .before in let p₃ = p₄ .before in let p₂ = p₃ .before in let p₁ = p₂ .before in
+    c .judge-parts .ensures
+    ∙ crossed-is _ _ _ _ _ _ (o .of .ensures) (p₁ .records-part .ensures) (p₂ .records-part2 .ensures) (p₃ .records-part3 .ensures) (p₄ .records-part4 .ensures)
+    (p₅ .records-part5 .ensures) (p₆ .records-part6 .ensures)
+
 parts-of-requires : tie.Need-parts-of-requires
-parts-of-requires c κs = ?
+parts-of-requires c κs =
+    let d = c .before in let j = d .before .before in first-small _ _ _ _ _ _ (through (start j)) _ _ (sym (crossed j) ∙ d .crossed .given .1)
 
--- src/stage.rt:238:1
 returns : tie.Need-returns
-returns c = ?
+returns c =
+    let j = c .before .before in ap cleanness (sym (c .enum-told .given .1) ∙ crossed j) ∙ stage-is _ _ _ _ _ _ (through (start j))
 
--- src/stage.rt:238:1
 returns-2 : tie.Need-returns-2
-returns-2 c = ?
+returns-2 c =
+    let d = c .before .before in let j = d .before .before in
+    ap Broken (c .parts-of .ensures) ∙ ap cleanness (sym (d .crossed .given .1) ∙ crossed j) ∙ stage-is _ _ _ _ _ _ (through (start j))
 
 pub judge-set-spec : {M : Type 1} → statement M
 judge-set-spec =
     tie.close
-    (tie.spec
-    records-part-requires
-    records-part-requires-2
-    records-part-requires-3
-    records-part-requires-4
-    records-part-requires-5
-    records-part-requires-6
-    of-requires
-    judge-parts-requires
-    enum-told
-    enum-known-crossed
-    parts-of-requires
-    returns
-    returns-2)
+    (tie.spec (λ c κs. search needs) (λ c κs. search needs) (λ c κs. search needs) (λ c κs. search needs) (λ c κs. search needs) (λ c κs. search needs)
+    (λ c κs. search needs) judge-parts-requires (λ c. search needs) (λ c. search needs) parts-of-requires returns returns-2)
