@@ -16,13 +16,12 @@ use Rattle.schema.specs.Shape.{fileShape}
 use Rattle.schema.specs.Table23.{table23}
 use Rattle.fault.specs.declared.Fault.{Fault}
 use Rattle.fault.specs.Fault as fault
-use Rattle.fault.specs.Fault.{least}
 use Rattle.judge.specs.Faults.{fileFaults}
 use Rattle.clean.specs.declared.Cleanness.{Cleanness}
 use Rattle.clean.specs.declared.Cleanness.the-variants.{Clean, Broken}
-use Rattle.clean.specs.Clean.{treeOf, place, broken}
+use Rattle.clean.specs.Clean.{treeOf, place}
 use Rattle.cross.specs.Cross.{Files, crossFaults}
-use Rattle.cross.specs.Stage.{filesOf, firstOf}
+use Rattle.cross.specs.Stage.{filesOf}
 use Rattle.gbfs.specs.declared.Acceptance.{Acceptance}
 use Rattle.gbfs.specs.declared.Acceptance.the-variants.{NoRoom, Accepted, NotAccepted}
 
@@ -34,6 +33,9 @@ pub record Feeds : Type 0 where
   pub bikes : List ℕ
   pub plans : List ℕ
   pub zones : List ℕ
+
+abbrev pub feeds : (vehicleTypes stations statuses bikes plans zones : List ℕ) → Feeds
+feeds t s u b p z = record { vehicleTypes = t; stations = s; statuses = u; bikes = b; plans = p; zones = z }
 
 -- by number
 unfoldable pub bytesOf : Feeds → ℕ → List ℕ
