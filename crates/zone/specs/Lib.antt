@@ -1,0 +1,4 @@
+pub mod Zone
+pub mod Answer
+pub mod Values
+pub mod Clean
