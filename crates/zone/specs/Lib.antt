@@ -2,3 +2,4 @@ pub mod Zone
 pub mod Answer
 pub mod Values
 pub mod Clean
+pub mod Cases
