@@ -1,10 +1,12 @@
 // Answers questions a line at a time: a case to a line of standard input, its answer on the same line of standard output.
+mod files;
 mod hex;
 mod lines;
 mod number;
 mod print;
 mod questions;
 mod read_word;
+mod show;
 mod words;
 
 // The most bytes of a line, without its line feed.

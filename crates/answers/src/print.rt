@@ -21,6 +21,12 @@ pub fn end() {
     io::write_all(STDOUT_FILENO, b"\n");
 }
 
+// The answer that a file is not clean, with what its word says.
+pub fn not_clean(p: Parts) {
+    first(5);
+    parts(p);
+}
+
 // What a word says, after the answer's number.
 pub fn parts(p: Parts) {
     next(p.file as u64);

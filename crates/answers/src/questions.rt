@@ -1,6 +1,7 @@
 // The questions by name. A question's module answers whether the line was well formed, and prints the answer where it was.
 use crate::print;
 use crate::read_word;
+use crate::show;
 use crate::words;
 
 pub fn answer(line: &[u8]) {
@@ -15,6 +16,9 @@ fn ask(line: &[u8], bytes: &mut [u8]) -> bool {
     let name = words::at(line, 0);
     if words::same(name, b"word") {
         return read_word::answer(line, bytes);
+    }
+    if words::same(name, b"show") {
+        return show::answer(line, bytes);
     }
     false
 }
