@@ -7,7 +7,9 @@ mod print;
 mod questions;
 mod read_word;
 mod show;
+mod signed;
 mod words;
+mod zone_rule;
 
 // The most bytes of a line, without its line feed.
 const LONGEST: usize = 65536;

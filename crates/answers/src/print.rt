@@ -17,6 +17,20 @@ pub fn next(n: u64) {
     io::print_decimal(STDOUT_FILENO, n);
 }
 
+// A mark after others: 1 where it is set.
+pub fn mark(set: bool) {
+    if set {
+        next(1);
+        return;
+    }
+    next(0);
+}
+
+// A minus sign after others, for a value that is not given.
+pub fn nothing() {
+    io::write_all(STDOUT_FILENO, b" -");
+}
+
 pub fn end() {
     io::write_all(STDOUT_FILENO, b"\n");
 }

@@ -3,6 +3,7 @@ use crate::print;
 use crate::read_word;
 use crate::show;
 use crate::words;
+use crate::zone_rule;
 
 pub fn answer(line: &[u8]) {
     let mut bytes = io::large_buffer();
@@ -19,6 +20,9 @@ fn ask(line: &[u8], bytes: &mut [u8]) -> bool {
     }
     if words::same(name, b"show") {
         return show::answer(line, bytes);
+    }
+    if words::same(name, b"zone") {
+        return zone_rule::answer(line, bytes);
     }
     false
 }
