@@ -1,15 +1,14 @@
 -- In a zone without a fault nothing is found in its coordinates, so nothing in any polygon or ring of it; and no part is longer than the whole.
 use mathlib.Core.Bool.{Bool, true, false}
 use mathlib.Core.List.{List, [], _∷_, map, append-eq-nil-iff}
-use mathlib.Core.Path.{_≡_, refl, sym, ap, subst, _∙_}
-use Prim.Native.Nat.{ℕ, _+_, _-_, _≤_}
+use mathlib.Core.Path.{_≡_, refl, sym, ap, _∙_}
+use Prim.Native.Nat.{ℕ, _-_, _≤_}
 use native.Mathlib.Omega.{arith}
 use lib.Dec.{eqb, leb}
 use lib.ListN.{length, take, drop, length-take, length-drop, length-map}
 use Rattle.limits.specs.Ceilings as ceiling
 use Rattle.notation.specs.Ascii.{bytes}
 use Rattle.notation.specs.Choice.{_⇒_else_}
-use Rattle.lexeme.proofs.Steps.{by-test}
 use Rattle.json.specs.Tree.{Json}
 use Rattle.walk.specs.declared.Item.{Item}
 use Rattle.walk.specs.Walk.{part}
@@ -24,16 +23,16 @@ use Rattle.slots.specs.Found.{foundIn}
 use Rattle.slots.specs.Blank.{blankText}
 use Rattle.word.specs.Kinds.{tooMany, badRing}
 use Rattle.scalar.specs.Scalars.{unless}
-use Rattle.rings.specs.Rings.{Found, at, count, ring, ringPositions, ringFound, ringsFound, position, polygon, polygonPositions, polygonsFound, coordinatesFound}
+use Rattle.rings.specs.Rings.{Found, at, count, ring, ringFound, ringsFound, position, polygon, polygonsFound, coordinatesFound}
 use Rattle.rings.specs.Parts.{ringShape, polygonShape, picked, partsOf, Outlined}
 use Rattle.rings.specs.declared.RingPoints.{RingPoints}
 use Rattle.geometry.specs.Shifted.{InRange, points}
 use Rattle.rings.proofs.Picked.{items-parts}
 use Rattle.judge.specs.declared.Place.{Place}
 use Rattle.judge.specs.Faults.{faulty, numbered, faults}
-use Rattle.document.specs.Document.{elements, elementsOf, along}
+use Rattle.document.specs.Document.{elements, elementsOf}
 use Rattle.fields.specs.Values.{code, foundBytes, memberOf, arrayBy}
-use Rattle.clean.proofs.Faultless.{Requires, here, below, Demands, arrived, into, demands-there}
+use Rattle.clean.proofs.Faultless.{here, below, Demands, arrived, into, demands-there}
 use Rattle.zone.specs.Clean.{CleanRing, CleanItems, CleanZone}
 use Rattle.zone.proofs.Fields.{zone-polygons}
 

@@ -6,16 +6,15 @@ use Prim.Native.Nat.{ℕ}
 use native.Mathlib.Omega.{arith}
 use lib.ListN.{length}
 use Rattle.json.specs.Cases.{reading}
-use Rattle.json.specs.Tree.{Json}
 use Rattle.walk.specs.Walk.{part}
 use Rattle.walk.proofs.Files.{passed}
 use Rattle.schema.specs.Shape.{fileShape}
 use Rattle.schema.specs.Table23.{table23, file, zones, zone}
-use Rattle.schema.specs.Pick.{Picked, pick}
+use Rattle.schema.specs.Pick.{pick}
 use Rattle.geometry.specs.Ring.{Point}
 use Rattle.rings.specs.Parts.{partsOf}
 use Rattle.document.specs.declared.Span.the-variants as span
-use Rattle.document.specs.Document.{elementsOf, along, field}
+use Rattle.document.specs.Document.{along, field}
 use Rattle.document.specs.Spans.{recordsSpan}
 use Rattle.document.proofs.Records.{recordShape, pickedItems}
 use Rattle.clean.specs.Clean.{treeOf, recordsOf}

@@ -1,7 +1,7 @@
 -- Signed tests, and a number that is moved up: with half its range added it is a natural, less half it is itself again. So a point on the map is
 -- one for geometry.
 use mathlib.Core.Bool.{Bool, true, false, not}
-use mathlib.Core.Path.{_≡_, refl, sym, ap, _∙_}
+use mathlib.Core.Path.{_≡_, sym, ap, _∙_}
 use Prim.Native.Nat.{ℕ, _+_, _-_, _≤_}
 use native.Mathlib.Omega.{arith}
 use lib.Dec.{leb, ltb}

@@ -2,15 +2,15 @@
 use mathlib.Core.Bool.{Bool, true, false}
 use mathlib.Core.List.{List, [], _∷_}
 use mathlib.Core.Path.{_≡_, refl, sym, ap, _∙_}
-use Prim.Native.Nat.{ℕ, _≤_}
+use Prim.Native.Nat.{ℕ}
 use native.Mathlib.Omega.{arith}
 use lib.Dec.{eqb, leb, ltb}
 use lib.ListN.{length, getD}
 use borrow.Author.Tests.{eq-eqb, ne-eqb}
 use Rattle.notation.specs.Ascii.{bytes}
-use Rattle.notation.specs.Choice.{_⇒_else_, _and_}
+use Rattle.notation.specs.Choice.{_⇒_else_}
 use Rattle.walk.specs.Part.{kindAt}
-use Rattle.document.specs.Document.{Maybe, none, some, given}
+use Rattle.document.specs.Document.{none, some, given}
 use Rattle.fields.specs.Values.{code, truthBy, spelledBy, memberOf, integerIn}
 use Rattle.fields.proofs.Ways.{spelled-none, spelled-some}
 use Rattle.zone.specs.Zone.{integer, begun, unended}

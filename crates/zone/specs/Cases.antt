@@ -17,7 +17,7 @@ use Rattle.clean.specs.Clean as clean
 use Rattle.zone.specs.declared.Ruling.{Ruling}
 use Rattle.zone.specs.declared.Ruling.the-variants.{OffMap, NotClean, NoRule, Is}
 use Rattle.zone.specs.Zone.{counts, ringsHold, polygonsHold, anyText, applies, zoneRules, rules, firstFor, ruleAt}
-use Rattle.zone.specs.Answer.{values, onMap, rulingOf}
+use Rattle.zone.specs.Answer.{noParts, answer, values, onMap, rulingOf}
 
 -- opens every definition of this layer
 unfoldable pub ruled : Unit {0}
@@ -79,6 +79,10 @@ j-held = refl
 j-reversed : at (file (zone reversed "" forAll)) (degrees 3 1 ∷ degrees 2 1 ∷ degrees 1 1 ∷ []) ≡ bare true false ∷ bare true false ∷ NoRule ∷ []
 unfolding ruled
 j-reversed = refl
+
+-- refusals and answers by number
+numbers : map (λ (r : Ruling). answer r .number) (OffMap ∷ NotClean noParts ∷ NoRule ∷ bare true true ∷ []) ≡ 8 ∷ 5 ∷ 9 ∷ 0 ∷ []
+numbers = refl
 
 -- a point past its range is told before the file is asked, and a file that is not clean before any rule
 abbrev past : List Point

@@ -3,7 +3,7 @@ use mathlib.Core.Bool.{Bool, true, false}
 use mathlib.Core.List.{List}
 use Prim.Native.Nat.{ℕ}
 use Rattle.notation.specs.Ascii.{bytes}
-use Rattle.notation.specs.Choice.{_⇒_else_, _and_}
+use Rattle.notation.specs.Choice.{_and_}
 use Rattle.schema.specs.Shape.{Shape, Sort, scalar}
 use Rattle.fields.specs.Values.{memberOf, spelledBy, truthBy, integerIn}
 use Rattle.document.specs.Document.{given}

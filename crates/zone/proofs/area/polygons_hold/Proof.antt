@@ -5,7 +5,7 @@ use Prim.Native.Nat.{_-_}
 use native.Mathlib.Omega.{arith}
 use lib.ListN.{length}
 use Rattle.walk.proofs.Places.{ItemPlaced, item-placed}
-use Rattle.walk.proofs.Parts.{itemOf, item-whole}
+use Rattle.walk.proofs.Parts.{item-whole}
 use Rattle.geometry.specs.Shifted.{point}
 use Rattle.rings.specs.Parts.{polygonShape, picked, partsOf}
 use Rattle.document.specs.Document.{elements}

@@ -1,7 +1,7 @@
 -- The points that are read are the ring's, and so they fill the coordinates that are lent, all in their range.
 use borrow.Author.Needs.{needs}
 use native.Mathlib.Omega.{arith}
-use mathlib.Core.Path.{_≡_, ap, _∙_}
+use mathlib.Core.Path.{ap, _∙_}
 use lib.ListN.{length-take}
 use Rattle.geometry.specs.Held.{holds}
 use Rattle.geometry.specs.Shifted.{point}

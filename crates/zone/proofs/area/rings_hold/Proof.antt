@@ -1,12 +1,12 @@
 -- `rings_hold` asks ring after ring. The loop's invariant: among those that are left one holds the point just where one of all does, and nothing is
 -- found in them.
 use borrow.Author.Needs.{needs}
-use mathlib.Core.Path.{_≡_, sym, _∙_}
+use mathlib.Core.Path.{sym, _∙_}
 use Prim.Native.Nat.{_-_}
 use native.Mathlib.Omega.{arith}
 use lib.ListN.{length}
 use Rattle.walk.proofs.Places.{ItemPlaced, item-placed}
-use Rattle.walk.proofs.Parts.{itemOf, item-whole}
+use Rattle.walk.proofs.Parts.{item-whole}
 use Rattle.geometry.specs.Shifted.{point}
 use Rattle.rings.specs.Parts.{ringShape, partsOf}
 use Rattle.zone.specs.Zone.{ringsHold}

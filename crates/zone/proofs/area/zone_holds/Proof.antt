@@ -1,8 +1,6 @@
 -- The coordinates stand in the zone's geometry, and nothing is found in them.
 use borrow.Author.Needs.{needs}
-use mathlib.Core.List.{List}
 use mathlib.Core.Path.{_≡_, sym, ap, subst, _∙_}
-use Prim.Native.Nat.{ℕ}
 use Rattle.notation.specs.Ascii.{bytes}
 use Rattle.geometry.specs.Shifted.{point}
 use Rattle.rings.specs.Rings.{polygonsFound}

@@ -1,6 +1,6 @@
 -- Without ids the rule is for every type, and with them for those that they name.
 use borrow.Author.Needs.{needs}
-use mathlib.Core.Path.{_≡_, sym, ap, _∙_}
+use mathlib.Core.Path.{sym, ap, _∙_}
 use lib.ListN.{length}
 use Rattle.rings.specs.Parts.{partsOf}
 use Rattle.fields.specs.Values.{arrayBy}

@@ -1,7 +1,7 @@
 -- Start and end are read each by its name.
 use borrow.Author.Needs.{needs}
 use borrow.Author.Tests.{not-true, not-false}
-use mathlib.Core.Path.{_≡_, sym, ap, _∙_}
+use mathlib.Core.Path.{sym, ap, _∙_}
 use Rattle.fields.specs.Values.{spelledBy}
 use Rattle.zone.specs.Zone.{integer, begun, unended}
 use Rattle.zone.proofs.Ways.{counts-not, counts-begun}

@@ -1,6 +1,5 @@
 -- A number is compared with the moment; without one nothing is asked.
 use borrow.Author.Needs.{needs}
-use mathlib.Core.Path.{_∙_}
 use Rattle.zone.proofs.Ways.{unended-none, unended-some}
 use Rattle.zone.proofs.window.unended.Statement.{statement}
 use Rattle.zone.proofs.window.unended.Tie as tie

@@ -1,6 +1,6 @@
 -- The zones stand where the code looks for them, each without a fault.
 use borrow.Author.Needs.{needs}
-use mathlib.Core.Path.{_≡_, sym, ap, subst, _∙_}
+use mathlib.Core.Path.{sym, ap, subst, _∙_}
 use Rattle.schema.specs.Table23.{zone}
 use Rattle.geometry.specs.Shifted.{point}
 use Rattle.rings.specs.Parts.{partsOf}

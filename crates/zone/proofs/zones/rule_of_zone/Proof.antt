@@ -1,7 +1,6 @@
 -- A zone that does not hold the point, or does not count, has no rule there; another has its rules in order.
 use borrow.Author.Needs.{needs}
 use borrow.Author.Tests.{not-true, not-false}
-use mathlib.Core.Bool.{Bool, true}
 use mathlib.Core.Path.{_≡_, sym, ap, _∙_}
 use Rattle.notation.specs.Ascii.{bytes}
 use Rattle.schema.specs.Table23.{rule}
