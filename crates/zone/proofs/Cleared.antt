@@ -34,7 +34,7 @@ use Rattle.document.specs.Document.{elements, elementsOf}
 use Rattle.fields.specs.Values.{code, foundBytes, memberOf, arrayBy}
 use Rattle.clean.proofs.Faultless.{here, below, Demands, arrived, into, demands-there}
 use Rattle.zone.specs.Clean.{CleanRing, CleanItems, CleanZone}
-use Rattle.zone.proofs.Fields.{zone-polygons}
+use Rattle.zone.proofs.Zoned.{polygonBytes, zone-polygons}
 
 cons-nil : {A B : Type 0} {x : A} {l : List A} → x ∷ l ≡ [] → B
 cons-nil e = let z : _≡_ {A = ℕ} 0 1 = cc in absurd (omega arith)
@@ -96,10 +96,14 @@ module _ {p : List ℕ} (c : CleanRing p) {r : RingPoints}
 
   -- all of its places are filled
   pub ring-lons : r .count ≡ length (take (r .count) (r .lons))
-  ring-lons = let xs = take (r .count) (r .lons) in omega (arith, outlined-most, points-most xs (take (r .count) (r .lats)) .0, length-take (r .count) (r .lons))
+  ring-lons =
+      let xs = take (r .count) (r .lons) in
+      omega (arith, outlined-most, points-most xs (take (r .count) (r .lats)) .0, length-take (r .count) (r .lons))
 
   pub ring-lats : r .count ≡ length (take (r .count) (r .lats))
-  ring-lats = let ys = take (r .count) (r .lats) in omega (arith, outlined-most, points-most (take (r .count) (r .lons)) ys .1, length-take (r .count) (r .lats))
+  ring-lats =
+      let ys = take (r .count) (r .lats) in
+      omega (arith, outlined-most, points-most (take (r .count) (r .lons)) ys .1, length-take (r .count) (r .lats))
 
   pub ring-range : InRange (take (r .count) (r .lons)) (take (r .count) (r .lats))
   ring-range = ring-outlined .range
@@ -120,7 +124,9 @@ numbered-none p field (x ∷ l) e = cons-nil e
 
 coordinates-clear : (p : Place) (field : ℕ) (x : Picked) → faults coordinates p field x ≡ [] → polygonsFound 1 (elements x) ≡ []
 unfolding coordinates faults faulty coordinatesFound
-coordinates-clear p field (items is) e = append-eq-nil-iff {p = at 0 (unless (leb (count is) ceiling.polygons) tooMany)} .0 (numbered-none p field (coordinatesFound is) e) .1
+coordinates-clear p field (items is) e =
+    let many = at 0 (unless (leb (count is) ceiling.polygons) tooMany) in
+    append-eq-nil-iff {p = many} .0 (numbered-none p field (coordinatesFound is) e) .1
 coordinates-clear p field (bare x) e = cons-nil e
 coordinates-clear p field (slots ss) e = cons-nil e
 
@@ -152,7 +158,7 @@ coordinates-demanded : Demands zone (71 ∷ 73 ∷ []) coordinates
 unfolding zone
 coordinates-demanded = into (below refl here) (into (below refl here) arrived)
 
-pub zone-clean : (p : List ℕ) → CleanZone p → CleanItems polygonShape polygonsFound (arrayBy (memberOf (memberOf p (bytes "geometry")) (bytes "coordinates")))
+pub zone-clean : (p : List ℕ) → CleanZone p → CleanItems polygonShape polygonsFound (polygonBytes p)
 zone-clean p c =
     let inner = memberOf p (bytes "geometry") in
     let deep = memberOf inner (bytes "coordinates") in

@@ -1,7 +1,7 @@
 -- What the loops look for: an id of a type, a ring or polygon that holds a point, a rule for a type, a zone with one.
 use mathlib.Core.Bool.{Bool, true, false}
 use mathlib.Core.List.{List, [], _∷_, _++_, map, List·Memᴰ, List·Memᴰ·tail, append-eq-nil-iff}
-use mathlib.Core.Path.{_≡_, refl}
+use mathlib.Core.Path.{_≡_, refl, ap, _∙_}
 use Prim.Native.Nat.{ℕ, _+_}
 use native.Mathlib.Omega.{arith}
 use Rattle.notation.specs.Choice.{_⇒_else_}
@@ -18,6 +18,19 @@ use Rattle.zone.specs.Answer.{values, ruling}
 use Rattle.zone.specs.Values.{isRule}
 use Rattle.zone.specs.Clean.{Faultless}
 use Rattle.zone.proofs.Searching.{Search}
+
+-- a value, or else another
+abbrev otherwise : Maybe Picked → Maybe Picked → Maybe Picked
+otherwise none o = o
+otherwise (some x) o = some x
+
+otherwise-one : (o other : Maybe Picked) → isRule (ruling o) ≡ true → ruling (otherwise o other) ≡ ruling o
+otherwise-one none other e = let z : _≡_ {A = ℕ} 0 1 = cc in absurd (omega arith)
+otherwise-one (some x) other e = refl
+
+otherwise-other : (o other : Maybe Picked) → isRule (ruling o) ≡ false → ruling (otherwise o other) ≡ ruling other
+otherwise-other none other e = refl
+otherwise-other (some x) other e = let z : _≡_ {A = ℕ} 0 1 = cc in absurd (omega arith)
 
 -- an id
 module _ (type : List ℕ) where
@@ -82,18 +95,15 @@ module _ (type : List ℕ) where
         rest = λ x l f. tt;
       }
 
-  -- the rules of a zone, and those after them
-  first-all : (l k : List Picked) → (isRule (ruling (firstFor l type)) ≡ true → ruling (firstFor (l ++ k) type) ≡ ruling (firstFor l type))
-      × (isRule (ruling (firstFor l type)) ≡ false → ruling (firstFor (l ++ k) type) ≡ ruling (firstFor k type))
+  -- the first of two lists is that of the one, or else that of the other
+  first-append : (l k : List Picked) → firstFor (l ++ k) type ≡ otherwise (firstFor l type) (firstFor k type)
   unfolding firstFor
-  first-all [] k = (λ e. let z : _≡_ {A = ℕ} 0 1 = cc in absurd (omega arith), λ e. refl)
-  first-all (x ∷ l) k = go (applies x type) (first-all l k)
+  first-append [] k = refl
+  first-append (x ∷ l) k = go (applies x type) (first-append l k)
     where
-      go : (t : Bool) → (isRule (ruling (firstFor l type)) ≡ true → ruling (firstFor (l ++ k) type) ≡ ruling (firstFor l type))
-          × (isRule (ruling (firstFor l type)) ≡ false → ruling (firstFor (l ++ k) type) ≡ ruling (firstFor k type))
-          → (isRule (ruling (t ⇒ some x else firstFor l type)) ≡ true → ruling (t ⇒ some x else firstFor (l ++ k) type) ≡ ruling (t ⇒ some x else firstFor l type))
-          × (isRule (ruling (t ⇒ some x else firstFor l type)) ≡ false → ruling (t ⇒ some x else firstFor (l ++ k) type) ≡ ruling (firstFor k type))
-      go true ih = (λ e. refl, λ e. let z : _≡_ {A = ℕ} 0 1 = cc in absurd (omega arith))
+      go : (t : Bool) → firstFor (l ++ k) type ≡ otherwise (firstFor l type) (firstFor k type)
+          → (t ⇒ some x else firstFor (l ++ k) type) ≡ otherwise (t ⇒ some x else firstFor l type) (firstFor k type)
+      go true ih = refl
       go false ih = ih
 
   module _ (q : Point) (moment : ℕ) where
@@ -104,12 +114,12 @@ module _ (type : List ℕ) where
     pub zones-here : (x : Picked) (l : List Picked) → isRule (ruling (firstFor (zoneRules x q moment) type)) ≡ true
         → ruling (firstFor (rules (x ∷ l) q moment) type) ≡ ruling (firstFor (zoneRules x q moment) type)
     unfolding rules
-    zones-here x l e = first-all (zoneRules x q moment) (rules l q moment) .0 e
+    zones-here x l e = ap ruling (first-append (zoneRules x q moment) (rules l q moment)) ∙ otherwise-one (firstFor (zoneRules x q moment) type) _ e
 
     pub zones-later : (x : Picked) (l : List Picked) → isRule (ruling (firstFor (zoneRules x q moment) type)) ≡ false
         → ruling (firstFor (rules (x ∷ l) q moment) type) ≡ ruling (firstFor (rules l q moment) type)
     unfolding rules
-    zones-later x l e = first-all (zoneRules x q moment) (rules l q moment) .1 e
+    zones-later x l e = ap ruling (first-append (zoneRules x q moment) (rules l q moment)) ∙ otherwise-other (firstFor (zoneRules x q moment) type) _ e
 
     abbrev pub zones : Search Ruling
     zones =

@@ -97,7 +97,8 @@ off-the-map : at (bytes "7") past ≡ OffMap ∷ OffMap ∷ OffMap ∷ OffMap �
 unfolding ruled
 off-the-map = refl
 
-not-clean : at (bytes "7") (record { lon = negsuc 179_999_999; lat = pos 90_000_000 } ∷ []) ≡ NotClean (record { file = 6; kind = 7; field = 0; «record» = 0; sub = 0; offset = 0 }) ∷ []
+not-clean : at (bytes "7") (record { lon = negsuc 179_999_999; lat = pos 90_000_000 } ∷ [])
+    ≡ NotClean (record { file = 6; kind = 7; field = 0; «record» = 0; sub = 0; offset = 0 }) ∷ []
 unfolding ruled
 not-clean = refl
 

@@ -36,7 +36,8 @@ returns c =
 abbrev Met : Type 0
 Met = tie.After-known-told Inv-loop μ-loop
 
-placed : (c : Met) → ItemPlaced (c .before .before .before .before .before .before .args .p .now) (c .before .before .before .before .loop .at) (c .before .m .given .0 .0)
+placed : (c : Met) →
+    ItemPlaced (c .before .before .before .before .before .before .args .p .now) (c .before .before .before .before .loop .at) (c .before .m .given .0 .0)
 placed c = let n = c .before .before .before in item-placed _ _ _ (sym (n .next-item .ensures) ∙ c .before .m .given .1)
 
 ring-holds-requires : tie.Need-ring-holds-requires Inv-loop μ-loop

@@ -8,15 +8,16 @@ use Rattle.rings.specs.Parts.{polygonShape, partsOf}
 use Rattle.fields.specs.Values.{memberOf, arrayBy}
 use Rattle.zone.specs.Zone.{polygonsHold}
 use Rattle.zone.specs.Clean.{CleanItems}
-use Rattle.zone.proofs.Fields.{zone-polygons}
+use Rattle.zone.proofs.Zoned.{polygonBytes, zone-polygons}
 use Rattle.zone.proofs.Cleared.{zone-clean}
 use Rattle.zone.proofs.area.zone_holds.Statement.{statement}
 use Rattle.zone.proofs.area.zone_holds.Tie as tie
 
 -- the bytes of the coordinates
-found : (c : tie.After-array-in) → c .array-in .result .now ≡ arrayBy (memberOf (memberOf (c .before .before .before .before .before .before .args .p .now) (bytes "geometry")) (bytes "coordinates"))
+found : (c : tie.After-array-in) → c .array-in .result .now ≡ polygonBytes (c .before .before .before .before .before .before .args .p .now)
 found c =
-    c .array-in .ensures ∙ ap arrayBy (c .before .member2 .ensures ∙ ap (λ q. memberOf q (bytes "coordinates")) (c .before .before .before .member .ensures))
+    c .array-in .ensures
+    ∙ ap arrayBy (c .before .member2 .ensures ∙ ap (λ q. memberOf q (bytes "coordinates")) (c .before .before .before .member .ensures))
 
 polygons-hold-requires : tie.Need-polygons-hold-requires
 polygons-hold-requires c κs =

@@ -35,7 +35,8 @@ returns c =
 abbrev Met : Type 0
 Met = tie.After-known-told Inv-loop μ-loop
 
-placed : (c : Met) → ItemPlaced (c .before .before .before .before .before .before .before .args .p .now) (c .before .before .before .before .loop .at) (c .before .m .given .0 .0)
+placed : (c : Met) →
+    ItemPlaced (c .before .before .before .before .before .before .before .args .p .now) (c .before .before .before .before .loop .at) (c .before .m .given .0 .0)
 placed c = let n = c .before .before .before in item-placed _ _ _ (sym (n .next-item .ensures) ∙ c .before .m .given .1)
 
 -- what was asked of it
@@ -56,7 +57,8 @@ returns-2 c =
 loop-again : tie.Need-loop-again Inv-loop μ-loop
 loop-again c =
     let i = c .before in let d = i .before .before .before in let n = d .before .before in let k = n .before in let a = k .before .before .before .args in
-    searches-later (rulesFor (a .type-id .now)) rule (a .p .now) (k .loop .inv) (d .m .given .0 .0) (sym (n .next-item .ensures) ∙ d .m .given .1) (sym (asked i) ∙ c .if1 .left)
+    searches-later (rulesFor (a .type-id .now)) rule (a .p .now) (k .loop .inv) (d .m .given .0 .0) (sym (n .next-item .ensures) ∙ d .m .given .1)
+    (sym (asked i) ∙ c .if1 .left)
 
 pub first-for-spec : {M : Type 1} → statement M
 first-for-spec =

@@ -35,7 +35,8 @@ returns-3 c =
     let f = c .before .before .before in let r = f .before .before in let i = r .before in let a = i .before .before .before .args in
     c .rule-of-zones .ensures
     ∙ ap (λ p. ruling (firstFor (rules (partsOf zone p) (point (a .q)) (a .moment)) (a .type-id .now))) (c .before .cut .ensures)
-    ∙ file-rule (sound i) (f .from .given .0 .0) (f .from .given .0 .1 .0) (sym (r .records-span .ensures) ∙ f .from .given .1) (point (a .q)) (a .type-id .now) (a .moment)
+    ∙ file-rule (sound i) (f .from .given .0 .0) (f .from .given .0 .1 .0) (sym (r .records-span .ensures) ∙ f .from .given .1)
+    (point (a .q)) (a .type-id .now) (a .moment)
 
 pub rule-in-spec : {M : Type 1} → statement M
 rule-in-spec =

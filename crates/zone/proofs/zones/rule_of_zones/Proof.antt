@@ -40,15 +40,21 @@ returns c =
 abbrev Met : Type 0
 Met = tie.After-known-told Inv-loop μ-loop
 
-placed : (c : Met) → ItemPlaced (c .before .before .before .before .before .before .before .args .p .now) (c .before .before .before .before .loop .at) (c .before .m .given .0 .0)
+placed : (c : Met) →
+    ItemPlaced (c .before .before .before .before .before .before .before .args .p .now) (c .before .before .before .before .loop .at) (c .before .m .given .0 .0)
 placed c = let n = c .before .before .before in item-placed _ _ _ (sym (n .next-item .ensures) ∙ c .before .m .given .1)
 
 rule-of-zone-requires : tie.Need-rule-of-zone-requires Inv-loop μ-loop
 rule-of-zone-requires c κs =
-    let d = c .before .before in let n = d .before .before in let k = n .before in let s = k .before .before .before in let a = s .args in let m = d .m .given .0 .0 in
+    let d = c .before .before in let n = d .before .before in let k = n .before in let s = k .before .before .before in let a = s .args in
+    let m = d .m .given .0 .0 in
     let at = sym (n .next-item .ensures) ∙ d .m .given .1 in
     let f = searches-fit (zones (a .type-id .now) (point (a .q)) (a .moment)) zone (a .p .now) (k .loop .inv) m at in (
-      record { short = item-short (a .p .now) m (s .pre .0 .short); whole = item-whole (a .p .now) (k .loop .at) m at; clear = f .1 (picked zone (a .p .now) m) (List·Memᴰ·head refl) },
+      record {
+        short = item-short (a .p .now) m (s .pre .0 .short);
+        whole = item-whole (a .p .now) (k .loop .at) m at;
+        clear = f .1 (picked zone (a .p .now) m) (List·Memᴰ·head refl);
+      },
       s .pre .1,
     )
 
