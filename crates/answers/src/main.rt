@@ -5,6 +5,7 @@ mod lines;
 mod number;
 mod print;
 mod questions;
+mod quote_trip;
 mod read_word;
 mod show;
 mod signed;

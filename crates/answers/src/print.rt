@@ -17,6 +17,16 @@ pub fn next(n: u64) {
     io::print_decimal(STDOUT_FILENO, n);
 }
 
+// An amount after others; below zero, a minus sign and its size, which is one more than that of the number above it.
+pub fn amount(n: i64) {
+    if n >= 0 {
+        next(n as u64);
+        return;
+    }
+    io::write_all(STDOUT_FILENO, b" -");
+    io::print_decimal(STDOUT_FILENO, ((0 - (n + 1)) as u64) + 1);
+}
+
 // A mark after others: 1 where it is set.
 pub fn mark(set: bool) {
     if set {

@@ -1,5 +1,6 @@
 // The questions by name. A question's module answers whether the line was well formed, and prints the answer where it was.
 use crate::print;
+use crate::quote_trip;
 use crate::read_word;
 use crate::show;
 use crate::words;
@@ -20,6 +21,9 @@ fn ask(line: &[u8], bytes: &mut [u8]) -> bool {
     }
     if words::same(name, b"show") {
         return show::answer(line, bytes);
+    }
+    if words::same(name, b"quote") {
+        return quote_trip::answer(line, bytes);
     }
     if words::same(name, b"zone") {
         return zone_rule::answer(line, bytes);
