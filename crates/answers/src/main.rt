@@ -8,8 +8,10 @@ mod questions;
 mod quote_trip;
 mod read_word;
 mod show;
+mod signed;
 mod verdict;
 mod words;
+mod zone_rule;
 
 // The most bytes of a line, without its line feed.
 const LONGEST: usize = 65536;

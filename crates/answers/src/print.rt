@@ -36,6 +36,11 @@ pub fn mark(set: bool) {
     next(0);
 }
 
+// A minus sign after others, for a value that is not given.
+pub fn nothing() {
+    io::write_all(STDOUT_FILENO, b" -");
+}
+
 pub fn end() {
     io::write_all(STDOUT_FILENO, b"\n");
 }

@@ -5,6 +5,7 @@ use crate::read_word;
 use crate::show;
 use crate::verdict;
 use crate::words;
+use crate::zone_rule;
 
 pub fn answer(line: &[u8]) {
     let mut bytes = io::large_buffer();
@@ -27,6 +28,9 @@ fn ask(line: &[u8], bytes: &mut [u8]) -> bool {
     }
     if words::same(name, b"quote") {
         return quote_trip::answer(line, bytes);
+    }
+    if words::same(name, b"zone") {
+        return zone_rule::answer(line, bytes);
     }
     false
 }

@@ -1,27 +1,21 @@
--- The rule that holds at a point: document 01, the row "zone rule" and "Zones", on a picked file of zones.
+-- The rule that holds at a point: document 01, "Zones", on a picked file of zones.
 use mathlib.Core.Bool.{Bool, true, false}
 use mathlib.Core.List.{List, [], _∷_, _++_, map}
 use Prim.Native.Nat.{ℕ}
 use lib.Dec.{leb, ltb}
 use Rattle.notation.specs.Choice.{_⇒_else_, _and_}
-use Rattle.decimal.specs.declared.Number.{Number}
-use Rattle.decimal.specs.declared.Number.the-variants as number
-use Rattle.decimal.specs.Decimals.{numberOf}
 use Rattle.text.specs.Text.{same}
 use Rattle.schema.specs.Pick.{Picked}
 use Rattle.geometry.specs.Ring.{Point}
 use Rattle.geometry.specs.Held.{holds}
 use Rattle.rings.specs.Rings.{position}
-use Rattle.document.specs.Document.{Maybe, none, some, along, elements, elementsOf, field, fieldItems, text, textIn, spelling, truth, given, then}
+use Rattle.document.specs.Document.{Maybe, none, some, along, elements, elementsOf, field, fieldItems, spelling, textIn}
+use Rattle.fields.specs.Values.{integerIn}
 
-abbrev pub wholeOf : Number → ℕ
-wholeOf (number.Value d) = d .whole
-wholeOf number.Unformed = 0
-
--- a timestamp or another integer, where it is given
+-- an integer, where it is given
 abbrev pub integer : Maybe (List ℕ) → Maybe ℕ
 integer none = none
-integer (some s) = some (wholeOf (numberOf s))
+integer (some s) = some (integerIn (some s))
 
 -- a zone counts from its start to before its end, where they are given
 abbrev pub begun : Maybe ℕ → ℕ → Bool
@@ -58,7 +52,8 @@ zoneRules zone q moment =
     elim (field 74 zone) [
       | none ↦ []
       | some properties ↦
-          polygonsHold (elementsOf (along (71 ∷ 73 ∷ []) zone)) q and counts properties moment ⇒ fieldItems 77 properties else [] ]
+          polygonsHold (elementsOf (along (71 ∷ 73 ∷ []) zone)) q and counts properties moment ⇒ fieldItems 77 properties else []
+    ]
 
 unfoldable pub rules : List Picked → Point → ℕ → List Picked
 rules [] q moment = []
