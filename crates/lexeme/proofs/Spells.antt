@@ -1,14 +1,16 @@
--- A number's spelling is its own bytes: each part of it hands on the bytes that it took, and no others.
+-- A number's spelling is its own bytes: each part of it hands on the bytes that it took, and no others. A word is taken as it is written.
 use mathlib.Core.Bool.{Bool}
 use mathlib.Core.List.{List, [], _∷_, _++_, append-assoc}
 use mathlib.Core.Path.{_≡_, sym, ap, _∙_}
 use Prim.Native.Nat.{ℕ}
 use lib.Dec.{eqb}
+use borrow.Author.Tests.{eqb-true}
 use Rattle.lexeme.specs.Read.{Read, made}
 use Rattle.lexeme.specs.Read.Read.{done}
 use Rattle.lexeme.specs.Numbers.{digit, digits, someDigits, optional, both, nothing, integer, minus, fraction, exponent, number}
-use Rattle.lexeme.proofs.Steps.{by-test, bad-done, done-what, done-rest, made-done, digits-more, digits-stop, someDigits-more, someDigits-none, integer-zero, integer-digits, optional-there, optional-absent}
+use Rattle.lexeme.specs.Tokens.{literal}
+use Rattle.lexeme.proofs.Steps.{by-test, bad-done, done-what, done-rest, made-done, digits-more, digits-stop, someDigits-more, someDigits-none, integer-zero, integer-digits, optional-there, optional-absent, literal-match, literal-differs}
 use Rattle.lexeme.proofs.Takes.{both-done}
 
 abbrev Spells : (List ℕ → Read (List ℕ)) → Type 0
 Spells f = (l r x : List ℕ) → f l ≡ done x r → l ≡ x ++ r
@@ -66,3 +68,13 @@ number-spells =
     (both-spells integer _ integer-spells
     (both-spells _ _ (optional-spells _ someDigits someDigits-spells)
     (optional-spells _ _ (both-spells _ someDigits (optional-spells _ nothing nothing-spells) someDigits-spells))))
+
+pub literal-spells : {A : Type 0} (w : List ℕ) (x : A) (l r : List ℕ) (y : A) → literal w x l ≡ done y r → (l ≡ w ++ r) × (x ≡ y)
+unfolding literal
+literal-spells [] x l r y e = (done-rest e, done-what e)
+literal-spells (c ∷ w) x [] r y e = bad-done e
+literal-spells (c ∷ w) x (b ∷ l) r y e =
+    let ih = literal-spells w x l r y in
+    by-test (eqb b c)
+    (λ h. let p = ih (sym (literal-match b x c w l h) ∙ e) in (rw (eqb-true b c h) (ap (λ (m : List ℕ). c ∷ m) (p .0)), p .1))
+    (λ h. bad-done (sym (literal-differs b x c w l h) ∙ e))
