@@ -1,4 +1,4 @@
--- `read_name` tests the quote and leaves the rest to `read_string`.
+-- `name_by` tests the quote and leaves the rest to `read_string`.
 use borrow.Author.Needs.{needs}
 use mathlib.Core.Path.{refl, sym, ap, _∙_}
 use native.Mathlib.Omega.{arith}
@@ -9,8 +9,8 @@ use Rattle.lexeme.specs.Strings.{string}
 use Rattle.lexeme.proofs.Placed.{faults}
 use Rattle.lexeme.proofs.NumberParts.{equal-inside}
 use Rattle.json.proofs.Values.{expect-there, expect-absent}
-use Rattle.json.proofs.reader.read_name.Statement.{statement}
-use Rattle.json.proofs.reader.read_name.Tie as tie
+use Rattle.json.proofs.reader.name_by.Statement.{statement}
+use Rattle.json.proofs.reader.name_by.Tie as tie
 
 returns : tie.Need-returns
 returns c =
@@ -27,7 +27,7 @@ returns-2 c =
     let p = c .before .before in let a = p .before .before .args in let s = a .s .now in
     c .read-string .ensures ∙ ap (placed s) (sym (expect-there 0x22 (string paired 0) s (a .at) refl (sym (p .first .ensures) ∙ c .before .if1 .left)))
 
-pub read-name-spec : {M : Type 1} → statement M
-read-name-spec =
+pub name-by-spec : {M : Type 1} → statement M
+name-by-spec =
     tie.close
     (tie.spec (λ c κs. search needs) (λ c κs. search needs) returns add-read-string (λ c κs. search needs) returns-2)
