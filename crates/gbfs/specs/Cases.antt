@@ -16,7 +16,7 @@ use Rattle.judge.specs.Cases.{judging}
 use Rattle.clean.specs.declared.Cleanness.{Cleanness}
 use Rattle.clean.specs.declared.Cleanness.the-variants.{Clean, Broken}
 use Rattle.clean.specs.Clean as clean
-use Rattle.cross.specs.References as references
+use Rattle.references.specs.References as references
 use Rattle.cross.specs.Cross as cross
 use Rattle.gbfs.specs.Verdict.{bytesOf, stageA, stageB, stageC, rules, before, first, verdictOf, said}
 

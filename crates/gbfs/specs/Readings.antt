@@ -26,7 +26,7 @@ use Rattle.geometry.specs.Cases.{holding}
 use Rattle.fault.specs.Fault as fault
 use Rattle.fault.specs.Fault.{least, lesser}
 use Rattle.quote.specs.Cases.{quoting}
-use Rattle.cross.specs.References.{anyWith}
+use Rattle.references.specs.References.{anyWith}
 use Rattle.cross.specs.Cross.{recordsIn, repeatsIn, sumOf, availableFaults, idFaults, ruleFaults, typeFaults, statusFaults, bikeFaults, zoneFaults, each, faultsOf, absentees, fileIn, crossFaults}
 use Rattle.gbfs.specs.Verdict.{Feeds, bytesOf, stageA, stageB, stageC, rules, before, first, said, verdictOf}
 
