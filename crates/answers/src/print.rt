@@ -61,21 +61,19 @@ pub fn parts(p: Parts) {
     next(p.offset as u64);
 }
 
-// The first eight bytes of a buffer in hex.
+// The first eight bytes of a buffer in hex, after the answer's number.
 pub fn word(room: &[u8; 64]) {
     io::write_all(STDOUT_FILENO, b" ");
-    let mut i = 0;
-    while i < 8 {
-        let b = room[i];
-        let pair = [digit(b / 16), digit(b % 16)];
-        io::write_all(STDOUT_FILENO, &pair);
-        i += 1;
-    }
+    byte(room[0]);
+    byte(room[1]);
+    byte(room[2]);
+    byte(room[3]);
+    byte(room[4]);
+    byte(room[5]);
+    byte(room[6]);
+    byte(room[7]);
 }
 
-fn digit(d: u8) -> u8 {
-    if d < 10 {
-        return b'0' + d;
-    }
-    b'a' + (d - 10)
+fn byte(b: u8) {
+    io::print_hex(STDOUT_FILENO, b as u64, 2);
 }

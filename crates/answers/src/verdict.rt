@@ -1,6 +1,5 @@
 // The question `verdict`, the length of a buffer and six files: the number, and the word that then stands in the buffer.
 use crate::files;
-use crate::hex;
 use crate::number;
 use crate::number::Number;
 use crate::print;
@@ -8,7 +7,7 @@ use crate::words;
 use gbfs::Acceptance;
 use gbfs::verdict;
 
-// The most bytes of a buffer that is asked about.
+// Room for a word, and more.
 const MOST: usize = 64;
 
 pub fn answer(line: &[u8], bytes: &mut [u8]) -> bool {
@@ -26,32 +25,42 @@ pub fn answer(line: &[u8], bytes: &mut [u8]) -> bool {
     true
 }
 
+// A buffer has room for the word or is too short; how much longer or shorter it is makes no difference to the answer.
 fn judge(bytes: &[u8], ends: &[usize; 6], length: u64) {
     let mut room: [u8; MOST] = [0; MOST];
-    let mut n = MOST;
-    if length < 64 {
-        n = length as usize;
+    if length < 8 {
+        let mut short: [u8; 7] = [0; 7];
+        print_answer(verdict_on(bytes, ends, &mut short), &room);
+    } else {
+        let r = verdict_on(bytes, ends, &mut room);
+        print_answer(r, &room);
     }
-    let r = verdict(
+}
+
+fn verdict_on(bytes: &[u8], ends: &[usize; 6], buffer: &mut [u8]) -> Acceptance {
+    verdict(
         files::part(bytes, ends, 1),
         files::part(bytes, ends, 2),
         files::part(bytes, ends, 3),
         files::part(bytes, ends, 4),
         files::part(bytes, ends, 5),
         files::part(bytes, ends, 6),
-        &mut room[..n],
-    );
+        buffer,
+    )
+}
+
+fn print_answer(r: Acceptance, room: &[u8; MOST]) {
     match r {
         Acceptance::NoRoom => {
             print::first(2);
         }
         Acceptance::Accepted => {
             print::first(0);
-            print::word(&room);
+            print::word(room);
         }
         Acceptance::NotAccepted => {
             print::first(1);
-            print::word(&room);
+            print::word(room);
         }
     }
     print::end();
