@@ -1,0 +1,4 @@
+// The desk program over a sound set of all six files.
+fn main() {
+    folder::judge();
+}
