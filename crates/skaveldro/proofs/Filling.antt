@@ -1,8 +1,8 @@
 -- The loop over a buffer's bytes: after i bytes they are the first i of the encoded numbers, and the rest is as it was.
 use mathlib.Core.Bool.{true, false}
 use mathlib.Core.List.{List, _++_}
-use mathlib.Core.Path.{_≡_, refl, sym, ap, _∙_}
-use Prim.Native.Nat.{ℕ, zero, suc, _+_, _*_, _/_, _%_, _^_, _<_, _≤_}
+use mathlib.Core.Path.{_≡_, refl}
+use Prim.Native.Nat.{ℕ, _+_, _*_, _/_, _%_, _^_, _<_, _≤_}
 use native.Mathlib.Nat.{zero-add}
 use native.Mathlib.Numerals.{add-one}
 use native.Mathlib.Omega.{arith}
@@ -12,6 +12,7 @@ use borrow.Author.Tests.{le-leb, lt-leb}
 use Rattle.skaveldro.specs.Encoding.{encoded, holds}
 use Rattle.skaveldro.proofs.Bytes.{encoded-length, encoded-at}
 
+-- a buffer with the first i bytes put
 unfoldable pub upto : (buffer values : List ℕ) → ℕ → List ℕ
 upto buffer values i = take i (encoded values) ++ drop i buffer
 

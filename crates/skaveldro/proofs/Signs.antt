@@ -6,7 +6,7 @@ use native.Mathlib.Omega.{arith}
 use lib.IntN.{ℤ, pos, negsuc, _-ℤ_}
 use lib.Signed.{mag, ltZ}
 use borrow.Author.Tests.{ltb-true, le-ltb}
-use Rattle.skaveldro.specs.Answers.{bits64}
+use Rattle.skaveldro.specs.Answers.{signedBits}
 
 pub record Natural (z : ℤ) : Type 0 where
   pub size : ℕ
@@ -16,7 +16,7 @@ pub record Negative (z : ℤ) : Type 0 where
   pub size : ℕ
   pub less : negsuc 0 -ℤ z ≡ pos size
   pub fits : mag z ≡ size
-  pub bits : bits64 z ≡ 2 ^ 64 - suc size
+  pub bits : signedBits z ≡ 2 ^ 64 - suc size
 
 pub natural : (z : ℤ) → ltZ z (pos 0) ≡ false → Natural z
 natural (pos n) h = record { size = n; is = refl }

@@ -29,9 +29,9 @@ bit true = 1
 bit false = 0
 
 -- a signed number in 64 bits, in two's complement
-abbrev pub bits64 : ℤ → ℕ
-bits64 (pos n) = n
-bits64 (negsuc n) = 2 ^ 64 - suc n
+abbrev pub signedBits : ℤ → ℕ
+signedBits (pos n) = n
+signedBits (negsuc n) = 2 ^ 64 - suc n
 
 -- read a word: its parts
 abbrev pub wordValues : word.Answer → List ℕ
@@ -42,7 +42,7 @@ wordAnswer s = let a = word.readWord s in record { number = a .number; values = 
 
 -- quote: parts, amount, past minutes, past kilometres
 abbrev pub quoteValues : quote.Answer → List ℕ
-quoteValues a = partValues (a .parts) ++ (bits64 (a .amount) ∷ bit (a .pastMinutes) ∷ bit (a .pastKilometres) ∷ [])
+quoteValues a = partValues (a .parts) ++ (signedBits (a .amount) ∷ bit (a .pastMinutes) ∷ bit (a .pastKilometres) ∷ [])
 
 unfoldable pub quoteAnswer : (plans id : List ℕ) → (seconds metres : ℕ) → Answer
 quoteAnswer plans id seconds metres =

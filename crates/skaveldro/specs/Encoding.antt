@@ -11,6 +11,7 @@ unfoldable pub lowBytes : (size n : ℕ) → List ℕ
 lowBytes zero n = []
 lowBytes (suc size) n = n % 256 ∷ lowBytes size (n / 256)
 
+-- each number in eight bytes
 unfoldable pub encoded : List ℕ → List ℕ
 encoded [] = []
 encoded (v ∷ vs) = lowBytes 8 v ++ encoded vs

@@ -4,7 +4,7 @@ ghost use mathlib.Core.Path.{_≡_};
 ghost use Prim.Native.Nat.{_*_, _≤_};
 ghost use lib.ListN.{length, drop};
 ghost use Rattle.skaveldro.specs.Encoding.{encoded, filled};
-ghost use Rattle.skaveldro.specs.Answers.{bit as bitOf, bits64, told};
+ghost use Rattle.skaveldro.specs.Answers.{bit as bitOf, signedBits, told};
 
 // A truth as a number.
 pub fn bit(b: bool) -> u64
@@ -14,8 +14,8 @@ pub fn bit(b: bool) -> u64
 }
 
 // A signed number in 64 bits, in two's complement.
-pub fn two_complement(v: i64) -> u64
-    ensures { λ r. ⌜ r ≡ bits64 v ⌝ }
+pub fn signed_bits(v: i64) -> u64
+    ensures { λ r. ⌜ r ≡ signedBits v ⌝ }
 {
     if v < 0 {
         return 0xffff_ffff_ffff_ffff - (-1 - v) as u64;

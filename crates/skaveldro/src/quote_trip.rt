@@ -1,11 +1,12 @@
 // The answer to "quote" in numbers.
 use crate::encode::bit;
-use crate::encode::two_complement;
+use crate::encode::signed_bits;
 use quote::Quote;
 ghost use mathlib.Core.Path.{_≡_};
 ghost use Rattle.quote.specs.Quote.{answer};
 ghost use Rattle.skaveldro.specs.Answers.{quoteValues};
 
+// The number of an answer.
 pub fn number(q: Quote) -> u8
     ensures { λ n. ⌜ n ≡ answer q .number ⌝ }
 {
@@ -18,6 +19,7 @@ pub fn number(q: Quote) -> u8
     }
 }
 
+// Its values: the parts of a fault, the amount and the two marks.
 pub fn values(q: Quote) -> [u64; 9]
     ensures { λ v. ⌜ v ≡ quoteValues (answer q) ⌝ }
 {
@@ -52,7 +54,7 @@ pub fn values(q: Quote) -> [u64; 9]
                 0,
                 0,
                 0,
-                two_complement(amount),
+                signed_bits(amount),
                 bit(minutes),
                 bit(kilometres),
             ];

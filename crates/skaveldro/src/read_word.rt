@@ -4,6 +4,7 @@ ghost use mathlib.Core.Path.{_≡_};
 ghost use Rattle.word.specs.Word.{answer};
 ghost use Rattle.skaveldro.specs.Answers.{wordValues};
 
+// The number of an answer.
 pub fn number(r: Reading) -> u8
     ensures { λ n. ⌜ n ≡ answer r .number ⌝ }
 {
@@ -13,6 +14,7 @@ pub fn number(r: Reading) -> u8
     }
 }
 
+// Its values: the parts of the word.
 pub fn values(r: Reading) -> [u64; 6]
     ensures { λ v. ⌜ v ≡ wordValues (answer r) ⌝ }
 {

@@ -1,4 +1,4 @@
-// The answer to "show record" in numbers: of the record, where it stands.
+// The answer to "show record" in numbers.
 use clean::Shown;
 ghost use mathlib.Core.List.{List};
 ghost use mathlib.Core.Path.{_≡_};
@@ -6,6 +6,7 @@ ghost use Prim.Native.Nat.{ℕ};
 ghost use Rattle.clean.specs.Show.{answer};
 ghost use Rattle.skaveldro.specs.Answers.{shownValues};
 
+// The number of an answer, whatever the bytes.
 pub fn number(shown: Shown) -> u8
     ensures { λ n. ⌜ ((s : List ℕ) → n ≡ answer s shown .number) ⌝ }
 {
@@ -17,6 +18,7 @@ pub fn number(shown: Shown) -> u8
     }
 }
 
+// Its values: the parts of a fault, where the record begins and where it ends.
 pub fn values(shown: Shown) -> [u64; 8]
     ensures { λ v. ⌜ ((s : List ℕ) → v ≡ shownValues s shown) ⌝ }
 {

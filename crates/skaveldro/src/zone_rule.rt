@@ -5,6 +5,7 @@ ghost use mathlib.Core.Path.{_≡_};
 ghost use Rattle.zone.specs.Answer.{answer};
 ghost use Rattle.skaveldro.specs.Answers.{zoneValues};
 
+// The number of an answer.
 pub fn number(r: Ruling) -> u8
     ensures { λ n. ⌜ n ≡ answer r .number ⌝ }
 {
@@ -16,6 +17,7 @@ pub fn number(r: Ruling) -> u8
     }
 }
 
+// Its values: the parts of a fault, and what the rule says.
 pub fn values(r: Ruling) -> [u64; 12]
     ensures { λ v. ⌜ v ≡ zoneValues (answer r) ⌝ }
 {

@@ -1,9 +1,8 @@
 -- Byte after byte; the loop keeps the buffer at the bytes put so far with the rest behind them.
-use borrow.Author.Needs.{needs}
 use native.Mathlib.Omega.{arith}
-use mathlib.Core.Path.{_≡_, sym, ap, _∙_}
-use Prim.Native.Nat.{ℕ, _*_, _-_, _≤_}
-use lib.ListN.{length, set}
+use mathlib.Core.Path.{_≡_, ap, _∙_}
+use Prim.Native.Nat.{_*_, _-_, _≤_}
+use lib.ListN.{length}
 use Rattle.skaveldro.proofs.Filling.{upto, upto-start, upto-length, upto-next, upto-end}
 use Rattle.skaveldro.proofs.encode.put.Statement.{statement}
 use Rattle.skaveldro.proofs.encode.put.Tie as tie
@@ -17,36 +16,11 @@ abbrev μ-loop : tie.MeasureT-loop
 loop-holds : tie.Need-loop-holds Inv-loop μ-loop
 loop-holds c = let a = c .before .before .args in (upto-start (a .buffer .now) (a .values .now), omega arith)
 
-mul-byte-of : tie.Need-mul-byte-of Inv-loop μ-loop
-mul-byte-of c = omega arith
-
-shared-slice-read-byte-of : tie.Need-shared-slice-read-byte-of Inv-loop μ-loop
-shared-slice-read-byte-of c = c .before .loop-test .taken
-
-mul-byte-of-2 : tie.Need-mul-byte-of-2 Inv-loop μ-loop
-mul-byte-of-2 c = omega arith
-
-cast-byte-of : tie.Need-cast-byte-of Inv-loop μ-loop
-cast-byte-of c = omega arith
-
-byte-of-requires : tie.Need-byte-of-requires Inv-loop μ-loop
-byte-of-requires c κs = omega arith
-
 -- bytes are put, and none is added
 kept-length : (l : tie.At-loop Inv-loop μ-loop) → let s = l .before .before .before in length (l .loop .buffer) ≡ length (s .args .buffer .now)
 kept-length l =
     let s = l .before .before .before in
     ap length (l .loop .inv .0) ∙ upto-length (s .args .buffer .now) (s .args .values .now) (s .pre) (l .loop .i) (l .loop .inv .1)
-
-slice-write-buffer : tie.Need-slice-write-buffer Inv-loop μ-loop
-slice-write-buffer c =
-    omega (arith, kept-length (c .before .before .before))
-
-add-i : tie.Need-add-i Inv-loop μ-loop
-add-i c = omega arith
-
-loop-less : tie.Need-loop-less Inv-loop μ-loop
-loop-less c = omega arith
 
 loop-again : tie.Need-loop-again Inv-loop μ-loop
 loop-again c =
@@ -55,9 +29,6 @@ loop-again c =
           (upto-next (s .args .buffer .now) (s .args .values .now) (s .pre) (l .loop .i) (c .before .before .loop-test .taken)),
       omega arith,
     )
-
-same-length : tie.Need-same-length Inv-loop μ-loop
-same-length c = kept-length (c .before)
 
 returns : tie.Need-returns Inv-loop μ-loop
 returns c =
@@ -72,14 +43,14 @@ put-spec =
     Inv-loop
     μ-loop
     loop-holds
-    mul-byte-of
-    shared-slice-read-byte-of
-    mul-byte-of-2
-    cast-byte-of
-    byte-of-requires
-    slice-write-buffer
-    add-i
-    loop-less
+    (λ c. omega arith)
+    (λ c. c .before .loop-test .taken)
+    (λ c. omega arith)
+    (λ c. omega arith)
+    (λ c κs. omega arith)
+    (λ c. omega (arith, kept-length (c .before .before .before)))
+    (λ c. omega arith)
+    (λ c. omega arith)
     loop-again
-    same-length
+    (λ c. kept-length (c .before))
     returns)

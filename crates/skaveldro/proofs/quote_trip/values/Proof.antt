@@ -21,7 +21,7 @@ returns-5 : tie.Need-returns-5
 returns-5 c =
     let b = c .before in let t = b .before in let k = t .before in let q = k .before in
     let same = toZ-ofZ w64 (q .q2 .given .0 .0) (record { sfits = k .known-told2 .given .0 .1 }) in
-    rw (q .q2 .given .1, rw same at (t .two-complement .ensures), b .bit .ensures, c .bit2 .ensures)
+    rw (q .q2 .given .1, rw same at (t .signed-bits .ensures), b .bit .ensures, c .bit2 .ensures)
 
 pub values-spec : {M : Type 1} → statement M
 values-spec =

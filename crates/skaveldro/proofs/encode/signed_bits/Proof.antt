@@ -7,8 +7,8 @@ use mir.Syntax.{w64}
 use mir.Val.{toZ, ofZ, SFits}
 use mir.ValLaws.{toZ-ofZ, toZ-pos}
 use Rattle.skaveldro.proofs.Signs.{Natural, Negative, natural, negative}
-use Rattle.skaveldro.proofs.encode.two_complement.Statement.{statement}
-use Rattle.skaveldro.proofs.encode.two_complement.Tie as tie
+use Rattle.skaveldro.proofs.encode.signed_bits.Statement.{statement}
+use Rattle.skaveldro.proofs.encode.signed_bits.Tie as tie
 
 same : (c : tie.Start) → toZ w64 (ofZ w64 (c .args .v)) ≡ c .args .v
 same c = toZ-ofZ w64 (c .args .v) (c .fits .v)
@@ -45,5 +45,5 @@ cast-result-2 c =
 returns-2 : tie.Need-returns-2
 returns-2 c = rw (same (c .before), at-least c .is)
 
-pub two-complement-spec : {M : Type 1} → statement M
-two-complement-spec = tie.close (tie.spec sub-result cast-result sub-result-2 returns cast-result-2 returns-2)
+pub signed-bits-spec : {M : Type 1} → statement M
+signed-bits-spec = tie.close (tie.spec sub-result cast-result sub-result-2 returns cast-result-2 returns-2)
