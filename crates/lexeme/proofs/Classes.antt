@@ -99,5 +99,4 @@ classed b h =
     }
 
 pub classifies : Classifies classes
-unfolding lead start blank digit within either
 classifies = record { at = classed }

@@ -1,13 +1,12 @@
 -- What is left of a string decides where it ends: a plain byte or a character leaves that as it is, and the quote, a fault
 -- or the end of the text tells it. A character lies within the text, so each turn leaves less of it.
-use mathlib.Core.Path.{_≡_, refl, sym, ap, _∙_}
-use Prim.Native.Nat.{_-_, _<_}
+use mathlib.Core.Path.{_≡_, refl, sym, _∙_}
+use Prim.Native.Nat.{_-_}
 use native.Mathlib.Omega.{arith}
-use lib.ListN.{length, getD, drop}
+use lib.ListN.{length, drop}
 use borrow.Author.Needs.{needs}
 use Rattle.lexeme.specs.Character.{next}
 use Rattle.lexeme.specs.Character.Surrogates.{paired}
-use Rattle.lexeme.specs.Class.{leadOf}
 use Rattle.lexeme.proofs.Rests.{first-byte}
 use Rattle.character.proofs.Leads.{next-class}
 use Rattle.strings.proofs.Spelling.{end-from, AtFault, AtCharacter, at-end, at-quote, at-closing, at-fault, at-character, at-plain}
