@@ -9,7 +9,7 @@ enum Turn {
     Gathered(usize),
 }
 
-// A proved loop has to end, and nothing says that the input does: the turns are counted down from a number that no run uses up.
+// Every loop must be seen to end, and input may go on for ever: turns are counted down from more than any run takes.
 pub fn answer_all(line: &mut [u8]) {
     let mut count = 0;
     let mut turns = u64::MAX;

@@ -4,7 +4,7 @@ ghost use Prim.Native.Nat.{_-_};
 ghost use lib.ListN.{length, drop};
 ghost use Rattle.lexeme.specs.Character.{byte};
 
-// The byte k after `at`, or 0 past the end.
+// The byte k places on from `at`; 0 where there is none.
 pub fn byte_at(s: &[u8], at: usize, k: usize) -> u8
     ensures { λ r. ⌜ r ≡ byte (drop at (now (s .entry))) k ⌝ }
 {
