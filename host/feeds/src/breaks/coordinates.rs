@@ -96,7 +96,7 @@ fn break_position(position: &mut Tree, rng: &mut Rng) -> Option<u8> {
     match rng.below(4) {
         0 => {
             items.truncate(2);
-            items.push(no_object(rng));
+            items.push(wrong_type(Form::Money, rng));
             Some(kind::TYPE)
         }
         1 => {

@@ -8,11 +8,12 @@ use crate::Draft;
 use reference::table::{top_of, Field, Form, Need};
 use reference::{ceiling, kind, Parts};
 
-/// All rows of a file's table but the top value's.
+/// All rows of a file's table but the top value's. Coordinates come up more often, since they have more rules than the others.
 fn rows(file: u8) -> Vec<&'static Field> {
     fn collect(fields: &'static [Field], rows: &mut Vec<&'static Field>) {
         for field in fields {
-            rows.push(field);
+            let weight = if matches!(field.form, Form::Coordinates) { 8 } else { 1 };
+            rows.extend(std::iter::repeat_n(field, weight));
             collect(field.form.members(), rows);
         }
     }
