@@ -7,6 +7,7 @@ use crate::spelling::shortest;
 use crate::tree::{Members, Tree};
 use crate::{values, Draft};
 use reference::coordinates::Point;
+use reference::table::{FORM_FACTORS, PROPULSIONS};
 
 /// A set that keeps every rule.
 pub fn draft(rng: &mut Rng, size: &Size) -> Draft {
@@ -98,11 +99,11 @@ impl Maker<'_> {
         let id = values::id(self.rng, 't', number, self.size.id);
         let human = self.rng.chance(30);
         self.types.push((id.clone(), human));
-        let propulsion = if human { &["human"][..] } else { MOTORS };
+        let propulsions = if human { &PROPULSIONS[..1] } else { &PROPULSIONS[1..] };
         let mut record = Members::default();
         record.push("vehicle_type_id", Tree::Text(id));
         record.push("form_factor", values::word(self.rng, FORM_FACTORS));
-        record.push("propulsion_type", values::word(self.rng, propulsion));
+        record.push("propulsion_type", values::word(self.rng, propulsions));
         let range = (!human || self.rng.flip()).then(|| values::quantity(self.rng));
         self.add(&mut record, "max_range_meters", range);
         let plan = self.has_plans.then(|| Tree::Text(self.rng.pick(&self.plans).clone()));
@@ -263,8 +264,3 @@ impl Maker<'_> {
         }
     }
 }
-
-const FORM_FACTORS: &[&str] =
-    &["bicycle", "cargo_bicycle", "car", "moped", "scooter", "scooter_standing", "scooter_seated", "other"];
-const MOTORS: &[&str] =
-    &["electric_assist", "electric", "combustion", "combustion_diesel", "hybrid", "plug_in_hybrid", "hydrogen_fuel_cell"];

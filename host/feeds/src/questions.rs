@@ -131,6 +131,20 @@ impl Questions {
         Point { lon: nudge(point.lon, 180_000_000), lat: nudge(point.lat, 90_000_000) }
     }
 
+    /// Bytes that are a word or nearly one.
+    pub fn word(&mut self, word: [u8; 8]) -> Vec<u8> {
+        let rng = &mut self.rng;
+        let mut bytes = word.to_vec();
+        for _ in 0..rng.below(3) {
+            let at = rng.below(bytes.len());
+            bytes[at] ^= 1 << rng.below(8);
+        }
+        if rng.chance(5) {
+            bytes.resize(rng.below(11), 0);
+        }
+        bytes
+    }
+
     pub fn record(&mut self) -> Which {
         let rng = &mut self.rng;
         if rng.chance(5) {

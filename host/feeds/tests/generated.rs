@@ -2,6 +2,7 @@
 
 use feeds::questions::Questions;
 use feeds::{broken, damaged, files, respell, sound, Set, Size};
+use reference::json::{parse, Refusal};
 use reference::{ceiling, quote, show_record, verdict, zone_rule, Parts, Quote, Ruling, Shown, Verdict};
 use std::collections::HashSet;
 
@@ -62,6 +63,20 @@ fn damage_of_all_sorts() {
     }
     for kind in 0..=4 {
         assert!(kinds.contains(&kind), "kind {kind}");
+    }
+}
+
+#[test]
+fn the_offset_of_kind_2_rests_on_the_bytes_before_it() {
+    for seed in 0..2000 {
+        let set = damaged(seed, &Size::FEW);
+        for bytes in &set {
+            let Err(Refusal { kind: 2, offset }) = parse(bytes) else { continue };
+            // Up to there it is a JSON text or the beginning of one; with one byte more it is neither.
+            let cut_off = Refusal { kind: 2, offset };
+            assert!(parse(&bytes[..offset]).err().is_none_or(|refusal| refusal == cut_off), "seed {seed}");
+            assert_eq!(parse(&bytes[..bytes.len().min(offset + 1)]), Err(cut_off), "seed {seed}");
+        }
     }
 }
 

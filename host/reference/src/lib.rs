@@ -25,7 +25,7 @@ pub mod zone;
 pub use clean::{clean, Clean};
 pub use quote::{quote, Quote};
 pub use show::{show_record, Shown};
-pub use verdict::verdict;
+pub use verdict::{verdict, write_verdict};
 pub use word::{read_word, Parts, Verdict};
 pub use zone::{zone_rule, Rule, Ruling};
 

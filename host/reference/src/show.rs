@@ -12,7 +12,7 @@ pub enum Shown {
     NotClean(Parts),
     /// 10: the file has no record of that number.
     NoRecord,
-    /// 0: from the record's opening bracket to one past its closing bracket.
+    /// 0: the half-open range of the record's bytes, both brackets in it.
     Record(usize, usize),
 }
 

@@ -66,9 +66,11 @@ const AT_LEAST_0: Form = Number(0, i64::MAX);
 const LATITUDE: Form = Number(-90, 90);
 const LONGITUDE: Form = Number(-180, 180);
 
-const FORM_FACTORS: &[&str] =
+/// The words of field 11.
+pub const FORM_FACTORS: &[&str] =
     &["bicycle", "cargo_bicycle", "car", "moped", "scooter", "scooter_standing", "scooter_seated", "other"];
-const PROPULSIONS: &[&str] = &[
+/// The words of field 12, human first.
+pub const PROPULSIONS: &[&str] = &[
     "human",
     "electric_assist",
     "electric",

@@ -37,7 +37,7 @@ impl Verdict {
 }
 
 impl Parts {
-    /// The word of these parts, most significant bits first: form 4, file 4, kind 4, field 8, record 12, sub 12, offset 20.
+    /// The word of these parts: behind the form, each part in the bits that its row has, the highest first.
     pub fn word(self) -> [u8; 8] {
         let fields = [
             (4, u64::from(self.file)),

@@ -162,7 +162,7 @@ mod tests {
     }
 
     #[test]
-    fn a_zone_counts_from_start_to_before_end() {
+    fn a_zone_starts_at_start_and_is_over_at_end() {
         let file = zones(&zone(CLOCKWISE, &format!(r#""start":10,"end":20,{RULES}"#)));
         for (moment, counts) in [(9, false), (10, true), (19, true), (20, false)] {
             assert_eq!(zone_rule(&file, DEGREE, DEGREE, b"", moment) != Ruling::NoRule, counts, "{moment}");

@@ -12,7 +12,7 @@
 //!
 //! `PARTS` are file, kind, field, record, sub and offset in decimal; yes and no are 1 and 0; a value that is not given is `-`.
 
-use reference::{quote, read_word, show_record, verdict, zone_rule, Parts, Quote, Ruling, Shown, Verdict};
+use reference::{quote, read_word, show_record, write_verdict, zone_rule, Parts, Quote, Ruling, Shown};
 use std::io::{self, BufRead, BufWriter, Write};
 
 fn main() -> io::Result<()> {
@@ -46,12 +46,10 @@ fn answer(line: &str) -> Option<String> {
 
 fn answer_verdict(room: usize, files: &[&str]) -> Option<String> {
     let files = six(files)?;
-    if room < 8 {
-        return Some("2".into());
-    }
-    let verdict = verdict(files.each_ref().map(Vec::as_slice));
-    let word: String = verdict.word().iter().map(|byte| format!("{byte:02x}")).collect();
-    Some(format!("{} {word}", u8::from(verdict != Verdict::Accepted)))
+    let mut buffer = [0; 8];
+    let number = write_verdict(&mut buffer[..room.min(8)], files.each_ref().map(Vec::as_slice));
+    let word: String = buffer.iter().map(|byte| format!("{byte:02x}")).collect();
+    Some(if number == 2 { "2".into() } else { format!("{number} {word}") })
 }
 
 fn answer_show(files: &[&str], file: u64, number: u64) -> Option<String> {
