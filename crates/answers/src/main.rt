@@ -1,11 +1,16 @@
 // Answers questions a line at a time: a case to a line of standard input, its answer on the same line of standard output.
+mod files;
 mod hex;
 mod lines;
 mod number;
 mod print;
 mod questions;
+mod quote_trip;
 mod read_word;
+mod show;
+mod signed;
 mod words;
+mod zone_rule;
 
 // The most bytes of a line, without its line feed.
 const LONGEST: usize = 65536;

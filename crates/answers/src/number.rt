@@ -1,4 +1,4 @@
-// Numbers in decimal, from 0 to the greatest of 64 bits.
+// Numbers in decimal. One past 64 bits reads as the greatest of them, which is past every ceiling too.
 pub enum Number {
     Malformed,
     Is(u64),
@@ -20,14 +20,14 @@ pub fn parse(word: &[u8]) -> Number {
     Number::Is(n)
 }
 
-// The number with a digit more, where the byte is one and the number has room.
+// The number with a digit more, where the byte is one.
 fn with_digit(n: u64, b: u8) -> Number {
     if b < b'0' || b'9' < b {
         return Number::Malformed;
     }
     let digit = (b - b'0') as u64;
     if n > (u64::MAX - digit) / 10 {
-        return Number::Malformed;
+        return Number::Is(u64::MAX);
     }
     Number::Is(n * 10 + digit)
 }

@@ -17,8 +17,38 @@ pub fn next(n: u64) {
     io::print_decimal(STDOUT_FILENO, n);
 }
 
+// An amount after others; below zero, a minus sign and its size, which is one more than that of the number above it.
+pub fn amount(n: i64) {
+    if n >= 0 {
+        next(n as u64);
+        return;
+    }
+    io::write_all(STDOUT_FILENO, b" -");
+    io::print_decimal(STDOUT_FILENO, ((0 - (n + 1)) as u64) + 1);
+}
+
+// A mark after others: 1 where it is set.
+pub fn mark(set: bool) {
+    if set {
+        next(1);
+        return;
+    }
+    next(0);
+}
+
+// A minus sign after others, for a value that is not given.
+pub fn nothing() {
+    io::write_all(STDOUT_FILENO, b" -");
+}
+
 pub fn end() {
     io::write_all(STDOUT_FILENO, b"\n");
+}
+
+// The answer that a file is not clean, with what its word says.
+pub fn not_clean(p: Parts) {
+    first(5);
+    parts(p);
 }
 
 // What a word says, after the answer's number.

@@ -23,6 +23,11 @@ pub fn at(line: &[u8], number: usize) -> &[u8] {
     &line[from..to]
 }
 
+// The line from that word on.
+pub fn from(line: &[u8], number: usize) -> &[u8] {
+    &line[start(line, number)..]
+}
+
 // Where that word begins.
 fn start(line: &[u8], number: usize) -> usize
     ensures { λ r. ⌜ r ≤ length (now (line .entry)) ⌝ }

@@ -1,13 +1,13 @@
 -- Kind 12 of a file without a stage B fault: its records in bytes have the ids that their picked values have, so the first id that repeats in
 -- bytes is the least fault of all repeats.
 use mathlib.Core.Bool.{Bool, true, false}
-use mathlib.Core.List.{List, [], _∷_, _++_, map, List·Memᴰ, List·Memᴰ·head, List·Memᴰ·tail, List·Memᴰ·cases-cons, List·Memᴰ·not-nil}
+use mathlib.Core.List.{List, [], _∷_, map, List·Memᴰ, List·Memᴰ·head, List·Memᴰ·tail, List·Memᴰ·cases-cons, List·Memᴰ·not-nil}
 use mathlib.Core.Logic.{⊎-elim}
 use mathlib.Core.Path.{_≡_, refl, sym, ap, subst, _∙_}
-use Prim.Native.Nat.{ℕ, zero, suc, _+_, _-_, _*_, _≤_, _<_}
+use Prim.Native.Nat.{ℕ, zero, suc, _+_, _-_, _*_, _≤_}
 use native.Mathlib.Decide.{ℕ-discrete}
 use native.Mathlib.Omega.{arith}
-use lib.Dec.{eqb, leb}
+use lib.Dec.{eqb}
 use lib.ListN.{length, take, drop, length-map}
 use borrow.Author.Tests.{leb-true, ne-eqb}
 use Rattle.limits.specs.Ceilings as ceiling
@@ -15,7 +15,7 @@ use Rattle.notation.specs.Choice.{_⇒_else_}
 use Rattle.lexeme.proofs.Steps.{by-test}
 use Rattle.word.specs.Kinds.{idTwice}
 use Rattle.json.specs.Tree as tree
-use Rattle.json.specs.Tree.{Json, Members}
+use Rattle.json.specs.Tree.{Json}
 use Rattle.text.specs.Text.{textOf, same}
 use Rattle.text.proofs.Laws.{same-sym}
 use Rattle.walk.specs.declared.Item.{Item}
@@ -27,12 +27,11 @@ use Rattle.walk.proofs.Files.{Passed, passed}
 use Rattle.schema.specs.Shape as shape
 use Rattle.schema.specs.Shape.{Shape, Rows, Sort, fileShape}
 use Rattle.schema.specs.Table23.{table23, zone}
-use Rattle.schema.specs.Pick.{Picked, PickedItems, items, Slot, missing, once, twice, given, pick, find, listOf}
+use Rattle.schema.specs.Pick.{Picked, items, Slot, missing, once, twice, given, pick, find, listOf}
 use Rattle.slots.specs.declared.Found.{Found}
 use Rattle.slots.specs.declared.Found.the-variants.{Missing, Once, Twice}
 use Rattle.slots.specs.Found.{foundIn}
 use Rattle.fault.specs.declared.Fault.{Fault}
-use Rattle.fault.specs.declared.Least.{Least}
 use Rattle.fault.specs.declared.Least.the-variants.{None, Is}
 use Rattle.fault.specs.Fault.{fault, least}
 use Rattle.fault.proofs.Order.{later-record}
@@ -52,7 +51,7 @@ use Rattle.document.proofs.Fields.{Stands, reached, noRow, past, field-lacks}
 use Rattle.document.proofs.Records.{recordShape, pickedItems, Records, records-stand, item-inside}
 use Rattle.clean.specs.Clean as clean
 use Rattle.clean.specs.Clean.{recordsOf, usedBefore, repeatedId, repeatsFrom, repeats, idField}
-use Rattle.clean.specs.Noted.{idName, textPlace, idPlace, idIn, idsIn, repeatAt, blamed, Blames}
+use Rattle.clean.specs.Noted.{idName, textPlace, idIn, idsIn, repeatAt, blamed, Blames}
 use Rattle.clean.proofs.Noting.{repeat-here, repeat-later, repeat-none}
 use Rattle.clean.proofs.Faultless.{Requires, required-there, object-there, array-there, items-there, id-there, field-there, demands-there, demands-to, id-demanded}
 
@@ -178,11 +177,19 @@ pub record Held (n : ℕ) (s : List ℕ) (x : Json) : Type 0 where
   pub field : ℕ
   pub sound : (y : Picked) → List·Memᴰ y list → (q : Place) × (faults (recordShape n) q field y ≡ [])
 
+-- the records at a span, by its places
+pub records-at : {s : List ℕ} {at : Span} {σ : Shape} {l : List Picked} → Records s at σ l → {from upto : ℕ} → at ≡ span.Is from upto → l ≡ pickedItems σ (part s from upto)
+records-at {s} {σ = σ} r {from} {upto} k =
+    let i = r .is in
+    let a : r .start ≡ from = cc in
+    let b : r .end ≡ upto = cc in
+    r .picked ∙ ap (λ (z : ℕ). pickedItems σ (part s z (r .end))) a ∙ ap (λ (z : ℕ). pickedItems σ (part s from z)) b
+
 pub held : (n : ℕ) → 1 ≤ n → n ≤ 6 → (s : List ℕ) (t : Passed s) → fileFaults (fileShape table23 n) (t .tree) ≡ [] → Held n s (t .tree)
 unfolding fileFaults recordsOf rings.count
 held n h i s t e =
     let d = demands-there (demands-to n h i) top 0 (t .tree) e in
-    let a = array-there top (d .1) ceiling.records (recordShape n) (d .0) (d .3) in
+    let a = array-there top (d .1) shape.records (λ b c. refl) ceiling.records (recordShape n) (d .0) (d .3) in
     let way : along (path (eqb n 6)) (pick (fileShape table23 n) (t .tree)) ≡ some (items (a .0)) = d .2 ∙ ap some (a .1) in
     record {
       list = listOf (a .0);
@@ -190,7 +197,7 @@ held n h i s t e =
       there = records-stand n h i s t (a .0) way;
       few = leb-true (rings.count (a .0)) ceiling.records (a .2);
       field = d .1;
-      sound = items-there top (d .1) (λ q f y. faults (recordShape n) q f y) 0 (a .0) (a .3);
+      sound = items-there top (d .1) (λ q f y. faults (recordShape n) q f y) shape.records 0 (a .0) (a .3);
     }
 
 -- kind 12 in bytes
@@ -216,20 +223,13 @@ module _ (n : ℕ) (h : 1 ≤ n) (i : n ≤ 5) where
       (sym (d .1)) (id-read (d .2) p m (treeOf (itemOf p m)) there q φ))
 
   module _ (s : List ℕ) (t : Passed s) (e : fileFaults (fileShape table23 n) (t .tree) ≡ []) where
-    found : (from upto : ℕ) → recordsSpan n s ≡ span.Is from upto → (r : Held n s (t .tree)) → r .list ≡ map (λ m. pick (recordShape n) (treeOf (itemOf (part s from upto) m))) (itemsOf (part s from upto))
-    found from upto k r =
-        let w = r .there in
-        let a : w .start ≡ from = cc in
-        let b : w .end ≡ upto = cc in
-        w .picked ∙ ap (λ (z : ℕ). pickedItems (recordShape n) (part s z (w .end))) a ∙ ap (λ (z : ℕ). pickedItems (recordShape n) (part s from z)) b
-
     pub repeats-are : (from upto : ℕ) → recordsSpan n s ≡ span.Is from upto → Repeats n s (t .tree) from upto
     unfolding repeats ids.repeats idsIn
     repeats-are from upto k =
         let r = held n h (omega arith) s t e in
         let p = part s from upto in
         let g : Item → Picked = λ m. pick (recordShape n) (treeOf (itemOf p m)) in
-        let l = found from upto k r in
+        let l = records-at (r .there) k in
         let names : Named (idField n) (map g (itemsOf p)) (map (idIn (idName n) p) (itemsOf p)) =
         named-each (idField n) g (idIn (idName n) p) (itemsOf p) (λ m j.
         let y = r .sound (g m) (subst (List·Memᴰ (g m)) (sym l) (mem-map g (itemsOf p) m j)) in id-of p m j (y .0) (r .field) (y .1)) in

@@ -15,7 +15,7 @@ use lexeme::front::first;
 use lexeme::front::place;
 use lexeme::literal::read_literal;
 use lexeme::number::read_number;
-use strings::string::read_string;
+use strings::read_string;
 use word::kind::Kind;
 
 // The value at `at`.

@@ -135,7 +135,7 @@ encoded-near f l v t there h =
     rw (c .is) (rw (c .takes) there, λ m g. h m (rw (c .takes) at g) ∙ c .is)
 
 -- escapes
-abbrev QuadNear : List ℕ → Quad → Type 0
+abbrev pub QuadNear : List ℕ → Quad → Type 0
 QuadNear l (Value v) = (4 ≤ length l) × ((m : List ℕ) → Agree 3 l m → quad m ≡ Value v)
 QuadNear l (Short n) = (n ≤ length l) × ((m : List ℕ) → Agree n l m → quad m ≡ Short n)
 
@@ -143,7 +143,7 @@ hexed : (l : List ℕ) (i : ℕ) → hexadecimal (byte l i) ≡ true → i < len
 unfolding hexadecimal hexValue within
 hexed = passed hexadecimal refl
 
-quad-near : (l : List ℕ) → QuadNear l (quad l)
+pub quad-near : (l : List ℕ) → QuadNear l (quad l)
 unfolding quad
 quad-near l =
     by-test (hexadecimal (byte l 0))

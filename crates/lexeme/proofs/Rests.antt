@@ -5,8 +5,8 @@ use mathlib.Core.Path.{_≡_, refl, sym, ap, _∙_}
 use Prim.Native.Nat.{ℕ, suc, _+_, _-_, _≤_, _<_}
 use native.Mathlib.Numerals.{add-one}
 use native.Mathlib.Omega.{arith}
-use lib.ListN.{length, drop, take, getD, length-drop, length-append, take-append-drop}
-use lib.Seq.{drop-cons, drop-drop, drop-at}
+use lib.ListN.{length, drop, take, getD, length-drop, length-append, take-append-drop, drop-of-length-le, List·getD-eq-default}
+use lib.Seq.{drop-cons, drop-drop, drop-at, drop-length, getD-drop}
 use Rattle.lexeme.specs.Character.{byte}
 use Rattle.lexeme.proofs.Steps.{true-false}
 
@@ -21,6 +21,19 @@ place-end s i h = simp length-drop (omega arith)
 
 pub next-drop : (s : List ℕ) (i : ℕ) → drop 1 (drop i s) ≡ drop (i + 1) s
 next-drop s i = drop-drop 1 i s
+
+-- a byte and what is left, as many places after `at`: past the end, and before it
+pub none-left : (s : List ℕ) (at k : ℕ) → length s ≤ at + k → drop (length s) s ≡ drop k (drop at s)
+none-left s at k h = drop-length s ∙ sym (drop-of-length-le s h) ∙ sym (drop-drop k at s)
+
+pub no-byte : (s : List ℕ) (at k : ℕ) → length s ≤ at + k → 0 ≡ byte (drop at s) k
+no-byte s at k h = sym (List·getD-eq-default s 0 h) ∙ sym (getD-drop at s k 0)
+
+pub first-byte : (s : List ℕ) (i : ℕ) → byte s i ≡ byte (drop i s) 0
+first-byte s i = let z : i ≡ i + 0 = omega arith in ap (byte s) z ∙ sym (getD-drop i s 0 0)
+
+pub some-left : (s : List ℕ) (i : ℕ) → i < length s → 0 < length (drop i s)
+some-left s i h = simp length-drop (omega arith)
 
 -- a byte past the end is 0: a byte that a test admits, and 0 not, stands in the text
 module _ (test : ℕ → Bool) (none : test 0 ≡ false) where

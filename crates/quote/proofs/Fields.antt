@@ -9,14 +9,12 @@ use borrow.Author.Tests.{ne-eqb}
 use Rattle.notation.specs.Ascii.{bytes}
 use Rattle.json.specs.Tree.{Json}
 use Rattle.walk.specs.Part.{Whole}
-use Rattle.schema.specs.Shape as shape
-use Rattle.schema.specs.Shape.{Shape, Rows, Sort, Numbering}
 use Rattle.schema.specs.Table23 as table
 use Rattle.schema.specs.Pick.{pick}
 use Rattle.decimal.specs.declared.Amount.{Amount}
 use Rattle.fare.specs.declared.Segment.{Segment}
-use Rattle.document.specs.Document.{field, fieldItems, given, spelling, text}
-use Rattle.document.proofs.Fields.{Lists, here, below}
+use Rattle.document.specs.Document.{fieldItems, text}
+use Rattle.document.proofs.Fields.{here, below}
 use Rattle.document.proofs.Records.{pickedItems}
 use Rattle.fields.specs.Values.{memberOf, textBy, arrayBy, integerIn}
 use Rattle.fields.proofs.Fields.{field-spelled, field-text, field-given, field-items, rowOf, listed}

@@ -4,3 +4,4 @@ pub mod Looking
 pub mod Tallying
 pub mod Trips
 pub mod Files
+pub mod Past

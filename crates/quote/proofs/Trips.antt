@@ -13,7 +13,7 @@ use Rattle.document.specs.Document.{some, fieldItems}
 use Rattle.fare.specs.declared.Sum.{Sum}
 use Rattle.fare.specs.declared.Marks.{Marks}
 use Rattle.fare.specs.Charges as charges
-use Rattle.fare.specs.Charges.{minutesOf, kilometresOf, amount}
+use Rattle.fare.specs.Charges.{minutesOf, kilometresOf}
 use Rattle.fare.specs.Folds.{worth, ofPrice, withCharges, unmarked, withEnds, marked}
 use Rattle.fare.specs.Bounds.{Room}
 use Rattle.fare.proofs.Fold.{amount-summed, tells-start}
@@ -22,9 +22,8 @@ use Rattle.quote.specs.declared.Tally.the-variants.{Is, Crowded}
 use Rattle.quote.specs.Plan.{priceAt, perMinute, perKilometre, sum, pastMinutes, pastKilometres}
 use Rattle.fields.specs.Values.{memberOf, arrayBy}
 use Rattle.quote.specs.Values.{priceBy}
-use Rattle.quote.specs.Tally.{tally}
+use Rattle.quote.specs.Tally.{tally, Few}
 use Rattle.quote.specs.Quote.{fareOf, planQuote}
-use Rattle.quote.specs.Clean.{Few}
 use Rattle.quote.proofs.Fields.{plan-price, plan-minutes, plan-kilometres}
 use Rattle.quote.proofs.Tallying.{price-most, tally-picked}
 

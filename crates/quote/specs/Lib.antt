@@ -3,4 +3,4 @@ pub mod Quote
 pub mod Values
 pub mod Lookup
 pub mod Tally
-pub mod Clean
+pub mod Cases

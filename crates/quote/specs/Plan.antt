@@ -1,9 +1,8 @@
 -- A plan out of a picked file of plans, and what it quotes: document 01, "Charges".
-use mathlib.Core.Bool.{Bool, true, false}
+use mathlib.Core.Bool.{Bool, false}
 use mathlib.Core.List.{List, [], _∷_, map}
 use Prim.Native.Nat.{ℕ, _+_}
-use lib.IntN.{ℤ, pos}
-use Rattle.decimal.specs.declared.Decimal.{Decimal}
+use lib.IntN.{ℤ}
 use Rattle.decimal.specs.declared.Amount.{Amount}
 use Rattle.decimal.specs.declared.Number.{Number}
 use Rattle.decimal.specs.declared.Number.the-variants as number
@@ -14,13 +13,12 @@ use Rattle.decimal.specs.declared.Money.the-variants as money
 use Rattle.decimal.specs.Decimals.{numberOf, priceOf}
 use Rattle.decimal.specs.Exact.{moneyOf, tenThousandths}
 use Rattle.text.specs.Text.{same}
-use Rattle.notation.specs.Choice.{_⇒_else_, _and_}
+use Rattle.notation.specs.Choice.{_⇒_else_}
 use Rattle.schema.specs.Pick.{Picked}
-use Rattle.document.specs.Document.{Maybe, none, some, along, elementsOf, field, fieldItems, text, textIn, spelling, spellingIn, given, then}
+use Rattle.document.specs.Document.{Maybe, none, some, along, elementsOf, field, fieldItems, text, spelling, given}
 use Rattle.fields.specs.Values.{integerIn}
 use Rattle.fare.specs.declared.Segment.{Segment}
-use Rattle.fare.specs.declared.Total.{Total}
-use Rattle.fare.specs.Charges.{minutesOf, kilometresOf, amount, past, total}
+use Rattle.fare.specs.Charges.{minutesOf, kilometresOf, amount, past}
 
 -- zero, for what a sound plan always has
 abbrev pub nothing : Amount

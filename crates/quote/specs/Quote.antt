@@ -1,16 +1,21 @@
 -- The question "quote" of document 01. Where an answer has no amount, mark or parts, zero and false stand in.
-use mathlib.Core.Bool.{Bool, true, false}
+use mathlib.Core.Bool.{Bool, false}
 use mathlib.Core.List.{List}
 use Prim.Native.Nat.{ℕ}
 use lib.Dec.{leb}
 use lib.IntN.{ℤ, pos}
 use Rattle.notation.specs.Choice.{_⇒_else_, _and_}
 use Rattle.word.specs.declared.Parts.{Parts}
-use Rattle.schema.specs.Pick.{Picked}
+use Rattle.schema.specs.Shape.{fileShape}
+use Rattle.schema.specs.Table23.{table23}
+use Rattle.schema.specs.Pick.{Picked, pick}
 use Rattle.document.specs.Document.{Maybe, none, some}
 use Rattle.fare.specs.declared.Total.{Total}
 use Rattle.fare.specs.declared.Total.the-variants as total
 use Rattle.fare.specs.Charges as charges
+use Rattle.clean.specs.declared.Cleanness.{Cleanness}
+use Rattle.clean.specs.declared.Cleanness.the-variants.{Clean, Broken}
+use Rattle.clean.specs.Clean.{treeOf, cleanOf}
 use Rattle.quote.specs.declared.Quote.{Quote}
 use Rattle.quote.specs.declared.Quote.the-variants.{TooLong, NotClean, NoPlan, Outside, Fare}
 use Rattle.quote.specs.Plan.{planOf, plans, sum, pastMinutes, pastKilometres}
@@ -57,3 +62,14 @@ cleanQuote file id seconds metres = planQuote seconds metres (planOf (plans file
 -- a ride that is short enough
 unfoldable pub short : ℕ → ℕ → Bool
 short seconds metres = leb seconds mostSeconds and leb metres mostMetres
+
+abbrev pub ofClean : Cleanness → Quote → Quote
+ofClean Clean next = next
+ofClean (Broken p) next = NotClean p
+
+-- of the bytes s of file 5
+unfoldable pub quoteOf : (s id : List ℕ) → (seconds metres : ℕ) → Quote
+quoteOf s id seconds metres =
+    short seconds metres ⇒
+    ofClean (cleanOf 5 s) (cleanQuote (pick (fileShape table23 5) (treeOf s)) id seconds metres)
+    else TooLong

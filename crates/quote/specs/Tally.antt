@@ -1,9 +1,12 @@
 -- Sum and mark of the segments in an array's bytes p, one by one and no more than a plan may have.
 use mathlib.Core.List.{List, [], _∷_}
-use Prim.Native.Nat.{ℕ, zero, suc}
+use Prim.Native.Nat.{ℕ, zero, suc, _≤_}
+use lib.ListN.{length}
 use Rattle.limits.specs.Ceilings.{segments}
 use Rattle.walk.specs.declared.Item.{Item}
 use Rattle.walk.specs.Walk.{part, itemsOf}
+use Rattle.schema.specs.Pick.{Picked}
+use Rattle.document.specs.Document.{fieldItems}
 use Rattle.fare.specs.declared.Sum.{Sum}
 use Rattle.fare.specs.declared.Marks.{Marks}
 use Rattle.fare.specs.Folds.{withCharge, unmarked, withEnd}
@@ -28,3 +31,8 @@ tallied (suc left) p ride sum marks (m ∷ l) =
 
 unfoldable pub tally : List ℕ → Sum → ℕ → Tally
 tally p sum ride = tallied segments p ride sum unmarked (itemsOf p)
+
+-- a plan has no more of either sort, which is so in a clean file
+pub record Few (plan : Picked) : Type 0 where
+  pub minutes : length (fieldItems 61 plan) ≤ segments
+  pub kilometres : length (fieldItems 56 plan) ≤ segments

@@ -1,6 +1,8 @@
 // What a trip costs by a plan of a file of plans.
 use crate::plans::find_plan;
 use crate::trip::quote_plan;
+use clean::Cleanness;
+use clean::check_clean;
 use document::Span;
 use document::cut;
 use document::records_span;
@@ -10,14 +12,13 @@ use fare::Minutes;
 use fare::Sum;
 use word::Parts;
 ghost use mathlib.Core.Path.{_≡_};
-ghost use Rattle.notation.specs.Choice.{_⇒_else_};
-ghost use Rattle.json.specs.Tree.{Json};
+ghost use Prim.Native.Nat.{_≤_};
 ghost use Rattle.schema.specs.Shape.{fileShape};
 ghost use Rattle.schema.specs.Table23.{table23};
 ghost use Rattle.schema.specs.Pick.{pick};
-ghost use Rattle.quote.specs.declared.Quote.the-variants.{TooLong};
-ghost use Rattle.quote.specs.Clean.{CleanPlans};
-ghost use Rattle.quote.specs.Quote.{short, cleanQuote};
+ghost use Rattle.clean.specs.declared.Cleanness.the-variants.{Clean};
+ghost use Rattle.clean.specs.Clean.{treeOf, cleanOf};
+ghost use Rattle.quote.specs.Quote.{mostSeconds, mostMetres, short, cleanQuote, quoteOf};
 
 mod money;
 mod plans;
@@ -72,14 +73,11 @@ fn is_short(seconds: u64, metres: u64) -> bool
     metres <= Quote::MOST_METRES
 }
 
-// The quote of a plan out of a clean file of plans.
-// Shut out: an amount for a ride that is too long; the first plan of the file taken where none has the id.
-pub fn quote_clean(s: &[u8], id: &[u8], seconds: u64, metres: u64) -> Quote
-    ensures { λ r. ⌜ ((x : Json) → CleanPlans (now (s .entry)) x → r ≡ (short seconds metres ⇒ cleanQuote (pick (fileShape table23 5) x) (now (id .entry)) seconds metres else TooLong)) ⌝ }
+// The quote of a plan out of a clean file of plans, for a ride that is short enough.
+fn quote_clean(s: &[u8], id: &[u8], seconds: u64, metres: u64) -> Quote
+    requires { ⌜ (cleanOf 5 (now s) ≡ Clean) × (seconds ≤ mostSeconds) × (metres ≤ mostMetres) ⌝ }
+    ensures { λ r. ⌜ r ≡ cleanQuote (pick (fileShape table23 5) (treeOf (now (s .entry)))) (now (id .entry)) seconds metres ⌝ }
 {
-    if !is_short(seconds, metres) {
-        return Quote::TooLong;
-    }
     let Span::Is(from, upto) = records_span(Quote::FILE, s) else {
         return Quote::NoPlan;
     };
@@ -88,4 +86,24 @@ pub fn quote_clean(s: &[u8], id: &[u8], seconds: u64, metres: u64) -> Quote
         return Quote::NoPlan;
     };
     quote_plan(cut(records, start, end), seconds, metres)
+}
+
+// What a trip costs by the plan of an id, of the bytes of file 5; an absent file has no plans. The file is read a constant number of times: once by
+// stage A, once by stage B for each level of the table, once for its ids, once for each name on the way to its records, and once for the plan.
+// Shut out: a file's faults, or an amount, told of a ride that is too long; a plan quoted from a file that only stage A passes; the first plan of the
+// file taken where none has the id.
+pub fn quote_trip(s: &[u8], id: &[u8], seconds: u64, metres: u64) -> Quote
+    ensures { λ r. ⌜ r ≡ quoteOf (now (s .entry)) (now (id .entry)) seconds metres ⌝ }
+{
+    if !is_short(seconds, metres) {
+        return Quote::TooLong;
+    }
+    match check_clean(Quote::FILE, s) {
+        Cleanness::Broken(p) => {
+            return Quote::NotClean(p);
+        }
+        Cleanness::Clean => {
+            return quote_clean(s, id, seconds, metres);
+        }
+    }
 }

@@ -23,8 +23,7 @@ ghost use Rattle.fare.specs.Folds.{ofPrice};
 ghost use Rattle.fare.specs.Bounds.{mostRide, Room};
 ghost use Rattle.fields.specs.Values.{memberOf, arrayBy};
 ghost use Rattle.quote.specs.Values.{priceBy};
-ghost use Rattle.quote.specs.Tally.{lengthOf, tally as tallyOf};
-ghost use Rattle.quote.specs.Clean.{Few};
+ghost use Rattle.quote.specs.Tally.{lengthOf, tally as tallyOf, Few};
 ghost use Rattle.quote.specs.Quote.{mostSeconds, mostMetres, fareOf, planQuote};
 
 // A total with its marks.

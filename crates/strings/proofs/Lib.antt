@@ -1,4 +1,1 @@
-pub mod Places
-pub mod CharacterSteps
-pub mod Inside
 pub mod Spelling

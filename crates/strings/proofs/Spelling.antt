@@ -1,9 +1,9 @@
 -- A string at a place of the text, by what stands there: what is left decides the whole.
 use mathlib.Core.List.{List, [], _∷_, _++_}
-use mathlib.Core.Path.{_≡_, refl, sym, ap, _∙_, subst}
-use Prim.Native.Nat.{ℕ, zero, suc, _+_, _-_, _≤_, _<_}
+use mathlib.Core.Path.{_≡_, sym, ap, _∙_}
+use Prim.Native.Nat.{ℕ, _+_, _≤_, _<_}
 use native.Mathlib.Omega.{arith}
-use lib.ListN.{length, drop, length-drop, drop-of-length-le}
+use lib.ListN.{length, drop, drop-of-length-le}
 use lib.Seq.{drop-drop}
 use Rattle.word.specs.Kinds.{notJson}
 use Rattle.lexeme.specs.declared.Char.{Char}
@@ -13,40 +13,16 @@ use Rattle.lexeme.specs.declared.Scan.{Scan}
 use Rattle.lexeme.specs.declared.Scan.the-variants as scan
 use Rattle.lexeme.specs.Character.{Surrogates, Lead, byte, lead, char1, nextBy, next, bytesOf}
 use Rattle.lexeme.specs.Class.{leadOf}
-use Rattle.lexeme.specs.Read.{made, placed}
-use Rattle.lexeme.specs.Read.Read.{done, bad}
+use Rattle.lexeme.specs.Read.{placed}
+use Rattle.lexeme.specs.Read.Read.{bad}
 use Rattle.lexeme.specs.Strings.{string}
+use Rattle.lexeme.proofs.Steps.{string-quote, string-fault, string-character, string-skip}
 use Rattle.lexeme.proofs.Placed.{ends-at, faults-at, placed-made}
-use Rattle.strings.proofs.Places.{first-byte, some-left}
-use Rattle.strings.proofs.Inside.{Inside, next-inside}
-use Rattle.strings.proofs.CharacterSteps.{class-plain}
+use Rattle.lexeme.proofs.Rests.{at-cons, first-byte}
+use Rattle.character.proofs.Inside.{character-inside, fault-inside}
+use Rattle.character.proofs.Leads.{class-plain}
 
 module _ (ρ : Surrogates) where
-  -- passing k bytes
-  pub string-past : (l : List ℕ) (k : ℕ) → string ρ k l ≡ string ρ 0 (drop k l)
-  unfolding string
-  string-past [] zero = refl
-  string-past [] (suc k) = refl
-  string-past (b ∷ r) zero = refl
-  string-past (b ∷ r) (suc k) = string-past r k
-
-  -- by what stands at the front
-  pub string-quote : (l : List ℕ) → 0 < length l → next ρ l ≡ Quote → string ρ 0 l ≡ done [] (drop 1 l)
-  unfolding string
-  string-quote [] h e = absurd (omega arith)
-  string-quote (b ∷ r) h e = rw (e, string)
-
-  pub string-fault : (l : List ℕ) (k n : ℕ) → 0 < length l → next ρ l ≡ Fault k n → string ρ 0 l ≡ bad k (drop n l)
-  unfolding string
-  string-fault [] k n h e = absurd (omega arith)
-  string-fault (b ∷ r) k n h e = rw (e, string)
-
-  pub string-character : (l : List ℕ) (x : Char) → 0 < length l → next ρ l ≡ Character x
-      → string ρ 0 l ≡ made (λ y. bytesOf x ++ y) (string ρ (x .more) (drop 1 l))
-  unfolding string
-  string-character [] x h e = absurd (omega arith)
-  string-character (b ∷ r) x h e = rw (e, string)
-
   -- where the string that goes on at i ends in s
   abbrev pub end-from : List ℕ → ℕ → Scan
   end-from s i = placed s (string ρ 0 (drop i s))
@@ -65,32 +41,34 @@ module _ (ρ : Surrogates) where
   at-end s i h = rw (drop-of-length-le s h) (ap (scan.Fault notJson) (omega arith))
 
   module _ (s : List ℕ) (i : ℕ) (h : i < length s) where
-    pub at-quote : next ρ (drop i s) ≡ Quote → scan.End (i + 1) ≡ end-from s i
-    at-quote e =
-        ends-at s (i + 1) _ (omega arith) [] (string-quote (drop i s) (some-left s i h) e ∙ ap (done []) (drop-drop 1 i s))
+    -- the text from i on: its first byte, and the text after it
+    begins : drop i s ≡ byte s i ∷ drop (i + 1) s
+    begins = at-cons s i h
 
-    inside : {o : Next} → next ρ (drop i s) ≡ o → Inside (drop i s) o
-    inside e = subst (Inside (drop i s)) e (next-inside ρ (drop i s) (some-left s i h))
+    stands : {o : Next} → next ρ (drop i s) ≡ o → next ρ (byte s i ∷ drop (i + 1) s) ≡ o
+    stands e = sym (ap (next ρ) begins) ∙ e
+
+    pub at-quote : next ρ (drop i s) ≡ Quote → scan.End (i + 1) ≡ end-from s i
+    at-quote e = ends-at s (i + 1) _ (omega arith) [] (ap (string ρ 0) begins ∙ string-quote ρ _ _ (stands e))
 
     pub at-fault : (k n : ℕ) → next ρ (drop i s) ≡ Fault k n → AtFault s i k n
     at-fault k n e =
-        let p : n ≤ length s - i = simp length-drop at (inside e) in
+        let p = fault-inside ρ s i h k n e in
+        let f : string ρ 0 (drop i s) ≡ bad k (drop n (byte s i ∷ drop (i + 1) s)) = ap (string ρ 0) begins ∙ string-fault ρ _ _ (stands e) in
         record {
-          inside = omega arith;
-          ends = faults-at s (i + n) _ (omega arith) k (string-fault (drop i s) k n (some-left s i h) e ∙ ap (bad k) (drop-drop n i s));
+          inside = p;
+          ends = faults-at s (i + n) _ p k (f ∙ ap (bad k) (ap (drop n) (sym begins) ∙ drop-drop n i s));
         }
 
     pub at-character : (x : Char) → next ρ (drop i s) ≡ Character x → AtCharacter s i x
     at-character x e =
-        let p : x .more < length s - i = simp length-drop at (inside e .0) in
         record {
-          inside = omega arith;
+          inside = character-inside ρ s i h x e;
           ends =
               sym
-              (ap (placed s) (string-character (drop i s) x (some-left s i h) e)
+              (ap (placed s) (ap (string ρ 0) begins ∙ string-character ρ _ _ (stands e))
               ∙ placed-made s (λ y. bytesOf x ++ y) _
-              ∙ ap (placed s) (string-past (drop 1 (drop i s)) (x .more))
-              ∙ ap (λ l. placed s (string ρ 0 l)) (ap (drop (x .more)) (drop-drop 1 i s) ∙ drop-drop (x .more) (i + 1) s));
+              ∙ ap (placed s) (string-skip ρ (x .more) (drop (i + 1) s) ∙ ap (string ρ 0) (drop-drop (x .more) (i + 1) s)));
         }
 
     pub at-plain : (c : ℕ) → leadOf c ≡ lead (byte s i) → c < 8 → end-from s (i + 1) ≡ end-from s i

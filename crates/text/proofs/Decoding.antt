@@ -12,10 +12,9 @@ use Rattle.lexeme.specs.Character.{byte, bytesOf, char1, lead, nextBy, next}
 use Rattle.lexeme.specs.Character.Surrogates.{paired}
 use Rattle.lexeme.specs.Class.{leadOf}
 use Rattle.lexeme.specs.Strings.{decoded}
-use Rattle.strings.proofs.CharacterSteps.{class-plain}
-use Rattle.strings.proofs.Places.{first-byte}
-use Rattle.lexeme.proofs.Rests.{at-cons}
+use Rattle.lexeme.proofs.Rests.{at-cons, first-byte}
 use Rattle.lexeme.proofs.Steps.{decoded-character}
+use Rattle.character.proofs.Leads.{class-plain}
 use Rattle.text.specs.declared.Cursor.{Cursor}
 use Rattle.text.specs.declared.Step.{Step}
 use Rattle.text.specs.declared.Step.the-variants.{End, Byte}

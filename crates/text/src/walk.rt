@@ -1,11 +1,11 @@
 // The bytes that a spelled text stands for, one after another.
 use crate::Cursor;
 use crate::Step;
+use character::next_char;
 use lexeme::Char;
 use lexeme::Next;
 use lexeme::class::Class;
 use lexeme::class::class_of;
-use strings::character::next_char;
 ghost use mathlib.Core.Path.{_≡_};
 ghost use lib.ListN.{drop};
 ghost use Rattle.lexeme.specs.Character.{bytesOf};

@@ -37,7 +37,7 @@ use Rattle.json.proofs.reader.read_value.Kinds as read-value-kinds
 use Rattle.json.proofs.reader.+read_array+read_member+read_object+read_value.Lts-read_value as read-value-lts
 use Rattle.json.proofs.element.after_element.Reads as after-element-reads
 use Rattle.json.proofs.reader.read_name.Reads as read-name-reads
-use Rattle.strings.proofs.string.read_string.Reads as read-string-reads
+use Rattle.strings.proofs.read_string.Reads as read-string-reads
 use Rattle.lexeme.proofs.blank.skip_blanks.Reads as skip-blanks-reads
 use Rattle.lexeme.proofs.class.class_of.Reads as class-of-reads
 use Rattle.lexeme.proofs.front.first.Reads as first-reads

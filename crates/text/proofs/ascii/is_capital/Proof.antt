@@ -1,6 +1,6 @@
 -- The two tests are those of the range, from the other side.
 use native.Mathlib.Omega.{arith}
-use Rattle.strings.proofs.CharacterSteps.{within-low, within-rest}
+use Rattle.character.proofs.Ranges.{within-low, within-rest}
 use Rattle.text.proofs.ascii.is_capital.Statement.{statement}
 use Rattle.text.proofs.ascii.is_capital.Tie as tie
 

@@ -7,7 +7,7 @@ use lib.ListN.{length, drop}
 use Rattle.lexeme.specs.declared.Next.the-variants.{Character}
 use Rattle.lexeme.specs.Character.{next}
 use Rattle.lexeme.specs.Character.Surrogates.{paired}
-use Rattle.strings.proofs.Spelling.{at-character}
+use Rattle.character.proofs.Inside.{character-inside}
 use Rattle.text.proofs.Decoding.{text-end, text-quote, text-fault, left-plain, left-character, step-end, step-byte}
 use Rattle.text.proofs.walk.first_byte.Statement.{statement}
 use Rattle.text.proofs.walk.first_byte.Tie as tie
@@ -38,7 +38,7 @@ add-t16 c =
     let h : i < length s = omega arith in
     let x = c .before .before .before .x .given .0 .0 in
     let e : next paired (drop i s) ≡ Character x = cc in
-    omega (arith, at-character paired s i h x e .inside)
+    omega (arith, character-inside paired s i h x e)
 
 returns-5 : tie.Need-returns-5
 returns-5 c =

@@ -1,0 +1,54 @@
+// The question `show`, six files and then the numbers of one of them and of a record: where the record stands in its file.
+use crate::files;
+use crate::number;
+use crate::number::Number;
+use crate::print;
+use crate::words;
+use clean::Shown;
+use clean::show_record;
+
+pub fn answer(line: &[u8], bytes: &mut [u8]) -> bool {
+    if words::after_first(line) != 8 {
+        return false;
+    }
+    let mut ends: [usize; 6] = [0; 6];
+    if !files::decode(words::from(line, 1), bytes, &mut ends) {
+        return false;
+    }
+    let Number::Is(f) = number::parse(words::at(line, 7)) else {
+        return false;
+    };
+    let Number::Is(n) = number::parse(words::at(line, 8)) else {
+        return false;
+    };
+    print_shown(record(f, n, bytes, &ends));
+    true
+}
+
+// A number past a byte's is no file's either.
+fn record(f: u64, n: u64, bytes: &[u8], ends: &[usize; 6]) -> Shown {
+    if 6 < f {
+        return Shown::NoFile;
+    }
+    show_record(f as u8, n as usize, files::part(bytes, ends, f as usize))
+}
+
+fn print_shown(s: Shown) {
+    match s {
+        Shown::NoFile => {
+            print::first(10);
+        }
+        Shown::NotClean(p) => {
+            print::not_clean(p);
+        }
+        Shown::NoRecord => {
+            print::first(10);
+        }
+        Shown::Record(from, upto) => {
+            print::first(0);
+            print::next(from as u64);
+            print::next(upto as u64);
+        }
+    }
+    print::end();
+}

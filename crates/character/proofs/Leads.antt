@@ -1,0 +1,30 @@
+-- What a class says of a character's first byte, and the character by that class.
+use mathlib.Core.List.{List, [], _∷_}
+use mathlib.Core.Path.{_≡_, sym, ap, _∙_}
+use Prim.Native.Nat.{ℕ, _≤_, _<_}
+use borrow.Author.Tests.{lt-ltb, le-ltb, ne-eqb}
+use Rattle.lexeme.specs.declared.Next.{Next}
+use Rattle.lexeme.specs.Class.{leadOf}
+use Rattle.lexeme.specs.Character.Surrogates.{paired}
+use Rattle.lexeme.specs.Character.{byte, Lead, lead, char1, nextBy, next}
+use Rattle.character.proofs.Ranges.{NoneOf}
+
+pub class-plain : (c : ℕ) → c < 8 → leadOf c ≡ Lead.plain
+unfolding leadOf
+class-plain c h = rw (lt-ltb c 8 h, leadOf)
+
+pub class-wrong : (c : ℕ) → 8 ≤ c → NoneOf (18 ∷ 17 ∷ 16 ∷ 15 ∷ 14 ∷ 13 ∷ 12 ∷ 9 ∷ 8 ∷ []) c → leadOf c ≡ Lead.wrong
+unfolding leadOf
+class-wrong c h (((((((((z, n1), n2), n3), n4), n5), n6), n7), n8), n9) = simp (le-ltb, ne-eqb, leadOf)
+
+module _ (l : List ℕ) {c : ℕ} where
+  pub by-plain : {b : ℕ} → c < 8 → b ≡ byte l 0 → char1 b 0 ≡ nextBy paired l (leadOf c)
+  unfolding nextBy
+  by-plain h e = rw (class-plain c h, e, nextBy)
+
+  pub by-class : {n : Next} {k : ℕ} → c ≡ k → n ≡ nextBy paired l (leadOf k) → n ≡ nextBy paired l (leadOf c)
+  by-class e f = f ∙ ap (λ k. nextBy paired l (leadOf k)) (sym e)
+
+pub next-class : {n : Next} {b : ℕ} (l : List ℕ) (c : ℕ) → b ≡ byte l 0 → leadOf c ≡ lead b → n ≡ nextBy paired l (leadOf c) → n ≡ next paired l
+unfolding next
+next-class l c e f g = g ∙ ap (nextBy paired l) (f ∙ ap lead e)

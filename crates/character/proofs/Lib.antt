@@ -1,0 +1,7 @@
+pub mod Ranges
+pub mod Forms
+pub mod Digits
+pub mod Pairs
+pub mod Escapes
+pub mod Leads
+pub mod Inside

@@ -1,0 +1,16 @@
+-- Each way through the code is one through the definition.
+use borrow.Author.Needs.{needs}
+use Rattle.character.proofs.Forms.{utf2-whole, utf2-fault}
+use Rattle.character.proofs.utf8.utf2.Statement.{statement}
+use Rattle.character.proofs.utf8.utf2.Tie as tie
+
+returns : tie.Need-returns
+returns c =
+    let w = c .before .before in
+    utf2-whole _ (w .before .byte-within .ensures) (w .if1 .taken) (c .before .byte-at .ensures) (c .byte-at2 .ensures)
+
+returns-2 : tie.Need-returns-2
+returns-2 c = utf2-fault _ (c .before .byte-within .ensures) (c .if1 .left)
+
+pub utf2-spec : {M : Type 1} → statement M
+utf2-spec = tie.close (tie.spec (λ c κs. search needs) (λ c κs. search needs) (λ c κs. search needs) returns returns-2)

@@ -1,0 +1,80 @@
+// One character of a string, found by looking ahead from a place.
+// Past the end every byte reads as 0, which no place of a string admits, so every function is total.
+pub mod escape;
+pub mod hex;
+pub mod range;
+pub mod surrogate;
+pub mod utf8;
+
+use escape::escape;
+use lexeme::Char;
+use lexeme::Next;
+use lexeme::class::Class;
+use lexeme::class::class_of;
+use lexeme::front::first;
+use utf8::utf2;
+use utf8::utf3;
+use utf8::utf4;
+use word::kind::Kind;
+ghost use mathlib.Core.Path.{_≡_};
+ghost use lib.ListN.{drop};
+ghost use Rattle.lexeme.specs.Character as spec;
+ghost use Rattle.lexeme.specs.Character.{paired};
+ghost use Rattle.lexeme.specs.Class.{leadOf};
+
+// What stands at `at`, inside a string, where the first byte has the class.
+// Shut out: an overlong form, a surrogate or a number past 10FFFF let through as UTF-8; a control character taken for a plain one.
+pub fn next_by(s: &[u8], at: usize, class: u8) -> Next
+    ensures { λ r. ⌜ r ≡ spec.nextBy paired (drop at (now (s .entry))) (leadOf class) ⌝ }
+{
+    if class < Class::QUOTE {
+        return Next::Character(Char {
+            b0: first(s, at),
+            b1: 0,
+            b2: 0,
+            b3: 0,
+            len: 1,
+            more: 0,
+        });
+    }
+    match class {
+        Class::QUOTE => {
+            return Next::Quote;
+        }
+        Class::BACKSLASH => {
+            return escape(s, at);
+        }
+        Class::TWO => {
+            return utf2(s, at);
+        }
+        Class::THREE_E0 => {
+            return utf3(s, at, 0xa0, 0xbf);
+        }
+        Class::THREE => {
+            return utf3(s, at, 0x80, 0xbf);
+        }
+        Class::THREE_ED => {
+            return utf3(s, at, 0x80, 0x9f);
+        }
+        Class::FOUR_F0 => {
+            return utf4(s, at, 0x90, 0xbf);
+        }
+        Class::FOUR => {
+            return utf4(s, at, 0x80, 0xbf);
+        }
+        Class::FOUR_F4 => {
+            return utf4(s, at, 0x80, 0x8f);
+        }
+        _ => {
+            return Next::Fault(Kind::NOT_JSON, 0);
+        }
+    }
+}
+
+// What stands at `at`, inside a string.
+// Shut out: a surrogate escape with no partner let through; a fault named at the backslash, and not at the first wrong byte after it.
+pub fn next_char(s: &[u8], at: usize) -> Next
+    ensures { λ r. ⌜ r ≡ spec.next paired (drop at (now (s .entry))) ⌝ }
+{
+    next_by(s, at, class_of(first(s, at)))
+}

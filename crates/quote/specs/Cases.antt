@@ -1,0 +1,104 @@
+-- Quotes of whole files, computed: document 01's worked readings (f) to (i), the prices that document 002 works out, and which refusal comes first.
+-- In the texts ' stands for a quotation mark.
+use mathlib.Core.Bool.{true, false}
+use mathlib.Core.List.{List, [], _∷_, _++_, map}
+use mathlib.Core.Path.{_≡_, refl}
+use Prim.Native.Nat.{ℕ}
+use Prim.Native.String.{String}
+use lib.Dec.{eqb}
+use lib.IntN.{pos, negℤ}
+use Rattle.notation.specs.Ascii.{bytes}
+use Rattle.notation.specs.Choice.{_⇒_else_}
+use Rattle.schema.specs.Pick.{at}
+use Rattle.document.specs.Document as document
+use Rattle.fare.specs.Cases.{charging}
+use Rattle.judge.specs.Cases.{judging}
+use Rattle.clean.specs.Clean.{treeOf, idField, recordsOf, usedBefore, repeatedId, repeatsFrom, repeats, cleanOf}
+use Rattle.quote.specs.declared.Quote.{Quote}
+use Rattle.quote.specs.declared.Quote.the-variants.{TooLong, NotClean, NoPlan, Outside, Fare}
+use Rattle.quote.specs.Plan.{priceAt, segment, perKilometre, perMinute, planOf, plans, sum, pastMinutes, pastKilometres}
+use Rattle.quote.specs.Quote.{noParts, answer, cleanQuote, short, quoteOf}
+
+-- opens every definition of a quote
+unfoldable pub quoting : Unit {0}
+unfolding judging charging at document.field document.fieldItems document.along document.text document.spelling treeOf idField recordsOf usedBefore repeatedId repeatsFrom repeats cleanOf priceAt segment perKilometre perMinute planOf plans sum pastMinutes pastKilometres cleanQuote short quoteOf
+quoting = tt
+
+abbrev mark : ℕ → ℕ
+mark b = eqb b 0x27 ⇒ 0x22 else b
+
+-- a file with these plans; a plan of this id, with its price and segments
+unfoldable file : List ℕ → List ℕ
+file s = map mark (bytes "{'version':'2.3','last_updated':0,'ttl':0,'data':{'plans':[" ++ s ++ bytes "]}}")
+
+unfoldable plan : String → String → List ℕ
+plan id s =
+    bytes "{'plan_id':'" ++ bytes id ++ bytes "','name':'n','currency':'USD','is_taxable':false,'description':'d','price':" ++ bytes s ++ bytes "}"
+
+-- what a plan quotes for rides of so many seconds that go nowhere
+unfoldable quotes : String → List ℕ → List Quote
+quotes s rides = map (λ seconds. quoteOf (file (plan "p" s)) (bytes "p") seconds 0) rides
+
+-- an amount without a mark; one past the minutes
+abbrev fare : ℕ → Quote
+fare n = Fare (pos n) false false
+
+abbrev endedFare : ℕ → Quote
+endedFare n = Fare (pos n) true false
+
+-- document 01; its (f) is document 002's first plan, which goes on to 150 and 600 seconds
+
+f : quotes "2,'per_min_pricing':[{'start':1,'rate':1,'interval':1},{'start':2,'rate':2,'interval':1}]" (59 ∷ 60 ∷ 105 ∷ 120 ∷ 180 ∷ 150 ∷ 600 ∷ [])
+    ≡ fare 20000 ∷ fare 30000 ∷ fare 30000 ∷ fare 60000 ∷ fare 90000 ∷ fare 60000 ∷ fare 300000 ∷ []
+unfolding quoting file plan quotes
+f = refl
+
+g : quotes "0,'per_min_pricing':[{'start':10,'rate':-0.5,'interval':0}]" (599 ∷ 600 ∷ []) ≡ fare 0 ∷ Fare (negℤ (pos 5000)) false false ∷ []
+unfolding quoting file plan quotes
+g = refl
+
+h : quotes "1,'per_min_pricing':[{'start':0,'rate':0.25,'interval':15,'end':45}]" (0 ∷ 2699 ∷ 2700 ∷ []) ≡ fare 12500 ∷ fare 17500 ∷ endedFare 17500 ∷ []
+unfolding quoting file plan quotes
+h = refl
+
+i : quotes "0,'per_min_pricing':[{'start':20,'rate':1,'interval':1,'end':20}]" (1199 ∷ 1200 ∷ 1260 ∷ []) ≡ fare 0 ∷ endedFare 0 ∷ endedFare 0 ∷ []
+unfolding quoting file plan quotes
+i = refl
+
+-- document 002's second plan: ten minutes for a kilometre; and for a metre less
+by-both : map (quoteOf (file (plan "p" "3,'per_km_pricing':[{'start':0,'rate':0.25,'interval':1}],'per_min_pricing':[{'start':0,'rate':0.50,'interval':1}]")) (bytes "p") 600) (1000 ∷ 999 ∷ [])
+    ≡ fare 90000 ∷ fare 87500 ∷ []
+unfolding quoting file plan
+by-both = refl
+
+-- refusals
+
+numbers : map (λ (q : Quote). answer q .number) (TooLong ∷ NotClean noParts ∷ NoPlan ∷ Outside ∷ fare 0 ∷ []) ≡ 4 ∷ 5 ∷ 6 ∷ 7 ∷ 0 ∷ []
+numbers = refl
+
+too-long-first : map (λ seconds. quoteOf (bytes "[") (bytes "p") seconds 1_000_000) (2_678_400 ∷ 2_678_401 ∷ [])
+    ≡ NotClean (record { file = 5; kind = 2; field = 0; «record» = 0; sub = 0; offset = 1 }) ∷ TooLong ∷ []
+unfolding quoting
+too-long-first = refl
+
+too-far : quoteOf (bytes "[") (bytes "p") 0 1_000_001 ≡ TooLong
+unfolding quoting
+too-far = refl
+
+not-clean : quotes "-1" (0 ∷ []) ≡ NotClean (record { file = 5; kind = 9; field = 53; «record» = 1; sub = 0; offset = 0 }) ∷ []
+unfolding quoting file plan quotes
+not-clean = refl
+
+id-twice : quoteOf (file (plan "p" "1" ++ bytes "," ++ plan "p" "2")) (bytes "p") 0 0 ≡ NotClean (record { file = 5; kind = 12; field = 50; «record» = 2; sub = 0; offset = 0 })
+unfolding quoting file plan
+id-twice = refl
+
+absent : quoteOf [] (bytes "p") 0 0 ≡ NoPlan
+unfolding quoting
+absent = refl
+
+-- an id is asked for as a whole, and found however the file spells it
+by-id : map (λ id. quoteOf (file (plan "p" "1" ++ bytes "," ++ plan "\\u0070q" "2")) id 0 0) (bytes "p" ∷ bytes "pq" ∷ bytes "" ∷ bytes "pqr" ∷ [])
+    ≡ fare 10000 ∷ fare 20000 ∷ NoPlan ∷ NoPlan ∷ []
+unfolding quoting file plan
+by-id = refl

@@ -1,0 +1,172 @@
+-- In a zone without a fault nothing is found in its coordinates, so nothing in any polygon or ring of it; and no part is longer than the whole.
+use mathlib.Core.Bool.{Bool, true, false}
+use mathlib.Core.List.{List, [], _∷_, map, append-eq-nil-iff}
+use mathlib.Core.Path.{_≡_, refl, sym, ap, _∙_}
+use Prim.Native.Nat.{ℕ, _-_, _≤_}
+use native.Mathlib.Omega.{arith}
+use lib.Dec.{eqb, leb}
+use lib.ListN.{length, take, drop, length-take, length-drop, length-map}
+use Rattle.limits.specs.Ceilings as ceiling
+use Rattle.notation.specs.Ascii.{bytes}
+use Rattle.notation.specs.Choice.{_⇒_else_}
+use Rattle.json.specs.Tree.{Json}
+use Rattle.walk.specs.declared.Item.{Item}
+use Rattle.walk.specs.Walk.{part}
+use Rattle.walk.specs.Part.{Whole, treeOf, kindAt}
+use Rattle.walk.proofs.Parts.{itemOf}
+use Rattle.schema.specs.Shape as shape
+use Rattle.schema.specs.Table23.{zone, coordinates}
+use Rattle.schema.specs.Pick.{Picked, PickedItems, bare, items, slots, pick, listOf}
+use Rattle.slots.specs.declared.Found as found
+use Rattle.slots.specs.declared.Found.the-variants.{Missing, Once, Twice}
+use Rattle.slots.specs.Found.{foundIn}
+use Rattle.slots.specs.Blank.{blankText}
+use Rattle.word.specs.Kinds.{tooMany, badRing}
+use Rattle.scalar.specs.Scalars.{unless}
+use Rattle.rings.specs.Rings.{Found, at, count, ring, ringFound, ringsFound, position, polygon, polygonsFound, coordinatesFound}
+use Rattle.rings.specs.Parts.{ringShape, polygonShape, picked, partsOf, Outlined}
+use Rattle.rings.specs.declared.RingPoints.{RingPoints}
+use Rattle.geometry.specs.Shifted.{InRange, points}
+use Rattle.rings.proofs.Picked.{items-parts}
+use Rattle.judge.specs.declared.Place.{Place}
+use Rattle.judge.specs.Faults.{faulty, numbered, faults}
+use Rattle.document.specs.Document.{elements, elementsOf}
+use Rattle.fields.specs.Values.{code, foundBytes, memberOf, arrayBy}
+use Rattle.clean.proofs.Faultless.{here, below, Demands, arrived, into, demands-there}
+use Rattle.zone.specs.Clean.{CleanRing, CleanItems, CleanZone}
+use Rattle.zone.proofs.Zoned.{polygonBytes, zone-polygons}
+
+cons-nil : {A B : Type 0} {x : A} {l : List A} → x ∷ l ≡ [] → B
+cons-nil e = let z : _≡_ {A = ℕ} 0 1 = cc in absurd (omega arith)
+
+-- sizes
+pub part-short : (p : List ℕ) (from upto : ℕ) → length (part p from upto) ≤ length p
+part-short p from upto = omega (arith, length-take (upto - from) (drop from p), length-drop from p)
+
+member-short : (p name : List ℕ) → length (memberOf p name) ≤ length p
+unfolding memberOf
+member-short p name = go (eqb (code (kindAt p)) 5)
+  where
+    unless-blank : (t : Bool) (from upto : ℕ) → length (t ⇒ [] else part p from upto) ≤ length p
+    unless-blank true from upto = omega arith
+    unless-blank false from upto = part-short p from upto
+
+    in-found : (o : found.Found) → length (foundBytes p o) ≤ length p
+    in-found Missing = omega arith
+    in-found (Once from upto) = unless-blank (blankText (treeOf (part p from upto))) from upto
+    in-found Twice = omega arith
+
+    go : (t : Bool) → length (t ⇒ foundBytes p (foundIn p name) else []) ≤ length p
+    go true = in-found (foundIn p name)
+    go false = omega arith
+
+array-short : (q : List ℕ) → length (arrayBy q) ≤ length q
+unfolding arrayBy
+array-short q = go (eqb (code (kindAt q)) 4)
+  where
+    go : (t : Bool) → length (t ⇒ q else []) ≤ length q
+    go true = omega arith
+    go false = omega arith
+
+-- what is no array is of a wrong type
+ring-items : (n : ℕ) (x : Picked) → ring n x ≡ [] → (is : PickedItems) × (x ≡ items is) × (ringFound n (listOf is) ≡ [])
+unfolding at
+ring-items n (items is) e = (is, refl, e)
+ring-items n (bare x) e = cons-nil e
+ring-items n (slots ss) e = cons-nil e
+
+-- there are no more points than coordinates
+points-most : (xs ys : List ℕ) → (length (points xs ys) ≤ length xs) × (length (points xs ys) ≤ length ys)
+unfolding points
+points-most [] ys = (omega arith, omega arith)
+points-most (x ∷ xs) [] = (omega arith, omega arith)
+points-most (x ∷ xs) (y ∷ ys) = let h = points-most xs ys in (omega arith, omega arith)
+
+-- the points of a ring, where the code's promise has them
+module _ {p : List ℕ} (c : CleanRing p) {r : RingPoints}
+    (f : (x : Json) (is : PickedItems) (n : ℕ) → Whole p x → pick ringShape x ≡ items is → ringFound n (listOf is) ≡ [] → Outlined (listOf is) r) where
+  abbrev ring-is : (is : PickedItems) × (pick ringShape (treeOf p) ≡ items is) × (ringFound (c .first) (listOf is) ≡ [])
+  ring-is = ring-items (c .first) (pick ringShape (treeOf p)) (c .clear)
+
+  ring-outlined : Outlined (listOf (ring-is .0)) r
+  ring-outlined = f (treeOf p) (ring-is .0) (c .first) (c .whole) (ring-is .1) (ring-is .2)
+
+  outlined-most : r .count ≤ length (points (take (r .count) (r .lons)) (take (r .count) (r .lats)))
+  outlined-most = let o = ring-outlined in omega (arith, o .count, ap length (o .points), length-map (listOf (ring-is .0)) position)
+
+  -- all of its places are filled
+  pub ring-lons : r .count ≡ length (take (r .count) (r .lons))
+  ring-lons =
+      let xs = take (r .count) (r .lons) in
+      omega (arith, outlined-most, points-most xs (take (r .count) (r .lats)) .0, length-take (r .count) (r .lons))
+
+  pub ring-lats : r .count ≡ length (take (r .count) (r .lats))
+  ring-lats =
+      let ys = take (r .count) (r .lats) in
+      omega (arith, outlined-most, points-most (take (r .count) (r .lons)) ys .1, length-take (r .count) (r .lats))
+
+  pub ring-range : InRange (take (r .count) (r .lons)) (take (r .count) (r .lats))
+  ring-range = ring-outlined .range
+
+  pub ring-points : points (take (r .count) (r .lons)) (take (r .count) (r .lats)) ≡ map position (elements (pick ringShape (treeOf p)))
+  ring-points = ring-outlined .points ∙ ap (λ x. map position (elements x)) (sym (ring-is .1))
+
+polygon-items : (n : ℕ) (x : Picked) → polygon n x ≡ [] → (is : PickedItems) × (x ≡ items is) × (ringsFound n (listOf is) ≡ [])
+unfolding at
+polygon-items n (items is) e = (is, refl, append-eq-nil-iff {p = at n (unless (eqb (count is) 1) badRing)} .0 e .1)
+polygon-items n (bare x) e = cons-nil e
+polygon-items n (slots ss) e = cons-nil e
+
+numbered-none : (p : Place) (field : ℕ) (l : List Found) → numbered p field l ≡ [] → l ≡ []
+unfolding numbered
+numbered-none p field [] e = refl
+numbered-none p field (x ∷ l) e = cons-nil e
+
+coordinates-clear : (p : Place) (field : ℕ) (x : Picked) → faults coordinates p field x ≡ [] → polygonsFound 1 (elements x) ≡ []
+unfolding coordinates faults faulty coordinatesFound
+coordinates-clear p field (items is) e =
+    let many = at 0 (unless (leb (count is) ceiling.polygons) tooMany) in
+    append-eq-nil-iff {p = many} .0 (numbered-none p field (coordinatesFound is) e) .1
+coordinates-clear p field (bare x) e = cons-nil e
+coordinates-clear p field (slots ss) e = cons-nil e
+
+-- an item of an array
+pub item-short : (p : List ℕ) (m : Item) → length p ≤ ceiling.fileBytes → length (itemOf p m) ≤ ceiling.fileBytes
+item-short p m h = omega (arith, part-short p (m .value) (m .«value_end»))
+
+module _ (p : List ℕ) (m : Item) (short : length p ≤ ceiling.fileBytes) (w : Whole (itemOf p m) (treeOf (itemOf p m))) (l : List Picked) where
+  pub ring-clean : (n : ℕ) × (ringsFound n (picked ringShape p m ∷ l) ≡ []) → CleanRing (itemOf p m)
+  unfolding ringsFound
+  ring-clean (n, e) = record { short = item-short p m short; whole = w; first = n; clear = append-eq-nil-iff {p = ring n (picked ringShape p m)} .0 e .0 }
+
+  module _ (f : (n : ℕ) × (polygonsFound n (picked polygonShape p m ∷ l) ≡ [])) where
+    polygon-is : (is : PickedItems) × (picked polygonShape p m ≡ items is) × (ringsFound (f .0) (listOf is) ≡ [])
+    unfolding polygonsFound
+    polygon-is = polygon-items (f .0) (picked polygonShape p m) (append-eq-nil-iff {p = polygon (f .0) (picked polygonShape p m)} .0 (f .1) .0)
+
+    rings-are : listOf (polygon-is .0) ≡ partsOf ringShape (itemOf p m)
+    rings-are = items-parts shape.positions 1 ringShape (treeOf (itemOf p m)) (polygon-is .0) w (polygon-is .1)
+
+    pub polygon-rings : partsOf ringShape (itemOf p m) ≡ elements (picked polygonShape p m)
+    polygon-rings = sym (ap elements (polygon-is .1) ∙ rings-are)
+
+    pub polygon-clean : CleanItems ringShape ringsFound (itemOf p m)
+    polygon-clean = record { short = item-short p m short; first = f .0; clear = ap (ringsFound (f .0)) (sym rings-are) ∙ polygon-is .2 }
+
+-- the coordinates of a zone
+coordinates-demanded : Demands zone (71 ∷ 73 ∷ []) coordinates
+unfolding zone
+coordinates-demanded = into (below refl here) (into (below refl here) arrived)
+
+pub zone-clean : (p : List ℕ) → CleanZone p → CleanItems polygonShape polygonsFound (polygonBytes p)
+zone-clean p c =
+    let inner = memberOf p (bytes "geometry") in
+    let deep = memberOf inner (bytes "coordinates") in
+    let d = demands-there coordinates-demanded (c .clear .place) (c .clear .field) (treeOf p) (c .clear .clear) in
+    record {
+      short = omega (arith, array-short deep, member-short inner (bytes "coordinates"), member-short p (bytes "geometry"), c .short);
+      first = 1;
+      clear =
+          ap (polygonsFound 1) (zone-polygons (c .whole) ∙ ap elementsOf (d .2))
+          ∙ coordinates-clear (c .clear .place) (d .1) (pick coordinates (d .0)) (d .3);
+    }

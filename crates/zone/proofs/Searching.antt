@@ -1,0 +1,59 @@
+-- A loop that looks for the first item of an array that passes a test: what is left decides the answer, and each item is fit to be asked.
+use mathlib.Core.Bool.{Bool, true, false}
+use mathlib.Core.List.{List, [], _∷_}
+use mathlib.Core.Path.{_≡_, refl, sym, ap, subst, _∙_}
+use Prim.Native.Nat.{ℕ}
+use Rattle.walk.specs.declared.Item.{Item}
+use Rattle.walk.specs.declared.ItemStep.the-variants as step
+use Rattle.walk.specs.Walk.{itemAt}
+use Rattle.schema.specs.Shape.{Shape}
+use Rattle.schema.specs.Pick.{Picked}
+use Rattle.rings.specs.Parts.{picked, partsOf, Left}
+use Rattle.rings.proofs.Picked.{left-start, left-end, left-more}
+
+-- the answer of a list of items
+pub record Search (A : Type 0) : Type 1 where
+  pub among : List Picked → A
+  pub test : Picked → Bool
+  pub found : Picked → A
+  pub nothing : A
+  pub none : among [] ≡ nothing
+  pub here : (x : Picked) (l : List Picked) → test x ≡ true → among (x ∷ l) ≡ found x
+  pub later : (x : Picked) (l : List Picked) → test x ≡ false → among (x ∷ l) ≡ among l
+  pub Fit : List Picked → Type 0
+  pub rest : (x : Picked) (l : List Picked) → Fit (x ∷ l) → Fit l
+
+module _ {A : Type 0} (g : Search A) (σ : Shape) (p : List ℕ) where
+  -- among the items from `at` on the answer is r
+  pub record Searches (at : ℕ) (r : A) : Type 0 where
+    pub left : List Picked
+    pub items : Left σ p at left
+    pub fit : g .Fit left
+    pub comes : g .among left ≡ r
+
+  pub searches-start : g .Fit (partsOf σ p) → Searches 1 (g .among (partsOf σ p))
+  searches-start f = record { left = partsOf σ p; items = left-start σ p; fit = f; comes = refl }
+
+  module _ {at : ℕ} {r : A} (w : Searches at r) where
+    pub searches-end : itemAt p at ≡ step.End → g .nothing ≡ r
+    searches-end e = sym (g .none) ∙ ap (g .among) (sym (left-end σ p at (w .left) (w .items) e)) ∙ w .comes
+
+    module _ (m : Item) (e : itemAt p at ≡ step.Found m) where
+      -- the item with those after it
+      pub searches-fit : (l : List Picked) × g .Fit (picked σ p m ∷ l)
+      searches-fit = let o = left-more σ p at (w .left) (w .items) m e in (o .rest, subst (g .Fit) (o .is) (w .fit))
+
+      pub searches-here : g .test (picked σ p m) ≡ true → g .found (picked σ p m) ≡ r
+      searches-here t =
+          let o = left-more σ p at (w .left) (w .items) m e in
+          sym (g .here (picked σ p m) (o .rest) t) ∙ ap (g .among) (sym (o .is)) ∙ w .comes
+
+      pub searches-later : g .test (picked σ p m) ≡ false → Searches (m .next) r
+      searches-later t =
+          let o = left-more σ p at (w .left) (w .items) m e in
+          record {
+            left = o .rest;
+            items = o .left;
+            fit = g .rest (picked σ p m) (o .rest) (subst (g .Fit) (o .is) (w .fit));
+            comes = sym (g .later (picked σ p m) (o .rest) t) ∙ ap (g .among) (sym (o .is)) ∙ w .comes;
+          }

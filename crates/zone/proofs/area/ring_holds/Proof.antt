@@ -1,0 +1,49 @@
+-- The points that are read are the ring's, and so they fill the coordinates that are lent, all in their range.
+use borrow.Author.Needs.{needs}
+use native.Mathlib.Omega.{arith}
+use mathlib.Core.Path.{ap, _∙_}
+use lib.ListN.{length-take}
+use Rattle.geometry.specs.Held.{holds}
+use Rattle.geometry.specs.Shifted.{point}
+use Rattle.zone.proofs.Cleared.{ring-lons, ring-lats, ring-range, ring-points}
+use Rattle.zone.proofs.area.ring_holds.Statement.{statement}
+use Rattle.zone.proofs.area.ring_holds.Tie as tie
+
+array-share-prefix-lons : tie.Need-array-share-prefix-lons
+array-share-prefix-lons c =
+    let r = c .before .before .before in
+    omega (arith, ring-lons (r .before .before .pre .0) (r .ring-points .ensures), length-take (r .ring-points .result .count) (r .ring-points .result .lons))
+
+slice-aggregate-holds : tie.Need-slice-aggregate-holds
+slice-aggregate-holds c = let r = c .before .before .before .before in ring-lons (r .before .before .pre .0) (r .ring-points .ensures)
+
+array-share-prefix-lats : tie.Need-array-share-prefix-lats
+array-share-prefix-lats c =
+    let r = c .before .before .before .before in
+    omega (arith, ring-lats (r .before .before .pre .0) (r .ring-points .ensures), length-take (r .ring-points .result .count) (r .ring-points .result .lats))
+
+slice-aggregate-holds-2 : tie.Need-slice-aggregate-holds-2
+slice-aggregate-holds-2 c = let r = c .before .before .before .before .before in ring-lats (r .before .before .pre .0) (r .ring-points .ensures)
+
+holds-requires : tie.Need-holds-requires
+holds-requires c κs =
+    let r = c .before .before .before .before .before in
+    (ring-range (r .before .before .pre .0) (r .ring-points .ensures), r .before .before .pre .1)
+
+returns : tie.Need-returns
+returns c =
+    let r = c .before .before .before .before .before .before in
+    c .holds .ensures ∙ ap (λ l. holds l (point (r .before .before .args .q))) (ring-points (r .before .before .pre .0) (r .ring-points .ensures))
+
+pub ring-holds-spec : {M : Type 1} → statement M
+ring-holds-spec =
+    tie.close
+    (tie.spec
+    (λ c κs. search needs)
+    (λ c. search needs)
+    array-share-prefix-lons
+    slice-aggregate-holds
+    array-share-prefix-lats
+    slice-aggregate-holds-2
+    holds-requires
+    returns)

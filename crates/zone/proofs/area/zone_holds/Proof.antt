@@ -1,0 +1,43 @@
+-- The coordinates stand in the zone's geometry, and nothing is found in them.
+use borrow.Author.Needs.{needs}
+use mathlib.Core.Path.{_≡_, sym, ap, subst, _∙_}
+use Rattle.notation.specs.Ascii.{bytes}
+use Rattle.geometry.specs.Shifted.{point}
+use Rattle.rings.specs.Rings.{polygonsFound}
+use Rattle.rings.specs.Parts.{polygonShape, partsOf}
+use Rattle.fields.specs.Values.{memberOf, arrayBy}
+use Rattle.zone.specs.Zone.{polygonsHold}
+use Rattle.zone.specs.Clean.{CleanItems}
+use Rattle.zone.proofs.Zoned.{polygonBytes, zone-polygons}
+use Rattle.zone.proofs.Cleared.{zone-clean}
+use Rattle.zone.proofs.area.zone_holds.Statement.{statement}
+use Rattle.zone.proofs.area.zone_holds.Tie as tie
+
+-- the bytes of the coordinates
+found : (c : tie.After-array-in) → c .array-in .result .now ≡ polygonBytes (c .before .before .before .before .before .before .args .p .now)
+found c =
+    c .array-in .ensures
+    ∙ ap arrayBy (c .before .member2 .ensures ∙ ap (λ q. memberOf q (bytes "coordinates")) (c .before .before .before .member .ensures))
+
+polygons-hold-requires : tie.Need-polygons-hold-requires
+polygons-hold-requires c κs =
+    let s = c .before .before .before .before .before .before in
+    (subst (CleanItems polygonShape polygonsFound) (sym (found c)) (zone-clean (s .args .p .now) (s .pre .0)), s .pre .1)
+
+returns : tie.Need-returns
+returns c =
+    let s = c .before .before .before .before .before .before .before in
+    c .polygons-hold .ensures
+    ∙ ap (λ l. polygonsHold l (point (s .args .q))) (ap (partsOf polygonShape) (found (c .before)) ∙ zone-polygons (s .pre .0 .whole))
+
+pub zone-holds-spec : {M : Type 1} → statement M
+zone-holds-spec =
+    tie.close
+    (tie.spec
+    (λ c. search needs)
+    (λ c κs. search needs)
+    (λ c. search needs)
+    (λ c κs. search needs)
+    (λ c κs. search needs)
+    polygons-hold-requires
+    returns)

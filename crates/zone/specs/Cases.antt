@@ -1,0 +1,144 @@
+-- The zone rule on files, computed: document 01's worked reading (j), and the places where a rule is easy to get wrong. In texts ' stands for a
+-- quotation mark.
+use mathlib.Core.Bool.{Bool, true, false}
+use mathlib.Core.List.{List, [], _∷_, _++_, map}
+use mathlib.Core.Path.{_≡_, refl}
+use Prim.Native.Nat.{ℕ, _*_}
+use Prim.Native.String.{String}
+use lib.Dec.{eqb}
+use lib.IntN.{pos, negsuc}
+use Rattle.notation.specs.Ascii.{bytes}
+use Rattle.notation.specs.Choice.{_⇒_else_}
+use Rattle.schema.specs.Pick as pick
+use Rattle.geometry.specs.Ring.{Point}
+use Rattle.document.specs.Document as document
+use Rattle.judge.specs.Cases.{judging}
+use Rattle.clean.specs.Clean as clean
+use Rattle.zone.specs.declared.Ruling.{Ruling}
+use Rattle.zone.specs.declared.Ruling.the-variants.{OffMap, NotClean, NoRule, Is}
+use Rattle.zone.specs.Zone.{counts, ringsHold, polygonsHold, anyText, applies, zoneRules, rules, firstFor, ruleAt}
+use Rattle.zone.specs.Answer.{noParts, answer, values, onMap, rulingOf}
+
+-- opens every definition of this layer
+unfoldable pub ruled : Unit {0}
+unfolding judging pick.at document.field document.fieldItems document.along document.text document.spelling document.truth clean.treeOf clean.idField clean.recordsOf clean.usedBefore clean.repeatedId clean.repeatsFrom clean.repeats clean.cleanOf counts ringsHold polygonsHold anyText applies zoneRules rules firstFor ruleAt values onMap rulingOf
+ruled = tt
+
+abbrev mark : ℕ → ℕ
+mark b = eqb b 0x27 ⇒ 0x22 else b
+
+-- a file of these zones; a zone of this ring, with these other properties, and these rules
+abbrev file : List ℕ → List ℕ
+file zones =
+    map mark (
+    bytes "{'version':'2.3','last_updated':0,'ttl':0,'data':{'geofencing_zones':{'type':'FeatureCollection','features':[" ++
+    zones ++
+    bytes "]}}}")
+
+abbrev zone : (ring window rules : String) → List ℕ
+zone ring window rules =
+    bytes "{'type':'Feature','geometry':{'type':'MultiPolygon','coordinates':[[[" ++
+    bytes ring ++
+    bytes "]]]},'properties':{" ++
+    bytes window ++
+    bytes "'rules':[" ++
+    bytes rules ++
+    bytes "]}}"
+
+-- reading (j)'s square of two degrees, clockwise from the origin, and the same the other way round
+abbrev square : String
+square = "[0,0],[0,2],[2,2],[2,0],[0,0]"
+
+abbrev reversed : String
+reversed = "[0,0],[2,0],[2,2],[0,2],[0,0]"
+
+abbrev forAll : String
+forAll = "{'ride_allowed':true,'ride_through_allowed':false}"
+
+-- the answers of a file: at points of whole degrees, lon before lat; at the point (1, 1) for types; there at moments
+abbrev degrees : ℕ → ℕ → Point
+degrees x y = record { lon = pos (x * 1_000_000); lat = pos (y * 1_000_000) }
+
+abbrev at : List ℕ → List Point → List Ruling
+at s points = map (λ q. rulingOf s q (bytes "t") 0) points
+
+abbrev for : List ℕ → List String → List Ruling
+for s types = map (λ t. rulingOf s (degrees 1 1) (bytes t) 0) types
+
+abbrev when : List ℕ → List ℕ → List Ruling
+when s moments = map (rulingOf s (degrees 1 1) (bytes "t")) moments
+
+-- a rule without a speed and without a word on parking
+abbrev bare : Bool → Bool → Ruling
+bare ride through = Is (record { ride = ride; through = through; limited = false; speed = 0; parks = false; parking = false })
+
+j-held : at (file (zone square "" forAll)) (degrees 1 1 ∷ degrees 2 2 ∷ degrees 3 1 ∷ []) ≡ bare true false ∷ bare true false ∷ NoRule ∷ []
+unfolding ruled
+j-held = refl
+
+j-reversed : at (file (zone reversed "" forAll)) (degrees 3 1 ∷ degrees 2 1 ∷ degrees 1 1 ∷ []) ≡ bare true false ∷ bare true false ∷ NoRule ∷ []
+unfolding ruled
+j-reversed = refl
+
+-- refusals and answers by number
+numbers : map (λ (r : Ruling). answer r .number) (OffMap ∷ NotClean noParts ∷ NoRule ∷ bare true true ∷ []) ≡ 8 ∷ 5 ∷ 9 ∷ 0 ∷ []
+numbers = refl
+
+-- a point past its range is told before the file is asked, and a file that is not clean before any rule
+abbrev past : List Point
+past =
+    record { lon = pos 180_000_001; lat = pos 0 } ∷
+    record { lon = negsuc 180_000_000; lat = pos 0 } ∷
+    record { lon = pos 0; lat = pos 90_000_001 } ∷
+    record { lon = pos 0; lat = negsuc 90_000_000 } ∷
+    []
+
+off-the-map : at (bytes "7") past ≡ OffMap ∷ OffMap ∷ OffMap ∷ OffMap ∷ []
+unfolding ruled
+off-the-map = refl
+
+not-clean : at (bytes "7") (record { lon = negsuc 179_999_999; lat = pos 90_000_000 } ∷ [])
+    ≡ NotClean (record { file = 6; kind = 7; field = 0; «record» = 0; sub = 0; offset = 0 }) ∷ []
+unfolding ruled
+not-clean = refl
+
+absent : at [] (degrees 1 1 ∷ []) ≡ NoRule ∷ []
+unfolding ruled
+absent = refl
+
+-- from its start on a zone counts, and no more at its end
+window : when (file (zone square "'start':5,'end':9," forAll)) (4 ∷ 5 ∷ 8 ∷ 9 ∷ []) ≡ NoRule ∷ bare true false ∷ bare true false ∷ NoRule ∷ []
+unfolding ruled
+window = refl
+
+-- ids that are missing or "" are for every type, no ids for none, and "" among them is the type of no bytes
+abbrev named : String → List ℕ
+named ids = file (zone square "" ids)
+
+ids-of-no-type : for (named "{'vehicle_type_id':[],'ride_allowed':true,'ride_through_allowed':true}") ("t" ∷ "" ∷ []) ≡ NoRule ∷ NoRule ∷ []
+unfolding ruled
+ids-of-no-type = refl
+
+ids-blank : for (named "{'vehicle_type_id':'','ride_allowed':true,'ride_through_allowed':true}") ("t" ∷ "" ∷ []) ≡ bare true true ∷ bare true true ∷ []
+unfolding ruled
+ids-blank = refl
+
+ids-with-blank : for (named "{'vehicle_type_id':['','u'],'ride_allowed':true,'ride_through_allowed':true}") ("t" ∷ "" ∷ "u" ∷ [])
+    ≡ NoRule ∷ bare true true ∷ bare true true ∷ []
+unfolding ruled
+ids-with-blank = refl
+
+-- the whole first rule that is for the type, over all zones: nothing of a later one
+first-of-two :
+    for (file (zone square "" "{'vehicle_type_id':['u'],'ride_allowed':false,'ride_through_allowed':false}" ++
+    bytes "," ++
+    zone square "" "{'ride_allowed':true,'ride_through_allowed':true},{'ride_allowed':false,'ride_through_allowed':false,'maximum_speed_kph':9,'station_parking':true}"))
+    ("u" ∷ "t" ∷ [])
+    ≡ bare false false ∷ bare true true ∷ []
+unfolding ruled
+first-of-two = refl
+
+all-four : for (named "{'ride_allowed':false,'ride_through_allowed':true,'maximum_speed_kph':25,'station_parking':false}") ("t" ∷ [])
+    ≡ Is (record { ride = false; through = true; limited = true; speed = 25; parks = true; parking = false }) ∷ []
+unfolding ruled
+all-four = refl

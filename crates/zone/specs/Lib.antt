@@ -1,0 +1,5 @@
+pub mod Zone
+pub mod Answer
+pub mod Values
+pub mod Clean
+pub mod Cases

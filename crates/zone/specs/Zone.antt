@@ -1,0 +1,68 @@
+-- The rule that holds at a point: document 01, "Zones", on a picked file of zones.
+use mathlib.Core.Bool.{Bool, true, false}
+use mathlib.Core.List.{List, [], _∷_, _++_, map}
+use Prim.Native.Nat.{ℕ}
+use lib.Dec.{leb, ltb}
+use Rattle.notation.specs.Choice.{_⇒_else_, _and_}
+use Rattle.text.specs.Text.{same}
+use Rattle.schema.specs.Pick.{Picked}
+use Rattle.geometry.specs.Ring.{Point}
+use Rattle.geometry.specs.Held.{holds}
+use Rattle.rings.specs.Rings.{position}
+use Rattle.document.specs.Document.{Maybe, none, some, along, elements, elementsOf, field, fieldItems, spelling, textIn}
+use Rattle.fields.specs.Values.{integerIn}
+
+-- an integer, where it is given
+abbrev pub integer : Maybe (List ℕ) → Maybe ℕ
+integer none = none
+integer (some s) = some (integerIn (some s))
+
+-- a zone counts from its start to before its end, where they are given
+abbrev pub begun : Maybe ℕ → ℕ → Bool
+begun none moment = true
+begun (some start) moment = leb start moment
+
+abbrev pub unended : Maybe ℕ → ℕ → Bool
+unended none moment = true
+unended (some end) moment = ltb moment end
+
+unfoldable pub counts : Picked → ℕ → Bool
+counts properties moment = begun (integer (spelling 75 properties)) moment and unended (integer (spelling 76 properties)) moment
+
+-- the rings of a polygon, and the polygons of a zone: one that holds the point is enough
+unfoldable pub ringsHold : List Picked → Point → Bool
+ringsHold [] q = false
+ringsHold (r ∷ rs) q = holds (map position (elements r)) q ⇒ true else ringsHold rs q
+
+unfoldable pub polygonsHold : List Picked → Point → Bool
+polygonsHold [] q = false
+polygonsHold (p ∷ ps) q = ringsHold (elements p) q ⇒ true else polygonsHold ps q
+
+-- a rule is for this type where it names it, or names nobody in particular
+unfoldable pub anyText : List Picked → List ℕ → Bool
+anyText [] type = false
+anyText (x ∷ l) type = elim (textIn x) [ none ↦ anyText l type | some t ↦ same t type ⇒ true else anyText l type ]
+
+unfoldable pub applies : Picked → List ℕ → Bool
+applies rule type = elim (field 78 rule) [ none ↦ true | some ids ↦ anyText (elements ids) type ]
+
+-- the rules of the zones that count and hold the point, in file order
+unfoldable pub zoneRules : Picked → Point → ℕ → List Picked
+zoneRules zone q moment =
+    elim (field 74 zone) [
+      | none ↦ []
+      | some properties ↦
+          polygonsHold (elementsOf (along (71 ∷ 73 ∷ []) zone)) q and counts properties moment ⇒ fieldItems 77 properties else []
+    ]
+
+unfoldable pub rules : List Picked → Point → ℕ → List Picked
+rules [] q moment = []
+rules (z ∷ zs) q moment = zoneRules z q moment ++ rules zs q moment
+
+-- the whole first one that is for the type
+unfoldable pub firstFor : List Picked → List ℕ → Maybe Picked
+firstFor [] type = none
+firstFor (r ∷ rs) type = applies r type ⇒ some r else firstFor rs type
+
+unfoldable pub ruleAt : Picked → Point → List ℕ → ℕ → Maybe Picked
+ruleAt file q type moment = firstFor (rules (elementsOf (along (4 ∷ 5 ∷ 7 ∷ []) file)) q moment) type

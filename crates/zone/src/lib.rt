@@ -1,0 +1,61 @@
+// The rule that holds at a point and a moment for a type of vehicle, by a file of zones.
+use crate::point::on_map;
+use crate::point::raised;
+use crate::zones::rule_in;
+use clean::Cleanness;
+use clean::check_clean;
+use geometry::Position;
+use word::Parts;
+ghost use mathlib.Core.Path.{_≡_};
+ghost use Rattle.zone.specs.Answer.{rulingOf};
+
+mod area;
+mod point;
+mod rules;
+mod window;
+mod zones;
+
+// A rule's values: a speed counts where it is limited, and whether parking needs a station where that is said.
+pub struct Rule {
+    pub ride: bool,
+    pub through: bool,
+    pub limited: bool,
+    pub speed: u64,
+    pub parks: bool,
+    pub parking: bool,
+}
+
+// The answer to "zone rule": the point is off the map, the file is not clean, no rule applies, or the values of the one that does.
+pub enum Ruling {
+    OffMap,
+    NotClean(Parts),
+    NoRule,
+    Is(Rule),
+}
+
+impl Ruling {
+    // The number of the file of zones.
+    const FILE: u8 = 6;
+}
+
+// The rule at a point, in millionths of a degree, for a type at a moment, by the bytes of the file of zones.
+// Shut out: values taken from several rules; a later zone's rule where an earlier zone has one for the type.
+pub fn zone_rule(s: &[u8], lon: i64, lat: i64, type_id: &[u8], moment: u64) -> Ruling
+    ensures { λ r. ⌜ r ≡ rulingOf (now (s .entry)) (record { lon = lon; lat = lat }) (now («type_id» .entry)) moment ⌝ }
+{
+    if !on_map(lon, lat) {
+        return Ruling::OffMap;
+    }
+    match check_clean(Ruling::FILE, s) {
+        Cleanness::Clean => {
+            let q = Position {
+                lon: raised(lon, 180_000_000),
+                lat: raised(lat, 90_000_000),
+            };
+            return rule_in(s, q, type_id, moment);
+        }
+        Cleanness::Broken(p) => {
+            return Ruling::NotClean(p);
+        }
+    }
+}
