@@ -9,6 +9,7 @@ mod quote_trip;
 mod read_word;
 mod show;
 mod signed;
+mod verdict;
 mod words;
 mod zone_rule;
 

@@ -60,3 +60,22 @@ pub fn parts(p: Parts) {
     next(p.sub as u64);
     next(p.offset as u64);
 }
+
+// The first eight bytes of a buffer in hex.
+pub fn word(room: &[u8; 64]) {
+    io::write_all(STDOUT_FILENO, b" ");
+    let mut i = 0;
+    while i < 8 {
+        let b = room[i];
+        let pair = [digit(b / 16), digit(b % 16)];
+        io::write_all(STDOUT_FILENO, &pair);
+        i += 1;
+    }
+}
+
+fn digit(d: u8) -> u8 {
+    if d < 10 {
+        return b'0' + d;
+    }
+    b'a' + (d - 10)
+}

@@ -3,6 +3,7 @@ use crate::print;
 use crate::quote_trip;
 use crate::read_word;
 use crate::show;
+use crate::verdict;
 use crate::words;
 use crate::zone_rule;
 
@@ -18,6 +19,9 @@ fn ask(line: &[u8], bytes: &mut [u8]) -> bool {
     let name = words::at(line, 0);
     if words::same(name, b"word") {
         return read_word::answer(line, bytes);
+    }
+    if words::same(name, b"verdict") {
+        return verdict::answer(line, bytes);
     }
     if words::same(name, b"show") {
         return show::answer(line, bytes);

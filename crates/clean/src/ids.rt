@@ -27,7 +27,7 @@ use walk::next_item;
 const MOST: usize = Limits::RECORDS as usize;
 
 // What the record `p` of a file holds under the name of its own id.
-fn find_id(file: u8, p: &[u8]) -> Found
+pub fn find_id(file: u8, p: &[u8]) -> Found
     ensures { λ r. ⌜ r ≡ foundIn (now (p .entry)) (idName file) ⌝ }
 {
     match file {

@@ -48,7 +48,7 @@ pub struct Place {
 }
 
 // The parts of a word for a fault of a file.
-fn parts_of(file: u8, f: Fault) -> Parts
+pub fn parts_of(file: u8, f: Fault) -> Parts
     requires { ⌜ (f .«record» < 65_536) × (f .sub < 65_536) ⌝ }
     ensures { λ r. ⌜ r ≡ place file f ⌝ }
 {
@@ -63,7 +63,7 @@ fn parts_of(file: u8, f: Fault) -> Parts
 }
 
 // Stage B of a file that stage A passes.
-fn stage_b(file: u8, s: &[u8]) -> Least
+pub fn first_fault(file: u8, s: &[u8]) -> Least
     requires { ⌜ syntaxOf (now s) ≡ Sound ⌝ }
     ensures { λ r. ⌜ r ≡ least (fileFaults (fileShape table23 file) (treeOf (now (s .entry)))) ⌝ }
 {
@@ -107,7 +107,7 @@ fn judge_passed(file: u8, s: &[u8]) -> Cleanness
     requires { ⌜ syntaxOf (now s) ≡ Sound ⌝ }
     ensures { λ r. ⌜ r ≡ judged file (now (s .entry)) Sound ⌝ }
 {
-    match stage_b(file, s) {
+    match first_fault(file, s) {
         Least::None => {
             return judge_ids(file, s);
         }

@@ -1,6 +1,6 @@
 -- The ways through reading a value by its bytes: of the kind that is asked for, or of another.
 use mathlib.Core.List.{List, []}
-use mathlib.Core.Path.{_≡_, ap}
+use mathlib.Core.Path.{_≡_, sym, ap}
 use Prim.Native.Nat.{ℕ, _-_, _<_}
 use native.Mathlib.Omega.{arith}
 use lib.ListN.{length, take, drop}
@@ -9,9 +9,17 @@ use Rattle.text.specs.Text.{textOf}
 use Rattle.walk.specs.Walk.{part}
 use Rattle.walk.specs.Part.{kindAt, inside}
 use Rattle.slots.specs.declared.Found.{Found}
+use Rattle.slots.specs.declared.Found.the-variants.{Missing, Once, Twice}
 use Rattle.slots.specs.Found.{foundIn}
+use Rattle.slots.proofs.Finds.{found-value}
 use Rattle.document.specs.Document.{none, some}
-use Rattle.fields.specs.Values.{code, foundBytes, memberOf, spelledBy, textBy, arrayBy}
+use Rattle.fields.specs.Values.{code, foundBytes, Standing, memberOf, spelledBy, textBy, arrayBy}
+
+-- what is found stands there whole
+pub found-standing : (p name : List ℕ) (o : Found) → o ≡ foundIn p name → Standing p o
+found-standing p name Missing e = tt
+found-standing p name (Once from upto) e = found-value p name from upto (sym e) .whole
+found-standing p name Twice e = tt
 
 -- a member, of an object and of what is none
 module _ (p name : List ℕ) (n : ℕ) (e : n ≡ code (kindAt p)) where

@@ -10,7 +10,7 @@ use Rattle.text.specs.Text.{textOf, same}
 use Rattle.walk.specs.declared.ValueKind.{ValueKind}
 use Rattle.walk.specs.declared.ValueKind.the-variants as kind
 use Rattle.walk.specs.Walk.{part}
-use Rattle.walk.specs.Part.{treeOf, kindAt, inside}
+use Rattle.walk.specs.Part.{Whole, treeOf, kindAt, inside}
 use Rattle.slots.specs.declared.Found.{Found}
 use Rattle.slots.specs.declared.Found.the-variants.{Missing, Once, Twice}
 use Rattle.slots.specs.Found.{foundIn}
@@ -34,6 +34,12 @@ abbrev pub foundBytes : List ℕ → Found → List ℕ
 foundBytes p Missing = []
 foundBytes p (Once from upto) = blankText (treeOf (part p from upto)) ⇒ [] else part p from upto
 foundBytes p Twice = []
+
+-- what is found there is a whole value
+abbrev pub Standing : List ℕ → Found → Type 0
+Standing p Missing = Unit {0}
+Standing p (Once from upto) = Whole (part p from upto) (treeOf (part p from upto))
+Standing p Twice = Unit {0}
 
 -- the member of a name, in the object p
 unfoldable pub memberOf : (p name : List ℕ) → List ℕ

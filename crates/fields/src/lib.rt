@@ -14,7 +14,7 @@ ghost use Rattle.notation.specs.Choice.{_⇒_else_};
 ghost use Rattle.json.specs.Tree.{Json};
 ghost use Rattle.walk.specs.Part.{Whole, kindAt, inside};
 ghost use Rattle.slots.specs.Blank.{blankText};
-ghost use Rattle.fields.specs.Values.{code, memberOf, spelledBy, textBy, arrayBy, integerIn, isId};
+ghost use Rattle.fields.specs.Values.{code, foundBytes, Standing, memberOf, spelledBy, textBy, arrayBy, integerIn, isId};
 
 // The kinds that are asked for.
 pub const NUMBER: u8 = 2;
@@ -56,14 +56,11 @@ fn unless_blank(q: &[u8]) -> &[u8]
     q
 }
 
-// The member of a name, of the object `p`.
-pub fn member<'a>(p: &'a [u8], name: &[u8]) -> &'a [u8]
-    ensures { λ r. ⌜ now r ≡ memberOf (now (p .entry)) (now (name .entry)) ⌝ }
+// The bytes of what was found in the object `p`.
+pub fn value_at(p: &[u8], found: Found) -> &[u8]
+    ensures { λ r. ⌜ (Standing (now (p .entry)) found → now r ≡ foundBytes (now (p .entry)) found) ⌝ }
 {
-    if code_of(p) != OBJECT {
-        return no_bytes(p);
-    }
-    match find(p, name) {
+    match found {
         Found::Missing => {
             return no_bytes(p);
         }
@@ -74,6 +71,16 @@ pub fn member<'a>(p: &'a [u8], name: &[u8]) -> &'a [u8]
             return no_bytes(p);
         }
     }
+}
+
+// The member of a name, of the object `p`.
+pub fn member<'a>(p: &'a [u8], name: &[u8]) -> &'a [u8]
+    ensures { λ r. ⌜ now r ≡ memberOf (now (p .entry)) (now (name .entry)) ⌝ }
+{
+    if code_of(p) != OBJECT {
+        return no_bytes(p);
+    }
+    value_at(p, find(p, name))
 }
 
 // What stands between the quotation marks of a string.

@@ -1,6 +1,6 @@
 -- Where kind 2 is found no JSON text goes on, and up to there some text does: the bytes before the fault have an ending that completes
 -- them, and once the byte at the fault is added they have none. Each combinator hands this on; a reader in the middle must not begin with a blank.
-use mathlib.Core.Bool.{true, false}
+use mathlib.Core.Bool.{false}
 use mathlib.Core.List.{List, [], _∷_, _++_, append-assoc, append-nil}
 use mathlib.Core.Path.{_≡_, refl, sym, ap, subst, _∙_}
 use Prim.Native.Nat.{ℕ, zero, suc}
@@ -11,15 +11,16 @@ use borrow.Author.Tests.{eqb-true, eq-eqb}
 use Rattle.word.specs.Kinds.{notJson, tooDeep}
 use Rattle.lexeme.specs.Read.{Read, then, made}
 use Rattle.lexeme.specs.Read.Read.{done, bad}
-use Rattle.lexeme.specs.Character.{lone, within}
+use Rattle.lexeme.specs.Character.{lone}
 use Rattle.lexeme.specs.Strings as Strings
 use Rattle.lexeme.specs.Numbers as Numbers
-use Rattle.lexeme.specs.Numbers.{digit, either}
+use Rattle.lexeme.specs.Numbers.{either}
 use Rattle.lexeme.specs.Tokens.{blank, blanks, Start, start}
 use Rattle.lexeme.proofs.Reading.{Eats, Any, Ok, numeric, Stops, Took, Takes, Faulted, Faults}
 use Rattle.lexeme.proofs.Reading.Ok.{alike, stops}
-use Rattle.lexeme.proofs.Steps.{by-test, true-false, blanks-stop, then-done, bad-done, done-bad, no-cons, bad-kind, bad-rest, made-reads, made-fails, made-bad, then-reads, then-fails}
+use Rattle.lexeme.proofs.Steps.{by-test, blanks-stop, then-done, bad-done, done-bad, no-cons, bad-kind, bad-rest, made-reads, made-fails, made-bad, then-reads, then-fails}
 use Rattle.lexeme.proofs.Takes.{string-takes, blanks-of, solid-first}
+use Rattle.lexeme.proofs.Starts.{blank-other}
 use Rattle.lexeme.proofs.Faults.{made-faults, cons-faulted, end-faulted, byte-faulted, string-faults, number-faults, literal-faults}
 use Rattle.json.specs.Cases.{reading}
 use Rattle.json.specs.Tree.{Json}
@@ -208,18 +209,20 @@ pub record Reader {A : Type 0} (f : List ℕ → Read A) : Type 0 where
   pub faults : Faults f
   pub firm : Firm f
 
--- a closing bracket: no blank, and no part of a number
+-- a closing bracket: no blank, no part of a number, no comma, and it begins no value
 pub record Closing (close : ℕ) : Type 0 where
   pub solid : blank close ≡ false
   pub halts : numeric close ≡ false
+  pub parts : eqb 0x2c close ≡ false
+  pub other : start close ≡ Start.other
 
-square : Closing 0x5d
+pub square : Closing 0x5d
 unfolding reading numeric
-square = record { solid = refl; halts = refl }
+square = record { solid = refl; halts = refl; parts = refl; other = refl }
 
-curly : Closing 0x7d
+pub curly : Closing 0x7d
 unfolding reading numeric
-curly = record { solid = refl; halts = refl }
+curly = record { solid = refl; halts = refl; parts = refl; other = refl }
 
 module _ {A : Type 0} (close : ℕ) (c : Closing close) (element : List ℕ → Read A) (rd : Reader element) where
   run-firm : {l : List ℕ} {o : Read (List A)} → Run close element l o → (xs : List A) (r : List ℕ) → o ≡ done xs r → Solid l
@@ -344,16 +347,6 @@ module _ (f : List ℕ → Read Json) (starts : Starts f) (rd : Reader f) where
   member-reader : Reader (member lone f)
   member-reader =
       record { eats = member-eats lone f (rd .eats); takes = member-takes lone f (rd .eats) (rd .takes); faults = member-faults; firm = member-firm }
-
--- a blank begins no value
-blank-other : (b : ℕ) → blank b ≡ true → start b ≡ Start.other
-unfolding blank either start digit within
-blank-other b h =
-    by-test (eqb b 0x20) (λ e. rw (eqb-true b 0x20 e))
-    (λ e₁. by-test (eqb b 0x09) (λ e. rw (eqb-true b 0x09 e))
-    (λ e₂. by-test (eqb b 0x0a) (λ e. rw (eqb-true b 0x0a e))
-    (λ e₃. by-test (eqb b 0x0d) (λ e. rw (eqb-true b 0x0d e))
-    (λ e₄. true-false h (simp (e₁, e₂, e₃, e₄, blank, either))))))
 
 module _ (arrays objects : List ℕ → Read Json) where
   value-by-starts : Starts (valueBy lone arrays objects)

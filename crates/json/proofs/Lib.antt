@@ -13,3 +13,6 @@ pub mod Faults
 pub mod Verdict
 pub mod Prefix
 pub mod Least
+pub mod Characters
+pub mod Spelled
+pub mod Spellings

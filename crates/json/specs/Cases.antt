@@ -7,11 +7,13 @@ use borrow.Author.Tests.{lt-ltb, le-ltb}
 use Rattle.limits.specs.Ceilings.{fileBytes, depth}
 use Rattle.notation.specs.Ascii.{bytes}
 use Rattle.lexeme.specs.Read.{placed}
+use Rattle.lexeme.specs.Read.Read.{done}
 use Rattle.lexeme.specs.Character.{paired}
 use Rattle.lexeme.specs.Cases.{lexing}
 use Rattle.json.specs.declared.Syntax.the-variants.{Sound, Fault}
-use Rattle.json.specs.Tree.{itemsOf, membersOf}
+use Rattle.json.specs.Tree.{Json, item, noItem, itemsOf, membersOf}
 use Rattle.json.specs.Text.{expect, separator, after, elements, contents, bracketed, member, valueAt, valueBy, value, finish, text, verdictOf, syntaxOf}
+use Rattle.json.specs.Spelling.{Blanks, Padded, Character, Characters, Quoted, Plain, Listed, Enclosed, Nested, Spells}
 
 -- opens every definition of stage A
 unfoldable pub reading : Unit {0}
@@ -351,6 +353,44 @@ lone-before-level = refl
 lone-after-level : syntaxOf (bytes "[[[[[[[[[[[[[[[[[\"\\ud800\"") ≡ Fault 4 16
 unfolding reading
 lone-after-level = refl
+
+-- spellings of one tree: other blanks, other escapes
+
+one-tree : Json
+one-tree = Json.array (item (Json.string (bytes "a\n")) (item (Json.number (bytes "1")) noItem))
+
+tree-bare : text paired depth (bytes "[\"a\\n\",1]") ≡ done one-tree []
+unfolding reading one-tree
+tree-bare = refl
+
+tree-respelled : text paired depth (bytes " [ \"\\u0061\\u000A\" , 1 ] ") ≡ done one-tree []
+unfolding reading one-tree
+tree-respelled = refl
+
+blank : Blanks (bytes " ")
+unfolding reading
+blank = Blanks.some refl Blanks.none
+
+letter : Character (bytes "a") (bytes "a")
+unfolding reading
+letter = Character.character {x = record { b0 = 0x61; b1 = 0; b2 = 0; b3 = 0; len = 1; more = 0 }} refl refl
+
+letter-escaped : Character (bytes "a") (bytes "\\u0061")
+unfolding reading
+letter-escaped = Character.character {x = record { b0 = 0x61; b1 = 0; b2 = 0; b3 = 0; len = 1; more = 5 }} refl refl
+
+mixed : Spells 1 (Json.array (item (Json.string (bytes "aa")) (item (Json.number (bytes "1")) noItem))) (bytes "[\"a\\u0061\" ,1]")
+unfolding reading
+mixed =
+    record {
+      whole =
+          Padded.padded Blanks.none
+          (Nested.array (Enclosed.elements (Padded.padded Blanks.none
+          (Listed.comma (Plain.string (Quoted.quoted (Characters.then letter (Characters.then letter-escaped Characters.end)))) blank Blanks.none
+          (Listed.last (Plain.number {n = bytes "1"} refl)))
+          Blanks.none)))
+          Blanks.none;
+    }
 
 -- kind 1: a text above the ceiling is not looked into; one at the ceiling is read
 

@@ -1,7 +1,9 @@
-// Values, arrays and objects. `levels` counts the brackets that may still open, one inside another, and falls with each.
+// Values, arrays and objects. `levels` counts the brackets that may still open, one inside another, and falls with each. The table of classes is
+// lent to all that a value holds.
 ghost use mathlib.Core.Path.{_≡_};
 ghost use lib.ListN.{drop};
 ghost use Rattle.lexeme.specs.Character.{paired};
+ghost use Rattle.lexeme.specs.Class.{Classifies};
 ghost use Rattle.lexeme.specs.Read.{placed};
 ghost use Rattle.lexeme.specs.Strings.{string};
 ghost use Rattle.json.specs.Text.{expect, bracketed, member, value, text};
@@ -10,7 +12,8 @@ use super::element::after_element;
 use lexeme::Scan;
 use lexeme::blank::skip_blanks;
 use lexeme::class::Class;
-use lexeme::class::class_of;
+use lexeme::class::class_by;
+use lexeme::class::class_table;
 use lexeme::front::first;
 use lexeme::front::place;
 use lexeme::literal::read_literal;
@@ -19,10 +22,11 @@ use strings::read_string;
 use word::kind::Kind;
 
 // The value at `at`.
-pub fn read_value(s: &[u8], at: usize, levels: u8) -> Scan
+pub fn value_by(table: &[u8; 256], s: &[u8], at: usize, levels: u8) -> Scan
+    requires { ⌜ Classifies (now table) ⌝ }
     ensures { λ r. ⌜ r ≡ placed (now (s .entry)) (value paired levels (drop at (now (s .entry)))) ⌝ }
 {
-    match class_of(first(s, at)) {
+    match class_by(table, first(s, at)) {
         Class::NUMBER => {
             return read_number(s, at);
         }
@@ -30,13 +34,13 @@ pub fn read_value(s: &[u8], at: usize, levels: u8) -> Scan
             if levels == 0 {
                 return Scan::Fault(Kind::TOO_DEEP, at);
             }
-            return read_array(s, at + 1, levels - 1);
+            return read_array(table, s, at + 1, levels - 1);
         }
         Class::OBJECT => {
             if levels == 0 {
                 return Scan::Fault(Kind::TOO_DEEP, at);
             }
-            return read_object(s, at + 1, levels - 1);
+            return read_object(table, s, at + 1, levels - 1);
         }
         Class::LETTER_T => {
             return read_literal(s, at, b"true");
@@ -48,7 +52,7 @@ pub fn read_value(s: &[u8], at: usize, levels: u8) -> Scan
             return read_literal(s, at, b"null");
         }
         Class::QUOTE => {
-            return read_string(s, at + 1);
+            return read_string(table, s, at + 1);
         }
         _ => {
             return Scan::Fault(Kind::NOT_JSON, place(s, at));
@@ -57,7 +61,8 @@ pub fn read_value(s: &[u8], at: usize, levels: u8) -> Scan
 }
 
 // The array whose bracket stands before `at`.
-fn read_array(s: &[u8], at: usize, levels: u8) -> Scan
+fn read_array(table: &[u8; 256], s: &[u8], at: usize, levels: u8) -> Scan
+    requires { ⌜ Classifies (now table) ⌝ }
     ensures { λ r. ⌜ r ≡ placed (now (s .entry)) (bracketed 0x5d (value paired levels) (drop at (now (s .entry)))) ⌝ }
 {
     let mut i = skip_blanks(s, at);
@@ -65,7 +70,7 @@ fn read_array(s: &[u8], at: usize, levels: u8) -> Scan
         return Scan::End(i + 1);
     }
     loop {
-        match after_element(s, read_value(s, i, levels), b']') {
+        match after_element(s, value_by(table, s, i, levels), b']') {
             Turn::Stop(whole) => {
                 return whole;
             }
@@ -77,7 +82,8 @@ fn read_array(s: &[u8], at: usize, levels: u8) -> Scan
 }
 
 // The object whose bracket stands before `at`.
-fn read_object(s: &[u8], at: usize, levels: u8) -> Scan
+fn read_object(table: &[u8; 256], s: &[u8], at: usize, levels: u8) -> Scan
+    requires { ⌜ Classifies (now table) ⌝ }
     ensures { λ r. ⌜ r ≡ placed (now (s .entry)) (bracketed 0x7d (member paired (value paired levels)) (drop at (now (s .entry)))) ⌝ }
 {
     let mut i = skip_blanks(s, at);
@@ -85,7 +91,7 @@ fn read_object(s: &[u8], at: usize, levels: u8) -> Scan
         return Scan::End(i + 1);
     }
     loop {
-        match after_element(s, read_member(s, i, levels), b'}') {
+        match after_element(s, read_member(table, s, i, levels), b'}') {
             Turn::Stop(whole) => {
                 return whole;
             }
@@ -97,10 +103,11 @@ fn read_object(s: &[u8], at: usize, levels: u8) -> Scan
 }
 
 // The member at `at`: its name, a colon, its value.
-fn read_member(s: &[u8], at: usize, levels: u8) -> Scan
+fn read_member(table: &[u8; 256], s: &[u8], at: usize, levels: u8) -> Scan
+    requires { ⌜ Classifies (now table) ⌝ }
     ensures { λ r. ⌜ r ≡ placed (now (s .entry)) (member paired (value paired levels) (drop at (now (s .entry)))) ⌝ }
 {
-    match read_name(s, at) {
+    match name_by(table, s, at) {
         Scan::Fault(kind, place) => {
             return Scan::Fault(kind, place);
         }
@@ -109,19 +116,28 @@ fn read_member(s: &[u8], at: usize, levels: u8) -> Scan
             if first(s, i) != b':' {
                 return Scan::Fault(Kind::NOT_JSON, i);
             }
-            return read_value(s, skip_blanks(s, i + 1), levels);
+            return value_by(table, s, skip_blanks(s, i + 1), levels);
         }
     }
 }
 
 // The string at `at`, from its opening quote on.
-pub fn read_name(s: &[u8], at: usize) -> Scan
+pub fn name_by(table: &[u8; 256], s: &[u8], at: usize) -> Scan
+    requires { ⌜ Classifies (now table) ⌝ }
     ensures { λ r. ⌜ r ≡ placed (now (s .entry)) (expect 0x22 (string paired 0) (drop at (now (s .entry)))) ⌝ }
 {
     if first(s, at) != b'"' {
         return Scan::Fault(Kind::NOT_JSON, place(s, at));
     }
-    read_string(s, at + 1)
+    read_string(table, s, at + 1)
+}
+
+// The value at `at`, for a caller that reads no other.
+pub fn read_value(s: &[u8], at: usize, levels: u8) -> Scan
+    ensures { λ r. ⌜ r ≡ placed (now (s .entry)) (value paired levels (drop at (now (s .entry)))) ⌝ }
+{
+    let table = class_table();
+    value_by(&table, s, at, levels)
 }
 
 // The whole text: one value with blanks around it.

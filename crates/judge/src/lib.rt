@@ -31,7 +31,7 @@ pub struct Place {
 
 impl Place {
     // A field's fault, or none where the kind is 0.
-    fn broken(self, field: u8, kind: u8) -> Least
+    pub fn broken(self, field: u8, kind: u8) -> Least
         ensures { λ r. ⌜ r ≡ least (faulty self field (listed kind)) ⌝ }
     {
         if kind == 0 {

@@ -1,5 +1,5 @@
 // The judge: a value, a member, a row of an object, each by its own bytes. `level` counts the objects that may still open, one inside
-// another, and falls with each.
+// another, and falls with each. A row's line is looked up once and handed down.
 use crate::Place;
 use fault::Fault;
 use fault::Least;
@@ -24,7 +24,8 @@ ghost use Rattle.limits.specs.Ceilings.{fileBytes};
 ghost use Rattle.json.specs.Tree.{Json};
 ghost use Rattle.walk.specs.Part.{Whole, kindAt};
 ghost use Rattle.schema.specs.Pick.{pick};
-ghost use Rattle.schema.specs.Table23.{coordinates};
+ghost use Rattle.schema.specs.Line.{lineAt};
+ghost use Rattle.schema.specs.Table23.{table23, coordinates};
 ghost use Rattle.slots.specs.Found.{Within};
 ghost use Rattle.fault.specs.Fault.{least};
 ghost use Rattle.judge.specs.Faults.{coordinateFaults};
@@ -74,14 +75,13 @@ fn judge_positions(p: &[u8], field: u8, place: Place) -> Least
 }
 
 // A value that is no array, by its letter; line i tells the rest.
-fn judge_single(p: &[u8], letter: u8, i: usize, place: Place, level: u8) -> Least
-    requires { ⌜ length (now p) ≤ fileBytes ⌝ }
+fn judge_single(p: &[u8], letter: u8, i: usize, line: Line, place: Place, level: u8) -> Least
+    requires { ⌜ (length (now p) ≤ fileBytes) × (line ≡ lineAt table23 i) ⌝ }
     ensures { λ r. ⌜ Single (now (p .entry)) letter i place level r ⌝ }
 {
     if Line::COUNT <= i {
         return Least::None;
     }
-    let line = line_at(i);
     if letter == Line::OBJECT {
         return judge_object(p, i + 1, wide(line.inside), line.field, place, level);
     }
@@ -89,11 +89,10 @@ fn judge_single(p: &[u8], letter: u8, i: usize, place: Place, level: u8) -> Leas
 }
 
 // The array of line i: all of its items, and how many they are.
-fn judge_array(p: &[u8], i: usize, place: Place, level: u8) -> Least
-    requires { ⌜ length (now p) ≤ fileBytes ⌝ }
+fn judge_array(p: &[u8], i: usize, line: Line, place: Place, level: u8) -> Least
+    requires { ⌜ (length (now p) ≤ fileBytes) × (line ≡ lineAt table23 i) ⌝ }
     ensures { λ r. ⌜ Array (now (p .entry)) i place level r ⌝ }
 {
-    let line = line_at(i);
     if line.numbering == Line::POSITIONS {
         return judge_positions(p, line.field, place);
     }
@@ -111,39 +110,37 @@ fn judge_array(p: &[u8], i: usize, place: Place, level: u8) -> Least
         let from = item.value;
         let upto = item.value_end;
         let there = place.item(line.numbering, n);
-        let r = judge_single(&p[from..upto], line.item, i, there, level);
+        let r = judge_single(&p[from..upto], line.item, i, line, there, level);
         least = lesser(least, r);
         at = item.next;
     }
 }
 
 // The value of the member of line i.
-fn judge_member(p: &[u8], i: usize, place: Place, level: u8) -> Least
-    requires { ⌜ length (now p) ≤ fileBytes ⌝ }
+fn judge_member(p: &[u8], i: usize, line: Line, place: Place, level: u8) -> Least
+    requires { ⌜ (length (now p) ≤ fileBytes) × (line ≡ lineAt table23 i) ⌝ }
     ensures { λ r. ⌜ Member (now (p .entry)) i place level r ⌝ }
 {
-    let line = line_at(i);
     if is_blank_text(p) {
         return place.absent(line);
     }
     if line.value == Line::ARRAY {
-        return judge_array(p, i, place, level);
+        return judge_array(p, i, line, place, level);
     }
-    judge_single(p, line.value, i, place, level)
+    judge_single(p, line.value, i, line, place, level)
 }
 
 // The row of line i in the object p, with what was found under its name.
-fn judge_row(p: &[u8], found: Found, i: usize, place: Place, level: u8) -> Least
-    requires { ⌜ (length (now p) ≤ fileBytes) × Within (length (now p)) found ⌝ }
+fn judge_row(p: &[u8], found: Found, i: usize, line: Line, place: Place, level: u8) -> Least
+    requires { ⌜ (length (now p) ≤ fileBytes) × Within (length (now p)) found × (line ≡ lineAt table23 i) ⌝ }
     ensures { λ r. ⌜ Row (now (p .entry)) found i place level r ⌝ }
 {
-    let line = line_at(i);
     match found {
         Found::Missing => {
             return place.absent(line);
         }
         Found::Once(from, upto) => {
-            return judge_member(&p[from..upto], i, place, level);
+            return judge_member(&p[from..upto], i, line, place, level);
         }
         Found::Twice => {
             return place.broken(line.field, Kind::NAME_TWICE);
@@ -180,8 +177,11 @@ pub fn judge_object(
     let mut i = first;
     let mut row: usize = 0;
     while i < first + count {
-        least = lesser(least, judge_row(p, slots.slot(row), i, place, level - 1));
         let line = line_at(i);
+        least = lesser(
+            least,
+            judge_row(p, slots.slot(row), i, line, place, level - 1),
+        );
         i = i + 1 + wide(line.inside);
         row += 1;
     }

@@ -9,7 +9,7 @@ use lib.ListN.{getD}
 use Rattle.lexeme.specs.Character.{Lead, lead, within}
 use Rattle.lexeme.specs.Character.Lead.{plain, quote, backslash, wrong, two, threeE0, three, threeED, fourF0, four, fourF4}
 use Rattle.notation.specs.Choice.{_⇒_else_}
-use Rattle.lexeme.specs.Class.{leadOf, startOf, blankOf, Classed}
+use Rattle.lexeme.specs.Class.{leadOf, startOf, blankOf, Classed, Classifies}
 use Rattle.lexeme.specs.Numbers.{digit, either}
 use Rattle.lexeme.specs.Tokens.{Start, start, blank}
 use Rattle.lexeme.specs.Tokens.Start.{string, number, array, object, letterT, letterF, letterN, other}
@@ -98,6 +98,6 @@ classed b h =
       blank = reads blankOf blankCode blank-back blank classes refl b h;
     }
 
--- a table that tells what each byte says
-abbrev pub Classifies : List ℕ → Type 0
-Classifies t = (b : ℕ) → b < 256 → Classed b (getD t b 0)
+pub classifies : Classifies classes
+unfolding lead start blank digit within either
+classifies = record { at = classed }

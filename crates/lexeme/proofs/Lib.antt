@@ -3,6 +3,8 @@ pub mod Steps
 pub mod Shrinks
 pub mod Local
 pub mod Takes
+pub mod Starts
+pub mod Spells
 pub mod Rests
 pub mod Placed
 pub mod Spans

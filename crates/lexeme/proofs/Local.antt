@@ -1,7 +1,7 @@
 -- What one character of a string depends on: the bytes that it takes; and for a high surrogate escape, whether a low one follows.
 -- `next` looks at bytes from left to right and goes on only from a byte that fits, so each answer is decided by the bytes up to its last.
 use mathlib.Core.Bool.{Bool, true, false}
-use mathlib.Core.List.{List}
+use mathlib.Core.List.{List, _∷_}
 use mathlib.Core.Path.{_≡_, refl, sym, ap, subst, _∙_}
 use Prim.Native.Nat.{ℕ, _+_, _-_, _≤_, _<_}
 use native.Mathlib.Omega.{arith}
@@ -179,7 +179,7 @@ unfolding short
 no-short = refl
 
 -- only a quote is read as one
-choice : {A : Type 0} (P : A → Type 0) (t : Bool) {x y : A} → P x → P y → P (t ⇒ x else y)
+pub choice : {A : Type 0} (P : A → Type 0) (t : Bool) {x y : A} → P x → P y → P (t ⇒ x else y)
 choice P true h i = h
 choice P false h i = i
 
@@ -344,3 +344,50 @@ character-same ρ n l m x some e h s = go (subst (Way ρ (next ρ) l) e (next-wa
         w m (λ i p. s .below i (omega arith))
         ∙ ap (high ρ v) (sym (trail-same (n - 6) (drop 6 l) (drop 6 m) (same-drop 6 n l m (omega arith) s)))
         ∙ sym (w l (λ i p. refl)) ∙ e
+
+-- a low surrogate escape is told by its six bytes
+trail-near : (l m : List ℕ) (w : ℕ) → trail l ≡ Low w → Agree 5 l m → trail m ≡ Low w
+unfolding trail lowOf
+trail-near l m w e g =
+    by-test (eqb (byte l 0) 0x5c)
+    (λ a. by-test (eqb (byte l 1) 0x75)
+    (λ b. go (quad (drop 2 l)) refl (quad-near (drop 2 l)) a b)
+    (λ b. let f : Other ≡ Low w = rw (trail, a, b) at e in let z : _≡_ {A = ℕ} 0 1 = cc in absurd (omega arith)))
+    (λ a. let f : Other ≡ Low w = rw (trail, a) at e in let z : _≡_ {A = ℕ} 0 1 = cc in absurd (omega arith))
+  where
+    later : Agree 3 (drop 2 l) (drop 2 m)
+    later i h = getD-drop 2 l i 0 ∙ g (2 + i) (omega arith) ∙ sym (getD-drop 2 m i 0)
+
+    go : (v : Quad) → quad (drop 2 l) ≡ v → QuadNear (drop 2 l) v → eqb (byte l 0) 0x5c ≡ true → eqb (byte l 1) 0x75 ≡ true → trail m ≡ Low w
+    go (Short n) i s a b = let f : Other ≡ Low w = rw (trail, a, b, i) at e in let z : _≡_ {A = ℕ} 0 1 = cc in absurd (omega arith)
+    go (Value v) i s a b =
+        let f : lowOf (Value v) ≡ Low w = rw (trail, a, b, i) at e in
+        rw (← g 0 (omega arith), ← g 1 (omega arith), a, b, s .1 (drop 2 m) later) f
+
+-- a character is told by the bytes that it takes
+pub character-near : (l m : List ℕ) (x : Char) → 0 < length l → next paired l ≡ Character x → Agree (x .more) l m → next paired m ≡ Character x
+unfolding high alone
+character-near l m x some e g = go (subst (Way paired (next paired) l) e (next-way paired l some))
+  where
+    go : Way paired (next paired) l (Character x) → next paired m ≡ Character x
+    go (near w) = w .1 m g
+    go (far v f there w) = pair (trail (drop 6 l)) refl
+      where
+        is : (t : Trail) → trail (drop 6 l) ≡ t → high paired v t ≡ Character x
+        is t i = ap (high paired v) (sym i) ∙ sym (w l (λ k p. refl)) ∙ e
+
+        pair : (t : Trail) → trail (drop 6 l) ≡ t → next paired m ≡ Character x
+        pair Other i = let z : _≡_ {A = ℕ} 0 1 = cc (is Other i) in absurd (omega arith)
+        pair (Low z) i =
+            let n : x .more ≡ 11 = subst (Spans 11) (is (Low z) i) (encoded-spans (combined v z) 11) in
+            w m (λ k p. g k (omega arith))
+            ∙ ap (high paired v) (trail-near (drop 6 l) (drop 6 m) z i (λ k p. getD-drop 6 l k 0 ∙ g (6 + k) (omega arith) ∙ sym (getD-drop 6 m k 0)))
+            ∙ is (Low z) i
+
+-- and only a quote ends a string
+pub quote-byte : (ρ : Surrogates) (b : ℕ) (l : List ℕ) → next ρ (b ∷ l) ≡ Quote → b ≡ 0x22
+quote-byte ρ b l e = go (subst (Way ρ (next ρ) (b ∷ l)) e (next-way ρ (b ∷ l) (omega arith)))
+  where
+    go : Way ρ (next ρ) (b ∷ l) Quote → b ≡ 0x22
+    go (near w) = w
+    go (far v f there w) = absurd f

@@ -20,7 +20,7 @@ use Rattle.lexeme.proofs.Reading.{Shrinks, Eats, Any, numeric, Ok, Took
 use Rattle.lexeme.proofs.Reading.Ok.{alike, same-end, stops}
 use Rattle.lexeme.proofs.Steps.{by-test, true-false, bad-done, no-cons, done-what, done-rest, made-reads, made-done, then-done, string-empty, string-inside, string-quote, string-fault, string-character, decoded-character, blanks-pass, blanks-stop, literal-match, literal-differs, digits-more, digits-stop, someDigits-more, someDigits-none, integer-zero, integer-digits, optional-there, optional-absent, both-reads}
 use Rattle.lexeme.proofs.Shrinks.{shrinks-to, digits-shrinks, both-shrinks, fraction-shrinks, exponent-shrinks, minus-shrinks}
-use Rattle.lexeme.proofs.Local.{Way, near, far, next-way, halts-end, halts-quote, Same, character-same}
+use Rattle.lexeme.proofs.Local.{quote-byte, halts-end, halts-quote, Same, character-same}
 
 -- the combinators
 made-took : {A B : Type 0} {C : List ℕ → List ℕ → Type 0} (g : A → B) (f : List ℕ → Read A) (l r : List ℕ) (y : B)
@@ -105,12 +105,14 @@ inside-spelled ρ k b l y r s =
 
 quote-spelled : (ρ : Surrogates) (b : ℕ) (l : List ℕ) → next ρ (b ∷ l) ≡ Quote → Spelled ρ 0 (b ∷ l) [] l
 unfolding decoded
-quote-spelled ρ b l e = go (subst (Way ρ (next ρ) (b ∷ l)) e (next-way ρ (b ∷ l) (omega arith)))
-  where
-    go : Way ρ (next ρ) (b ∷ l) Quote → Spelled ρ 0 (b ∷ l) [] l
-    go (near w) =
-        record { part = []; splits = ap (λ c. c ∷ l) w; enough = omega arith; decodes = refl; frame = λ q. string-quote ρ 0x22 q (closes ρ q) }
-    go (far v f there w) = absurd f
+quote-spelled ρ b l e =
+    record {
+      part = [];
+      splits = ap (λ c. c ∷ l) (quote-byte ρ b l e);
+      enough = omega arith;
+      decodes = refl;
+      frame = λ q. string-quote ρ 0x22 q (closes ρ q);
+    }
 
 pub string-spelled : (ρ : Surrogates) (k : ℕ) (l y r : List ℕ) → string ρ k l ≡ done y r → Spelled ρ k l y r
 string-spelled ρ k [] y r e = bad-done (sym (string-empty ρ k) ∙ e)

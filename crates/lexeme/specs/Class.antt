@@ -1,8 +1,10 @@
 -- The classes of bytes by their numbers, and what each says inside a string, at the start of a value and between values.
 use mathlib.Core.Bool.{Bool}
+use mathlib.Core.List.{List}
 use mathlib.Core.Path.{_≡_}
-use Prim.Native.Nat.{ℕ}
+use Prim.Native.Nat.{ℕ, _<_}
 use lib.Dec.{eqb, ltb}
+use lib.ListN.{getD}
 use Rattle.notation.specs.Choice.{_⇒_else_}
 use Rattle.lexeme.specs.Character.{Lead, lead}
 use Rattle.lexeme.specs.Character.Lead.{plain, quote, backslash, wrong, two, threeE0, three, threeED, fourF0, four, fourF4}
@@ -44,3 +46,7 @@ pub record Classed (b c : ℕ) : Type 0 where
   pub lead : leadOf c ≡ lead b
   pub start : startOf c ≡ start b
   pub blank : blankOf c ≡ blank b
+
+-- the table t has the class of each byte
+pub record Classifies (t : List ℕ) : Type 0 where
+  pub at : (b : ℕ) → b < 256 → Classed b (getD t b 0)

@@ -1,5 +1,5 @@
 // The class of every byte, for JSON and UTF-8 alike: one table tells what a byte says inside a string and outside.
-ghost use Rattle.lexeme.specs.Class.{Classed};
+ghost use Rattle.lexeme.specs.Class.{Classed, Classifies};
 
 // The classes. Those below QUOTE stand for themselves inside a string.
 pub struct Class {
@@ -51,7 +51,7 @@ impl Class {
 }
 
 // The class of each byte; every sixteenth is marked.
-pub const CLASS: [u8; 256] = [
+const CLASS: [u8; 256] = [
     // 0x00
     Class::WRONG,
     Class::WRONG,
@@ -330,4 +330,19 @@ pub fn class_of(b: u8) -> u8
     ensures { λ r. ⌜ Classed b r ⌝ }
 {
     CLASS[b as usize]
+}
+
+// The table itself: a constant is laid out anew wherever it is named, so a scanner takes it once and lends it.
+pub fn class_table() -> [u8; 256]
+    ensures { λ r. ⌜ Classifies r ⌝ }
+{
+    CLASS
+}
+
+// The class of a byte, by the table that is lent.
+pub fn class_by(table: &[u8; 256], b: u8) -> u8
+    requires { ⌜ Classifies (now table) ⌝ }
+    ensures { λ r. ⌜ Classed b r ⌝ }
+{
+    table[b as usize]
 }

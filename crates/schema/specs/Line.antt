@@ -1,6 +1,7 @@
 -- A table in lines: the rows of all files in one list, each with the rows of the object inside it right behind it. So that object's
 -- first row is one line on, and the next row of the same object is past as many lines as stand inside.
 use mathlib.Core.List.{List, [], _∷_, _++_, map, flatten}
+use mathlib.Core.Path.{_≡_}
 use Prim.Native.Char.{code}
 use Prim.Native.Nat.{ℕ, _+_}
 use lib.ListN.{length, getD}
@@ -124,6 +125,16 @@ namesOf t = map (λ e. e .name) (entriesOf t)
 
 abbrev pub nameAt : Table → ℕ → List ℕ
 nameAt t i = getD (namesOf t) i []
+
+-- the names column by column: the bytes of all, and where each begins among them and how long it is
+pub record NameColumns (t : Table) (b f n : List ℕ) : Type 0 where
+  pub bytes : b ≡ flatten (namesOf t)
+  pub firsts : f ≡ map (λ r. r .first) (rangesFrom 0 (namesOf t))
+  pub counts : n ≡ map (λ r. r .count) (rangesFrom 0 (namesOf t))
+
+-- of each line, how many lines stand inside
+abbrev pub insidesOf : Table → List ℕ
+insidesOf t = map (λ l. l .inside) (linesOf t)
 
 -- the words that a line's value is held to: all of an enum's, or the one text
 abbrev pub sortWords : Sort → List (List ℕ)

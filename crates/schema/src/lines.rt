@@ -5,7 +5,7 @@ use crate::from_u8;
 use limits::Limits;
 ghost use mathlib.Core.Path.{_≡_};
 ghost use Rattle.schema.specs.Table23.{table23};
-ghost use Rattle.schema.specs.Line.{lineAt, fileLines};
+ghost use Rattle.schema.specs.Line.{lineAt, fileLines, insidesOf};
 
 const FIELDS: [u8; 92] = *b"\
     \x01\x02\x03\x04\x05\x0a\x0b\x0c\x0d\x0e\
@@ -179,6 +179,13 @@ pub fn line_at(i: usize) -> Line
         most: MOST[i],
         inside: INSIDE[i],
     }
+}
+
+// How many lines stand inside each line, for a search that takes the column once and lends it.
+pub fn insides() -> [u8; 92]
+    ensures { λ r. ⌜ r ≡ insidesOf table23 ⌝ }
+{
+    INSIDE
 }
 
 // The lines of a file, by its number from 1 on; none of another number.

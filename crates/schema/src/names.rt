@@ -4,10 +4,11 @@ use crate::Range;
 use crate::from_u8;
 use crate::from_u16;
 use text::compare::text_is;
+ghost use mathlib.Core.List.{map, flatten};
 ghost use mathlib.Core.Path.{_≡_};
 ghost use Rattle.text.specs.Text.{textOf, same};
 ghost use Rattle.schema.specs.Table23.{table23};
-ghost use Rattle.schema.specs.Line.{namesOf, nameAt, rangeAt};
+ghost use Rattle.schema.specs.Line.{namesOf, nameAt, rangeAt, rangesFrom, NameColumns};
 
 const NAMES: [u8; 840] = *b"\
     version\
@@ -206,25 +207,52 @@ const COUNTS: [u8; 92] = *b"\
     \x07\x0c\x03\x04\x05\x07\x04\x08\x05\x0a\x0b\x0e\x05\x04\x08\x03\x0f\x05\x04\x08\x03\x0d\
     \x07\x0c\x03\x04\x10\x04\x08\x04\x08\x04\x0b\x0a\x05\x03\x05\x0f\x0c\x14\x11\x0f";
 
-// Where the name of a line stands.
-fn name_at(i: usize) -> Range
+// The columns, for a search that takes them once and lends them: a constant is laid out anew wherever it is named.
+pub fn name_bytes() -> [u8; 840]
+    ensures { λ r. ⌜ r ≡ flatten (namesOf table23) ⌝ }
+{
+    NAMES
+}
+
+pub fn name_firsts() -> [u16; 92]
+    ensures { λ r. ⌜ r ≡ map (λ x. x .first) (rangesFrom 0 (namesOf table23)) ⌝ }
+{
+    FIRSTS
+}
+
+pub fn name_counts() -> [u8; 92]
+    ensures { λ r. ⌜ r ≡ map (λ x. x .count) (rangesFrom 0 (namesOf table23)) ⌝ }
+{
+    COUNTS
+}
+
+// Where the name of a line stands, by the columns that are lent.
+fn name_at(firsts: &[u16; 92], counts: &[u8; 92], i: usize) -> Range
+    requires { ⌜ (now firsts ≡ map (λ x. x .first) (rangesFrom 0 (namesOf table23))) × (now counts ≡ map (λ x. x .count) (rangesFrom 0 (namesOf table23))) ⌝ }
     ensures { λ r. ⌜ r ≡ rangeAt (namesOf table23) i ⌝ }
 {
     if Line::COUNT <= i {
         return Range { first: 0, count: 0 };
     }
     Range {
-        first: from_u16(FIRSTS[i]),
-        count: from_u8(COUNTS[i]),
+        first: from_u16(firsts[i]),
+        count: from_u8(counts[i]),
     }
 }
 
 // The text that is spelled is the name of a line.
-pub fn name_is(i: usize, spelled: &[u8]) -> bool
+pub fn name_is(
+    bytes: &[u8],
+    firsts: &[u16; 92],
+    counts: &[u8; 92],
+    i: usize,
+    spelled: &[u8],
+) -> bool
+    requires { ⌜ NameColumns table23 (now bytes) (now firsts) (now counts) ⌝ }
     ensures { λ r. ⌜ r ≡ same (textOf (now (spelled .entry))) (nameAt table23 i) ⌝ }
 {
-    let name = name_at(i);
+    let name = name_at(firsts, counts, i);
     let first = name.first;
     let end = first + name.count;
-    text_is(spelled, &NAMES[first..end])
+    text_is(spelled, &bytes[first..end])
 }

@@ -1,13 +1,13 @@
 -- The text with nothing in it is the two quotation marks, and nothing else is: a character of a text takes a byte of its spelling at least, and
 -- stands for a byte at least.
-use mathlib.Core.Bool.{Bool, true, false}
+use mathlib.Core.Bool.{true, false}
 use mathlib.Core.List.{List, [], _∷_, _++_}
 use mathlib.Core.Path.{_≡_, refl, sym, ap, _∙_}
 use Prim.Native.Nat.{ℕ, zero, suc, _-_, _<_}
 use native.Mathlib.Omega.{arith}
 use lib.Dec.{eqb}
 use lib.ListN.{length, getD, length-append, length-take}
-use Rattle.notation.specs.Choice.{_⇒_else_}
+use borrow.Author.Tests.{eq-eqb}
 use Rattle.limits.specs.Ceilings.{depth}
 use Rattle.lexeme.specs.declared.Char.{Char}
 use Rattle.lexeme.specs.declared.Next.{Next}
@@ -16,9 +16,9 @@ use Rattle.lexeme.specs.Read.{made}
 use Rattle.lexeme.specs.Read.Read.{done}
 use Rattle.lexeme.specs.Character.{paired, bytesOf, next}
 use Rattle.lexeme.specs.Strings.{string, decoded}
-use Rattle.lexeme.specs.Numbers.{digit}
 use Rattle.lexeme.specs.Tokens.{Start, start}
 use Rattle.lexeme.proofs.Steps.{by-test, bad-done, done-rest, made-done, no-cons, string-quote, string-fault, string-character, string-empty}
+use Rattle.lexeme.proofs.Starts.{string-byte}
 use Rattle.text.proofs.Whole.{next-whole}
 use Rattle.json.specs.Tree as tree
 use Rattle.json.specs.Tree.{Json}
@@ -38,23 +38,6 @@ string-start Start.letterT e = absurd (let z : _≡_ {A = ℕ} 0 1 = cc in omega
 string-start Start.letterF e = absurd (let z : _≡_ {A = ℕ} 0 1 = cc in omega arith)
 string-start Start.letterN e = absurd (let z : _≡_ {A = ℕ} 0 1 = cc in omega arith)
 string-start Start.other e = absurd (let z : _≡_ {A = ℕ} 0 1 = cc in omega arith)
-
-no-string : (a b c d e f g : Bool)
-    → (a ⇒ Start.array else b ⇒ Start.object else c ⇒ Start.number else d ⇒ Start.number else e ⇒ Start.letterT else f ⇒ Start.letterF else
-    g ⇒ Start.letterN else Start.other) ≡ Start.string → ⊥
-no-string true b c d e f g h = let z : _≡_ {A = ℕ} 0 1 = cc in omega arith
-no-string false true c d e f g h = let z : _≡_ {A = ℕ} 0 1 = cc in omega arith
-no-string false false true d e f g h = let z : _≡_ {A = ℕ} 0 1 = cc in omega arith
-no-string false false false true e f g h = let z : _≡_ {A = ℕ} 0 1 = cc in omega arith
-no-string false false false false true f g h = let z : _≡_ {A = ℕ} 0 1 = cc in omega arith
-no-string false false false false false true g h = let z : _≡_ {A = ℕ} 0 1 = cc in omega arith
-no-string false false false false false false true h = let z : _≡_ {A = ℕ} 0 1 = cc in omega arith
-no-string false false false false false false false h = let z : _≡_ {A = ℕ} 0 1 = cc in omega arith
-
-quote-start : (b : ℕ) → start b ≡ Start.string → eqb b 0x22 ≡ true
-unfolding start
-quote-start b e = by-test (eqb b 0x22) (λ t. t) (λ t.
-    absurd (no-string (eqb b 0x5b) (eqb b 0x7b) (eqb b 0x2d) (digit b) (eqb b 0x74) (eqb b 0x66) (eqb b 0x6e) (rw (start, t) at e)))
 
 start-quote : (b : ℕ) → eqb b 0x22 ≡ true → start b ≡ Start.string
 unfolding start
@@ -119,7 +102,7 @@ module _ {p : List ℕ} where
   short-blank tree.null w h = unquoted (λ k. let z : _≡_ {A = ℕ} 0 1 = cc in omega arith) w
   short-blank (tree.boolean b) w h = unquoted (λ k. let z : _≡_ {A = ℕ} 0 1 = cc in omega arith) w
   short-blank (tree.number s) w h = unquoted (λ k. let z : _≡_ {A = ℕ} 0 1 = cc in omega arith) w
-  short-blank (tree.string []) w h = quote-start (getD p 0 0) (text-start w)
+  short-blank (tree.string []) w h = eq-eqb (getD p 0 0) 0x22 (string-byte (getD p 0 0) (text-start w))
   short-blank (tree.string (b ∷ s)) w h = no-cons (sym (two-blank h w))
   short-blank (tree.array is) w h = unquoted (λ k. let z : _≡_ {A = ℕ} 0 1 = cc in omega arith) w
   short-blank (tree.object ms) w h = unquoted (λ k. let z : _≡_ {A = ℕ} 0 1 = cc in omega arith) w

@@ -15,7 +15,7 @@ use Rattle.schema.specs.Shape as shape
 use Rattle.schema.specs.Shape.{Rows, Table}
 use Rattle.schema.specs.Later.{listedIn}
 use Rattle.schema.specs.Sound.{distinctNames, distinctRows}
-use Rattle.schema.specs.Line.{lineAt, nameAt, entries, entriesOf, laidOut}
+use Rattle.schema.specs.Line.{lineAt, nameAt, insidesOf, entries, entriesOf, laidOut}
 use Rattle.schema.specs.Table23.{table23, written23}
 use Rattle.schema.proofs.Tests.{and-left, and-right}
 use Rattle.schema.proofs.Walk.{Laid, linesIn, step}
@@ -53,6 +53,10 @@ laid-names t (shape.row field need name σ rows) end (suc most) i l e h =
 how-many : length (entriesOf table23) ≡ lineCount
 unfolding laidOut written23
 how-many = refl
+
+pub insides-length : length (insidesOf table23) ≡ lineCount
+unfolding laidOut written23
+insides-length = refl
 
 -- of the 2.3 table, where the code ends with the last line
 pub names-laid : (rows : Rows) (first count : ℕ) → Laid table23 first rows → linesIn rows ≡ count → length (namesIn rows) ≤ mostRows

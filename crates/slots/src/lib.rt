@@ -4,11 +4,16 @@ ghost use Prim.Native.Nat.{_+_, min};
 ghost use Rattle.json.specs.Tree.{Json};
 ghost use Rattle.text.specs.Text.{textOf};
 ghost use Rattle.walk.specs.Part.{Whole};
+ghost use Rattle.schema.specs.Line.{NameColumns, insidesOf};
+ghost use Rattle.schema.specs.Table23.{table23};
 ghost use Rattle.slots.specs.Rows.{lineCount, lineNames, rowNamed};
 ghost use Rattle.slots.specs.Slots.{slotAt, putIn, Gathered};
 ghost use Rattle.slots.specs.Blank.{blankText};
 use schema::Line;
-use schema::lines::line_at;
+use schema::lines::insides;
+use schema::names::name_bytes;
+use schema::names::name_counts;
+use schema::names::name_firsts;
 use schema::names::name_is;
 use walk::MemberStep;
 use walk::next_member;
@@ -86,8 +91,18 @@ fn lines_end(first: usize, count: usize) -> usize
     first + count
 }
 
-// The number of the row that has the name that is spelled, among the rows at these lines; `Slots::ROWS` where none has it.
-fn row_of(spelled: &[u8], first: usize, count: usize) -> usize
+// The number of the row that has the name that is spelled, among the rows at these lines; `Slots::ROWS` where none has it. The table's columns
+// are lent.
+fn row_of(
+    bytes: &[u8],
+    firsts: &[u16; 92],
+    counts: &[u8; 92],
+    insides: &[u8],
+    spelled: &[u8],
+    first: usize,
+    count: usize,
+) -> usize
+    requires { ⌜ NameColumns table23 (now bytes) (now firsts) (now counts) × (now insides ≡ insidesOf table23) ⌝ }
     ensures { λ r. ⌜ r ≡ rowNamed (textOf (now (spelled .entry))) (lineNames first count) 0 ⌝ }
 {
     let end = lines_end(first, count);
@@ -97,11 +112,10 @@ fn row_of(spelled: &[u8], first: usize, count: usize) -> usize
         if end <= i {
             return Slots::ROWS;
         }
-        if name_is(i, spelled) {
+        if name_is(bytes, firsts, counts, i, spelled) {
             return row;
         }
-        let line = line_at(i);
-        i = i + 1 + wide(line.inside);
+        i = i + 1 + wide(insides[i]);
         row += 1;
     }
     Slots::ROWS
@@ -118,6 +132,10 @@ fn wide(x: u8) -> usize
 pub fn gather(p: &[u8], first: usize, count: usize) -> Slots
     ensures { λ r. ⌜ Gathered (now (p .entry)) first count r ⌝ }
 {
+    let bytes = name_bytes();
+    let firsts = name_firsts();
+    let counts = name_counts();
+    let inner = insides();
     let mut s = Slots {
         state: [Slots::MISSING; Slots::ROWS],
         from: [0; Slots::ROWS],
@@ -132,7 +150,15 @@ pub fn gather(p: &[u8], first: usize, count: usize) -> Slots
             MemberStep::Found(m) => {
                 let name = m.name;
                 let name_end = m.name_end;
-                let row = row_of(&p[name..name_end], first, count);
+                let row = row_of(
+                    &bytes,
+                    &firsts,
+                    &counts,
+                    &inner,
+                    &p[name..name_end],
+                    first,
+                    count,
+                );
                 s = s.with(row, m.value, m.value_end);
                 at = m.next;
             }

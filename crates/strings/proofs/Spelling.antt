@@ -51,6 +51,12 @@ module _ (ρ : Surrogates) where
     pub at-quote : next ρ (drop i s) ≡ Quote → scan.End (i + 1) ≡ end-from s i
     at-quote e = ends-at s (i + 1) _ (omega arith) [] (ap (string ρ 0) begins ∙ string-quote ρ _ _ (stands e))
 
+    -- the closing quote, by its class
+    pub at-closing : (c : ℕ) → leadOf c ≡ lead (byte s i) → c ≡ 8 → scan.End (i + 1) ≡ end-from s i
+    unfolding next nextBy leadOf
+    at-closing c e p =
+        at-quote (ap (nextBy ρ (drop i s)) (ap lead (sym (first-byte s i)) ∙ sym e ∙ ap leadOf p))
+
     pub at-fault : (k n : ℕ) → next ρ (drop i s) ≡ Fault k n → AtFault s i k n
     at-fault k n e =
         let p = fault-inside ρ s i h k n e in

@@ -1,25 +1,25 @@
 -- The bytes that a spelling stands for, by what stands at a place of it. What a character adds is said once, for every fold over them:
 -- its bytes come first, and then those of the spelling after it.
+use mathlib.Core.Bool.{true}
 use mathlib.Core.List.{List, [], _∷_, _++_}
 use mathlib.Core.Path.{_≡_, refl, sym, ap, _∙_}
 use Prim.Native.Nat.{ℕ, zero, suc, _+_, _-_, _≤_, _<_}
 use native.Mathlib.Omega.{arith}
+use lib.Dec.{eqb, ltb}
 use lib.ListN.{length, take, drop, drop-of-length-le}
 use lib.Seq.{drop-drop}
 use Rattle.lexeme.specs.declared.Char.{Char}
 use Rattle.lexeme.specs.declared.Next.the-variants.{Quote, Character, Fault}
-use Rattle.lexeme.specs.Character.{byte, bytesOf, char1, lead, nextBy, next}
+use Rattle.lexeme.specs.Character.{Lead, byte, bytesOf, char1, lead, nextBy, next}
 use Rattle.lexeme.specs.Character.Surrogates.{paired}
-use Rattle.lexeme.specs.Class.{leadOf}
 use Rattle.lexeme.specs.Strings.{decoded}
 use Rattle.lexeme.proofs.Rests.{at-cons, first-byte}
-use Rattle.lexeme.proofs.Steps.{decoded-character}
-use Rattle.character.proofs.Leads.{class-plain}
+use Rattle.lexeme.proofs.Steps.{by-test, true-false, decoded-character}
 use Rattle.text.specs.declared.Cursor.{Cursor}
 use Rattle.text.specs.declared.Step.{Step}
 use Rattle.text.specs.declared.Step.the-variants.{End, Byte}
 use Rattle.text.specs.Text.{textOf}
-use Rattle.text.specs.Walk.{cursorAt, left, told}
+use Rattle.text.specs.Walk.{cursorAt, left, told, alone}
 use Rattle.text.proofs.Whole.{next-whole}
 
 -- k bytes into a character
@@ -76,6 +76,15 @@ module _ (x : Char) where
   pub tail-most : 4 ≤ x .len → take 3 (x .b1 ∷ x .b2 ∷ x .b3 ∷ 0 ∷ []) ≡ drop 1 (bytesOf x)
   tail-most = all-others (x .b0) (x .b1) (x .b2) (x .b3) (x .len)
 
+-- a byte that stands for itself
+alone-plain : (b : ℕ) → alone b ≡ true → lead b ≡ Lead.plain
+unfolding alone lead
+alone-plain b e =
+    by-test (eqb b 0x22) (λ q. true-false (rw (alone, q) at e) refl)
+    (λ q. by-test (eqb b 0x5c) (λ k. true-false (rw (alone, q, k) at e) refl)
+    (λ k. by-test (ltb b 0x20) (λ l. true-false (rw (alone, q, k, l) at e) refl)
+    (λ l. rw (lead, q, k, l, rw (alone, q, k, l) at e))))
+
 module _ (s : List ℕ) (i : ℕ) (h : i < length s) where
   pub text-character : (x : Char) → next paired (drop i s) ≡ Character x → textOf (drop i s) ≡ bytesOf x ++ textOf (drop (i + 1 + x .more) s)
   text-character x e =
@@ -85,10 +94,10 @@ module _ (s : List ℕ) (i : ℕ) (h : i < length s) where
       ∙ ap (λ z. bytesOf x ++ z) (text-past (x .more) (drop (i + 1) s) ∙ ap textOf (drop-drop (x .more) (i + 1) s))
 
   -- a byte that stands for itself
-  pub text-plain : (c : ℕ) → leadOf c ≡ lead (byte s i) → c < 8 → textOf (drop i s) ≡ byte s i ∷ textOf (drop (i + 1) s)
+  pub text-plain : alone (byte s i) ≡ true → textOf (drop i s) ≡ byte s i ∷ textOf (drop (i + 1) s)
   unfolding next nextBy
-  text-plain c e p =
-      let f : next paired (drop i s) ≡ char1 (byte s i) 0 = ap (nextBy paired (drop i s)) (ap lead (sym (first-byte s i)) ∙ sym e ∙ class-plain c p) ∙ ap (λ b. char1 b 0) (sym (first-byte s i)) in
+  text-plain e =
+      let f : next paired (drop i s) ≡ char1 (byte s i) 0 = ap (nextBy paired (drop i s)) (ap lead (sym (first-byte s i)) ∙ alone-plain (byte s i) e) ∙ ap (λ b. char1 b 0) (sym (first-byte s i)) in
       let g : i + 1 + 0 ≡ i + 1 = omega arith in
       text-character _ f ∙ ap (λ k. byte s i ∷ textOf (drop k s)) g
 
@@ -115,8 +124,8 @@ module _ (s : List ℕ) where
   left-begun c d h e g = ap (λ k. bytesOf (c .begun) ++ textOf (drop k s)) g ∙ first-left (c .begun) d h e
 
   module _ (i : ℕ) (h : i < length s) where
-    pub left-plain : (k : ℕ) (c : Cursor) → leadOf k ≡ lead (byte s i) → k < 8 → c ≡ cursorAt (i + 1) → textOf (drop i s) ≡ byte s i ∷ left s c
-    left-plain k c e p g = text-plain s i h k e p ∙ ap (λ z. byte s i ∷ z) (sym (left-at (i + 1) c g))
+    pub left-plain : (c : Cursor) → alone (byte s i) ≡ true → c ≡ cursorAt (i + 1) → textOf (drop i s) ≡ byte s i ∷ left s c
+    left-plain c e g = text-plain s i h e ∙ ap (λ z. byte s i ∷ z) (sym (left-at (i + 1) c g))
 
     pub left-character : (x : Char) (c : Cursor) → next paired (drop i s) ≡ Character x
         → bytesOf (c .begun) ≡ drop 1 (bytesOf x) → c .at ≡ i + 1 + x .more → textOf (drop i s) ≡ x .b0 ∷ left s c

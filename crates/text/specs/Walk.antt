@@ -2,7 +2,9 @@
 use mathlib.Core.Bool.{Bool, true, false}
 use mathlib.Core.List.{List, [], _∷_, _++_, map}
 use Prim.Native.Nat.{ℕ}
+use lib.Dec.{eqb, ltb}
 use lib.ListN.{drop}
+use Rattle.notation.specs.Choice.{_⇒_else_}
 use Rattle.lexeme.specs.Character.{bytesOf}
 use Rattle.text.specs.declared.Cursor.{Cursor}
 use Rattle.text.specs.declared.Step.{Step}
@@ -21,6 +23,13 @@ left s c = bytesOf (c .begun) ++ textOf (drop (c .at) s)
 unfoldable pub told : List ℕ → Step → List ℕ
 told s End = []
 told s (Byte b c) = b ∷ left s c
+
+-- a byte of ASCII that stands for itself
+unfoldable pub alone : ℕ → Bool
+alone b =
+    eqb b 0x22 ⇒ false else
+    eqb b 0x5c ⇒ false else
+    ltb b 0x20 ⇒ false else ltb b 0x80
 
 -- a byte as it is compared, with case folded or not
 unfoldable pub cased : Bool → ℕ → ℕ

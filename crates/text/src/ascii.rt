@@ -1,7 +1,8 @@
-// Letters of ASCII.
+// Letters of ASCII, and its bytes that need no escape.
 ghost use mathlib.Core.Path.{_≡_};
 ghost use Rattle.lexeme.specs.Character.{within};
 ghost use Rattle.text.specs.Text as spec;
+ghost use Rattle.text.specs.Walk.{alone};
 
 pub fn is_capital(b: u8) -> bool
     ensures { λ r. ⌜ r ≡ within 0x41 0x5a b ⌝ }
@@ -19,4 +20,20 @@ pub fn lower(b: u8) -> u8
         return b + 0x20;
     }
     b
+}
+
+// The byte stands for itself in a string. By plain tests: the table of classes would be laid out for each text.
+pub fn is_plain(b: u8) -> bool
+    ensures { λ r. ⌜ r ≡ alone b ⌝ }
+{
+    if b == b'"' {
+        return false;
+    }
+    if b == b'\\' {
+        return false;
+    }
+    if b < 0x20 {
+        return false;
+    }
+    b < 0x80
 }

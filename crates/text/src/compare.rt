@@ -1,11 +1,10 @@
 // Texts against each other.
 use crate::Cursor;
 use crate::Step;
+use crate::ascii::is_plain;
 use crate::ascii::lower;
 use crate::walk::cursor_at;
 use crate::walk::next_byte;
-use lexeme::class::Class;
-use lexeme::class::class_of;
 ghost use mathlib.Core.Path.{_≡_};
 ghost use mathlib.Core.List.{[]};
 ghost use lib.Dec.{eqb};
@@ -62,7 +61,7 @@ pub fn text_is(spelled: &[u8], plain: &[u8]) -> bool
 {
     let mut i: usize = 0;
     while i < spelled.len() {
-        if Class::QUOTE <= class_of(spelled[i]) {
+        if !is_plain(spelled[i]) {
             return agrees(spelled, plain, i, false);
         }
         if plain.len() <= i {

@@ -1,11 +1,10 @@
 // The bytes that a spelled text stands for, one after another.
 use crate::Cursor;
 use crate::Step;
+use crate::ascii::is_plain;
 use character::next_char;
 use lexeme::Char;
 use lexeme::Next;
-use lexeme::class::Class;
-use lexeme::class::class_of;
 ghost use mathlib.Core.Path.{_≡_};
 ghost use lib.ListN.{drop};
 ghost use Rattle.lexeme.specs.Character.{bytesOf};
@@ -57,7 +56,7 @@ fn first_byte(s: &[u8], at: usize) -> Step
     if s.len() <= at {
         return Step::End;
     }
-    if class_of(s[at]) < Class::QUOTE {
+    if is_plain(s[at]) {
         return Step::Byte(s[at], cursor_at(at + 1));
     }
     match next_char(s, at) {

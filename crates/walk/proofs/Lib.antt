@@ -4,7 +4,6 @@ pub mod Places
 pub mod Finding
 pub mod FirstByte
 pub mod Folds
-pub mod Spells
 pub mod Wholes
 pub mod Parts
 pub mod Trees

@@ -17,14 +17,14 @@ use Rattle.lexeme.specs.Character.{paired, byte}
 use Rattle.lexeme.specs.Strings as Strings
 use Rattle.lexeme.specs.Numbers as Numbers
 use Rattle.lexeme.specs.Tokens.{literal, Start, start}
-use Rattle.lexeme.proofs.Steps.{by-test, bad-done, done-what, made-done, literal-match, literal-differs}
+use Rattle.lexeme.proofs.Steps.{by-test, bad-done, made-done, literal-differs}
 use Rattle.lexeme.proofs.Takes.{string-spelled, string-eats}
+use Rattle.lexeme.proofs.Spells.{number-spells, literal-spells}
 use Rattle.json.specs.Tree as Tree
 use Rattle.json.specs.Tree.{Json}
 use Rattle.json.specs.Text.{bracketed, member, valueAt, valueBy, value}
 use Rattle.json.proofs.Takes.{value-eats}
 use Rattle.walk.specs.Part.{Whole, treeOf, kindOf, kindFrom, kindAt, inside}
-use Rattle.walk.proofs.Spells.{number-spells}
 
 -- elements between brackets, read with a level less than d
 pub record Opened {A B : Type 0} (d close : ℕ) (element : ℕ → List ℕ → Read A) (of : List A → B) (p r : List ℕ) (x : B) : Type 0 where
@@ -77,14 +77,6 @@ brackets (suc d) =
           (Tree.membersOf (k .0), record { levels = d; less = refl; elements = k .0; reads = k .1; is = refl }, k .2);
     }
 
-literal-done : {A : Type 0} (w : List ℕ) (x : A) (l r : List ℕ) (y : A) → literal w x l ≡ done y r → x ≡ y
-unfolding literal
-literal-done [] x l r y e = done-what e
-literal-done (c ∷ w) x [] r y e = bad-done e
-literal-done (c ∷ w) x (b ∷ l) r y e =
-    let ih = literal-done w x l r y in
-    by-test (eqb b c) (λ h. ih (sym (literal-match b x c w l h) ∙ e)) (λ h. bad-done (sym (literal-differs b x c w l h) ∙ e))
-
 literal-first : {A : Type 0} (c : ℕ) (w : List ℕ) (x : A) (b : ℕ) (l r : List ℕ) (y : A) → literal (c ∷ w) x (b ∷ l) ≡ done y r → b ≡ c
 literal-first c w x b l r y e = by-test (eqb b c) (λ h. eqb-true b c h) (λ h. bad-done (sym (literal-differs b x c w l h) ∙ e))
 
@@ -109,13 +101,13 @@ origin d (b ∷ l) r x e = go (start b) refl
     go Start.object h = let m = k .object (b ∷ l) r x (rw (valueBy, valueAt, h) at reads) in told h refl (m .1) (m .2)
     go Start.letterT h =
         let f : literal (bytes "true") (Json.boolean true) (b ∷ l) ≡ done x r = rw (valueBy, valueAt, h) at reads in
-        told {y = Json.boolean true} h refl (ap (λ (z : ℕ). eqb z 0x74) (literal-first 0x74 _ _ b l r x f)) (literal-done _ _ (b ∷ l) r x f)
+        told {y = Json.boolean true} h refl (ap (λ (z : ℕ). eqb z 0x74) (literal-first 0x74 _ _ b l r x f)) (literal-spells _ _ (b ∷ l) r x f .1)
     go Start.letterF h =
         let f : literal (bytes "false") (Json.boolean false) (b ∷ l) ≡ done x r = rw (valueBy, valueAt, h) at reads in
-        told {y = Json.boolean false} h refl (ap (λ (z : ℕ). eqb z 0x74) (literal-first 0x66 _ _ b l r x f)) (literal-done _ _ (b ∷ l) r x f)
+        told {y = Json.boolean false} h refl (ap (λ (z : ℕ). eqb z 0x74) (literal-first 0x66 _ _ b l r x f)) (literal-spells _ _ (b ∷ l) r x f .1)
     go Start.letterN h =
         let f : literal (bytes "null") Json.null (b ∷ l) ≡ done x r = rw (valueBy, valueAt, h) at reads in
-        told {y = Json.null} h refl tt (literal-done _ _ (b ∷ l) r x f)
+        told {y = Json.null} h refl tt (literal-spells _ _ (b ∷ l) r x f .1)
     go Start.other h = bad-done (rw (valueBy, valueAt, h) at reads)
 
 -- the laws

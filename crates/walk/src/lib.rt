@@ -4,12 +4,14 @@ ghost use lib.ListN.{drop};
 ghost use Rattle.lexeme.specs.Tokens.{blanks};
 ghost use Rattle.walk.specs.Walk.{onward, memberAt, itemAt};
 ghost use Rattle.walk.specs.Part.{kindAt};
-use json::reader::read_name;
+use json::reader::name_by;
 use json::reader::read_value;
+use json::reader::value_by;
 use lexeme::Scan;
 use lexeme::blank::skip_blanks;
 use lexeme::class::Class;
 use lexeme::class::class_of;
+use lexeme::class::class_table;
 use lexeme::front::first;
 use limits::Limits;
 
@@ -53,8 +55,9 @@ pub enum ValueKind {
 pub fn next_member(p: &[u8], at: usize) -> MemberStep
     ensures { λ r. ⌜ r ≡ memberAt (now (p .entry)) at ⌝ }
 {
+    let table = class_table();
     let quote = skip_blanks(p, at);
-    let Scan::End(named) = read_name(p, quote) else {
+    let Scan::End(named) = name_by(&table, p, quote) else {
         return MemberStep::End;
     };
     let colon = skip_blanks(p, named);
@@ -62,7 +65,7 @@ pub fn next_member(p: &[u8], at: usize) -> MemberStep
         return MemberStep::End;
     }
     let value = skip_blanks(p, colon + 1);
-    let Scan::End(value_end) = read_value(p, value, Limits::DEPTH) else {
+    let Scan::End(value_end) = value_by(&table, p, value, Limits::DEPTH) else {
         return MemberStep::End;
     };
     MemberStep::Found(Member {

@@ -13,19 +13,19 @@ use Rattle.slots.proofs.gather.Statement.{statement}
 use Rattle.slots.proofs.gather.Tie as tie
 
 abbrev Inv-loop : tie.InvT-loop
-Inv-loop p first count s₀ at₀ s at =
+Inv-loop p first count bytes firsts counts inner s₀ at₀ s at =
     Walk (memberSteps p) (absorbed p (lineNames first count)) s at (gathered p (lineNames first count))
 
 abbrev μ-loop : tie.MeasureT-loop
-μ-loop p first count s₀ at₀ s at = length p - at
+μ-loop p first count bytes firsts counts inner s₀ at₀ s at = length p - at
 
 loop-holds : tie.Need-loop-holds Inv-loop μ-loop
 unfolding gathered
-loop-holds c = let a = c .before .args in members-start (a .p .now) (absorbed (a .p .now) (lineNames (a .first) (a .count))) empty
+loop-holds c = let a = c .before .before .before .before .before .args in members-start (a .p .now) (absorbed (a .p .now) (lineNames (a .first) (a .count))) empty
 
 returns : tie.Need-returns Inv-loop μ-loop
 returns c =
-    let n = c .before .before in let k = n .before in let a = k .before .before .args in
+    let n = c .before .before in let k = n .before in let a = k .before .before .before .before .before .before .args in
     let p = a .p .now in let names = lineNames (a .first) (a .count) in let s = k .loop .s in
     gathers p (a .first) (a .count) s
     (walk-end (memberSteps p) (absorbed p names) s (k .loop .at) (gathered p names) (sym (n .next-member .ensures) ∙ c .enum-told .given .1) (k .loop .inv))
@@ -34,12 +34,17 @@ returns c =
 abbrev Met : Type 0
 Met = tie.After-known-told Inv-loop μ-loop
 
-placed : (c : Met) → Placed (c .before .before .before .before .before .before .args .p .now) (c .before .before .before .before .loop .at) (c .before .m .given .0 .0)
+placed : (c : Met) → let k = c .before .before .before .before in Placed (k .before .before .before .before .before .before .args .p .now) (k .loop .at) (c .before .m .given .0 .0)
 placed c = let n = c .before .before .before in member-placed _ _ _ (sym (n .next-member .ensures) ∙ c .before .m .given .1)
+
+row-of-requires : tie.Need-row-of-requires Inv-loop μ-loop
+row-of-requires c κs =
+    let i = c .before .before .before .before .before .before .before .before .before .before in let n = i .before in let f = n .before in
+    (record { bytes = f .before .name-bytes .ensures; firsts = f .name-firsts .ensures; counts = n .name-counts .ensures }, i .insides .ensures)
 
 loop-again : tie.Need-loop-again Inv-loop μ-loop
 loop-again c =
-    let r = c .before in let d = r .before .before .before in let n = d .before .before in let k = n .before in let a = k .before .before .args in
+    let r = c .before in let d = r .before .before .before .before .before .before .before in let n = d .before .before in let k = n .before in let a = k .before .before .before .before .before .before .args in
     let p = a .p .now in let g = absorbed p (lineNames (a .first) (a .count)) in let m = d .m .given .0 .0 in
     rw (c .with .ensures, r .row-of .ensures)
     (walk-more (memberSteps p) g (k .loop .s) (k .loop .at) _ m (sym (n .next-member .ensures) ∙ d .m .given .1) (k .loop .inv))
@@ -47,6 +52,7 @@ loop-again c =
 pub gather-spec : {M : Type 1} → statement M
 gather-spec =
     tie.close
-    (tie.spec Inv-loop μ-loop loop-holds (λ c κs. search needs) (λ c. search needs) returns (λ c. search needs)
-    (λ c. let m = placed c in omega arith) (λ c. let m = placed c in omega arith) (λ c. let m = placed c in omega arith)
-    (λ c κs. search needs) (λ c κs. search needs) (λ c. let m = placed (c .before .before .before) in omega arith) loop-again)
+    (tie.spec Inv-loop μ-loop (λ c κs. search needs) (λ c κs. search needs) (λ c κs. search needs) (λ c κs. search needs) loop-holds
+    (λ c κs. search needs) (λ c. search needs) returns (λ c. search needs) (λ c. search needs) (λ c. search needs) (λ c. let m = placed (c .before .before .before .before) in omega arith)
+    (λ c. let m = placed (c .before .before .before .before) in omega arith) (λ c. let m = placed (c .before .before .before .before) in omega arith)
+    row-of-requires (λ c κs. search needs) (λ c. let m = placed (c .before .before .before .before .before .before .before) in omega arith) loop-again)

@@ -52,19 +52,19 @@ use Rattle.judge.proofs.part.+judge_array+judge_member+judge_object+jud
 }
 
 abbrev μ-judge-array : Measures 1 judge-array-kinds.ps ℕ
-μ-judge-array κs a = 5 * a .1 .1 .1 .0 + 2
+μ-judge-array κs a = 5 * a .1 .1 .1 .1 .0 + 2
 
 abbrev μ-judge-member : Measures 1 judge-member-kinds.ps ℕ
-μ-judge-member κs a = 5 * a .1 .1 .1 .0 + 3
+μ-judge-member κs a = 5 * a .1 .1 .1 .1 .0 + 3
 
 abbrev μ-judge-object : Measures 1 judge-object-kinds.ps ℕ
 μ-judge-object κs a = 5 * a .1 .1 .1 .1 .1 .0
 
 abbrev μ-judge-row : Measures 1 judge-row-kinds.ps ℕ
-μ-judge-row κs a = 5 * a .1 .1 .1 .1 .0 + 4
+μ-judge-row κs a = 5 * a .1 .1 .1 .1 .1 .0 + 4
 
 abbrev μ-judge-single : Measures 1 judge-single-kinds.ps ℕ
-μ-judge-single κs a = 5 * a .1 .1 .1 .1 .0 + 1
+μ-judge-single κs a = 5 * a .1 .1 .1 .1 .1 .0 + 1
 
 abbrev judge-array-at : ℕ → In 1 judge-array-kinds.ps
 judge-array-at t =
@@ -118,54 +118,54 @@ judge-single-below t =
     judge-single.Pre
 
 abbrev judge-array-calls : ℕ → judge-array-lts.Claims
-judge-array-calls t = (line-at-reads.Asked, line-at-reads.Learnt, judge-positions-reads.Asked, judge-positions-reads.Learnt, brackets-reads.Asked, brackets-reads.Learnt, broken-reads.Asked, broken-reads.Learnt, next-item-reads.Asked, next-item-reads.Learnt, excess-reads.Asked, excess-reads.Learnt, lesser-reads.Asked, lesser-reads.Learnt, item-reads.Asked, item-reads.Learnt, judge-single-below t, judge-single.Post)
+judge-array-calls t = (judge-positions-reads.Asked, judge-positions-reads.Learnt, brackets-reads.Asked, brackets-reads.Learnt, broken-reads.Asked, broken-reads.Learnt, next-item-reads.Asked, next-item-reads.Learnt, excess-reads.Asked, excess-reads.Learnt, lesser-reads.Asked, lesser-reads.Learnt, item-reads.Asked, item-reads.Learnt, judge-single-below t, judge-single.Post)
 
 abbrev judge-member-calls : ℕ → judge-member-lts.Claims
-judge-member-calls t = (line-at-reads.Asked, line-at-reads.Learnt, is-blank-text-reads.Asked, is-blank-text-reads.Learnt, absent-reads.Asked, absent-reads.Learnt, judge-array-below t, judge-array.Post, judge-single-below t, judge-single.Post)
+judge-member-calls t = (is-blank-text-reads.Asked, is-blank-text-reads.Learnt, absent-reads.Asked, absent-reads.Learnt, judge-array-below t, judge-array.Post, judge-single-below t, judge-single.Post)
 
 abbrev judge-object-calls : ℕ → judge-object-lts.Claims
-judge-object-calls t = (brackets-reads.Asked, brackets-reads.Learnt, broken-reads.Asked, broken-reads.Learnt, gather-reads.Asked, gather-reads.Learnt, slot-reads.Asked, slot-reads.Learnt, judge-row-below t, judge-row.Post, lesser-reads.Asked, lesser-reads.Learnt, line-at-reads.Asked, line-at-reads.Learnt, wide-reads.Asked, wide-reads.Learnt)
+judge-object-calls t = (brackets-reads.Asked, brackets-reads.Learnt, broken-reads.Asked, broken-reads.Learnt, gather-reads.Asked, gather-reads.Learnt, line-at-reads.Asked, line-at-reads.Learnt, slot-reads.Asked, slot-reads.Learnt, judge-row-below t, judge-row.Post, lesser-reads.Asked, lesser-reads.Learnt, wide-reads.Asked, wide-reads.Learnt)
 
 abbrev judge-row-calls : ℕ → judge-row-lts.Claims
-judge-row-calls t = (line-at-reads.Asked, line-at-reads.Learnt, absent-reads.Asked, absent-reads.Learnt, judge-member-below t, judge-member.Post, broken-reads.Asked, broken-reads.Learnt)
+judge-row-calls t = (absent-reads.Asked, absent-reads.Learnt, judge-member-below t, judge-member.Post, broken-reads.Asked, broken-reads.Learnt)
 
 abbrev judge-single-calls : ℕ → judge-single-lts.Claims
-judge-single-calls t = (line-at-reads.Asked, line-at-reads.Learnt, wide-reads.Asked, wide-reads.Learnt, judge-object-below t, judge-object.Post, judge-scalar-reads.Asked, judge-scalar-reads.Learnt, broken-reads.Asked, broken-reads.Learnt)
+judge-single-calls t = (wide-reads.Asked, wide-reads.Learnt, judge-object-below t, judge-object.Post, judge-scalar-reads.Asked, judge-scalar-reads.Learnt, broken-reads.Asked, broken-reads.Learnt)
 
 -- arrays
 abbrev judge-array-Inv-loop : judge-array-lts.InvT-loop
-judge-array-Inv-loop p i place level line least₀ n₀ at₀ least n at = (n < at) × ItemsGo p i place level at least n
+judge-array-Inv-loop p i line place level least₀ n₀ at₀ least n at = (n < at) × ItemsGo p i place level at least n
 
 abbrev judge-array-μ-loop : judge-array-lts.MeasureT-loop
-judge-array-μ-loop p i place level line least₀ n₀ at₀ least n at = length p - at
+judge-array-μ-loop p i line place level least₀ n₀ at₀ least n at = length p - at
 
 judge-array-returns : (t : ℕ) → judge-array-lts.Need-returns (judge-array-calls t) (judge-array-at t) judge-array.Post judge-array-Inv-loop judge-array-μ-loop
 judge-array-returns t c =
-    array-positions (c .before .before .before .line-at .ensures) (c .before .if1 .taken) (c .judge-positions .ensures)
+    array-positions (c .before .before .before .before .pre .1 .1) (c .before .if1 .taken) (c .judge-positions .ensures)
 
 judge-array-returns-2 : (t : ℕ) → judge-array-lts.Need-returns-2 (judge-array-calls t) (judge-array-at t) judge-array.Post judge-array-Inv-loop judge-array-μ-loop
 judge-array-returns-2 t c =
-    let a = c .before .before .before .before .before .before .before .args in
-    array-other (a .p .now) (a .i) (a .place) (a .level) (c .before .before .before .before .before .line-at .ensures) (c .before .before .before .if1 .left)
+    let s = c .before .before .before .before .before .before in let a = s .args in
+    array-other (a .p .now) (a .i) (a .place) (a .level) (s .pre .1 .1) (c .before .before .before .if1 .left)
     (c .before .before .brackets .ensures) (c .before .if2 .taken) (c .broken .ensures)
 
 judge-array-loop-holds : (t : ℕ) → judge-array-lts.Need-loop-holds (judge-array-calls t) (judge-array-at t) judge-array.Post judge-array-Inv-loop judge-array-μ-loop
 judge-array-loop-holds t c =
-    let a = c .before .before .before .before .before .before .args in (omega arith, items-begin (a .p .now) (a .i) (a .place) (a .level))
+    let a = c .before .before .before .before .before .args in (omega arith, items-begin (a .p .now) (a .i) (a .place) (a .level))
 
 judge-array-returns-3 : (t : ℕ) → judge-array-lts.Need-returns-3 (judge-array-calls t) (judge-array-at t) judge-array.Post judge-array-Inv-loop judge-array-μ-loop
 judge-array-returns-3 t c =
     let l = c .before .before .before .before .before in
     let k = l .before .before in
-    let h = k .before .before .before in
-    let a = h .before .before .args in
-    items-end (a .p .now) (a .i) (a .place) (a .level) (h .line-at .ensures) (k .before .if1 .left) (l .loop .at) (l .loop .least) (l .loop .n)
+    let s = k .before .before .before .before in
+    let a = s .args in
+    items-end (a .p .now) (a .i) (a .place) (a .level) (s .pre .1 .1) (k .before .if1 .left) (l .loop .at) (l .loop .least) (l .loop .n)
     (sym (c .before .before .before .before .next-item .ensures) ∙ c .before .before .enum-told .given .1) (k .brackets .ensures) (l .before .if2 .left)
     (c .lesser .ensures ∙ ap (λ (z : Least). lesser z (l .loop .least)) (c .before .excess .ensures)) (l .loop .inv .1)
 
 -- where the item that was met stands
 judge-array-placed : (t : ℕ) (c : judge-array-lts.After-known-told (judge-array-calls t) (judge-array-at t) judge-array.Post judge-array-Inv-loop judge-array-μ-loop) →
-    ItemPlaced (c .before .before .before .before .before .before .before .before .before .before .before .args .p .now) (c .before .before .before .before .loop .at) (c .before .item .given .0 .0)
+    ItemPlaced (c .before .before .before .before .before .before .before .before .before .before .args .p .now) (c .before .before .before .before .loop .at) (c .before .item .given .0 .0)
 judge-array-placed t c = item-placed _ _ _ (sym (c .before .before .before .next-item .ensures) ∙ c .before .item .given .1)
 
 judge-array-loop-again : (t : ℕ) → judge-array-lts.Need-loop-again (judge-array-calls t) (judge-array-at t) judge-array.Post judge-array-Inv-loop judge-array-μ-loop
@@ -173,11 +173,11 @@ judge-array-loop-again t c =
     let d = c .before .before .before .before in
     let m = judge-array-placed t d in
     let l = d .before .before .before .before in
-    let h = l .before .before .before .before .before in
-    let a = h .before .before .args in (
+    let s = l .before .before .before .before .before .before in
+    let a = s .args in (
       omega arith,
       rw (c .lesser2 .ensures)
-          (items-next (a .p .now) (a .i) (a .place) (a .level) (h .line-at .ensures) (l .before .before .before .if1 .left) (l .loop .at) (l .loop .least) (l .loop .n)
+          (items-next (a .p .now) (a .i) (a .place) (a .level) (s .pre .1 .1) (l .before .before .before .if1 .left) (l .loop .at) (l .loop .least) (l .loop .n)
           (d .before .item .given .0 .0) (sym (d .before .before .before .next-item .ensures) ∙ d .before .item .given .1)
           (rw (c .before .before .before .item2 .ensures) at (c .before .judge-single .ensures)) (l .loop .inv .1)),
     )
@@ -185,18 +185,18 @@ judge-array-loop-again t c =
 -- members
 judge-member-returns : (t : ℕ) → judge-member-lts.Need-returns (judge-member-calls t) (judge-member-at t) judge-member.Post
 judge-member-returns t c =
-    member-blank (c .before .before .before .line-at .ensures) (c .before .before .is-blank-text .result) (c .before .before .is-blank-text .ensures)
+    member-blank (c .before .before .before .before .pre .1 .1) (c .before .before .is-blank-text .result) (c .before .before .is-blank-text .ensures)
     (c .before .if1 .taken) (c .absent .ensures)
 
 judge-member-returns-2 : (t : ℕ) → judge-member-lts.Need-returns-2 (judge-member-calls t) (judge-member-at t) judge-member.Post
 judge-member-returns-2 t c =
     let b = c .before .before .before .before in
-    member-array (b .before .line-at .ensures) (b .is-blank-text .result) (b .is-blank-text .ensures) (c .before .before .before .if1 .left) (c .before .if2 .taken) (c .judge-array .ensures)
+    member-array (b .before .before .pre .1 .1) (b .is-blank-text .result) (b .is-blank-text .ensures) (c .before .before .before .if1 .left) (c .before .if2 .taken) (c .judge-array .ensures)
 
 judge-member-returns-3 : (t : ℕ) → judge-member-lts.Need-returns-3 (judge-member-calls t) (judge-member-at t) judge-member.Post
 judge-member-returns-3 t c =
     let b = c .before .before .before .before in
-    member-single (b .before .line-at .ensures) (b .is-blank-text .result) (b .is-blank-text .ensures) (c .before .before .before .if1 .left) (c .before .if2 .left) (c .judge-single .ensures)
+    member-single (b .before .before .pre .1 .1) (b .is-blank-text .result) (b .is-blank-text .ensures) (c .before .before .before .if1 .left) (c .before .if2 .left) (c .judge-single .ensures)
 
 -- objects
 abbrev judge-object-Inv-loop : judge-object-lts.InvT-loop
@@ -216,10 +216,12 @@ judge-object-loop-holds t c =
 
 judge-object-judge-row-requires : (t : ℕ) → judge-object-lts.Need-judge-row-requires (judge-object-calls t) (judge-object-at t) judge-object.Post judge-object-Inv-loop judge-object-μ-loop
 judge-object-judge-row-requires t c κs =
-    let l = c .before .before in
+    let l = c .before .before .before in
     let g = l .before in
-    let n = length (g .before .before .before .before .before .before .before .args .p .now) in
-    (omega arith, (omega arith, subst (Within n) (sym (c .slot .ensures)) (g .gather .ensures .inside (l .loop .row))))
+    let s = g .before .before .before .before .before .before .before in (
+      omega (arith, s .pre .0, g .before .before .before .before .before .if1 .left),
+      (s .pre .1, subst (Within (length (s .args .p .now))) (sym (c .slot .ensures)) (g .gather .ensures .inside (l .loop .row)), c .before .line-at .ensures),
+    )
 
 judge-object-loop-again : (t : ℕ) → judge-object-lts.Need-loop-again (judge-object-calls t) (judge-object-at t) judge-object.Post judge-object-Inv-loop judge-object-μ-loop
 judge-object-loop-again t c =
@@ -227,10 +229,10 @@ judge-object-loop-again t c =
     let g = l .before in
     let a = g .before .before .before .before .before .before .before .args in (
       omega arith,
-      rw (c .before .before .lesser .ensures, c .wide .ensures)
+      rw (c .before .lesser .ensures, c .wide .ensures)
           (rows-next (a .p .now) (a .first) (a .count) (a .place) (a .level) (g .gather .result) (l .loop .i) (l .loop .row) (l .loop .least)
-          (c .before .line-at .ensures) (c .before .before .before .before .before .loop-test .taken)
-          (rw (c .before .before .before .before .slot .ensures) at (c .before .before .before .judge-row .ensures)) (l .loop .inv .1)),
+          (c .before .before .before .before .line-at .ensures) (c .before .before .before .before .before .loop-test .taken)
+          (rw (c .before .before .before .slot .ensures) at (c .before .before .judge-row .ensures)) (l .loop .inv .1)),
     )
 
 judge-object-returns-5 : (t : ℕ) → judge-object-lts.Need-returns-5 (judge-object-calls t) (judge-object-at t) judge-object.Post judge-object-Inv-loop judge-object-μ-loop
@@ -244,29 +246,29 @@ judge-object-returns-5 t c =
 -- rows
 judge-row-returns : (t : ℕ) → judge-row-lts.Need-returns (judge-row-calls t) (judge-row-at t) judge-row.Post
 judge-row-returns t c =
-    row-missing (c .before .before .before .line-at .ensures) (c .before .enum-told .given .1) (c .absent .ensures)
+    row-missing (c .before .before .before .before .pre .1 .2) (c .before .enum-told .given .1) (c .absent .ensures)
 
 -- what was found stands in p
 judge-row-within : (t : ℕ) (c : judge-row-lts.After-known-told (judge-row-calls t) (judge-row-at t) judge-row.Post) →
-    let s = c .before .before .before .before .before in Within (length (s .args .p .now)) (Once (c .before .found .given .0 .0) (c .before .found .given .0 .1 .0))
+    let s = c .before .before .before .before in Within (length (s .args .p .now)) (Once (c .before .found .given .0 .0) (c .before .found .given .0 .1 .0))
 judge-row-within t c =
-    let s = c .before .before .before .before .before in
+    let s = c .before .before .before .before in
     subst (Within (length (s .args .p .now))) (c .before .found .given .1) (s .pre .1 .1)
 
 judge-row-returns-2 : (t : ℕ) → judge-row-lts.Need-returns-2 (judge-row-calls t) (judge-row-at t) judge-row.Post
 judge-row-returns-2 t c = row-once (c .before .before .before .found .given .1) (c .judge-member .ensures)
 
 judge-row-returns-3 : (t : ℕ) → judge-row-lts.Need-returns-3 (judge-row-calls t) (judge-row-at t) judge-row.Post
-judge-row-returns-3 t c = row-twice (c .before .before .before .line-at .ensures) (c .before .enum-told2 .given .1) (c .broken .ensures)
+judge-row-returns-3 t c = row-twice (c .before .before .before .before .pre .1 .2) (c .before .enum-told2 .given .1) (c .broken .ensures)
 
 -- single values
 judge-single-returns-2 : (t : ℕ) → judge-single-lts.Need-returns-2 (judge-single-calls t) (judge-single-at t) judge-single.Post
 judge-single-returns-2 t c =
-    single-object (c .before .before .before .line-at .ensures) (c .before .wide .ensures) (c .before .before .if2 .taken) (c .judge-object .ensures)
+    single-object (c .before .before .before .before .before .pre .1 .1) (c .before .wide .ensures) (c .before .before .if2 .taken) (c .judge-object .ensures)
 
 judge-single-returns-3 : (t : ℕ) → judge-single-lts.Need-returns-3 (judge-single-calls t) (judge-single-at t) judge-single.Post
 judge-single-returns-3 t c =
-    single-scalar (c .before .judge-scalar .result) (c .before .before .before .line-at .ensures) (c .before .before .if2 .left) (c .broken .ensures) (c .before .judge-scalar .ensures)
+    single-scalar (c .before .judge-scalar .result) (c .before .before .before .before .before .pre .1 .1) (c .before .before .if2 .left) (c .broken .ensures) (c .before .judge-scalar .ensures)
 
 pub +judge-array+judge-member+judge-object+judge-row+judge-single-spec : {M : Type 1} → statement M
 +judge-array+judge-member+judge-object+judge-row+judge-single-spec =
@@ -281,7 +283,6 @@ pub +judge-array+judge-member+judge-object+judge-row+judge-single-spec : {M : Ty
     judge-array.Post
     judge-array-Inv-loop
     judge-array-μ-loop
-    (λ c κs. search needs)
     (λ c κs. search needs)
     (judge-array-returns t)
     (λ c κs. search needs)
@@ -299,7 +300,7 @@ pub +judge-array+judge-member+judge-object+judge-row+judge-single-spec : {M : Ty
     (λ c. let m = judge-array-placed t (c .before) in omega arith)
     (λ c. let m = judge-array-placed t (c .before) in omega arith)
     (λ c. let m = judge-array-placed t (c .before) in omega arith)
-    (λ c κs. let m = judge-array-placed t (c .before .before) in omega arith)
+    (λ c κs. let m = judge-array-placed t (c .before .before) in (omega arith, (omega arith, c .before .before .before .before .before .before .before .before .before .before .before .before .pre .1 .1)))
     (λ c κs. search needs)
     (λ c. let m = judge-array-placed t (c .before .before .before .before) in omega arith)
     (judge-array-loop-again t))
@@ -308,11 +309,10 @@ pub +judge-array+judge-member+judge-object+judge-row+judge-single-spec : {M : Ty
     judge-member.Post
     (λ c κs. search needs)
     (λ c κs. search needs)
-    (λ c κs. search needs)
     (judge-member-returns t)
-    (λ c κs. omega arith)
+    (λ c κs. (omega arith, c .before .before .before .before .before .pre .1))
     (judge-member-returns-2 t)
-    (λ c κs. omega arith)
+    (λ c κs. (omega arith, c .before .before .before .before .before .pre .1))
     (judge-member-returns-3 t))
     (λ t. judge-object-lts.spec (judge-object-calls t)
     (judge-object-at t)
@@ -329,9 +329,9 @@ pub +judge-array+judge-member+judge-object+judge-row+judge-single-spec : {M : Ty
     (judge-object-loop-holds t)
     (λ c. omega arith)
     (λ c κs. search needs)
+    (λ c κs. search needs)
     (λ c. omega arith)
     (judge-object-judge-row-requires t)
-    (λ c κs. search needs)
     (λ c κs. search needs)
     (λ c. omega arith)
     (λ c κs. search needs)
@@ -343,7 +343,6 @@ pub +judge-array+judge-member+judge-object+judge-row+judge-single-spec : {M : Ty
     (λ t. judge-row-lts.spec (judge-row-calls t)
     (judge-row-at t)
     judge-row.Post
-    (λ c κs. search needs)
     (λ c. search needs)
     (λ c κs. search needs)
     (judge-row-returns t)
@@ -351,7 +350,7 @@ pub +judge-array+judge-member+judge-object+judge-row+judge-single-spec : {M : Ty
     (λ c. let h = judge-row-within t c in omega arith)
     (λ c. let h = judge-row-within t c in omega arith)
     (λ c. let h = judge-row-within t c in omega arith)
-    (λ c κs. let h = judge-row-within t (c .before) in omega arith)
+    (λ c κs. let h = judge-row-within t (c .before) in (omega arith, (omega arith, c .before .before .before .before .before .pre .1 .2)))
     (judge-row-returns-2 t)
     (λ c. search needs)
     (λ c κs. search needs)
@@ -360,7 +359,6 @@ pub +judge-array+judge-member+judge-object+judge-row+judge-single-spec : {M : Ty
     (judge-single-at t)
     judge-single.Post
     (λ c. single-past (c .if1 .taken))
-    (λ c κs. search needs)
     (λ c. omega arith)
     (λ c κs. search needs)
     (λ c κs. omega arith)

@@ -5,7 +5,7 @@ use mathlib.Core.Path.{_≡_, refl, sym, ap, _∙_}
 use Prim.Native.Nat.{_-_}
 use native.Mathlib.Omega.{arith}
 use borrow.Author.Needs.{needs}
-use borrow.Author.Tests.{eq-eqb, ne-eqb}
+use borrow.Author.Tests.{eq-eqb, ne-eqb, not-false}
 use lib.ListN.{length, drop, drop-of-length-le}
 use Rattle.lexeme.proofs.Rests.{at-cons}
 use Rattle.text.specs.Text.{textOf, same}
@@ -26,7 +26,7 @@ returns-2 c =
     let q = c .before .before .before .before .before .before .before .before .args in
     let w = c .before .before .before .before .before .loop in
     let f = map (cased false) in
-    let e = text-plain (q .spelled .now) (w .i) (omega arith) _ (c .before .before .class-of .ensures .lead) (omega arith) in
+    let e = text-plain (q .spelled .now) (w .i) (omega arith) (sym (c .before .before .is-plain .ensures) ∙ not-false _ (c .before .if1 .left)) in
     sym (same-long (ap f e) (ap f (drop-of-length-le (q .plain .now) {i = w .i} (omega arith)))) ∙ w .inv
 
 returns-3 : tie.Need-returns-3 Inv-loop μ-loop
@@ -34,7 +34,7 @@ returns-3 c =
     let q = c .before .before .before .before .before .before .before .before .before .before .before .args in
     let w = c .before .before .before .before .before .before .before .before .loop in
     let f = map (cased false) in
-    let e = text-plain (q .spelled .now) (w .i) (omega arith) _ (c .before .before .before .before .before .class-of .ensures .lead) (omega arith) in
+    let e = text-plain (q .spelled .now) (w .i) (omega arith) (sym (c .before .before .before .before .before .is-plain .ensures) ∙ not-false _ (c .before .before .before .before .if1 .left)) in
     sym (same-differ (ap f (at-cons (q .plain .now) (w .i) (omega arith))) (ap f e) (sym (unfolded _ _ refl) ∙ ne-eqb _ _ (c .if3 .taken))) ∙ w .inv
 
 loop-again : tie.Need-loop-again Inv-loop μ-loop
@@ -42,7 +42,7 @@ loop-again c =
     let q = c .before .before .before .before .before .before .before .before .before .before .before .args in
     let w = c .before .before .before .before .before .before .before .before .loop in
     let f = map (cased false) in
-    let e = text-plain (q .spelled .now) (w .i) (omega arith) _ (c .before .before .before .before .before .class-of .ensures .lead) (omega arith) in
+    let e = text-plain (q .spelled .now) (w .i) (omega arith) (sym (c .before .before .before .before .before .is-plain .ensures) ∙ not-false _ (c .before .before .before .before .if1 .left)) in
     sym (same-next (ap f (at-cons (q .plain .now) (w .i) (omega arith))) (ap f e) (sym (unfolded _ _ refl) ∙ eq-eqb _ _ (c .if3 .left))) ∙ w .inv
 
 returns-4 : tie.Need-returns-4 Inv-loop μ-loop

@@ -1,5 +1,5 @@
 -- A byte that stands for itself is the first, a character begins with its own first byte, and at the end, a quote or a fault there is none.
-use mathlib.Core.Path.{_≡_, refl}
+use mathlib.Core.Path.{_≡_, refl, sym, _∙_}
 use Prim.Native.Nat.{_<_}
 use native.Mathlib.Omega.{arith}
 use borrow.Author.Needs.{needs}
@@ -18,7 +18,7 @@ returns c = let q = c .before .before .args in step-end (q .s .now) (text-end (q
 returns-2 : tie.Need-returns-2
 returns-2 c =
     let q = c .before .before .before .before .before .before .before .args in
-    step-byte (q .s .now) _ (left-plain (q .s .now) (q .at) (omega arith) _ _ (c .before .before .before .class-of .ensures .lead) (omega arith) (c .cursor-at .ensures))
+    step-byte (q .s .now) _ (left-plain (q .s .now) (q .at) (omega arith) _ (sym (c .before .before .before .is-plain .ensures) ∙ c .before .before .if2 .taken) (c .cursor-at .ensures))
 
 returns-3 : tie.Need-returns-3
 returns-3 c = let q = c .before .before .before .before .before .before .before .before .args in step-end (q .s .now) (text-quote (drop (q .at) (q .s .now)) (cc))

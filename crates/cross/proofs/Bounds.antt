@@ -1,0 +1,195 @@
+-- Every broken rule of stage C fits the word: a file has no more records than the word can number, nor a record more items or rules.
+use mathlib.Core.Bool.{Bool, true, false, not}
+use mathlib.Core.List.{List, [], _∷_, map, List·Memᴰ, List·Memᴰ·head, List·Memᴰ·tail}
+use mathlib.Core.Logic.{_⊎_, inl, inr, ⊎-elim}
+use mathlib.Core.Path.{_≡_, refl}
+use Prim.Native.Nat.{ℕ, zero, suc, _+_, _*_, _≤_}
+use native.Mathlib.Omega.{arith}
+use lib.Dec.{eqb, ltb}
+use lib.ListN.{length, length-map}
+use borrow.Author.Tests.{ltb-false}
+use Rattle.notation.specs.Choice.{_and_}
+use Rattle.lexeme.proofs.Steps.{by-test}
+use Rattle.word.specs.Kinds.{idTwice, dangling, condition, sumDiffers}
+use Rattle.json.specs.Tree.{Json}
+use Rattle.walk.specs.declared.Item.{Item}
+use Rattle.walk.specs.Walk.{itemsOf}
+use Rattle.walk.specs.Part.{treeOf}
+use Rattle.walk.proofs.Parts.{itemOf}
+use Rattle.schema.specs.Table23.{status, zone}
+use Rattle.schema.specs.Pick.{Picked, pick}
+use Rattle.fault.specs.declared.Fault.{Fault}
+use Rattle.fault.specs.declared.Least.the-variants.{Is}
+use Rattle.fault.specs.Fault.{fault, least}
+use Rattle.judge.specs.declared.Place.{Place}
+use Rattle.judge.specs.Faults.{faulty, faults}
+use Rattle.judge.specs.Bounds.{greatest, fields}
+use Rattle.judge.proofs.Holds.{All, none, more, only, all-append, Holds, nothing, holding, holds-is, holds-least, holds-append}
+use Rattle.document.specs.Document as document
+use Rattle.document.specs.Document.{Maybe, field, fieldItems, text, textIn, spelling, given}
+use Rattle.fields.specs.Values.{integerIn}
+use Rattle.document.proofs.Records.{recordShape}
+use Rattle.fields.proofs.Fields.{rowOf, listed}
+use Rattle.clean.specs.Ids.{among}
+use Rattle.clean.specs.Noted.{idName, idIn, idsIn, repeatAt, blamed}
+use Rattle.clean.proofs.Faultless.{field-sound, items-few}
+use Rattle.references.specs.References.{when, anyWith, any, roomy, driven, named, refers, demanded}
+use Rattle.cross.specs.Cross.{Files, at, absentees, sumOf, availableFaults, idFaults, ruleFaults, typeFaults, statusFaults, bikeFaults, zoneFaults, each, faultsOf, fileIn, crossFaults}
+use Rattle.cross.specs.Stage.{fileOf}
+use Rattle.cross.specs.Staged.{idsLeast}
+use Rattle.cross.proofs.Files.{InBytes}
+
+-- the kinds of stage C
+pub record OfStageC (kind : ℕ) : Type 0 where
+  pub least : idTwice ≤ kind
+  pub most : kind ≤ sumDiffers
+
+-- a fault of stage C that the word can say
+pub record Fitting (f : Fault) : Type 0 where
+  pub rec : f .«record» ≤ greatest
+  pub field : f .field ≤ fields
+  pub sub : f .sub ≤ greatest
+  pub kind : OfStageC (f .kind)
+
+-- Kinds.
+
+when-kinds : (t : Bool) (k : ℕ) → OfStageC k → All OfStageC (when t k)
+when-kinds true k h = only h
+when-kinds false k h = none
+
+demanded-kinds : (needed there : Bool) → All OfStageC (demanded needed there)
+demanded-kinds needed there = when-kinds (needed and not there) condition (record { least = omega arith; most = omega arith })
+
+refers-kinds : (o : Maybe (List ℕ)) (f : ℕ) (l : List Picked) → All OfStageC (refers o f l)
+refers-kinds document.none f l = none
+refers-kinds (document.some id) f l = when-kinds (not (anyWith any f l id)) dangling (record { least = omega arith; most = omega arith })
+
+-- The n-th record.
+module _ (n : ℕ) (h : n ≤ greatest) where
+  field-fits : (sub φ : ℕ) → sub ≤ greatest → φ ≤ fields → {ks : List ℕ} → All OfStageC ks → All Fitting (faulty (at n sub) φ ks)
+  unfolding faulty
+  field-fits sub φ i j none = none
+  field-fits sub φ i j (more k ks) = more (record { rec = h; field = j; sub = i; kind = k }) (field-fits sub φ i j ks)
+
+  own-fits : (φ : ℕ) → φ ≤ fields → {ks : List ℕ} → All OfStageC ks → All Fitting (faulty (at n 0) φ ks)
+  own-fits φ j ks = field-fits 0 φ (omega arith) j ks
+
+  available-fit : (types : List Picked) (sub : ℕ) (l : List Picked) → sub + length l ≤ greatest + 1 → All Fitting (availableFaults types n sub l)
+  unfolding availableFaults
+  available-fit types sub [] i = none
+  available-fit types sub (x ∷ l) i =
+      all-append (field-fits sub 38 (omega arith) (omega arith) (refers-kinds (text 38 x) 10 types)) (available-fit types (sub + 1) l (omega arith))
+
+  ids-fit : (types : List Picked) (sub : ℕ) → sub ≤ greatest → (l : List Picked) → All Fitting (idFaults types n sub l)
+  unfolding idFaults
+  ids-fit types sub i [] = none
+  ids-fit types sub i (x ∷ l) = all-append (field-fits sub 78 i (omega arith) (refers-kinds (textIn x) 10 types)) (ids-fit types sub i l)
+
+  rules-fit : (types : List Picked) (sub : ℕ) (l : List Picked) → sub + length l ≤ greatest + 1 → All Fitting (ruleFaults types n sub l)
+  unfolding ruleFaults
+  rules-fit types sub [] i = none
+  rules-fit types sub (x ∷ l) i = all-append (ids-fit types sub (omega arith) (fieldItems 78 x)) (rules-fit types (sub + 1) l (omega arith))
+
+  type-fits : (planned : Bool) (plans : List Picked) (x : Picked) → All Fitting (typeFaults planned plans n x)
+  unfolding typeFaults
+  type-fits planned plans x =
+      all-append (own-fits 13 (omega arith) (demanded-kinds (driven x) (given (field 13 x))))
+      (own-fits 14 (omega arith) (all-append (demanded-kinds planned (given (field 14 x))) (refers-kinds (text 14 x) 50 plans)))
+
+  status-fits : (typed : Bool) (types stations : List Picked) (x : Picked) → length (fieldItems 37 x) ≤ greatest → All Fitting (statusFaults typed types stations n x)
+  unfolding statusFaults
+  status-fits typed types stations x i =
+      let differs = given (field 37 x) and not (eqb (sumOf (fieldItems 37 x)) (integerIn (spelling 31 x))) in
+      all-append
+      (all-append
+      (all-append (own-fits 30 (omega arith) (refers-kinds (text 30 x) 20 stations))
+      (own-fits 32 (omega arith) (demanded-kinds (named roomy 20 stations (text 30 x)) (given (field 32 x)))))
+      (own-fits 37 (omega arith)
+      (all-append (demanded-kinds typed (given (field 37 x))) (when-kinds differs sumDiffers (record { least = omega arith; most = omega arith })))))
+      (available-fit types 1 (fieldItems 37 x) (omega arith))
+
+  bike-fits : (typed : Bool) (types stations plans : List Picked) (x : Picked) → All Fitting (bikeFaults typed types stations plans n x)
+  unfolding bikeFaults
+  bike-fits typed types stations plans x =
+      let free = not (given (field 47 x)) in
+      all-append
+      (all-append
+      (all-append
+      (all-append
+      (all-append (own-fits 41 (omega arith) (demanded-kinds free (given (field 41 x)))) (own-fits 42 (omega arith) (demanded-kinds free (given (field 42 x)))))
+      (own-fits 45 (omega arith) (all-append (demanded-kinds typed (given (field 45 x))) (refers-kinds (text 45 x) 10 types))))
+      (own-fits 46 (omega arith) (demanded-kinds (named driven 10 types (text 45 x)) (given (field 46 x)))))
+      (own-fits 47 (omega arith) (refers-kinds (text 47 x) 20 stations)))
+      (own-fits 48 (omega arith) (refers-kinds (text 48 x) 50 plans))
+
+  zone-in : (types : List Picked) (y : Picked) → (field 74 y ≡ document.none) ⊎ ((z : Picked) × (field 74 y ≡ document.some z) × (length (fieldItems 77 z) ≤ greatest))
+      → All Fitting (zoneFaults types n y)
+  unfolding zoneFaults
+  zone-in types y (inl k) = rw (zoneFaults, k) none
+  zone-in types y (inr k) = rw (zoneFaults, k .1) (rules-fit types 1 _ (omega (arith, k .2)))
+
+  -- where nothing is found in it by stage B
+  module _ (typed planned : Bool) (types stations plans : List Picked) (x : Json) (q : Place) (φ : ℕ) where
+    zone-fits : faults zone q φ (pick zone x) ≡ [] → All Fitting (zoneFaults types n (pick zone x))
+    unfolding zone rowOf
+    zone-fits e =
+        zone-in types (pick zone x)
+        (⊎-elim inl
+        (λ k. inr (_, k .1, omega (arith, items-few q 74 (k .0) (k .2) (listed {f = 77} refl) (λ a b. refl))))
+        (field-sound q φ x e (listed {f = 74} refl)))
+
+    record-fits : (file : ℕ) → 1 ≤ file → file ≤ 6 → faults (recordShape file) q φ (pick (recordShape file) x) ≡ []
+        → All Fitting (faultsOf typed planned types stations plans file n (pick (recordShape file) x))
+    unfolding faultsOf recordShape status rowOf
+    record-fits zero i j e = absurd (omega arith)
+    record-fits (suc zero) i j e = type-fits planned plans _
+    record-fits (suc (suc zero)) i j e = none
+    record-fits (suc (suc (suc zero))) i j e = status-fits typed types stations _ (omega (arith, items-few q φ x e (listed {f = 37} refl) (λ a b. refl)))
+    record-fits (suc (suc (suc (suc zero)))) i j e = bike-fits typed types stations plans _
+    record-fits (suc (suc (suc (suc (suc zero))))) i j e = none
+    record-fits (suc (suc (suc (suc (suc (suc zero)))))) i j e = zone-fits e
+    record-fits (suc (suc (suc (suc (suc (suc (suc file))))))) i j e = absurd (omega arith)
+
+-- Records one after another.
+each-fits : (faults′ : ℕ → Picked → List Fault) (g : Item → Picked) (n : ℕ) (ms : List Item) → n + length ms ≤ greatest + 1
+    → ((m : Item) → List·Memᴰ m ms → (k : ℕ) → k ≤ greatest → All Fitting (faults′ k (g m))) → All Fitting (each faults′ n (map g ms))
+unfolding each
+each-fits faults′ g n [] h k = none
+each-fits faults′ g n (m ∷ ms) h k =
+    all-append (k m (List·Memᴰ·head refl) n (omega arith)) (each-fits faults′ g (n + 1) ms (omega arith) (λ l i. k l (List·Memᴰ·tail i)))
+
+-- Repeated ids.
+repeat-few : (n : ℕ) (passed ids : List (List ℕ)) → repeatAt (n + 1) passed ids ≤ n + length ids
+unfolding repeatAt
+repeat-few n passed [] = omega arith
+repeat-few n passed (x ∷ l) =
+    by-test (among passed x) (λ t. rw (repeatAt, t) (omega arith)) (λ t. rw (repeatAt, t) (omega (arith, repeat-few (n + 1) (x ∷ passed) l)))
+
+blamed-fits : (φ number : ℕ) → φ ≤ fields → number ≤ greatest → Holds Fitting (blamed φ number)
+blamed-fits φ number h i =
+    by-test (eqb number 0) (λ t. rw t nothing)
+    (λ t. rw t (holding {f = fault number φ 0 idTwice} (record { rec = i; field = h; sub = omega arith; kind = record { least = omega arith; most = omega arith } })))
+
+ids-least-fits : (n : ℕ) (p : List ℕ) → length (itemsOf p) ≤ greatest → Holds Fitting (idsLeast n p)
+unfolding idsLeast idsIn
+ids-least-fits n p h =
+    by-test (ltb 5 n) (λ t. rw (idsLeast, t) nothing)
+    (λ t.
+    let i = ltb-false 5 n t in
+    rw (idsLeast, t) (blamed-fits (n * 10) (repeatAt 1 [] (idsIn (idName n) p)) (omega arith) (omega (arith, repeat-few 0 [] (idsIn (idName n) p), length-map (itemsOf p) (idIn (idName n) p)))))
+
+-- One file.
+module _ (files : Files) (file : ℕ) (h : 1 ≤ file) (i : file ≤ 6) {s p : List ℕ} (e : fileIn files file ≡ fileOf file s) (b : InBytes file s p) where
+  file-holds : Holds Fitting (least (crossFaults files file))
+  unfolding crossFaults
+  file-holds =
+      let kinds = when-kinds (absentees files file) condition (record { least = omega arith; most = omega arith }) in
+      let presence = own-fits 0 (omega arith) 0 (omega arith) kinds in
+      let few = b .recorded .few in
+      rw (crossFaults, e, b .picked)
+      (holds-append _ _ (holds-append _ _ (holds-least presence) (rw (b .repeated) (ids-least-fits file p few)))
+      (holds-least (each-fits _ (λ m. pick (recordShape file) (treeOf (itemOf p m))) 1 (itemsOf p) (omega arith) (λ m j k l.
+      let y = b .sound m j in record-fits k l _ _ _ _ _ _ (y .0) (y .1) file h i (y .2)))))
+
+  pub cross-fits : (f : Fault) → least (crossFaults files file) ≡ Is f → Fitting f
+  cross-fits f k = holds-is file-holds k

@@ -1,0 +1,89 @@
+-- Where the rows of a record stand among the table's lines; and so what a slot gives is the member of its row's name.
+use mathlib.Core.Bool.{true}
+use mathlib.Core.List.{List, []}
+use mathlib.Core.Path.{_≡_, refl, sym, ap, _∙_}
+use Prim.Native.Nat.{ℕ, _≤_, _<_}
+use native.Mathlib.Omega.{arith}
+use lib.ListN.{length, getD, drop}
+use Rattle.text.specs.Text.{same}
+use Rattle.json.specs.Tree as tree
+use Rattle.json.specs.Tree.{Members}
+use Rattle.walk.specs.Part.{Whole}
+use Rattle.walk.proofs.Wholes.{whole-kind}
+use Rattle.schema.specs.Shape as shape
+use Rattle.schema.specs.Shape.{Shape, Rows}
+use Rattle.schema.specs.Later.{listedIn}
+use Rattle.schema.specs.Line.{entriesOf, laidOut}
+use Rattle.schema.specs.Sound.{distinctRows}
+use Rattle.schema.specs.Table23.{table23, written23, vehicleType, status, bike}
+use Rattle.schema.proofs.Walk.{Laid, linesIn}
+use Rattle.slots.specs.declared.Found.{Found}
+use Rattle.slots.specs.declared.Slots.{Slots}
+use Rattle.slots.specs.Found.{foundIn}
+use Rattle.slots.specs.Rows.{mostRows, namesIn}
+use Rattle.slots.specs.Slots.{slotAt, Gathered}
+use Rattle.fields.specs.Values.{code, foundBytes, Standing, memberOf}
+use Rattle.fields.proofs.Ways.{found-standing, member-found}
+use Rattle.cross.proofs.Sizes.{found-short}
+
+-- rows that fill so many lines from `first` on, with a slot each
+pub record Layout (first count : ℕ) (rows : Rows) : Type 0 where
+  pub laid : Laid table23 first rows
+  pub lines : linesIn rows ≡ count
+  pub distinct : distinctRows rows ≡ true
+  pub few : length (namesIn rows) ≤ mostRows
+
+-- the rows of an object
+abbrev pub rowsIn : Shape → Rows
+rowsIn shape.unlisted = shape.noRow
+rowsIn (shape.scalar sort) = shape.noRow
+rowsIn (shape.array numbering most σ) = shape.noRow
+rowsIn (shape.object rows) = rows
+
+pub type-layout : Layout 5 5 (rowsIn vehicleType)
+unfolding laidOut written23 distinctRows listedIn same namesIn
+type-layout =
+    record {
+      laid = record { rest = drop 10 (entriesOf table23); splits = refl; fits = omega arith };
+      lines = refl;
+      distinct = refl;
+      few = omega arith;
+    }
+
+pub status-layout : Layout 25 10 (rowsIn status)
+unfolding laidOut written23 distinctRows listedIn same namesIn
+status-layout =
+    record {
+      laid = record { rest = drop 35 (entriesOf table23); splits = refl; fits = omega arith };
+      lines = refl;
+      distinct = refl;
+      few = omega arith;
+    }
+
+pub bike-layout : Layout 40 10 (rowsIn bike)
+unfolding laidOut written23 distinctRows listedIn same namesIn
+bike-layout =
+    record {
+      laid = record { rest = drop 50 (entriesOf table23); splits = refl; fits = omega arith };
+      lines = refl;
+      distinct = refl;
+      few = omega arith;
+    }
+
+-- q is the value that is read at a slot
+abbrev pub Reads : List ℕ → Slots → ℕ → List ℕ → Type 0
+Reads p s j q = (o : Found) × (o ≡ slotAt s j) × (Standing p o → q ≡ foundBytes p o)
+
+module _ {p : List ℕ} {first count : ℕ} {s : Slots} (g : Gathered p first count s) {rows : Rows}
+    (l : Layout first count rows) (j : ℕ) (h : j < length (namesIn rows)) {q : List ℕ} (r : Reads p s j q) where
+  slot-found : r .0 ≡ foundIn p (getD (namesIn rows) j [])
+  slot-found = r .1 ∙ g .slot rows (l .laid) (l .lines) (l .distinct) (l .few) j h
+
+  slot-value : q ≡ foundBytes p (r .0)
+  slot-value = r .2 (found-standing p (getD (namesIn rows) j []) (r .0) slot-found)
+
+  pub slot-short : length q ≤ length p
+  slot-short = omega (arith, ap length slot-value, found-short p (r .0))
+
+  pub slot-member : {ms : Members} → Whole p (tree.object ms) → q ≡ memberOf p (getD (namesIn rows) j [])
+  slot-member w = slot-value ∙ member-found p (getD (namesIn rows) j []) 5 (sym (ap code (whole-kind w))) refl (r .0) slot-found

@@ -1,0 +1,153 @@
+-- Stage C of six files that are through stages A and B: what the code answers of each from bytes is the least of what it breaks, so the first file that
+-- breaks a rule is stage C's; and its rule fits the word.
+use mathlib.Core.List.{List, [], _∷_, _++_}
+use mathlib.Core.Path.{_≡_, refl, sym, ap, subst, _∙_}
+use Prim.Native.Nat.{ℕ, zero, suc, _≤_, _<_}
+use native.Mathlib.Omega.{arith}
+use lib.Dec.{ltb}
+use lib.ListN.{length}
+use borrow.Author.Tests.{lt-ltb}
+use Rattle.word.specs.declared.Parts.{Parts}
+use Rattle.word.specs.Form.{form1}
+use Rattle.word.specs.Word.{Fits}
+use Rattle.fault.specs.declared.Fault.{Fault}
+use Rattle.fault.specs.declared.Least.{Least}
+use Rattle.fault.specs.declared.Least.the-variants.{None, Is}
+use Rattle.fault.specs.Fault.{least, lesser}
+use Rattle.fault.proofs.Leasts.{lesser-assoc, least-append}
+use Rattle.clean.specs.declared.Cleanness.{Cleanness}
+use Rattle.clean.specs.declared.Cleanness.the-variants.{Clean, Broken}
+use Rattle.clean.specs.Clean.{place, broken}
+use Rattle.references.specs.declared.Set.{Set}
+use Rattle.references.specs.Known.{setOf}
+use Rattle.cross.specs.declared.stage.Crossed.{Crossed}
+use Rattle.cross.specs.declared.stage.Crossed.the-variants.{Nothing, At}
+use Rattle.cross.specs.Cross.{Files, here, absentees, fileIn, crossFaults}
+use Rattle.references.specs.Known as known
+use Rattle.cross.specs.Stage.{fileOf, filesOf, stageC, Through}
+use Rattle.cross.specs.Staged.{recordsPart, calledFor, fileLeast, numberedLeast, crossing, firstFrom}
+use Rattle.cross.proofs.Files.{InBytes, file-bytes}
+use Rattle.cross.proofs.Bounds.{Fitting, cross-fits}
+use Rattle.cross.proofs.Staging.{first-at}
+
+-- a file's rule as a word's parts
+abbrev pub cleanness : Crossed → Cleanness
+cleanness Nothing = Clean
+cleanness (At file f) = Broken (place file f)
+
+crossing-broken : (file : ℕ) (x : Least) (rest : Crossed) → cleanness (crossing file x rest) ≡ broken file x (cleanness rest)
+crossing-broken file None rest = refl
+crossing-broken file (Is f) rest = refl
+
+next-file : (file : ℕ) (rest : Crossed) {x y : Least} {c : Cleanness} → x ≡ y → cleanness rest ≡ c → cleanness (crossing file x rest) ≡ broken file y c
+next-file file rest {x} {y} e k = crossing-broken file x rest ∙ ap (λ (u : Least). broken file u (cleanness rest)) e ∙ ap (broken file y) k
+
+-- Files that are through stages A and B.
+
+least-three : (xs ys zs : List Fault) → lesser (least xs) (lesser (least ys) (least zs)) ≡ least (xs ++ ys ++ zs)
+least-three xs ys zs =
+    sym (least-append (xs ++ ys) zs ∙ ap (λ (u : Least). lesser u (least zs)) (least-append xs ys) ∙ lesser-assoc (least xs) (least ys) (least zs))
+
+-- a file is there just where it has bytes
+there-is : (n : ℕ) (s : List ℕ) → here (fileOf n s) ≡ ltb 0 (length s)
+there-is n [] = refl
+there-is n (b ∷ s) = sym (lt-ltb 0 (length (b ∷ s)) (omega arith))
+
+-- what the code answers, from the records of all files in bytes
+abbrev pub numbered : (types stations statuses bikes plans zones : List ℕ) → ℕ → Least
+numbered types stations statuses bikes plans zones =
+    numberedLeast (setOf types stations statuses bikes plans) (recordsPart 1 types) (recordsPart 2 stations) (recordsPart 5 plans) (recordsPart 3 statuses)
+    (recordsPart 4 bikes) (recordsPart 6 zones)
+
+pub crossed-is : (types stations statuses bikes plans zones : List ℕ) {set : Set} {a b c d e g : List ℕ} → set ≡ setOf types stations statuses bikes plans
+    → a ≡ recordsPart 1 types → b ≡ recordsPart 2 stations → c ≡ recordsPart 3 statuses → d ≡ recordsPart 4 bikes → e ≡ recordsPart 5 plans → g ≡ recordsPart 6 zones
+    → firstFrom (numberedLeast set a b e c d g) 1 6 ≡ firstFrom (numbered types stations statuses bikes plans zones) 1 6
+crossed-is types stations statuses bikes plans zones h i j k l m n = rw (h, i, j, k, l, m, n)
+
+pub record AllThrough (types stations statuses bikes plans zones : List ℕ) : Type 0 where
+  pub first : Through 1 types
+  pub second : Through 2 stations
+  pub third : Through 3 statuses
+  pub fourth : Through 4 bikes
+  pub fifth : Through 5 plans
+  pub sixth : Through 6 zones
+
+module _ (types stations statuses bikes plans zones : List ℕ) (through : AllThrough types stations statuses bikes plans zones) where
+  abbrev files : Files
+  files = filesOf types stations statuses bikes plans zones
+
+  abbrev set : Set
+  set = setOf types stations statuses bikes plans
+
+  abbrev leasts : ℕ → Least
+  leasts = numbered types stations statuses bikes plans zones
+
+  presence : (file : ℕ) → calledFor file set ≡ absentees files file
+  unfolding absentees calledFor
+  presence file = rw (calledFor, absentees, there-is 2 stations, there-is 3 statuses, there-is 4 bikes)
+
+  file-least : (file : ℕ) (s : List ℕ) → fileIn files file ≡ fileOf file s → InBytes file s (recordsPart file s)
+      → fileLeast set (recordsPart 1 types) (recordsPart 2 stations) (recordsPart 5 plans) file (recordsPart file s) ≡ least (crossFaults files file)
+  unfolding fileLeast crossFaults known.recordsOf
+  file-least file s e b =
+      let x = file-bytes 1 (omega arith) (omega arith) types (through .first) in
+      let y = file-bytes 2 (omega arith) (omega arith) stations (through .second) in
+      let z = file-bytes 5 (omega arith) (omega arith) plans (through .fifth) in
+      rw (fileLeast, crossFaults, e, presence file, x .picked, y .picked, z .picked, b .picked, there-is 1 types, there-is 5 plans, ← b .repeated)
+      (least-three _ _ _)
+
+  -- the file of a number
+  record Numbered (file : ℕ) : Type 0 where
+    bytes : List ℕ
+    is : fileIn files file ≡ fileOf file bytes
+    held : InBytes file bytes (recordsPart file bytes)
+    judged : leasts file ≡ fileLeast set (recordsPart 1 types) (recordsPart 2 stations) (recordsPart 5 plans) file (recordsPart file bytes)
+
+  number : (file : ℕ) → 1 ≤ file → file ≤ 6 → Numbered file
+  unfolding numberedLeast fileIn
+  number zero h i = absurd (omega arith)
+  number (suc zero) h i = record { bytes = types; is = refl; held = file-bytes 1 h i types (through .first); judged = refl }
+  number (suc (suc zero)) h i = record { bytes = stations; is = refl; held = file-bytes 2 h i stations (through .second); judged = refl }
+  number (suc (suc (suc zero))) h i = record { bytes = statuses; is = refl; held = file-bytes 3 h i statuses (through .third); judged = refl }
+  number (suc (suc (suc (suc zero)))) h i = record { bytes = bikes; is = refl; held = file-bytes 4 h i bikes (through .fourth); judged = refl }
+  number (suc (suc (suc (suc (suc zero))))) h i = record { bytes = plans; is = refl; held = file-bytes 5 h i plans (through .fifth); judged = refl }
+  number (suc (suc (suc (suc (suc (suc zero)))))) h i = record { bytes = zones; is = refl; held = file-bytes 6 h i zones (through .sixth); judged = refl }
+  number (suc (suc (suc (suc (suc (suc (suc file))))))) h i = absurd (omega arith)
+
+  numbered-least : (file : ℕ) → 1 ≤ file → file ≤ 6 → leasts file ≡ least (crossFaults files file)
+  numbered-least file h i = let t = number file h i in t .judged ∙ file-least file (t .bytes) (t .is) (t .held)
+
+  pub stage-is : cleanness (firstFrom leasts 1 6) ≡ stageC files
+  unfolding firstFrom stageC
+  stage-is =
+      let e : (file : ℕ) → 1 ≤ file → file ≤ 6 → leasts file ≡ least (crossFaults files file) = numbered-least in
+      next-file 1 (firstFrom leasts 2 5) (e 1 (omega arith) (omega arith))
+      (next-file 2 (firstFrom leasts 3 4) (e 2 (omega arith) (omega arith))
+      (next-file 3 (firstFrom leasts 4 3) (e 3 (omega arith) (omega arith))
+      (next-file 4 (firstFrom leasts 5 2) (e 4 (omega arith) (omega arith))
+      (next-file 5 (firstFrom leasts 6 1) (e 5 (omega arith) (omega arith))
+      (next-file 6 (firstFrom leasts 7 0) (e 6 (omega arith) (omega arith)) refl)))))
+
+  -- the rule of the first file fits the word
+  first-fits : (file : ℕ) (f : Fault) → firstFrom leasts 1 6 ≡ At file f → (file ≤ 6) × Fitting f
+  first-fits file f e =
+      let t = first-at leasts 6 1 file f e in
+      let h : 1 ≤ file = t .0 in
+      let i : file ≤ 6 = omega (arith, t .1) in
+      let n = number file h i in
+      (i, cross-fits files file h i (n .is) (n .held) f (sym (numbered-least file h i) ∙ t .2))
+
+  pub first-small : (file : ℕ) (f : Fault) → firstFrom leasts 1 6 ≡ At file f → (f .«record» < 65_536) × (f .sub < 65_536)
+  first-small file f e = let t = first-fits file f e in (omega (arith, t .1 .rec), omega (arith, t .1 .sub))
+
+  pub stage-fits : (p : Parts) → stageC files ≡ Broken p → Fits form1 p
+  stage-fits p e = go (firstFrom leasts 1 6) refl
+    where
+      go : (x : Crossed) → firstFrom leasts 1 6 ≡ x → Fits form1 p
+      go Nothing h = let k : Clean ≡ Broken p = ap cleanness (sym h) ∙ stage-is ∙ e in let z : _≡_ {A = ℕ} 0 1 = cc in absurd (omega arith)
+      go (At file f) h =
+          let k : Broken (place file f) ≡ Broken p = ap cleanness (sym h) ∙ stage-is ∙ e in
+          let is : place file f ≡ p = cc in
+          let t = first-fits file f h in
+          let r = t .1 .rec in let s = t .1 .sub in let φ = t .1 .field in let κ = t .1 .kind .most in
+          subst (Fits form1) is (omega arith, (omega arith, (omega arith, (omega arith, (omega arith, (omega arith, (omega arith, tt)))))))

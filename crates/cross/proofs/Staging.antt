@@ -1,0 +1,98 @@
+-- The steps of stage C in bytes: what one file is asked, by its number, and the first file that breaks a rule.
+use mathlib.Core.Bool.{Bool, false}
+use mathlib.Core.List.{List, []}
+use mathlib.Core.Path.{_≡_, refl, sym, ap, _∙_}
+use Prim.Native.Nat.{ℕ, zero, suc, _+_, _-_, _*_, _≤_, _<_}
+use native.Mathlib.Omega.{arith}
+use borrow.Author.Tests.{lt-ltb, le-ltb, ne-eqb}
+use Rattle.notation.specs.Choice.{_⇒_else_}
+use Rattle.word.specs.Kinds.{idTwice}
+use Rattle.fault.specs.declared.Fault.{Fault}
+use Rattle.fault.specs.declared.Least.{Least}
+use Rattle.fault.specs.declared.Least.the-variants.{None, Is}
+use Rattle.fault.specs.Fault.{fault, lesser}
+use Rattle.clean.specs.Noted.{idName, idsIn, repeatAt, blamed}
+use Rattle.references.specs.declared.Set.{Set}
+use Rattle.references.specs.Known.{counting}
+use Rattle.cross.specs.declared.stage.Crossed.{Crossed}
+use Rattle.cross.specs.declared.stage.Crossed.the-variants.{Nothing, At}
+use Rattle.references.specs.Known as known
+use Rattle.cross.specs.Staged.{calledFor, idsLeast, fileLeast, numberedLeast, crossing, firstFrom}
+
+-- What one file is asked.
+
+-- most files are called for by none
+pub called-else : (file : ℕ) (set : Set) → (file ≡ 2 → ⊥) → (file ≡ 3 → ⊥) → (file ≡ 4 → ⊥) → false ≡ calledFor file set
+unfolding calledFor
+called-else file set h i j = rw (calledFor, ne-eqb file 2 h, ne-eqb file 3 i, ne-eqb file 4 j)
+
+-- ids, by the number of the record that repeats one
+module _ (file : ℕ) (p : List ℕ) where
+  pub ids-unasked : 5 < file → None ≡ idsLeast file p
+  unfolding idsLeast
+  ids-unasked h = rw (idsLeast, lt-ltb 5 file h)
+
+  module _ (h : file ≤ 5) (n : ℕ) (e : n ≡ repeatAt 1 [] (idsIn (idName file) p)) where
+    ids-asked : blamed (file * 10) n ≡ idsLeast file p
+    unfolding idsLeast
+    ids-asked = rw (idsLeast, le-ltb 5 file h, e)
+
+    pub ids-single : n ≡ 0 → None ≡ idsLeast file p
+    ids-single z = ap (blamed (file * 10)) (sym z) ∙ ids-asked
+
+    pub ids-repeated : (n ≡ 0 → ⊥) → Is (fault n (file * 10) 0 idTwice) ≡ idsLeast file p
+    ids-repeated z = ap (λ (t : Bool). t ⇒ None else Is (fault n (file * 10) 0 idTwice)) (sym (ne-eqb n 0 z)) ∙ ids-asked
+
+-- the parts of a file's judgement
+pub lesser-both : {a b c d : Least} → a ≡ c → b ≡ d → lesser a b ≡ lesser c d
+lesser-both {b = b} {c = c} e k = ap (λ (x : Least). lesser x b) e ∙ ap (lesser c) k
+
+-- the last file has every number that no other has
+pub numbered-else : (set : Set) (types stations plans statuses bikes zones : List ℕ) (file : ℕ)
+    → (file ≡ 1 → ⊥) → (file ≡ 2 → ⊥) → (file ≡ 3 → ⊥) → (file ≡ 4 → ⊥) → (file ≡ 5 → ⊥)
+    → fileLeast set types stations plans 6 zones ≡ numberedLeast set types stations plans statuses bikes zones file
+unfolding numberedLeast
+numbered-else set types stations plans statuses bikes zones file h i j k l =
+    rw (numberedLeast, ne-eqb file 1 h, ne-eqb file 2 i, ne-eqb file 3 j, ne-eqb file 4 k, ne-eqb file 5 l)
+
+-- The first of the files.
+
+-- how many records there are does not change which files there are
+pub counted-same : {set : Set} (here′ : Set) (n m k : ℕ) → set ≡ counting here′ n m k → (types stations plans statuses bikes zones : List ℕ)
+    → firstFrom (numberedLeast set types stations plans statuses bikes zones) 1 6 ≡ firstFrom (numberedLeast here′ types stations plans statuses bikes zones) 1 6
+unfolding numberedLeast fileLeast calledFor
+counted-same here′ n m k e types stations plans statuses bikes zones =
+    ap (λ (u : Set). firstFrom (numberedLeast u types stations plans statuses bikes zones) 1 6) e
+
+-- from a file on, of six
+module _ (least′ : ℕ → Least) where
+  abbrev pub firstOn : ℕ → Crossed
+  firstOn file = firstFrom least′ file (7 - file)
+
+  pub first-end : (file : ℕ) → 7 ≤ file → firstOn file ≡ Nothing
+  unfolding firstFrom
+  first-end file h = let z : 7 - file ≡ 0 = omega arith in ap (firstFrom least′ file) z
+
+  first-on : (file : ℕ) → file ≤ 6 → (x : Least) → least′ file ≡ x → firstOn file ≡ crossing file x (firstOn (file + 1))
+  unfolding firstFrom
+  first-on file h x e =
+      let z : 7 - file ≡ suc (7 - (file + 1)) = omega arith in
+      ap (firstFrom least′ file) z ∙ ap (λ (y : Least). crossing file y (firstOn (file + 1))) e
+
+  pub first-here : (file : ℕ) → file ≤ 6 → (f : Fault) → least′ file ≡ Is f → firstOn file ≡ At file f
+  first-here file h f e = first-on file h (Is f) e
+
+  pub first-later : (file : ℕ) → file ≤ 6 → least′ file ≡ None → firstOn (file + 1) ≡ firstOn file
+  first-later file h e = sym (first-on file h None e)
+
+  -- a file that is named breaks the rule that is named
+  pub first-at : (n start file : ℕ) (f : Fault) → firstFrom least′ start n ≡ At file f → (start ≤ file) × (file < start + n) × (least′ file ≡ Is f)
+  unfolding firstFrom
+  first-at zero start file f e = let z : _≡_ {A = ℕ} 0 1 = cc in absurd (omega arith)
+  first-at (suc n) start file f e = go (least′ start) refl e (first-at n (start + 1) file f)
+    where
+      go : (x : Least) → least′ start ≡ x → crossing start x (firstFrom least′ (start + 1) n) ≡ At file f
+          → (firstFrom least′ (start + 1) n ≡ At file f → (start + 1 ≤ file) × (file < start + 1 + n) × (least′ file ≡ Is f))
+          → (start ≤ file) × (file < start + suc n) × (least′ file ≡ Is f)
+      go None h k ih = let t = ih k in let a = t .0 in let b = t .1 in (omega arith, omega arith, t .2)
+      go (Is g) h k ih = let a : start ≡ file = cc in let b : g ≡ f = cc in (omega arith, omega arith, ap least′ (sym a) ∙ h ∙ ap Is b)

@@ -1,0 +1,113 @@
+-- A loop over the items of an array, for any list function of what is picked of them: what is left decides the whole. And the loops that ask each
+-- item for its faults: the least so far, with the faults of the items left, makes the least of all.
+use mathlib.Core.List.{List, [], _∷_, map, List·Memᴰ, List·Memᴰ·head, List·Memᴰ·tail}
+use mathlib.Core.Path.{_≡_, refl, sym, ap, subst, _∙_}
+use Prim.Native.Nat.{ℕ, _+_, _≤_}
+use native.Mathlib.Omega.{arith}
+use lib.ListN.{length}
+use Rattle.walk.specs.declared.Item.{Item}
+use Rattle.walk.specs.Walk.{itemsFrom, itemsOf}
+use Rattle.walk.specs.Part.{treeOf}
+use Rattle.walk.proofs.Folds.{itemSteps, one-more}
+use Rattle.walk.proofs.Parts.{itemOf}
+use Rattle.schema.specs.Shape.{Shape}
+use Rattle.schema.specs.Table23.{available}
+use Rattle.schema.specs.Pick.{Picked, pick}
+use Rattle.fault.specs.declared.Fault.{Fault}
+use Rattle.fault.specs.declared.Least.{Least}
+use Rattle.fault.specs.declared.Least.the-variants.{None}
+use Rattle.fault.specs.Fault.{lesser, least}
+use Rattle.fault.proofs.Leasts.{lesser-none, none-lesser, least-append}
+use Rattle.judge.proofs.Going.{passed}
+use Rattle.document.specs.Document.{spelling}
+use Rattle.document.proofs.Records.{pickedItems}
+use Rattle.fields.specs.Values.{integerIn}
+use Rattle.cross.specs.Cross.{sumOf, each}
+
+-- what is picked of an item
+abbrev pub pickedItem : Shape → List ℕ → Item → Picked
+pickedItem σ p m = pick σ (treeOf (itemOf p m))
+
+-- of the items from `at` on `comes` makes r
+pub record Left {A : Type 0} (σ : Shape) (p : List ℕ) (comes : List Picked → A) (at : ℕ) (r : A) : Type 0 where
+  pub fuel : ℕ
+  pub enough : length p ≤ at + fuel
+  pub among : (m : Item) → List·Memᴰ m (itemsFrom fuel p at) → List·Memᴰ m (itemsOf p)
+  pub makes : comes (map (pickedItem σ p) (itemsFrom fuel p at)) ≡ r
+
+module _ {A : Type 0} (σ : Shape) (p : List ℕ) (comes : List Picked → A) where
+  pub left-start : Left σ p comes 1 (comes (pickedItems σ p))
+  unfolding itemsOf
+  left-start = record { fuel = length p; enough = omega arith; among = λ m i. i; makes = refl }
+
+  module _ (at : ℕ) {r : A} (w : Left σ p comes at r) where
+    pub left-end : itemSteps p .Ends at → comes [] ≡ r
+    left-end f = ap (λ l. comes (map (pickedItem σ p) l)) (sym (itemSteps p .end (w .fuel) at f)) ∙ w .makes
+
+    module _ (m : Item) (f : itemSteps p .Finds at m) where
+      pub left-among : List·Memᴰ m (itemsOf p)
+      left-among =
+          let j = one-more (itemSteps p) (w .fuel) at m f (w .enough) in
+          w .among m (subst (List·Memᴰ m) (sym (j .2)) (List·Memᴰ·head refl))
+
+      pub left-more : (next : List Picked → A) → ((l : List Picked) → next l ≡ comes (pickedItem σ p m ∷ l)) → Left σ p next (m .next) r
+      left-more next step =
+          let j = one-more (itemSteps p) (w .fuel) at m f (w .enough) in
+          record {
+            fuel = j .0;
+            enough = j .1;
+            among = λ t i. w .among t (subst (List·Memᴰ t) (sym (j .2)) (List·Memᴰ·tail i));
+            makes = step (map (pickedItem σ p) (itemsFrom (j .0) p (m .next))) ∙ ap (λ l. comes (map (pickedItem σ p) l)) (sym (j .2)) ∙ w .makes;
+          }
+
+-- n items are passed, and `acc` is the least of what they break
+module _ (faults : ℕ → Picked → List Fault) where
+  abbrev pub going : ℕ → Least → List Picked → Least
+  going n acc l = lesser acc (least (each faults (n + 1) l))
+
+  going-none : (n : ℕ) (acc : Least) → going n acc [] ≡ acc
+  unfolding each least
+  going-none n acc = lesser-none acc
+
+  going-more : (n : ℕ) (acc : Least) (x : Picked) (l : List Picked)
+      → lesser (lesser acc (least (faults (n + 1) x))) (least (each faults (n + 1 + 1) l)) ≡ going n acc (x ∷ l)
+  unfolding each
+  going-more n acc x l = passed acc (least (faults (n + 1) x)) (least (each faults (n + 1 + 1) l)) (least-append (faults (n + 1) x) (each faults (n + 1 + 1) l)) refl
+
+  module _ (σ : Shape) (p : List ℕ) where
+    abbrev pub Goes : (n at : ℕ) → Least → Type 0
+    Goes n at acc = Left σ p (going n acc) at (least (each faults 1 (pickedItems σ p)))
+
+    pub goes-start : Goes 0 1 None
+    goes-start = subst (Left σ p (going 0 None) 1) (none-lesser (least (each faults 1 (pickedItems σ p)))) (left-start σ p (going 0 None))
+
+    module _ (n at : ℕ) (acc : Least) (w : Goes n at acc) where
+      pub goes-end : itemSteps p .Ends at → acc ≡ least (each faults 1 (pickedItems σ p))
+      goes-end f = sym (going-none n acc) ∙ left-end σ p (going n acc) at w f
+
+      pub goes-more : (m : Item) → itemSteps p .Finds at m → {this : Least} → this ≡ least (faults (n + 1) (pickedItem σ p m))
+          → {now′ : Least} → now′ ≡ lesser acc this → Goes (n + 1) (m .next) now′
+      goes-more m f {this} e {now′} h =
+          left-more σ p (going n acc) at w m f (going (n + 1) now′)
+          (λ l. ap (λ (a : Least). going (n + 1) a l) (h ∙ ap (lesser acc) e) ∙ going-more n acc (pickedItem σ p m) l)
+
+-- the counts of items, summed
+module _ (p : List ℕ) where
+  abbrev pub Sums : (sum at : ℕ) → Type 0
+  Sums sum at = Left available p (λ l. sum + sumOf l) at (sumOf (pickedItems available p))
+
+  pub sums-start : Sums 0 1
+  sums-start =
+      let z : 0 + sumOf (pickedItems available p) ≡ sumOf (pickedItems available p) = omega arith in
+      subst (Left available p (λ l. 0 + sumOf l) 1) z (left-start available p (λ l. 0 + sumOf l))
+
+  module _ (sum at : ℕ) (w : Sums sum at) where
+    pub sums-end : itemSteps p .Ends at → sum ≡ sumOf (pickedItems available p)
+    unfolding sumOf
+    sums-end f = let z : sum ≡ sum + 0 = omega arith in z ∙ left-end available p (λ l. sum + sumOf l) at w f
+
+    pub sums-more : (m : Item) → itemSteps p .Finds at m
+        → {count : ℕ} → count ≡ integerIn (spelling 39 (pickedItem available p m)) → Sums (sum + count) (m .next)
+    unfolding sumOf
+    sums-more m f {count} e =
+        left-more available p (λ l. sum + sumOf l) at w m f (λ l. sum + count + sumOf l) (λ l. rw (sumOf, ← e) (omega arith))

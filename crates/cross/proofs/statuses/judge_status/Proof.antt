@@ -1,0 +1,37 @@
+-- `judge_status` gathers the record's members and joins what the fields of its station and of its counts break.
+use borrow.Author.Needs.{needs}
+use mathlib.Core.Path.{ap, _∙_}
+use native.Mathlib.Omega.{arith}
+use Rattle.fault.specs.Fault.{least}
+use Rattle.document.proofs.Records.{recordShape}
+use Rattle.references.specs.Known.{recordsOf}
+use Rattle.cross.specs.Cross.{faultsOf}
+use Rattle.cross.proofs.Joined.{both}
+use Rattle.cross.proofs.Gathering.{status-is, counts-short}
+use Rattle.cross.proofs.statuses.judge_status.Statement.{statement}
+use Rattle.cross.proofs.statuses.judge_status.Tie as tie
+
+judge-counts-requires : tie.Need-judge-counts-requires
+judge-counts-requires c κs =
+    let v = c .before .before in let s = v .before in let g = s .before .before .before .before .before .before in
+    let k = g .before .before .before .before .before in
+    (k .pre .0, omega (arith, k .pre .1, counts-short (g .gather .ensures) (s .slot3 .result, s .slot3 .ensures, v .value-at3 .ensures)))
+
+returns : tie.Need-returns
+unfolding faultsOf recordShape
+returns c ms w =
+    let j = c .before in let v₄ = j .before in let s₄ = v₄ .before in let v₃ = s₄ .before in let s₃ = v₃ .before in let i = s₃ .before in
+    let v₂ = i .before in let s₂ = v₂ .before in let v = s₂ .before in let s = v .before in let g = s .before in
+    let a = g .before .before .before .before .before .args in
+    let types = a .types .now in let stations = a .stations .now in let plans = a .plans .now in
+    both _ _ (c .lesser .ensures) (i .judge-station .ensures) (j .judge-counts .ensures)
+    ∙ ap least
+    (status-is (a .set .«types_here») (recordsOf 1 types stations plans) (recordsOf 2 types stations plans) (a .n) (g .gather .ensures)
+    (s .slot .result, s .slot .ensures, v .value-at .ensures) (s₂ .slot2 .result, s₂ .slot2 .ensures, v₂ .value-at2 .ensures)
+    (s₃ .slot3 .result, s₃ .slot3 .ensures, v₃ .value-at3 .ensures) (s₄ .slot4 .result, s₄ .slot4 .ensures, v₄ .value-at4 .ensures) w)
+
+pub judge-status-spec : {M : Type 1} → statement M
+judge-status-spec =
+    tie.close
+    (tie.spec (λ c κs. search needs) (λ c κs. search needs) (λ c κs. search needs) (λ c κs. search needs) (λ c κs. search needs) (λ c κs. search needs)
+    (λ c κs. search needs) (λ c κs. search needs) (λ c κs. search needs) (λ c κs. search needs) judge-counts-requires (λ c κs. search needs) returns)

@@ -1,0 +1,66 @@
+-- `judge_named` walks over the ids of a rule. The loop's invariant: the least so far, with what the ids left break, makes the least of all; all ids
+-- of a rule stand at one place, so any number serves for them.
+use borrow.Author.Needs.{needs}
+use mathlib.Core.Path.{sym, ap, _∙_}
+use Prim.Native.Nat.{ℕ, _+_, _-_}
+use native.Mathlib.Omega.{arith}
+use lib.ListN.{length}
+use Rattle.walk.proofs.Places.{ItemPlaced, item-placed}
+use Rattle.walk.proofs.Parts.{item-whole}
+use Rattle.schema.specs.Shape.{Sort, scalar}
+use Rattle.fault.specs.Fault.{least as leastOf}
+use Rattle.references.specs.References.{refers as refersTo}
+use Rattle.references.specs.Known.{recordsOf}
+use Rattle.cross.proofs.Joined.{breaks}
+use Rattle.cross.proofs.Walked.{Goes, goes-start, goes-end, goes-more}
+use Rattle.cross.proofs.Fielded.{idItem, id-each, id-text}
+use Rattle.cross.proofs.zones.judge_named.Statement.{statement}
+use Rattle.cross.proofs.zones.judge_named.Tie as tie
+
+abbrev Inv-loop : tie.InvT-loop
+Inv-loop p place set types stations plans digests starts ends least₀ at₀ least at =
+    (k : ℕ) × Goes (idItem (recordsOf 1 types stations plans) (place .«record») (place .sub)) (scalar Sort.id) p k at least
+
+abbrev μ-loop : tie.MeasureT-loop
+μ-loop p place set types stations plans digests starts ends least₀ at₀ least at = length p - at
+
+loop-holds : tie.Need-loop-holds Inv-loop μ-loop
+loop-holds c = (0, goes-start _ _ _)
+
+returns : tie.Need-returns Inv-loop μ-loop
+returns c =
+    let n = c .before .before in let k = n .before in
+    goes-end _ _ _ (k .loop .inv .0) (k .loop .at) (k .loop .least) (k .loop .inv .1) (sym (n .next-item .ensures) ∙ c .enum-told .given .1)
+    ∙ ap leastOf (id-each _ _ _ 1 _)
+
+-- where an item was found
+abbrev Met : Type 0
+Met = tie.After-known-told Inv-loop μ-loop
+
+placed : (c : Met) →
+    let k = c .before .before .before .before in ItemPlaced (k .before .before .before .before .before .args .p .now) (k .loop .at) (c .before .item .given .0 .0)
+placed c = item-placed _ _ _ (sym (c .before .before .before .next-item .ensures) ∙ c .before .item .given .1)
+
+loop-less : tie.Need-loop-less Inv-loop μ-loop
+loop-less c = let m = placed (c .before .before .before .before) in omega arith
+
+loop-again : tie.Need-loop-again Inv-loop μ-loop
+loop-again c =
+    let b = c .before in let r = b .before in let d = r .before .before .before in let t = d .before .before in let k = t .before in
+    let a = k .before .before .before .before .before .args in let m = d .item .given .0 .0 in
+    let f = sym (t .next-item .ensures) ∙ d .item .given .1 in
+    let types = recordsOf 1 (a .types .now) (a .stations .now) (a .plans .now) in (
+      k .loop .inv .0 + 1,
+      goes-more (idItem types (a .place .«record») (a .place .sub)) (scalar Sort.id) (a .p .now) (k .loop .inv .0)
+          (k .loop .at) (k .loop .least) (k .loop .inv .1) m f
+          (breaks (a .place) 78 (r .refers .result) (b .broken .ensures)
+          (r .refers .ensures ∙ ap (λ z. refersTo z 10 types) (id-text (item-whole (a .p .now) (k .loop .at) m f))))
+          (c .lesser .ensures),
+    )
+
+pub judge-named-spec : {M : Type 1} → statement M
+judge-named-spec =
+    tie.close
+    (tie.spec Inv-loop μ-loop loop-holds (λ c κs. search needs) (λ c. search needs) (λ c. search needs) returns
+    (λ c. let m = placed c in omega arith) (λ c. let m = placed c in omega arith) (λ c. let m = placed c in omega arith) (λ c κs. search needs)
+    (λ c κs. search needs) (λ c κs. search needs) loop-less loop-again)

@@ -1,0 +1,4 @@
+pub mod Cross
+pub mod Judged
+pub mod Stage
+pub mod Staged

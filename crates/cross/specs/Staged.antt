@@ -1,0 +1,79 @@
+-- What the code answers of one file and of all, from the arrays of their records: presence, repeated ids and what the records demand.
+use mathlib.Core.Bool.{Bool, true, false, not}
+use mathlib.Core.List.{List, [], _∷_}
+use mathlib.Core.Path.{_≡_}
+use Prim.Native.Nat.{ℕ, zero, suc, _+_, _*_, _≤_}
+use lib.Dec.{eqb, ltb}
+use lib.ListN.{length}
+use Rattle.limits.specs.Ceilings.{fileBytes}
+use Rattle.notation.specs.Choice.{_⇒_else_, _and_}
+use Rattle.word.specs.Kinds.{condition}
+use Rattle.walk.specs.Walk.{part, itemsOf}
+use Rattle.fault.specs.declared.Fault.{Fault}
+use Rattle.fault.specs.declared.Least.{Least}
+use Rattle.fault.specs.declared.Least.the-variants.{None, Is}
+use Rattle.fault.specs.Fault.{least, lesser}
+use Rattle.judge.specs.Faults.{top, faulty}
+use Rattle.document.specs.declared.Span.{Span}
+use Rattle.document.specs.declared.Span.the-variants as span
+use Rattle.document.specs.Spans.{recordsSpan}
+use Rattle.document.proofs.Records.{recordShape, pickedItems}
+use Rattle.clean.specs.Noted.{idName, idsIn, repeatAt, blamed}
+use Rattle.references.specs.declared.Set.{Set}
+use Rattle.cross.specs.declared.stage.Crossed.{Crossed}
+use Rattle.cross.specs.declared.stage.Crossed.the-variants.{Nothing, At}
+use Rattle.references.specs.References.{when}
+use Rattle.cross.specs.Cross.{each}
+use Rattle.references.specs.Known as known
+use Rattle.references.specs.Known.{Objects}
+use Rattle.cross.specs.Judged as judged
+
+-- the array of a file's records, by the file's bytes
+abbrev pub atSpan : List ℕ → Span → List ℕ
+atSpan s span.None = []
+atSpan s (span.Is from upto) = part s from upto
+
+unfoldable pub recordsPart : ℕ → List ℕ → List ℕ
+recordsPart file s = atSpan s (recordsSpan file s)
+
+-- an array of records that is within its ceilings
+pub record Recorded (p : List ℕ) : Type 0 where
+  pub short : length p ≤ fileBytes
+  pub objects : Objects p
+  pub few : length (itemsOf p) ≤ known.each
+
+-- another file calls for this one
+unfoldable pub calledFor : ℕ → Set → Bool
+calledFor file set =
+    eqb file 2 ⇒ set .«statuses_here» and not (set .«stations_here») else
+    eqb file 3 ⇒ set .«stations_here» and not (set .«statuses_here») else
+    eqb file 4 ⇒ not (set .«stations_here») and not (set .«bikes_here») else false
+
+-- the first id that repeats
+unfoldable pub idsLeast : ℕ → List ℕ → Least
+idsLeast file p = ltb 5 file ⇒ None else blamed (file * 10) (repeatAt 1 [] (idsIn (idName file) p))
+
+module _ (set : Set) (types stations plans : List ℕ) where
+  -- the least of a file, of which p are the records
+  unfoldable pub fileLeast : ℕ → List ℕ → Least
+  fileLeast file p =
+      lesser (least (faulty top 0 (when (calledFor file set) condition)))
+      (lesser (idsLeast file p) (least (each (judged.broken set types stations plans file) 1 (pickedItems (recordShape file) p))))
+
+  -- of the file with this number
+  unfoldable pub numberedLeast : (statuses bikes zones : List ℕ) (file : ℕ) → Least
+  numberedLeast statuses bikes zones file =
+      eqb file 1 ⇒ fileLeast 1 types else
+      eqb file 2 ⇒ fileLeast 2 stations else
+      eqb file 3 ⇒ fileLeast 3 statuses else
+      eqb file 4 ⇒ fileLeast 4 bikes else
+      eqb file 5 ⇒ fileLeast 5 plans else fileLeast 6 zones
+
+-- the first of n files, from `file` on, that breaks a rule
+abbrev pub crossing : ℕ → Least → Crossed → Crossed
+crossing file None next = next
+crossing file (Is f) next = At file f
+
+unfoldable pub firstFrom : (ℕ → Least) → (file n : ℕ) → Crossed
+firstFrom least′ file zero = Nothing
+firstFrom least′ file (suc n) = crossing file (least′ file) (firstFrom least′ (file + 1) n)

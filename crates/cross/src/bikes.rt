@@ -1,0 +1,143 @@
+// A record of file 4: a position of its own unless it stands at a station, and what it refers to.
+use fault::Least;
+use fault::lesser;
+use fields::value_at;
+use judge::Place;
+use references::ALL;
+use references::Set;
+use references::rules::demanded;
+use references::rules::named;
+use references::rules::refers;
+use slots::gather;
+ghost use mathlib.Core.Bool.{not};
+ghost use mathlib.Core.List.{_++_};
+ghost use mathlib.Core.Path.{_≡_};
+ghost use Rattle.fault.specs.Fault.{least};
+ghost use Rattle.judge.specs.Faults.{faulty};
+ghost use Rattle.fields.specs.Values.{textBy, thereBy};
+ghost use Rattle.references.specs.References.{demanded as demandedOf, refers as refersTo, named as namedBy, driven as drivenOf};
+ghost use Rattle.references.specs.Known.{Known, recordsOf};
+ghost use Rattle.cross.specs.Judged.{Judges};
+
+// Fields 41 and 42, by their values and that of field 47.
+fn judge_position(station: &[u8], lat: &[u8], lon: &[u8], place: Place) -> Least
+    ensures { λ r. ⌜ r ≡ least (faulty place 41 (demandedOf (not (thereBy (now (station .entry)))) (thereBy (now (lat .entry)))) ++ faulty place 42 (demandedOf (not (thereBy (now (station .entry)))) (thereBy (now (lon .entry))))) ⌝ }
+{
+    let needed = station.len() == 0;
+    let a = place.broken(41, demanded(needed, lat));
+    let b = place.broken(42, demanded(needed, lon));
+    lesser(a, b)
+}
+
+// Fields 45 and 46, by their values.
+fn judge_vehicle(
+    reference: &[u8],
+    range: &[u8],
+    place: Place,
+    set: Set,
+    types: &[u8],
+    stations: &[u8],
+    plans: &[u8],
+    digests: &[u32; ALL],
+    starts: &[usize; ALL],
+    ends: &[usize; ALL],
+) -> Least
+    requires { ⌜ Known set (now types) (now stations) (now plans) (now digests) (now starts) (now ends) ⌝ }
+    ensures { λ r. ⌜ r ≡ least (faulty place 45 (demandedOf (set .«types_here») (thereBy (now (reference .entry))) ++ refersTo (textBy (now (reference .entry))) 10 (recordsOf 1 (now (types .entry)) (now (stations .entry)) (now (plans .entry)))) ++ faulty place 46 (demandedOf (namedBy drivenOf 10 (recordsOf 1 (now (types .entry)) (now (stations .entry)) (now (plans .entry))) (textBy (now (reference .entry)))) (thereBy (now (range .entry))))) ⌝ }
+{
+    let a = place.broken(45, demanded(set.types_here, reference));
+    let b = place.broken(
+        45,
+        refers(
+            reference,
+            1,
+            set,
+            types,
+            stations,
+            plans,
+            digests,
+            starts,
+            ends,
+        ),
+    );
+    let driven = named(
+        reference,
+        1,
+        set,
+        types,
+        stations,
+        plans,
+        digests,
+        starts,
+        ends,
+    );
+    let c = place.broken(46, demanded(driven, range));
+    lesser(lesser(a, b), c)
+}
+
+// The n-th record `p`. Its rows begin at line 40 of the table.
+pub fn judge_bike(
+    p: &[u8],
+    n: u32,
+    set: Set,
+    types: &[u8],
+    stations: &[u8],
+    plans: &[u8],
+    digests: &[u32; ALL],
+    starts: &[usize; ALL],
+    ends: &[usize; ALL],
+) -> Least
+    requires { ⌜ Known set (now types) (now stations) (now plans) (now digests) (now starts) (now ends) ⌝ }
+    ensures { λ r. ⌜ Judges set (now (types .entry)) (now (stations .entry)) (now (plans .entry)) 4 n (now (p .entry)) r ⌝ }
+{
+    let slots = gather(p, 40, 10);
+    let place = Place { record: n, sub: 0 };
+    let station = value_at(p, slots.slot(7));
+    let a = judge_position(
+        station,
+        value_at(p, slots.slot(1)),
+        value_at(p, slots.slot(2)),
+        place,
+    );
+    let b = judge_vehicle(
+        value_at(p, slots.slot(5)),
+        value_at(p, slots.slot(6)),
+        place,
+        set,
+        types,
+        stations,
+        plans,
+        digests,
+        starts,
+        ends,
+    );
+    let c = place.broken(
+        47,
+        refers(
+            station,
+            2,
+            set,
+            types,
+            stations,
+            plans,
+            digests,
+            starts,
+            ends,
+        ),
+    );
+    let d = place.broken(
+        48,
+        refers(
+            value_at(p, slots.slot(8)),
+            5,
+            set,
+            types,
+            stations,
+            plans,
+            digests,
+            starts,
+            ends,
+        ),
+    );
+    lesser(lesser(a, b), lesser(c, d))
+}

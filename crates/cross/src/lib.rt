@@ -1,0 +1,7 @@
+// Stage C: what the files of a set demand of each other.
+mod bikes;
+mod records;
+pub mod stage;
+mod statuses;
+mod types;
+mod zones;

@@ -1,0 +1,275 @@
+// Stage C of a set: file by file whether it is called for, which id repeats, and what its records demand.
+use crate::records::judge_records;
+use clean::Cleanness;
+use clean::ids::first_repeat;
+use clean::parts_of;
+use document::Span;
+use document::cut;
+use document::records_span;
+use fault::Fault;
+use fault::Least;
+use fault::lesser;
+use judge::Place;
+use references::ALL;
+use references::EACH;
+use references::Set;
+use references::note::note;
+use word::kind::Kind;
+ghost use mathlib.Core.Bool.{not};
+ghost use mathlib.Core.Path.{_≡_};
+ghost use Prim.Native.Nat.{_≤_};
+ghost use lib.ListN.{length};
+ghost use Rattle.notation.specs.Choice.{_and_};
+ghost use Rattle.walk.specs.Walk.{itemsOf};
+ghost use Rattle.word.specs.Kinds.{condition};
+ghost use Rattle.fault.specs.Fault.{least};
+ghost use Rattle.judge.specs.Faults.{top, faulty};
+ghost use Rattle.references.specs.References.{when};
+ghost use Rattle.references.specs.Known.{Known, each};
+ghost use Rattle.cross.specs.Stage.{Through, filesOf, stageC};
+ghost use Rattle.cross.specs.Staged.{Recorded, recordsPart, calledFor, idsLeast, fileLeast, numberedLeast, firstFrom};
+
+// The first broken rule of stage C, with its file; or none.
+pub enum Crossed {
+    Nothing,
+    At(u8, Fault),
+}
+
+// The array of a file's records; no bytes where there is none.
+fn records_part(file: u8, s: &[u8]) -> &[u8]
+    ensures { λ r. ⌜ now r ≡ recordsPart file (now (s .entry)) ⌝ }
+{
+    match records_span(file, s) {
+        Span::None => {
+            return cut(s, 0, 0);
+        }
+        Span::Is(from, upto) => {
+            return cut(s, from, upto);
+        }
+    }
+}
+
+// Whether a file that is needed is lacking.
+fn is_lacking(needed: bool, here: bool) -> bool
+    ensures { λ r. ⌜ r ≡ needed and not here ⌝ }
+{
+    if needed {
+        return !here;
+    }
+    false
+}
+
+// Another file calls for this one, and it is not there.
+fn is_called_for(file: u8, set: Set) -> bool
+    ensures { λ r. ⌜ r ≡ calledFor file set ⌝ }
+{
+    match file {
+        2 => is_lacking(set.statuses_here, set.stations_here),
+        3 => is_lacking(set.stations_here, set.statuses_here),
+        4 => is_lacking(!set.stations_here, set.bikes_here),
+        _ => false,
+    }
+}
+
+// The rule that a file breaks which is called for and not there; it stands in the header.
+fn judge_presence(file: u8, set: Set) -> Least
+    ensures { λ r. ⌜ r ≡ least (faulty top 0 (when (calledFor file set) condition)) ⌝ }
+{
+    let header = Place { record: 0, sub: 0 };
+    if is_called_for(file, set) {
+        return header.broken(0, Kind::CONDITION);
+    }
+    Least::None
+}
+
+// Ids used before in the file. Records of file 6 have none.
+fn judge_ids(file: u8, p: &[u8]) -> Least
+    requires { ⌜ length (itemsOf (now p)) ≤ each ⌝ }
+    ensures { λ r. ⌜ r ≡ idsLeast file (now (p .entry)) ⌝ }
+{
+    if 5 < file {
+        return Least::None;
+    }
+    let n = first_repeat(file, p);
+    if n == 0 {
+        return Least::None;
+    }
+    Least::Is(Fault {
+        record: n as u32,
+        field: file * 10,
+        sub: 0,
+        kind: Kind::ID_TWICE,
+    })
+}
+
+// One file of the set, of which `p` are the records.
+fn judge_file(
+    file: u8,
+    p: &[u8],
+    set: Set,
+    types: &[u8],
+    stations: &[u8],
+    plans: &[u8],
+    digests: &[u32; ALL],
+    starts: &[usize; ALL],
+    ends: &[usize; ALL],
+) -> Least
+    requires { ⌜ Known set (now types) (now stations) (now plans) (now digests) (now starts) (now ends) × Recorded (now p) ⌝ }
+    ensures { λ r. ⌜ r ≡ fileLeast set (now (types .entry)) (now (stations .entry)) (now (plans .entry)) file (now (p .entry)) ⌝ }
+{
+    let a = judge_presence(file, set);
+    let b = judge_ids(file, p);
+    let c = judge_records(file, p, set, types, stations, plans, digests, starts, ends);
+    lesser(a, lesser(b, c))
+}
+
+// The file with this number.
+fn judge_numbered(
+    file: u8,
+    statuses: &[u8],
+    bikes: &[u8],
+    zones: &[u8],
+    set: Set,
+    types: &[u8],
+    stations: &[u8],
+    plans: &[u8],
+    digests: &[u32; ALL],
+    starts: &[usize; ALL],
+    ends: &[usize; ALL],
+) -> Least
+    requires { ⌜ Known set (now types) (now stations) (now plans) (now digests) (now starts) (now ends) × Recorded (now types) × Recorded (now stations) × Recorded (now statuses) × Recorded (now bikes) × Recorded (now plans) × Recorded (now zones) ⌝ }
+    ensures { λ r. ⌜ r ≡ numberedLeast set (now (types .entry)) (now (stations .entry)) (now (plans .entry)) (now (statuses .entry)) (now (bikes .entry)) (now (zones .entry)) file ⌝ }
+{
+    match file {
+        1 => judge_file(1, types, set, types, stations, plans, digests, starts, ends),
+        2 => judge_file(
+            2,
+            stations,
+            set,
+            types,
+            stations,
+            plans,
+            digests,
+            starts,
+            ends,
+        ),
+        3 => judge_file(
+            3,
+            statuses,
+            set,
+            types,
+            stations,
+            plans,
+            digests,
+            starts,
+            ends,
+        ),
+        4 => judge_file(4, bikes, set, types, stations, plans, digests, starts, ends),
+        5 => judge_file(5, plans, set, types, stations, plans, digests, starts, ends),
+        _ => judge_file(6, zones, set, types, stations, plans, digests, starts, ends),
+    }
+}
+
+// The first file with a broken rule, where the records that references name are noted.
+fn judge_noted(
+    statuses: &[u8],
+    bikes: &[u8],
+    zones: &[u8],
+    set: Set,
+    types: &[u8],
+    stations: &[u8],
+    plans: &[u8],
+    digests: &[u32; ALL],
+    starts: &[usize; ALL],
+    ends: &[usize; ALL],
+) -> Crossed
+    requires { ⌜ Known set (now types) (now stations) (now plans) (now digests) (now starts) (now ends) × Recorded (now types) × Recorded (now stations) × Recorded (now statuses) × Recorded (now bikes) × Recorded (now plans) × Recorded (now zones) ⌝ }
+    ensures { λ r. ⌜ r ≡ firstFrom (numberedLeast set (now (types .entry)) (now (stations .entry)) (now (plans .entry)) (now (statuses .entry)) (now (bikes .entry)) (now (zones .entry))) 1 6 ⌝ }
+{
+    let mut file: u8 = 1;
+    while file <= 6 {
+        match judge_numbered(
+            file,
+            statuses,
+            bikes,
+            zones,
+            set,
+            types,
+            stations,
+            plans,
+            digests,
+            starts,
+            ends,
+        ) {
+            Least::Is(f) => {
+                return Crossed::At(file, f);
+            }
+            Least::None => {
+                file += 1;
+            }
+        }
+    }
+    Crossed::Nothing
+}
+
+// The same with nothing noted yet; `here` tells which files there are.
+fn judge_parts(
+    types: &[u8],
+    stations: &[u8],
+    statuses: &[u8],
+    bikes: &[u8],
+    plans: &[u8],
+    zones: &[u8],
+    here: Set,
+) -> Crossed
+    requires { ⌜ Recorded (now types) × Recorded (now stations) × Recorded (now statuses) × Recorded (now bikes) × Recorded (now plans) × Recorded (now zones) ⌝ }
+    ensures { λ r. ⌜ r ≡ firstFrom (numberedLeast here (now (types .entry)) (now (stations .entry)) (now (plans .entry)) (now (statuses .entry)) (now (bikes .entry)) (now (zones .entry))) 1 6 ⌝ }
+{
+    let mut digests: [u32; ALL] = [0; ALL];
+    let mut starts: [usize; ALL] = [0; ALL];
+    let mut ends: [usize; ALL] = [0; ALL];
+    let n = note(1, types, 0, &mut digests, &mut starts, &mut ends);
+    let m = note(2, stations, EACH, &mut digests, &mut starts, &mut ends);
+    let k = note(5, plans, 2 * EACH, &mut digests, &mut starts, &mut ends);
+    let set = here.counting(n, m, k);
+    judge_noted(
+        statuses,
+        bikes,
+        zones,
+        set,
+        types,
+        stations,
+        plans,
+        &digests,
+        &starts,
+        &ends,
+    )
+}
+
+// Stage C of a set of files that are through stages A and B.
+// Shut out: a file passed over because a later one breaks a rule too; a rule of one file named in another.
+pub fn judge_set(
+    types: &[u8],
+    stations: &[u8],
+    statuses: &[u8],
+    bikes: &[u8],
+    plans: &[u8],
+    zones: &[u8],
+) -> Cleanness
+    requires { ⌜ Through 1 (now types) × Through 2 (now stations) × Through 3 (now statuses) × Through 4 (now bikes) × Through 5 (now plans) × Through 6 (now zones) ⌝ }
+    ensures { λ r. ⌜ r ≡ stageC (filesOf (now (types .entry)) (now (stations .entry)) (now (statuses .entry)) (now (bikes .entry)) (now (plans .entry)) (now (zones .entry))) ⌝ }
+{
+    let crossed = judge_parts(
+        records_part(1, types),
+        records_part(2, stations),
+        records_part(3, statuses),
+        records_part(4, bikes),
+        records_part(5, plans),
+        records_part(6, zones),
+        Set::of(types, stations, statuses, bikes, plans),
+    );
+    match crossed {
+        Crossed::Nothing => Cleanness::Clean,
+        Crossed::At(file, f) => Cleanness::Broken(parts_of(file, f)),
+    }
+}

@@ -1,0 +1,242 @@
+// A record of file 3: its station, and the types that are available there.
+use fault::Least;
+use fault::lesser;
+use fields::array_in;
+use fields::integer_in;
+use fields::member;
+use fields::value_at;
+use judge::Place;
+use references::ALL;
+use references::Set;
+use references::rules::demanded;
+use references::rules::named;
+use references::rules::refers;
+use slots::gather;
+use walk::ItemStep;
+use walk::next_item;
+use word::kind::Kind;
+ghost use mathlib.Core.Bool.{not};
+ghost use mathlib.Core.List.{_++_};
+ghost use mathlib.Core.Path.{_≡_};
+ghost use Prim.Native.Nat.{_≤_};
+ghost use lib.ListN.{length};
+ghost use Rattle.limits.specs.Ceilings.{fileBytes};
+ghost use Prim.Native.Nat.{_<_, _^_};
+ghost use lib.Dec.{eqb};
+ghost use Rattle.notation.specs.Choice.{_and_};
+ghost use Rattle.word.specs.Kinds.{sumDiffers};
+ghost use Rattle.scalar.specs.Listed.{listed};
+ghost use Rattle.schema.specs.Table23.{available as availableShape};
+ghost use Rattle.fault.specs.Fault.{least};
+ghost use Rattle.judge.specs.Faults.{faulty};
+ghost use Rattle.document.proofs.Records.{pickedItems};
+ghost use Rattle.fields.specs.Values.{textBy, thereBy, arrayBy, spelledBy, integerIn};
+ghost use Rattle.references.specs.References.{when, demanded as demandedOf, refers as refersTo, named as namedBy, roomy as roomyOf};
+ghost use Rattle.cross.specs.Cross.{at, sumOf, availableFaults};
+ghost use Rattle.references.specs.Known.{Known, recordsOf};
+ghost use Rattle.cross.specs.Judged.{Judges};
+
+// The counts of the items of the array `p`, summed.
+fn sum_of(p: &[u8]) -> u64
+    requires { ⌜ length (now p) ≤ fileBytes ⌝ }
+    ensures { λ r. ⌜ r ≡ sumOf (pickedItems availableShape (now (p .entry))) ⌝ }
+{
+    let mut sum: u64 = 0;
+    let mut at: usize = 1;
+    loop {
+        let ItemStep::Found(item) = next_item(p, at) else {
+            return sum;
+        };
+        let from = item.value;
+        let upto = item.value_end;
+        sum += integer_in(member(&p[from..upto], b"count"));
+        at = item.next;
+    }
+}
+
+// The types that are available, in the array `p`, item by item.
+fn judge_available(
+    p: &[u8],
+    n: u32,
+    set: Set,
+    types: &[u8],
+    stations: &[u8],
+    plans: &[u8],
+    digests: &[u32; ALL],
+    starts: &[usize; ALL],
+    ends: &[usize; ALL],
+) -> Least
+    requires { ⌜ Known set (now types) (now stations) (now plans) (now digests) (now starts) (now ends) × (length (now p) ≤ fileBytes) ⌝ }
+    ensures { λ r. ⌜ r ≡ least (availableFaults (recordsOf 1 (now (types .entry)) (now (stations .entry)) (now (plans .entry))) n 1 (pickedItems availableShape (now (p .entry)))) ⌝ }
+{
+    let mut least = Least::None;
+    let mut sub: u32 = 0;
+    let mut at: usize = 1;
+    loop {
+        let ItemStep::Found(item) = next_item(p, at) else {
+            return least;
+        };
+        sub += 1;
+        let from = item.value;
+        let upto = item.value_end;
+        let place = Place {
+            record: n,
+            sub: sub,
+        };
+        let reference = member(&p[from..upto], b"vehicle_type_id");
+        least = lesser(
+            least,
+            place.broken(
+                38,
+                refers(
+                    reference,
+                    1,
+                    set,
+                    types,
+                    stations,
+                    plans,
+                    digests,
+                    starts,
+                    ends,
+                ),
+            ),
+        );
+        at = item.next;
+    }
+}
+
+// What field 37 breaks whose counts do not sum to field 31: the kind, or 0.
+fn sum_kind(available: &[u8], bikes: &[u8]) -> u8
+    requires { ⌜ length (now available) ≤ fileBytes ⌝ }
+    ensures { λ r. ⌜ listed r ≡ when (thereBy (now (available .entry)) and not (eqb (sumOf (pickedItems availableShape (arrayBy (now (available .entry))))) (integerIn (spelledBy (now (bikes .entry)))))) sumDiffers ⌝ }
+{
+    if available.len() == 0 {
+        return 0;
+    }
+    if sum_of(array_in(available)) == integer_in(bikes) {
+        return 0;
+    }
+    Kind::SUM_DIFFERS
+}
+
+// Fields 30 and 32, by their values.
+fn judge_station(
+    reference: &[u8],
+    docks: &[u8],
+    place: Place,
+    set: Set,
+    types: &[u8],
+    stations: &[u8],
+    plans: &[u8],
+    digests: &[u32; ALL],
+    starts: &[usize; ALL],
+    ends: &[usize; ALL],
+) -> Least
+    requires { ⌜ Known set (now types) (now stations) (now plans) (now digests) (now starts) (now ends) ⌝ }
+    ensures { λ r. ⌜ r ≡ least (faulty place 30 (refersTo (textBy (now (reference .entry))) 20 (recordsOf 2 (now (types .entry)) (now (stations .entry)) (now (plans .entry)))) ++ faulty place 32 (demandedOf (namedBy roomyOf 20 (recordsOf 2 (now (types .entry)) (now (stations .entry)) (now (plans .entry))) (textBy (now (reference .entry)))) (thereBy (now (docks .entry))))) ⌝ }
+{
+    let a = place.broken(
+        30,
+        refers(
+            reference,
+            2,
+            set,
+            types,
+            stations,
+            plans,
+            digests,
+            starts,
+            ends,
+        ),
+    );
+    let roomy = named(
+        reference,
+        2,
+        set,
+        types,
+        stations,
+        plans,
+        digests,
+        starts,
+        ends,
+    );
+    let b = place.broken(32, demanded(roomy, docks));
+    lesser(a, b)
+}
+
+// Field 37 and what stands in it, by its value and that of field 31.
+fn judge_counts(
+    available: &[u8],
+    bikes: &[u8],
+    n: u32,
+    set: Set,
+    types: &[u8],
+    stations: &[u8],
+    plans: &[u8],
+    digests: &[u32; ALL],
+    starts: &[usize; ALL],
+    ends: &[usize; ALL],
+) -> Least
+    requires { ⌜ Known set (now types) (now stations) (now plans) (now digests) (now starts) (now ends) × (length (now available) ≤ fileBytes) ⌝ }
+    ensures { λ r. ⌜ r ≡ least (faulty (at n 0) 37 (demandedOf (set .«types_here») (thereBy (now (available .entry))) ++ when (thereBy (now (available .entry)) and not (eqb (sumOf (pickedItems availableShape (arrayBy (now (available .entry))))) (integerIn (spelledBy (now (bikes .entry)))))) sumDiffers) ++ availableFaults (recordsOf 1 (now (types .entry)) (now (stations .entry)) (now (plans .entry))) n 1 (pickedItems availableShape (arrayBy (now (available .entry))))) ⌝ }
+{
+    let place = Place { record: n, sub: 0 };
+    let a = place.broken(37, demanded(set.types_here, available));
+    let b = place.broken(37, sum_kind(available, bikes));
+    let c = judge_available(
+        array_in(available),
+        n,
+        set,
+        types,
+        stations,
+        plans,
+        digests,
+        starts,
+        ends,
+    );
+    lesser(lesser(a, b), c)
+}
+
+// The n-th record `p`. Its rows begin at line 25 of the table.
+pub fn judge_status(
+    p: &[u8],
+    n: u32,
+    set: Set,
+    types: &[u8],
+    stations: &[u8],
+    plans: &[u8],
+    digests: &[u32; ALL],
+    starts: &[usize; ALL],
+    ends: &[usize; ALL],
+) -> Least
+    requires { ⌜ Known set (now types) (now stations) (now plans) (now digests) (now starts) (now ends) × (length (now p) ≤ fileBytes) ⌝ }
+    ensures { λ r. ⌜ Judges set (now (types .entry)) (now (stations .entry)) (now (plans .entry)) 3 n (now (p .entry)) r ⌝ }
+{
+    let slots = gather(p, 25, 10);
+    let place = Place { record: n, sub: 0 };
+    let a = judge_station(
+        value_at(p, slots.slot(0)),
+        value_at(p, slots.slot(2)),
+        place,
+        set,
+        types,
+        stations,
+        plans,
+        digests,
+        starts,
+        ends,
+    );
+    let b = judge_counts(
+        value_at(p, slots.slot(7)),
+        value_at(p, slots.slot(1)),
+        n,
+        set,
+        types,
+        stations,
+        plans,
+        digests,
+        starts,
+        ends,
+    );
+    lesser(a, b)
+}

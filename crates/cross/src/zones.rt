@@ -1,0 +1,133 @@
+// A record of file 6: the types that its rules name.
+use fault::Least;
+use fault::lesser;
+use fields::array_in;
+use fields::member;
+use judge::Place;
+use references::ALL;
+use references::Set;
+use references::rules::refers;
+use walk::ItemStep;
+use walk::next_item;
+ghost use mathlib.Core.Path.{_≡_};
+ghost use Prim.Native.Nat.{_≤_};
+ghost use lib.ListN.{length};
+ghost use Rattle.limits.specs.Ceilings.{fileBytes};
+ghost use Rattle.schema.specs.Shape.{Sort, scalar};
+ghost use Rattle.schema.specs.Table23.{rule as ruleShape};
+ghost use Rattle.fault.specs.Fault.{least};
+ghost use Rattle.document.proofs.Records.{pickedItems};
+ghost use Rattle.cross.specs.Cross.{idFaults, ruleFaults};
+ghost use Rattle.references.specs.Known.{Known, recordsOf};
+ghost use Rattle.cross.specs.Judged.{Judges};
+
+// The items of field 78, in the array `p`.
+fn judge_named(
+    p: &[u8],
+    place: Place,
+    set: Set,
+    types: &[u8],
+    stations: &[u8],
+    plans: &[u8],
+    digests: &[u32; ALL],
+    starts: &[usize; ALL],
+    ends: &[usize; ALL],
+) -> Least
+    requires { ⌜ Known set (now types) (now stations) (now plans) (now digests) (now starts) (now ends) ⌝ }
+    ensures { λ r. ⌜ r ≡ least (idFaults (recordsOf 1 (now (types .entry)) (now (stations .entry)) (now (plans .entry))) (place .«record») (place .sub) (pickedItems (scalar Sort.id) (now (p .entry)))) ⌝ }
+{
+    let mut least = Least::None;
+    let mut at: usize = 1;
+    loop {
+        let ItemStep::Found(item) = next_item(p, at) else {
+            return least;
+        };
+        let from = item.value;
+        let upto = item.value_end;
+        least = lesser(
+            least,
+            place.broken(
+                78,
+                refers(
+                    &p[from..upto],
+                    1,
+                    set,
+                    types,
+                    stations,
+                    plans,
+                    digests,
+                    starts,
+                    ends,
+                ),
+            ),
+        );
+        at = item.next;
+    }
+}
+
+// The rules in the array `p`.
+fn judge_rules(
+    p: &[u8],
+    n: u32,
+    set: Set,
+    types: &[u8],
+    stations: &[u8],
+    plans: &[u8],
+    digests: &[u32; ALL],
+    starts: &[usize; ALL],
+    ends: &[usize; ALL],
+) -> Least
+    requires { ⌜ Known set (now types) (now stations) (now plans) (now digests) (now starts) (now ends) × (length (now p) ≤ fileBytes) ⌝ }
+    ensures { λ r. ⌜ r ≡ least (ruleFaults (recordsOf 1 (now (types .entry)) (now (stations .entry)) (now (plans .entry))) n 1 (pickedItems ruleShape (now (p .entry)))) ⌝ }
+{
+    let mut least = Least::None;
+    let mut sub: u32 = 0;
+    let mut at: usize = 1;
+    loop {
+        let ItemStep::Found(item) = next_item(p, at) else {
+            return least;
+        };
+        sub += 1;
+        let from = item.value;
+        let upto = item.value_end;
+        let place = Place {
+            record: n,
+            sub: sub,
+        };
+        let ids = array_in(member(&p[from..upto], b"vehicle_type_id"));
+        least = lesser(
+            least,
+            judge_named(
+                ids,
+                place,
+                set,
+                types,
+                stations,
+                plans,
+                digests,
+                starts,
+                ends,
+            ),
+        );
+        at = item.next;
+    }
+}
+
+// The n-th record `p`.
+pub fn judge_zone(
+    p: &[u8],
+    n: u32,
+    set: Set,
+    types: &[u8],
+    stations: &[u8],
+    plans: &[u8],
+    digests: &[u32; ALL],
+    starts: &[usize; ALL],
+    ends: &[usize; ALL],
+) -> Least
+    requires { ⌜ Known set (now types) (now stations) (now plans) (now digests) (now starts) (now ends) × (length (now p) ≤ fileBytes) ⌝ }
+    ensures { λ r. ⌜ Judges set (now (types .entry)) (now (stations .entry)) (now (plans .entry)) 6 n (now (p .entry)) r ⌝ }
+{
+    let rules = array_in(member(member(p, b"properties"), b"rules"));
+    judge_rules(rules, n, set, types, stations, plans, digests, starts, ends)
+}

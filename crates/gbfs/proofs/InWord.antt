@@ -1,0 +1,52 @@
+-- What stages B and C find first in a file is within the word, in a set whose files are through the stages before: a file has no more records, nor a record
+-- more items, than the word can number.
+use mathlib.Core.List.{List, [], _∷_}
+use mathlib.Core.Path.{_≡_, refl}
+use Prim.Native.Nat.{ℕ, zero, suc, _≤_}
+use native.Mathlib.Omega.{arith}
+use Rattle.word.specs.Kinds.{nameTwice, sumDiffers}
+use Rattle.fault.specs.declared.Fault.{Fault}
+use Rattle.fault.specs.declared.Least.the-variants.{Is}
+use Rattle.fault.specs.Fault.{least}
+use Rattle.judge.specs.Bounds.{greatest, fields}
+use Rattle.judge.proofs.Fits.{first-fits}
+use Rattle.clean.specs.Clean.{treeOf}
+use Rattle.cross.specs.Cross.{fileIn, crossFaults}
+use Rattle.cross.specs.Stage.{fileOf, Through}
+use Rattle.cross.proofs.Files.{file-bytes}
+use Rattle.cross.proofs.Bounds as cross
+use Rattle.gbfs.specs.Verdict.{Feeds, bytesOf, picked, faultsB}
+
+-- a fault that the word can say
+pub record InWord (f : Fault) : Type 0 where
+  pub rec : f .«record» ≤ greatest
+  pub field : f .field ≤ fields
+  pub sub : f .sub ≤ greatest
+  pub low : nameTwice ≤ f .kind
+  pub high : f .kind ≤ sumDiffers
+
+-- stage B
+pub faults-fit : (file : ℕ) (s : List ℕ) (f : Fault) → least (faultsB file s) ≡ Is f → InWord f
+unfolding least
+faults-fit file [] f e = let z : _≡_ {A = ℕ} 0 1 = cc in absurd (omega arith)
+faults-fit file (b ∷ s) f e =
+    let h = first-fits file (treeOf (b ∷ s)) f e in let k = h .kind in
+    record { rec = h .rec; field = h .field; sub = h .sub; low = k .least; high = omega arith }
+
+-- stage C
+picked-file : (s : Feeds) (file : ℕ) → 1 ≤ file → file ≤ 6 → fileIn (picked s) file ≡ fileOf file (bytesOf s file)
+unfolding fileIn bytesOf
+picked-file s zero h i = absurd (omega arith)
+picked-file s (suc zero) h i = refl
+picked-file s (suc (suc zero)) h i = refl
+picked-file s (suc (suc (suc zero))) h i = refl
+picked-file s (suc (suc (suc (suc zero)))) h i = refl
+picked-file s (suc (suc (suc (suc (suc zero))))) h i = refl
+picked-file s (suc (suc (suc (suc (suc (suc zero)))))) h i = refl
+picked-file s (suc (suc (suc (suc (suc (suc (suc file))))))) h i = absurd (omega arith)
+
+pub cross-fits : (s : Feeds) → ((file : ℕ) → 1 ≤ file → file ≤ 6 → Through file (bytesOf s file))
+    → (file : ℕ) → 1 ≤ file → file ≤ 6 → (f : Fault) → least (crossFaults (picked s) file) ≡ Is f → InWord f
+cross-fits s through file h i f e =
+    let t = cross.cross-fits (picked s) file h i (picked-file s file h i) (file-bytes file h i (bytesOf s file) (through file h i)) f e in let k = t .kind in
+    record { rec = t .rec; field = t .field; sub = t .sub; low = omega arith; high = k .most }

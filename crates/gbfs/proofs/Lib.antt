@@ -1,0 +1,14 @@
+pub mod Answers
+pub mod Passed
+pub mod Every
+pub mod Order
+pub mod First
+pub mod Only
+pub mod ByFile
+pub mod Through
+pub mod Staging
+pub mod InWord
+pub mod ReadBack
+pub mod Unmoved
+pub mod Version
+pub mod Demand

@@ -1,0 +1,110 @@
+-- Demand 3, the answers that stay: of a later file the same is picked, and past stage A every answer is a function of what is picked.
+use mathlib.Core.List.{List, map}
+use mathlib.Core.Path.{_≡_, refl, sym, ap, ap₂, _∙_}
+use Prim.Native.Nat.{ℕ, _≤_}
+use native.Mathlib.Omega.{arith}
+use Rattle.word.specs.Form.{form1}
+use Rattle.word.specs.Word.{wordOf}
+use Rattle.json.specs.declared.Syntax.the-variants.{Sound}
+use Rattle.json.specs.Text.{syntaxOf}
+use Rattle.schema.specs.Shape.{fileShape}
+use Rattle.schema.specs.Table23.{table23}
+use Rattle.schema.specs.Pick.{pick, Picked}
+use Rattle.schema.proofs.PickLater.{pick-later₁}
+use Rattle.schema.proofs.Computed.{distinct}
+use Rattle.fault.specs.Fault.{least}
+use Rattle.judge.specs.Faults.{top, faults, fileFaults}
+use Rattle.clean.specs.declared.Cleanness.{Cleanness}
+use Rattle.clean.specs.declared.Cleanness.the-variants.{Clean}
+use Rattle.clean.specs.Clean.{treeOf, place, repeats, broken, judged, cleanOf}
+use Rattle.clean.proofs.Judged.{clean-there}
+use Rattle.cross.specs.Cross.{present, Files, crossFaults}
+use Rattle.cross.specs.Stage.{fileOf}
+use Rattle.quote.specs.Quote as quote
+use Rattle.quote.specs.Quote.{quoteOf}
+use Rattle.zone.specs.Answer as zone
+use Rattle.zone.specs.Answer.{rulingOf}
+use Rattle.geometry.specs.Ring.{Point}
+use Rattle.gbfs.specs.Verdict.{Feeds, bytesOf, picked, rulesA, faultsB, everyFile, stageA, stageB, stageC, orElse, rules, first, verdictOf, said, acceptance, number}
+use Rattle.gbfs.specs.Demand3 as demand
+use Rattle.gbfs.specs.Demand3.{LaterFile, LaterSet, Agree}
+use Rattle.gbfs.proofs.Answers.{number-room, word-room}
+use Rattle.gbfs.proofs.Every.{every-same}
+use Rattle.gbfs.proofs.Passed.{there, read-there, faults-there, file-there}
+
+-- whether a file past stage A is clean, by what is picked of it
+abbrev onPicked : ℕ → Picked → Cleanness
+onPicked file x = broken file (least (faults (fileShape table23 file) top 0 x)) (broken file (least (repeats file x)) Clean)
+
+clean-of : (file : ℕ) (s : List ℕ) → syntaxOf s ≡ Sound → cleanOf file s ≡ onPicked file (pick (fileShape table23 file) (treeOf s))
+unfolding fileFaults
+clean-of file s e = sym (clean-there file s (there s e)) ∙ ap (judged file s) e
+
+-- A file and a later one.
+record Same (file : ℕ) (s t : List ℕ) : Type 0 where
+  reads : rulesA file s ≡ rulesA file t
+  faults : faultsB file s ≡ faultsB file t
+  files : fileOf file s ≡ fileOf file t
+  trees : pick (fileShape table23 file) (treeOf s) ≡ pick (fileShape table23 file) (treeOf t)
+  cleans : cleanOf file s ≡ cleanOf file t
+
+same : (file : ℕ) {s t : List ℕ} → LaterFile file s t → Same file s t
+unfolding fileFaults
+same file demand.absent = record { reads = refl; faults = refl; files = refl; trees = refl; cleans = refl }
+same file (demand.present {s = s} {t = t} i j l) =
+    let p = pick-later₁ (distinct file) l in
+    record {
+      reads = read-there file s i ∙ sym (read-there file t j);
+      faults = faults-there file s i ∙ ap (faults (fileShape table23 file) top 0) p ∙ sym (faults-there file t j);
+      files = file-there file s i ∙ ap present p ∙ sym (file-there file t j);
+      trees = p;
+      cleans = clean-of file s i ∙ ap (onPicked file) p ∙ sym (clean-of file t j);
+    }
+
+-- A set and a later one.
+module _ (s t : Feeds) (later : LaterSet s t) where
+  at : (file : ℕ) → 1 ≤ file → file ≤ 6 → Same file (bytesOf s file) (bytesOf t file)
+  at file h i = same file (later file h i)
+
+  picked-same : picked s ≡ picked t
+  unfolding bytesOf
+  picked-same i =
+      record {
+        vehicleTypes = at 1 (omega arith) (omega arith) .files i;
+        stations = at 2 (omega arith) (omega arith) .files i;
+        statuses = at 3 (omega arith) (omega arith) .files i;
+        bikes = at 4 (omega arith) (omega arith) .files i;
+        plans = at 5 (omega arith) (omega arith) .files i;
+        zones = at 6 (omega arith) (omega arith) .files i;
+      }
+
+  rules-same : rules s ≡ rules t
+  unfolding rules stageA stageB stageC
+  rules-same =
+      ap₂ orElse (every-same _ _ (λ file h i. at file h i .reads))
+      (ap₂ orElse (every-same _ _ (λ file h i. ap (map (place file)) (at file h i .faults)))
+      (ap (λ (x : Files). everyFile (λ file. map (place file) (crossFaults x file))) picked-same))
+
+  verdict-same : verdictOf s ≡ verdictOf t
+  unfolding verdictOf
+  verdict-same = ap first rules-same
+
+  quote-same : (id : List ℕ) (seconds metres : ℕ) → quoteOf (s .plans) id seconds metres ≡ quoteOf (t .plans) id seconds metres
+  unfolding bytesOf quoteOf
+  quote-same id seconds metres = let h = at 5 (omega arith) (omega arith) in rw (h .cleans, h .trees)
+
+  ruling-same : (q : Point) (type : List ℕ) (moment : ℕ) → rulingOf (s .zones) q type moment ≡ rulingOf (t .zones) q type moment
+  unfolding bytesOf rulingOf
+  ruling-same q type moment = let h = at 6 (omega arith) (omega arith) in rw (h .cleans, h .trees)
+
+pub unmoved : (s t : Feeds) → LaterSet s t → Agree s t
+unmoved s t later =
+    let v = verdict-same s t later in
+    record {
+      verdicts = λ b c h i. (
+        number-room s b h ∙ ap (λ (x : Cleanness). number (acceptance x)) v ∙ sym (number-room t c i),
+        word-room s b h ∙ ap (λ (x : Cleanness). wordOf form1 (said x)) v ∙ sym (word-room t c i),
+      );
+      quotes = λ id seconds metres. ap quote.answer (quote-same s t later id seconds metres);
+      zones = λ q type moment. ap zone.answer (ruling-same s t later q type moment);
+    }

@@ -1,0 +1,5 @@
+pub mod Verdict
+pub mod Stages
+pub mod Demand3
+pub mod Cases
+pub mod Readings

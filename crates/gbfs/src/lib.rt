@@ -1,0 +1,117 @@
+// The verdict on a feed set: whether it is accepted, and the word that says why not.
+use crate::stages::first_a;
+use crate::stages::first_b;
+use clean::Cleanness;
+use cross::stage::judge_set;
+use word::Parts;
+use word::Word;
+ghost use mathlib.Core.List.{_++_};
+ghost use mathlib.Core.Path.{_≡_};
+ghost use Prim.Native.Nat.{_≤_};
+ghost use lib.ListN.{length, drop};
+ghost use Rattle.word.specs.Form.{form1};
+ghost use Rattle.word.specs.Word.{Fits, wordOf};
+ghost use Rattle.clean.specs.declared.Cleanness.the-variants as clean;
+ghost use Rattle.cross.specs.Stage as cross;
+ghost use Rattle.gbfs.specs.Verdict.{feeds, picked, said, verdictOf, answerOf, bufferOf};
+ghost use Rattle.gbfs.specs.Stages.{firstA, firstB, orNext};
+
+mod stages;
+
+// The answer: there is no room for the word, the set is accepted, or it is not.
+pub enum Acceptance {
+    NoRoom,
+    Accepted,
+    NotAccepted,
+}
+
+// Stages B and C of a set that is through stage A.
+fn judge_read<'a>(
+    types: &'a [u8],
+    stations: &'a [u8],
+    statuses: &'a [u8],
+    bikes: &'a [u8],
+    plans: &'a [u8],
+    zones: &'a [u8],
+) -> Cleanness
+    requires { ⌜ firstA (feeds (now types) (now stations) (now statuses) (now bikes) (now plans) (now zones)) ≡ clean.Clean ⌝ }
+    ensures { λ r. ⌜ r ≡ orNext (firstB (feeds (now (types .entry)) (now (stations .entry)) (now (statuses .entry)) (now (bikes .entry)) (now (plans .entry)) (now (zones .entry)))) (cross.stageC (picked (feeds (now (types .entry)) (now (stations .entry)) (now (statuses .entry)) (now (bikes .entry)) (now (plans .entry)) (now (zones .entry))))) ⌝ }
+{
+    match first_b(types, stations, statuses, bikes, plans, zones) {
+        Cleanness::Broken(p) => Cleanness::Broken(p),
+        Cleanness::Clean => judge_set(types, stations, statuses, bikes, plans, zones),
+    }
+}
+
+// The first broken rule of a set, stage by stage.
+fn judge<'a>(
+    types: &'a [u8],
+    stations: &'a [u8],
+    statuses: &'a [u8],
+    bikes: &'a [u8],
+    plans: &'a [u8],
+    zones: &'a [u8],
+) -> Cleanness
+    ensures { λ r. ⌜ r ≡ verdictOf (feeds (now (types .entry)) (now (stations .entry)) (now (statuses .entry)) (now (bikes .entry)) (now (plans .entry)) (now (zones .entry))) ⌝ }
+{
+    match first_a(types, stations, statuses, bikes, plans, zones) {
+        Cleanness::Broken(p) => Cleanness::Broken(p),
+        Cleanness::Clean => judge_read(types, stations, statuses, bikes, plans, zones),
+    }
+}
+
+// What a word says: nothing of an accepted set.
+fn parts_in(c: Cleanness) -> Parts
+    ensures { λ r. ⌜ r ≡ said c ⌝ }
+{
+    match c {
+        Cleanness::Broken(p) => p,
+        Cleanness::Clean => Parts {
+            file: 0,
+            kind: 0,
+            field: 0,
+            record: 0,
+            sub: 0,
+            offset: 0,
+        },
+    }
+}
+
+// Puts a word into the first bytes of a buffer.
+fn put(parts: Parts, buffer: &mut [u8])
+    requires { ⌜ Fits form1 parts × (8 ≤ length (now buffer)) ⌝ }
+    ensures { λ _. ⌜ now (buffer .exit) ≡ wordOf form1 parts ++ drop 8 (now (buffer .entry)) ⌝ }
+{
+    let word = Word::of(parts);
+    let bytes = word.bytes;
+    let mut i: usize = 0;
+    while i < Word::SIZE {
+        buffer[i] = bytes[i];
+        i += 1;
+    }
+}
+
+// The verdict on a set of six files, of which one without bytes is absent. The word stands in the first eight bytes of the buffer, and the rest stays; in a buffer of
+// fewer bytes nothing is written.
+// Shut out: a set refused that breaks no rule, or for another rule than its first; a byte past the eighth written.
+pub fn verdict<'a>(
+    types: &'a [u8],
+    stations: &'a [u8],
+    statuses: &'a [u8],
+    bikes: &'a [u8],
+    plans: &'a [u8],
+    zones: &'a [u8],
+    buffer: &mut [u8],
+) -> Acceptance
+    ensures { λ r. ⌜ (r ≡ answerOf (feeds (now (types .entry)) (now (stations .entry)) (now (statuses .entry)) (now (bikes .entry)) (now (plans .entry)) (now (zones .entry))) (now (buffer .entry))) × (now (buffer .exit) ≡ bufferOf (feeds (now (types .entry)) (now (stations .entry)) (now (statuses .entry)) (now (bikes .entry)) (now (plans .entry)) (now (zones .entry))) (now (buffer .entry))) ⌝ }
+{
+    if buffer.len() < Word::SIZE {
+        return Acceptance::NoRoom;
+    }
+    let c = judge(types, stations, statuses, bikes, plans, zones);
+    put(parts_in(c), buffer);
+    match c {
+        Cleanness::Clean => Acceptance::Accepted,
+        Cleanness::Broken(_) => Acceptance::NotAccepted,
+    }
+}

@@ -1,0 +1,130 @@
+// Stages A and B of a set, file by file.
+use clean::Cleanness;
+use clean::first_fault;
+use clean::parts_of;
+use fault::Least;
+use json::Syntax;
+use json::check_syntax;
+use word::Parts;
+ghost use mathlib.Core.Path.{_≡_};
+ghost use lib.ListN.{length};
+ghost use Rattle.fault.specs.Fault.{least};
+ghost use Rattle.json.specs.declared.Syntax.the-variants as syntax;
+ghost use Rattle.json.specs.Text.{syntaxOf};
+ghost use Rattle.clean.specs.declared.Cleanness.the-variants as clean;
+ghost use Rattle.clean.specs.Clean.{broken};
+ghost use Rattle.gbfs.specs.Verdict.{feeds, bytesOf, faultsB};
+ghost use Rattle.gbfs.specs.Stages.{brokenA, firstA, firstB};
+
+// Stage A of a file; where nothing is there, it passes.
+fn stage_a(file: u8, s: &[u8]) -> Cleanness
+    ensures { λ r. ⌜ r ≡ brokenA file (now (s .entry)) clean.Clean ⌝ }
+{
+    if s.len() == 0 {
+        return Cleanness::Clean;
+    }
+    match check_syntax(s) {
+        Syntax::Sound => Cleanness::Clean,
+        Syntax::Fault(kind, offset) => Cleanness::Broken(Parts {
+            file: file,
+            kind: kind,
+            field: 0,
+            record: 0,
+            sub: 0,
+            offset: offset as u32,
+        }),
+    }
+}
+
+// Stage B of a file that stage A passes.
+fn stage_b(file: u8, s: &[u8]) -> Cleanness
+    requires { ⌜ ((length (now s) ≡ 0 → ⊥) → syntaxOf (now s) ≡ syntax.Sound) ⌝ }
+    ensures { λ r. ⌜ r ≡ broken file (least (faultsB file (now (s .entry)))) clean.Clean ⌝ }
+{
+    if s.len() == 0 {
+        return Cleanness::Clean;
+    }
+    match first_fault(file, s) {
+        Least::None => Cleanness::Clean,
+        Least::Is(f) => Cleanness::Broken(parts_of(file, f)),
+    }
+}
+
+// The file with this number.
+fn bytes_of<'a>(
+    file: u8,
+    types: &'a [u8],
+    stations: &'a [u8],
+    statuses: &'a [u8],
+    bikes: &'a [u8],
+    plans: &'a [u8],
+    zones: &'a [u8],
+) -> &'a [u8]
+    ensures { λ r. ⌜ now r ≡ bytesOf (feeds (now (types .entry)) (now (stations .entry)) (now (statuses .entry)) (now (bikes .entry)) (now (plans .entry)) (now (zones .entry))) file ⌝ }
+{
+    match file {
+        1 => types,
+        2 => stations,
+        3 => statuses,
+        4 => bikes,
+        5 => plans,
+        _ => zones,
+    }
+}
+
+// The first file that breaks a rule of stage A.
+pub fn first_a<'a>(
+    types: &'a [u8],
+    stations: &'a [u8],
+    statuses: &'a [u8],
+    bikes: &'a [u8],
+    plans: &'a [u8],
+    zones: &'a [u8],
+) -> Cleanness
+    ensures { λ r. ⌜ r ≡ firstA (feeds (now (types .entry)) (now (stations .entry)) (now (statuses .entry)) (now (bikes .entry)) (now (plans .entry)) (now (zones .entry))) ⌝ }
+{
+    let mut file: u8 = 1;
+    while file <= 6 {
+        match stage_a(
+            file,
+            bytes_of(file, types, stations, statuses, bikes, plans, zones),
+        ) {
+            Cleanness::Broken(p) => {
+                return Cleanness::Broken(p);
+            }
+            Cleanness::Clean => {
+                file += 1;
+            }
+        }
+    }
+    Cleanness::Clean
+}
+
+// And of stage B, where stage A passes them all.
+pub fn first_b<'a>(
+    types: &'a [u8],
+    stations: &'a [u8],
+    statuses: &'a [u8],
+    bikes: &'a [u8],
+    plans: &'a [u8],
+    zones: &'a [u8],
+) -> Cleanness
+    requires { ⌜ (firstA (feeds (now types) (now stations) (now statuses) (now bikes) (now plans) (now zones)) ≡ clean.Clean) ⌝ }
+    ensures { λ r. ⌜ r ≡ firstB (feeds (now (types .entry)) (now (stations .entry)) (now (statuses .entry)) (now (bikes .entry)) (now (plans .entry)) (now (zones .entry))) ⌝ }
+{
+    let mut file: u8 = 1;
+    while file <= 6 {
+        match stage_b(
+            file,
+            bytes_of(file, types, stations, statuses, bikes, plans, zones),
+        ) {
+            Cleanness::Broken(p) => {
+                return Cleanness::Broken(p);
+            }
+            Cleanness::Clean => {
+                file += 1;
+            }
+        }
+    }
+    Cleanness::Clean
+}

@@ -1,0 +1,94 @@
+// The rules on a field that depend on other fields or files: what it breaks, as a kind, or 0.
+use crate::ALL;
+use crate::Set;
+use crate::search::meets;
+use fields::STRING;
+use fields::code_of;
+use fields::unquoted;
+use word::kind::Kind;
+ghost use mathlib.Core.Path.{_≡_};
+ghost use Rattle.fields.specs.Values.{textBy, thereBy};
+ghost use Rattle.scalar.specs.Listed.{listed};
+ghost use Rattle.references.specs.References.{demanded as demandedOf, refers as refersTo, named as namedBy};
+ghost use Rattle.references.specs.Known.{Known, fieldOf, recordsOf, testOf};
+
+// What a field breaks that is needed: the kind, or 0 where it is given.
+pub fn demanded(needed: bool, value: &[u8]) -> u8
+    ensures { λ r. ⌜ listed r ≡ demandedOf needed (thereBy (now (value .entry))) ⌝ }
+{
+    if !needed {
+        return 0;
+    }
+    if 0 < value.len() {
+        return 0;
+    }
+    Kind::CONDITION
+}
+
+// Whether a record of file 1, 2 or 5 that a reference names is of the sort that is asked about there; none is where no reference is given.
+pub fn named(
+    value: &[u8],
+    file: u8,
+    set: Set,
+    types: &[u8],
+    stations: &[u8],
+    plans: &[u8],
+    digests: &[u32; ALL],
+    starts: &[usize; ALL],
+    ends: &[usize; ALL],
+) -> bool
+    requires { ⌜ Known set (now types) (now stations) (now plans) (now digests) (now starts) (now ends) ⌝ }
+    ensures { λ r. ⌜ r ≡ namedBy (testOf file) (fieldOf file) (recordsOf file (now (types .entry)) (now (stations .entry)) (now (plans .entry))) (textBy (now (value .entry))) ⌝ }
+{
+    if code_of(value) != STRING {
+        return false;
+    }
+    meets(
+        file,
+        unquoted(value),
+        true,
+        set,
+        types,
+        stations,
+        plans,
+        digests,
+        starts,
+        ends,
+    )
+}
+
+// What a reference breaks that names no record: the kind, or 0.
+// Shut out: a reference taken as met because digests agree; one that is spelled in another way taken as dangling.
+pub fn refers(
+    value: &[u8],
+    file: u8,
+    set: Set,
+    types: &[u8],
+    stations: &[u8],
+    plans: &[u8],
+    digests: &[u32; ALL],
+    starts: &[usize; ALL],
+    ends: &[usize; ALL],
+) -> u8
+    requires { ⌜ Known set (now types) (now stations) (now plans) (now digests) (now starts) (now ends) ⌝ }
+    ensures { λ r. ⌜ listed r ≡ refersTo (textBy (now (value .entry))) (fieldOf file) (recordsOf file (now (types .entry)) (now (stations .entry)) (now (plans .entry))) ⌝ }
+{
+    if code_of(value) != STRING {
+        return 0;
+    }
+    if meets(
+        file,
+        unquoted(value),
+        false,
+        set,
+        types,
+        stations,
+        plans,
+        digests,
+        starts,
+        ends,
+    ) {
+        return 0;
+    }
+    Kind::DANGLING
+}

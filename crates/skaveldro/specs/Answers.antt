@@ -1,0 +1,78 @@
+-- What an exported function answers: the number of document 01's table of questions, and the numbers that its buffer holds. What an answer doesn't give is 0.
+use mathlib.Core.Bool.{Bool, true, false}
+use mathlib.Core.List.{List, [], _∷_, _++_}
+use Prim.Native.Nat.{ℕ, suc, _-_, _^_}
+use lib.IntN.{ℤ, pos, negsuc}
+use Rattle.notation.specs.Choice.{_⇒_else_}
+use Rattle.word.specs.declared.Parts.{Parts}
+use Rattle.word.specs.Word as word
+use Rattle.quote.specs.Quote as quote
+use Rattle.zone.specs.declared.Rule.{Rule}
+use Rattle.zone.specs.Answer as zone
+use Rattle.geometry.specs.Ring.{Point}
+use Rattle.clean.specs.declared.Shown.{Shown}
+use Rattle.clean.specs.declared.Shown.the-variants.{NoFile, NotClean, NoRecord, Record}
+use Rattle.clean.specs.Show as show
+use Rattle.skaveldro.specs.Encoding.{holds}
+
+pub record Answer : Type 0 where
+  pub number : ℕ
+  pub values : List ℕ
+
+-- a word's parts
+abbrev pub partValues : Parts → List ℕ
+partValues p = p .file ∷ p .kind ∷ p .field ∷ p .«record» ∷ p .sub ∷ p .offset ∷ []
+
+-- yes and no
+abbrev pub bit : Bool → ℕ
+bit true = 1
+bit false = 0
+
+-- a signed number in 64 bits, in two's complement
+abbrev pub signedBits : ℤ → ℕ
+signedBits (pos n) = n
+signedBits (negsuc n) = 2 ^ 64 - suc n
+
+-- read a word: its parts
+abbrev pub wordValues : word.Answer → List ℕ
+wordValues a = partValues (a .parts)
+
+unfoldable pub wordAnswer : List ℕ → Answer
+wordAnswer s = let a = word.readWord s in record { number = a .number; values = wordValues a }
+
+-- quote: parts, amount, past minutes, past kilometres
+abbrev pub quoteValues : quote.Answer → List ℕ
+quoteValues a = partValues (a .parts) ++ (signedBits (a .amount) ∷ bit (a .pastMinutes) ∷ bit (a .pastKilometres) ∷ [])
+
+unfoldable pub quoteAnswer : (plans id : List ℕ) → (seconds metres : ℕ) → Answer
+quoteAnswer plans id seconds metres =
+    let a = quote.answer (quote.quoteOf plans id seconds metres) in record { number = a .number; values = quoteValues a }
+
+-- zone rule: parts, then ride and through, the speed and parking, each of these two after whether it is given
+abbrev pub ruleValues : Rule → List ℕ
+ruleValues r = bit (r .ride) ∷ bit (r .through) ∷ bit (r .limited) ∷ r .speed ∷ bit (r .parks) ∷ bit (r .parking) ∷ []
+
+abbrev pub zoneValues : zone.Answer → List ℕ
+zoneValues a = partValues (a .parts) ++ ruleValues (a .rule)
+
+unfoldable pub zoneAnswer : (zones : List ℕ) → Point → (type : List ℕ) → (moment : ℕ) → Answer
+zoneAnswer zones q type moment =
+    let a = zone.answer (zone.rulingOf zones q type moment) in record { number = a .number; values = zoneValues a }
+
+-- show record: parts, then where the record begins and where it ends
+abbrev pub placeValues : Shown → List ℕ
+placeValues NoFile = 0 ∷ 0 ∷ []
+placeValues (NotClean p) = 0 ∷ 0 ∷ []
+placeValues NoRecord = 0 ∷ 0 ∷ []
+placeValues (Record from upto) = from ∷ upto ∷ []
+
+abbrev pub shownValues : List ℕ → Shown → List ℕ
+shownValues s shown = partValues (show.answer s shown .parts) ++ placeValues shown
+
+unfoldable pub shownAnswer : (file n : ℕ) → (bytes : List ℕ) → Answer
+shownAnswer file n s =
+    let shown = show.shownOf file n s in record { number = show.answer s shown .number; values = shownValues s shown }
+
+-- the number that is answered: 2 where the buffer has no room for the values
+unfoldable pub told : (buffer : List ℕ) → Answer → ℕ
+told buffer a = holds buffer (a .values) ⇒ a .number else 2

@@ -1,0 +1,48 @@
+// Numbers into a buffer that the caller lends: eight bytes a number, the least significant first.
+ghost use mathlib.Core.List.{_++_};
+ghost use mathlib.Core.Path.{_≡_};
+ghost use Prim.Native.Nat.{_*_, _≤_};
+ghost use lib.ListN.{length, drop};
+ghost use Rattle.skaveldro.specs.Encoding.{encoded, filled};
+ghost use Rattle.skaveldro.specs.Answers.{bit as bitOf, signedBits, told};
+
+// A truth as a number.
+pub fn bit(b: bool) -> u64
+    ensures { λ r. ⌜ r ≡ bitOf b ⌝ }
+{
+    b as u64
+}
+
+// A signed number in 64 bits, in two's complement.
+pub fn signed_bits(v: i64) -> u64
+    ensures { λ r. ⌜ r ≡ signedBits v ⌝ }
+{
+    if v < 0 {
+        return 0xffff_ffff_ffff_ffff - (-1 - v) as u64;
+    }
+    v as u64
+}
+
+// Puts numbers into the first bytes of a buffer that has room for them.
+fn put(values: &[u64], buffer: &mut [u8])
+    requires { ⌜ 8 * length (now values) ≤ length (now buffer) ⌝ }
+    ensures { λ _. ⌜ now (buffer .exit) ≡ encoded (now (values .entry)) ++ drop (8 * length (now (values .entry))) (now (buffer .entry)) ⌝ }
+{
+    let mut i: usize = 0;
+    while i / 8 < values.len() {
+        buffer[i] = radix::byte_of(values[i / 8], (i % 8 * 8) as u32);
+        i += 1;
+    }
+}
+
+// Answers with a number and these values in the buffer, or with 2 where they have no room.
+pub fn give(number: u8, values: &[u64], buffer: &mut [u8]) -> u8
+    ensures { λ r. ⌜ r ≡ told (now (buffer .entry)) (record { number = number; values = now (values .entry) }) ⌝ }
+    ensures { λ _. ⌜ now (buffer .exit) ≡ filled (now (buffer .entry)) (now (values .entry)) ⌝ }
+{
+    if buffer.len() / 8 < values.len() {
+        return 2;
+    }
+    put(values, buffer);
+    number
+}

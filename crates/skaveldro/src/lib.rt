@@ -1,0 +1,81 @@
+// The functions that other languages call: numbers and byte slices in, a number out, and the values in a buffer that the caller lends, eight bytes each, the least
+// significant first. A buffer that is too short for an answer's values is left alone and the number is 2; one that is longer keeps its other bytes.
+use crate::encode::give;
+use word::Word;
+ghost use mathlib.Core.Path.{_≡_};
+ghost use Rattle.skaveldro.specs.Encoding.{filled};
+ghost use Rattle.skaveldro.specs.Answers.{wordAnswer, quoteAnswer, zoneAnswer, shownAnswer, told};
+
+mod encode;
+mod quote_trip;
+mod read_word;
+mod show_record;
+mod zone_rule;
+
+// The question "read a word". Six values: file, kind, field, record, sub, offset.
+// Shut out: the most significant byte of a value put first; a byte past the sixth value written.
+#[no_mangle]
+pub extern "C" fn skaveldro_read_word(word: &[u8], answer: &mut [u8]) -> u8
+    ensures { λ r. ⌜ r ≡ told (now (answer .entry)) (wordAnswer (now (word .entry))) ⌝ }
+    ensures { λ _. ⌜ now (answer .exit) ≡ filled (now (answer .entry)) (wordAnswer (now (word .entry)) .values) ⌝ }
+{
+    let r = Word::read(word);
+    give(read_word::number(r), &read_word::values(r), answer)
+}
+
+// The question "quote", of the bytes of file 5. Nine values: the six parts of a word, the amount in two's complement, past minutes, past kilometres.
+// Shut out: a negative amount told by its size; one mark told in the other's place.
+#[no_mangle]
+pub extern "C" fn skaveldro_quote(
+    plans: &[u8],
+    id: &[u8],
+    seconds: u64,
+    metres: u64,
+    answer: &mut [u8],
+) -> u8
+    ensures { λ r. ⌜ r ≡ told (now (answer .entry)) (quoteAnswer (now (plans .entry)) (now (id .entry)) seconds metres) ⌝ }
+    ensures { λ _. ⌜ now (answer .exit) ≡ filled (now (answer .entry)) (quoteAnswer (now (plans .entry)) (now (id .entry)) seconds metres .values) ⌝ }
+{
+    let q = quote::quote_trip(plans, id, seconds, metres);
+    give(quote_trip::number(q), &quote_trip::values(q), answer)
+}
+
+// The question "zone rule", of the bytes of file 6. Twelve values: the six parts of a word, ride, through, whether a speed is given, the speed, whether parking is
+// given, parking.
+// Shut out: a speed of 0 told where none is given; the parts of a file's fault left out.
+#[no_mangle]
+pub extern "C" fn skaveldro_zone_rule(
+    zones: &[u8],
+    lon: i64,
+    lat: i64,
+    type_id: &[u8],
+    moment: u64,
+    answer: &mut [u8],
+) -> u8
+    ensures { λ r. ⌜ r ≡ told (now (answer .entry)) (zoneAnswer (now (zones .entry)) (record { lon = lon; lat = lat }) (now («type_id» .entry)) moment) ⌝ }
+    ensures { λ _. ⌜ now (answer .exit) ≡ filled (now (answer .entry)) (zoneAnswer (now (zones .entry)) (record { lon = lon; lat = lat }) (now («type_id» .entry)) moment .values) ⌝ }
+{
+    let r = zone::zone_rule(zones, lon, lat, type_id, moment);
+    give(zone_rule::number(r), &zone_rule::values(r), answer)
+}
+
+// The question "show record", of a file's number and bytes. Eight values: the six parts of a word, where the record begins, where it ends. The record is that part
+// of the caller's own bytes.
+// Shut out: the place of a record of a file that is not clean; an end that is a length.
+#[no_mangle]
+pub extern "C" fn skaveldro_show_record(
+    file: u8,
+    record: u64,
+    bytes: &[u8],
+    answer: &mut [u8],
+) -> u8
+    ensures { λ r. ⌜ r ≡ told (now (answer .entry)) (shownAnswer file «record» (now (bytes .entry))) ⌝ }
+    ensures { λ _. ⌜ now (answer .exit) ≡ filled (now (answer .entry)) (shownAnswer file «record» (now (bytes .entry)) .values) ⌝ }
+{
+    let shown = clean::show_record(file, record as usize, bytes);
+    give(
+        show_record::number(shown),
+        &show_record::values(shown),
+        answer,
+    )
+}

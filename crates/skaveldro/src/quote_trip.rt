@@ -1,0 +1,63 @@
+// The answer to "quote" in numbers.
+use crate::encode::bit;
+use crate::encode::signed_bits;
+use quote::Quote;
+ghost use mathlib.Core.Path.{_≡_};
+ghost use Rattle.quote.specs.Quote.{answer};
+ghost use Rattle.skaveldro.specs.Answers.{quoteValues};
+
+// The number of an answer.
+pub fn number(q: Quote) -> u8
+    ensures { λ n. ⌜ n ≡ answer q .number ⌝ }
+{
+    match q {
+        Quote::TooLong => 4,
+        Quote::NotClean(_) => 5,
+        Quote::NoPlan => 6,
+        Quote::Outside => 7,
+        Quote::Fare(_, _, _) => 0,
+    }
+}
+
+// Its values: the parts of a fault, the amount and the two marks.
+pub fn values(q: Quote) -> [u64; 9]
+    ensures { λ v. ⌜ v ≡ quoteValues (answer q) ⌝ }
+{
+    match q {
+        Quote::TooLong => {
+            return [0; 9];
+        }
+        Quote::NotClean(p) => {
+            return [
+                p.file as u64,
+                p.kind as u64,
+                p.field as u64,
+                p.record as u64,
+                p.sub as u64,
+                p.offset as u64,
+                0,
+                0,
+                0,
+            ];
+        }
+        Quote::NoPlan => {
+            return [0; 9];
+        }
+        Quote::Outside => {
+            return [0; 9];
+        }
+        Quote::Fare(amount, minutes, kilometres) => {
+            return [
+                0,
+                0,
+                0,
+                0,
+                0,
+                0,
+                signed_bits(amount),
+                bit(minutes),
+                bit(kilometres),
+            ];
+        }
+    }
+}

@@ -1,0 +1,64 @@
+// The answer to "zone rule" in numbers.
+use crate::encode::bit;
+use zone::Ruling;
+ghost use mathlib.Core.Path.{_≡_};
+ghost use Rattle.zone.specs.Answer.{answer};
+ghost use Rattle.skaveldro.specs.Answers.{zoneValues};
+
+// The number of an answer.
+pub fn number(r: Ruling) -> u8
+    ensures { λ n. ⌜ n ≡ answer r .number ⌝ }
+{
+    match r {
+        Ruling::OffMap => 8,
+        Ruling::NotClean(_) => 5,
+        Ruling::NoRule => 9,
+        Ruling::Is(_) => 0,
+    }
+}
+
+// Its values: the parts of a fault, and what the rule says.
+pub fn values(r: Ruling) -> [u64; 12]
+    ensures { λ v. ⌜ v ≡ zoneValues (answer r) ⌝ }
+{
+    match r {
+        Ruling::OffMap => {
+            return [0; 12];
+        }
+        Ruling::NotClean(p) => {
+            return [
+                p.file as u64,
+                p.kind as u64,
+                p.field as u64,
+                p.record as u64,
+                p.sub as u64,
+                p.offset as u64,
+                0,
+                0,
+                0,
+                0,
+                0,
+                0,
+            ];
+        }
+        Ruling::NoRule => {
+            return [0; 12];
+        }
+        Ruling::Is(rule) => {
+            return [
+                0,
+                0,
+                0,
+                0,
+                0,
+                0,
+                bit(rule.ride),
+                bit(rule.through),
+                bit(rule.limited),
+                rule.speed,
+                bit(rule.parks),
+                bit(rule.parking),
+            ];
+        }
+    }
+}
