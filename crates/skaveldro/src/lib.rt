@@ -3,6 +3,7 @@
 use crate::encode::give;
 use word::Word;
 ghost use mathlib.Core.Path.{_≡_};
+ghost use Rattle.gbfs.specs.Verdict.{feeds, number, answerOf, bufferOf};
 ghost use Rattle.skaveldro.specs.Encoding.{filled};
 ghost use Rattle.skaveldro.specs.Answers.{wordAnswer, quoteAnswer, zoneAnswer, shownAnswer, told};
 
@@ -10,7 +11,27 @@ mod encode;
 mod quote_trip;
 mod read_word;
 mod show_record;
+mod verdict;
 mod zone_rule;
+
+// The verdict on a set of six files, of which one without bytes is absent. The word stands in the first eight bytes of the buffer.
+// Shut out: the number of an accepted set answered for one that is not; a word in a buffer of seven bytes.
+#[no_mangle]
+pub extern "C" fn skaveldro_verdict<'a>(
+    types: &'a [u8],
+    stations: &'a [u8],
+    statuses: &'a [u8],
+    bikes: &'a [u8],
+    plans: &'a [u8],
+    zones: &'a [u8],
+    buffer: &mut [u8],
+) -> u8
+    ensures { λ r. ⌜ r ≡ number (answerOf (feeds (now (types .entry)) (now (stations .entry)) (now (statuses .entry)) (now (bikes .entry)) (now (plans .entry)) (now (zones .entry))) (now (buffer .entry))) ⌝ }
+    ensures { λ _. ⌜ now (buffer .exit) ≡ bufferOf (feeds (now (types .entry)) (now (stations .entry)) (now (statuses .entry)) (now (bikes .entry)) (now (plans .entry)) (now (zones .entry))) (now (buffer .entry)) ⌝ }
+{
+    let a = gbfs::verdict(types, stations, statuses, bikes, plans, zones, buffer);
+    verdict::number(a)
+}
 
 // The question "read a word". Six values: file, kind, field, record, sub, offset.
 // Shut out: the most significant byte of a value put first; a byte past the sixth value written.
