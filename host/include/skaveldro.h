@@ -33,8 +33,8 @@ extern "C" {
 /* The most bytes of a file. A longer one may be given, and is refused. */
 #define SKAVELDRO_MOST_BYTES 1048575
 
-/* Stack that a call may need, with room to spare. */
-#define SKAVELDRO_STACK (1024 * 1024)
+/* Stack that a call may need, with room to spare: a verdict has been seen to use 330 KB, the others under 100 KB. */
+#define SKAVELDRO_STACK (512 * 1024)
 
 /* An absent file, or an empty id: two arguments, pointer and length. */
 #define SKAVELDRO_ABSENT ((const uint8_t *)""), 0

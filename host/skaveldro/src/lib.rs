@@ -11,7 +11,8 @@
 //! assert_eq!((parts.file_name(), parts.field_name(), parts.record), (Some("free_bike_status.json"), Some("bike_id"), 1));
 //! ```
 //!
-//! Only [`raw`] speaks with the library; everything else is safe. A call needs a few hundred kilobytes of stack and allocates nothing.
+//! Only [`raw`] speaks with the library; everything else is safe. A verdict needs up to 512 KB of stack, the other calls
+//! less, and none allocates.
 
 mod answer;
 pub mod names;
