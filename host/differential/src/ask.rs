@@ -145,7 +145,7 @@ impl Asked {
         if library == reference {
             return Ok(());
         }
-        let (library, reference) = (format!("{library:02x?}"), format!("{reference:02x?}"));
+        let (library, reference) = (format!("{library:?}"), format!("{reference:?}"));
         Err(Difference { case: self.case, question: question.into(), library, reference })
     }
 }
