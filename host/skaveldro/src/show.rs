@@ -1,0 +1,37 @@
+//! Where a record stands.
+
+use crate::answer::{room, Answer};
+use crate::{raw, Parts};
+
+/// The answer to a question for a record.
+#[derive(Clone, Copy, Debug, PartialEq, Eq, Hash)]
+pub enum Shown {
+    /// 10: there is no such file, or the file has no such record.
+    NoRecord,
+    /// 5: the file is not clean, and why.
+    NotClean(Parts),
+    /// 0: the record's bytes are those at `from` up to `upto`, both brackets in them.
+    Record { from: usize, upto: usize },
+}
+
+/// Where the record of that number, from 1, stands in the bytes of that file, 1 to 6.
+pub fn show_record(file: u8, record: u64, bytes: &[u8]) -> Shown {
+    let answer = Answer::<{ room(8) }>::to(|buffer| raw::show_record(file, record, bytes, buffer));
+    match answer.number {
+        10 => Shown::NoRecord,
+        5 => Shown::NotClean(answer.parts()),
+        0 => Shown::Record { from: answer.small(6), upto: answer.small(7) },
+        _ => answer.unknown(),
+    }
+}
+
+impl Shown {
+    /// The number of the answer.
+    pub fn number(self) -> u8 {
+        match self {
+            Shown::NoRecord => 10,
+            Shown::NotClean(_) => 5,
+            Shown::Record { .. } => 0,
+        }
+    }
+}

@@ -1,0 +1,66 @@
+//! Which zone rule holds.
+
+use crate::answer::{room, Answer};
+use crate::{raw, Parts};
+
+/// A point in millionths of a degree.
+#[derive(Clone, Copy, Debug, PartialEq, Eq, Hash)]
+pub struct Point {
+    pub lon: i64,
+    pub lat: i64,
+}
+
+/// The answer to a zone question.
+#[derive(Clone, Copy, Debug, PartialEq, Eq, Hash)]
+pub enum Ruling {
+    /// 8: the point is off the map.
+    OffMap,
+    /// 5: the zones file is not clean, and why.
+    NotClean(Parts),
+    /// 9: none of the rules applies.
+    NoRule,
+    /// 0: the first rule that applies.
+    Is(Rule),
+}
+
+/// A rule's four values.
+#[derive(Clone, Copy, Debug, PartialEq, Eq, Hash)]
+pub struct Rule {
+    /// May a ride start and end here?
+    pub ride: bool,
+    /// May a ride pass through?
+    pub through: bool,
+    /// The most kilometres an hour, if the rule gives it.
+    pub speed: Option<u64>,
+    /// Does parking need a station, if the rule says?
+    pub parking: Option<bool>,
+}
+
+/// Which rule holds at a point for a vehicle type at a moment, by the bytes of geofencing_zones.
+pub fn zone_rule(zones: &[u8], point: Point, type_id: &[u8], moment: u64) -> Ruling {
+    let answer = Answer::<{ room(12) }>::to(|buffer| raw::zone_rule(zones, point.lon, point.lat, type_id, moment, buffer));
+    match answer.number {
+        8 => Ruling::OffMap,
+        5 => Ruling::NotClean(answer.parts()),
+        9 => Ruling::NoRule,
+        0 => Ruling::Is(Rule {
+            ride: answer.is(6),
+            through: answer.is(7),
+            speed: answer.is(8).then(|| answer.at(9)),
+            parking: answer.is(10).then(|| answer.is(11)),
+        }),
+        _ => answer.unknown(),
+    }
+}
+
+impl Ruling {
+    /// The number of the answer.
+    pub fn number(self) -> u8 {
+        match self {
+            Ruling::OffMap => 8,
+            Ruling::NotClean(_) => 5,
+            Ruling::NoRule => 9,
+            Ruling::Is(_) => 0,
+        }
+    }
+}

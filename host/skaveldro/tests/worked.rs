@@ -1,0 +1,147 @@
+//! The worked readings of the scope paper, and the edges of the boundary, asked through the wrapper.
+
+use skaveldro::{
+    quote, raw, read_word, show_record, verdict, zone_rule, Fare, Parts, Point, Quote, Reading, Ruling, Shown, Verdict, Word,
+};
+
+/// The verdict on a set that has only bikes.
+fn on_bikes(bytes: &[u8]) -> Verdict {
+    verdict([b"", b"", b"", bytes, b"", b""])
+}
+
+fn file(data: &str) -> Vec<u8> {
+    format!(r#"{{"version":"2.3","last_updated":0,"ttl":0,"data":{{{data}}}}}"#).into_bytes()
+}
+
+fn plans(price: &str, segments: &str) -> Vec<u8> {
+    file(&format!(
+        r#""plans":[{{"plan_id":"p","name":"n","currency":"EUR","price":{price},"is_taxable":false,"description":"d","per_min_pricing":[{segments}]}}]"#
+    ))
+}
+
+fn zones(ring: &str, rules: &str) -> Vec<u8> {
+    file(&format!(
+        r#""geofencing_zones":{{"type":"FeatureCollection","features":[{{"type":"Feature","geometry":{{"type":"MultiPolygon","coordinates":[[[{ring}]]]}},"properties":{{"rules":[{rules}]}}}}]}}"#
+    ))
+}
+
+const CLOCKWISE: &str = "[0,0],[0,2],[2,2],[2,0],[0,0]";
+const COUNTERCLOCKWISE: &str = "[0,0],[2,0],[2,2],[0,2],[0,0]";
+const RULE: &str = r#"{"ride_allowed":true,"ride_through_allowed":false}"#;
+
+fn degrees(lon: i64, lat: i64) -> Point {
+    Point { lon: lon * 1_000_000, lat: lat * 1_000_000 }
+}
+
+#[test]
+fn texts_a_to_e() {
+    let brackets = [b'['; 17];
+    let cases: [(&[u8], u8, u32); 5] =
+        [(b"[1,]", 2, 3), (b"[01]", 2, 2), (br#""\ud800""#, 3, 1), (b" ", 2, 1), (&brackets, 4, 16)];
+    for (bytes, kind, offset) in cases {
+        assert_eq!(on_bikes(bytes).parts(), Parts { file: 4, kind, offset, ..Parts::default() });
+    }
+}
+
+#[test]
+fn fares_f_to_i() {
+    let fare = |price, segments, seconds| match quote(&plans(price, segments), b"p", seconds, 0) {
+        Quote::Fare(Fare { amount, past_minutes, past_kilometres: false }) => (amount, past_minutes),
+        other => panic!("{other:?}"),
+    };
+    let f = r#"{"start":1,"rate":1,"interval":1},{"start":2,"rate":2,"interval":1}"#;
+    for (seconds, amount) in [(59, 20000), (60, 30000), (105, 30000), (120, 60000), (180, 90000)] {
+        assert_eq!(fare("2", f, seconds), (amount, false), "{seconds} s");
+    }
+    let g = r#"{"start":10,"rate":-0.5,"interval":0}"#;
+    assert_eq!((fare("0", g, 599), fare("0", g, 600)), ((0, false), (-5000, false)));
+    let h = r#"{"start":0,"rate":0.25,"interval":15,"end":45}"#;
+    for (seconds, answer) in [(0, (12500, false)), (2699, (17500, false)), (2700, (17500, true))] {
+        assert_eq!(fare("1", h, seconds), answer, "{seconds} s");
+    }
+    let i = r#"{"start":20,"rate":3,"interval":5,"end":20}"#;
+    assert_eq!(fare("0", i, 1200), (0, true));
+}
+
+#[test]
+fn points_j() {
+    let is_held = |ring, point| match zone_rule(&zones(ring, RULE), point, b"", 0) {
+        Ruling::Is(rule) => rule.ride && !rule.through && rule.speed.is_none() && rule.parking.is_none(),
+        Ruling::NoRule => false,
+        other => panic!("{other:?}"),
+    };
+    for (lon, lat, held) in [(1, 1, true), (2, 2, true), (3, 1, false)] {
+        assert_eq!(is_held(CLOCKWISE, degrees(lon, lat)), held);
+    }
+    for (lon, lat, held) in [(3, 1, true), (2, 1, true), (1, 1, false)] {
+        assert_eq!(is_held(COUNTERCLOCKWISE, degrees(lon, lat)), held);
+    }
+}
+
+#[test]
+fn words_k_and_l() {
+    let bikes = file(
+        r#""bikes":[{"bike_id":"a","is_reserved":false,"is_disabled":false},{"bike_id":"b","is_reserved":false,"is_disabled":false},{}]"#,
+    );
+    // Without a place the first two bikes lack lat and lon, which is judged after every file's fields.
+    let parts = Parts { file: 4, kind: 6, field: 40, record: 3, ..Parts::default() };
+    let word = Word([0x14, 0x62, 0x80, 0x03, 0, 0, 0, 0]);
+    assert_eq!(on_bikes(&bikes), Verdict::Refused { word, parts });
+    assert_eq!(word.read(), Reading::Parts(parts));
+    let mut buffer = [0xAA; 9];
+    assert_eq!(raw::verdict([b"", b"", b"", &file(r#""bikes":[]"#), b"", b""], &mut buffer), 0);
+    assert_eq!(buffer, [0x10, 0, 0, 0, 0, 0, 0, 0, 0xAA]);
+    assert_eq!(Word::ACCEPTED.read(), Reading::Parts(Parts::default()));
+}
+
+#[test]
+fn refusals_by_number() {
+    assert_eq!(read_word(b"").number(), 3);
+    assert_eq!(quote(b"", b"p", 2_678_401, 0).number(), 4);
+    assert_eq!(quote(b"[", b"p", 0, 0), Quote::NotClean(Parts { file: 5, kind: 2, offset: 1, ..Parts::default() }));
+    assert_eq!(quote(b"", b"p", 0, 0).number(), 6);
+    assert_eq!(zone_rule(b"", degrees(181, 0), b"", 0).number(), 8);
+    assert_eq!(zone_rule(b"", degrees(-180, 90), b"", 0).number(), 9);
+    assert_eq!(show_record(7, 1, b"").number(), 10);
+    assert_eq!(show_record(1, 1, b"").number(), 10);
+    assert_eq!(show_record(1, 1, b"[").number(), 5);
+}
+
+#[test]
+fn a_record_is_shown() {
+    let bytes = plans("0", "");
+    let Shown::Record { from, upto } = show_record(5, 1, &bytes) else { panic!() };
+    assert!(bytes[from..upto].starts_with(br#"{"plan_id":"p""#) && bytes[from..upto].ends_with(b"}"));
+}
+
+/// An answer's buffer that is too short stays as it is, and so does the rest of a longer one.
+#[test]
+fn buffers_of_every_length() {
+    type Ask<'a> = (&'a str, usize, &'a dyn Fn(&mut [u8]) -> u8);
+    let asks: [Ask; 5] = [
+        ("verdict", 8, &|buffer| raw::verdict([b""; 6], buffer)),
+        ("word", 48, &|buffer| raw::read_word(&[0x10, 0, 0, 0, 0, 0, 0, 0], buffer)),
+        ("quote", 72, &|buffer| raw::quote(b"[", b"", 0, 0, buffer)),
+        ("zone", 96, &|buffer| raw::zone_rule(b"[", 0, 0, b"", 0, buffer)),
+        ("show", 64, &|buffer| raw::show_record(1, 1, b"[", buffer)),
+    ];
+    for (name, room, ask) in asks {
+        for length in 0..room + 9 {
+            let mut buffer = vec![0xAA; length];
+            let number = ask(&mut buffer);
+            assert_eq!(number == 2, length < room, "{name}, {length} bytes");
+            let written = if length < room { 0 } else { room };
+            assert!(buffer[written..].iter().all(|&byte| byte == 0xAA), "{name}, {length} bytes");
+        }
+    }
+}
+
+#[test]
+fn words_as_text() {
+    let word = Word([0x14, 0x62, 0x80, 0x03, 0, 0, 0, 0xAF]);
+    assert_eq!(word.to_string(), "14628003000000af");
+    assert_eq!("14 62 80 03 00 00 00 AF".parse(), Ok(word));
+    for text in ["", "14628003000000a", "14628003000000aff", "14628003000000ag", "+4628003000000af", "é4628003000000af"] {
+        assert!(text.parse::<Word>().is_err(), "{text:?}");
+    }
+}
