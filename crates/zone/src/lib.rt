@@ -39,7 +39,7 @@ impl Ruling {
 }
 
 // The rule at a point, in millionths of a degree, for a type at a moment, by the bytes of the file of zones.
-// Shut out: values taken from several rules; a later zone's rule where an earlier zone has one for the type.
+// Shut out: a zone that still counts at its end; an empty field 78 read as everybody.
 pub fn zone_rule(s: &[u8], lon: i64, lat: i64, type_id: &[u8], moment: u64) -> Ruling
     ensures { λ r. ⌜ r ≡ rulingOf (now (s .entry)) (record { lon = lon; lat = lat }) (now («type_id» .entry)) moment ⌝ }
 {
