@@ -3,8 +3,8 @@
 
 using namespace rapidjson;
 
-// How many bytes of a text that ends with NUL are read before one that no JSON text in UTF-8 goes on with; nothing is done with what is read. Of the
-// reader's forms that leave the text as it is, this one takes the fewest instructions here: bytes with a length, or numbers left as text, take more.
+// How many bytes of a text that ends with NUL are read before one that no JSON text in UTF-8 goes on with; nothing is done with what is read. Bytes with
+// a length, or numbers left as text, would take more instructions.
 extern "C" std::size_t rapidjson_reads(const char *text) {
     StringStream stream(text);
     BaseReaderHandler<> handler;
