@@ -33,7 +33,7 @@ extern "C" {
 /* The most bytes of a file. A longer one may be given, and is refused. */
 #define SKAVELDRO_MOST_BYTES 1048575
 
-/* Stack that a call may need, with room to spare: a verdict has been seen to use 330 KB, the others under 100 KB. */
+/* Stack that a call may need, with room to spare: docs/PERFORMANCE.md tells what was seen. */
 #define SKAVELDRO_STACK (512 * 1024)
 
 /* An absent file, or an empty id: two arguments, pointer and length. */

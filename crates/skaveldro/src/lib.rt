@@ -15,7 +15,7 @@ mod verdict;
 mod zone_rule;
 
 // The verdict on a set of six files, of which one without bytes is absent. The word stands in the first eight bytes of the buffer.
-// Shut out: the number of an accepted set answered for one that is not; a word in a buffer of seven bytes.
+// Shut out: the number of an accepted set answered for one that is not; one file judged in another's place.
 #[no_mangle]
 pub extern "C" fn skaveldro_verdict<'a>(
     types: &'a [u8],
@@ -45,7 +45,7 @@ pub extern "C" fn skaveldro_read_word(word: &[u8], answer: &mut [u8]) -> u8
 }
 
 // The question "quote", of the bytes of file 5. Nine values: the six parts of a word, the amount in two's complement, past minutes, past kilometres.
-// Shut out: a negative amount told by its size; one mark told in the other's place.
+// Shut out: a negative amount told without its sign; one mark told in the other's place.
 #[no_mangle]
 pub extern "C" fn skaveldro_quote(
     plans: &[u8],
@@ -63,7 +63,7 @@ pub extern "C" fn skaveldro_quote(
 
 // The question "zone rule", of the bytes of file 6. Twelve values: the six parts of a word, ride, through, whether a speed is given, the speed, whether parking is
 // given, parking.
-// Shut out: a speed of 0 told where none is given; the parts of a file's fault left out.
+// Shut out: a speed of 0 told where none is given; one part of a file's fault told in another's place.
 #[no_mangle]
 pub extern "C" fn skaveldro_zone_rule(
     zones: &[u8],
@@ -82,7 +82,7 @@ pub extern "C" fn skaveldro_zone_rule(
 
 // The question "show record", of a file's number and bytes. Eight values: the six parts of a word, where the record begins, where it ends. The record is that part
 // of the caller's own bytes.
-// Shut out: the place of a record of a file that is not clean; an end that is a length.
+// Shut out: the number of a record shown answered for a file that is not clean; a record's end told for its beginning.
 #[no_mangle]
 pub extern "C" fn skaveldro_show_record(
     file: u8,

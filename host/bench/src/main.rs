@@ -1,12 +1,14 @@
-//! How fast both sides answer, on sets near the ceilings that are made here.
+//! How fast the library answers, beside others, on sets near the ceilings that are made here.
 //!
-//!     bench                                   every question, timed side by side
-//!     bench write SET FILE                    writes a set into a file, for `once`
-//!     bench once FILE QUESTION library|reference   asks once, in a function of its own name, for counting instructions
+//!     bench [QUESTION]                    every question or one, timed side by side with the reference, and stage A with RapidJSON too
+//!     bench write SET FILE                writes a set into a file, for `once`
+//!     bench once FILE QUESTION SIDE       asks once, in a function of its own name, for counting instructions
 //!
-//! Sets are `many` (records up to their ceiling) and `full` (everything within a record at its ceiling).
+//! Sets are `many` (records up to their ceiling) and `full` (everything within a record at its ceiling). RapidJSON is there where the
+//! bench was built with `RAPIDJSON_INCLUDE` naming the directory of its headers.
 
 mod questions;
+mod rapidjson;
 mod set;
 mod timing;
 
@@ -17,55 +19,62 @@ use std::process::ExitCode;
 fn main() -> ExitCode {
     let arguments: Vec<String> = std::env::args().skip(1).collect();
     let words: Vec<&str> = arguments.iter().map(String::as_str).collect();
-    match words.as_slice() {
-        [] => {
-            compare();
-            ExitCode::SUCCESS
+    let done = match words.as_slice() {
+        [] => compare(&Question::ALL),
+        [question] => Question::named(question).and_then(|question| compare(&[question])),
+        ["write", name, path] => Bench::named(name).and_then(|set| set.write(path).ok()),
+        ["once", path, question, side] => once(path, question, side),
+        _ => None,
+    };
+    match done {
+        Some(()) => ExitCode::SUCCESS,
+        None => {
+            let (questions, sides) = (Question::NAMES.join("|"), Side::NAMES.join("|"));
+            eprintln!("bench [{questions}]\nbench write many|full FILE\nbench once FILE {questions} {sides}");
+            ExitCode::from(2)
         }
-        ["write", name, path] => done(Bench::named(name).is_some_and(|set| set.write(path).is_ok())),
-        ["once", path, question, side] => {
-            let (question, side) = (Question::named(question), Side::named(side));
-            let set = Bench::read(path);
-            let asked = question.zip(side).zip(set).map(|((question, side), set)| question.ask(side, &set));
-            asked.iter().for_each(|number| println!("answer {number}"));
-            done(asked.is_some())
-        }
-        _ => done(false),
     }
 }
 
-fn done(well: bool) -> ExitCode {
-    if well {
-        return ExitCode::SUCCESS;
-    }
-    eprintln!("bench\nbench write many|full FILE\nbench once FILE {} library|reference", Question::NAMES.join("|"));
-    ExitCode::from(2)
+fn once(path: &str, question: &str, side: &str) -> Option<()> {
+    let (question, side) = (Question::named(question)?, Side::named(side)?);
+    let number = question.ask(side, &Bench::read(path)?)?;
+    println!("answer {number}");
+    Some(())
 }
 
-fn compare() {
+fn compare(questions: &[Question]) -> Option<()> {
     for name in ["many", "full"] {
-        let Some(set) = Bench::named(name) else { continue };
+        let set = Bench::named(name)?;
         println!("{name}: {} bytes in six files: {:?}", set.bytes(), set.files.each_ref().map(Vec::len));
         println!(
-            "{:9}{:>9}{:>12}{:>10}{:>14}{:>10}{:>8}",
-            "question", "MB", "library ms", "MB/s", "reference ms", "MB/s", "ratio"
+            "{:11}{:>7}{:>12}{:>9}  {:11}{:>10}{:>9}{:>8}",
+            "question", "MB", "library ms", "MB/s", "beside", "ms", "MB/s", "ratio"
         );
-        for question in Question::ALL {
-            let [library, reference] = timing::side_by_side([Side::Library, Side::Reference].map(|side| {
-                let set = &set;
-                move || question.ask(side, set)
-            }));
-            let size = question.bytes(&set) as f64 / 1e6;
-            let (library, reference) = (library.as_secs_f64(), reference.as_secs_f64());
-            println!(
-                "{:9}{size:>9.3}{:>12.3}{:>10.1}{:>14.3}{:>10.1}{:>8.2}",
-                question.name(),
-                library * 1e3,
-                size / library,
-                reference * 1e3,
-                size / reference,
-                library / reference
-            );
+        for &question in questions {
+            for other in [Side::Reference, Side::RapidJson] {
+                beside(question, other, &set);
+            }
         }
     }
+    Some(())
+}
+
+/// Prints the times of the library and another side, if that one can be asked the question.
+fn beside(question: Question, other: Side, set: &Bench) {
+    let Some(number) = question.ask(other, set) else { return };
+    assert_eq!(question.ask(Side::Library, set), Some(number), "{} and the library answer {}", other.name(), question.name());
+    let times = timing::side_by_side([Side::Library, other].map(|side| move || question.ask(side, set)));
+    let [library, its] = times.map(|time| time.as_secs_f64());
+    let size = question.bytes(set) as f64 / 1e6;
+    println!(
+        "{:11}{size:>7.3}{:>12.3}{:>9.1}  {:11}{:>10.3}{:>9.1}{:>8.2}",
+        question.name(),
+        library * 1e3,
+        size / library,
+        other.name(),
+        its * 1e3,
+        size / its,
+        library / its
+    );
 }

@@ -1,15 +1,17 @@
 //! What is measured.
 
+use crate::rapidjson::{Reads, READS};
 use crate::set::Bench;
-use feeds::files;
 use skaveldro::Point;
 use std::hint::black_box;
 
 /// A question, asked so that all of its work is done.
 #[derive(Clone, Copy, PartialEq, Eq)]
 pub enum Question {
-    /// Stage A of the six files, by asking for a record of texts that stage B refuses at once.
+    /// Stage A: the verdict on the set with its last file cut off at the end.
     StageA,
+    /// Stages A and B: the verdict on the set with a value of another type at the end of its last file.
+    StagesAB,
     Verdict,
     /// A quote, which judges file 5 and reads the plan.
     Quote,
@@ -22,21 +24,26 @@ pub enum Question {
 pub enum Side {
     Library,
     Reference,
+    /// RapidJSON's reader, for stage A, where the bench was built with it.
+    RapidJson,
 }
 
 impl Side {
+    pub const ALL: [Side; 3] = [Side::Library, Side::Reference, Side::RapidJson];
+    pub const NAMES: [&str; 3] = ["library", "reference", "rapidjson"];
+
     pub fn named(name: &str) -> Option<Side> {
-        match name {
-            "library" => Some(Side::Library),
-            "reference" => Some(Side::Reference),
-            _ => None,
-        }
+        Side::ALL.into_iter().find(|side| side.name() == name)
+    }
+
+    pub fn name(self) -> &'static str {
+        Side::NAMES[self as usize]
     }
 }
 
 impl Question {
-    pub const ALL: [Question; 4] = [Question::StageA, Question::Verdict, Question::Quote, Question::Zone];
-    pub const NAMES: [&str; 4] = ["stage-a", "verdict", "quote", "zone"];
+    pub const ALL: [Question; 5] = [Question::StageA, Question::StagesAB, Question::Verdict, Question::Quote, Question::Zone];
+    pub const NAMES: [&str; 5] = ["stage-a", "stages-ab", "verdict", "quote", "zone"];
 
     pub fn named(name: &str) -> Option<Question> {
         Question::ALL.into_iter().find(|question| question.name() == name)
@@ -49,18 +56,19 @@ impl Question {
     /// How many bytes the question reads.
     pub fn bytes(self, set: &Bench) -> usize {
         match self {
-            Question::StageA => set.texts.iter().map(Vec::len).sum(),
-            Question::Verdict => set.bytes(),
+            Question::StageA | Question::StagesAB | Question::Verdict => set.files(self).map(<[u8]>::len).iter().sum(),
             Question::Quote => set.files[4].len(),
             Question::Zone => set.files[5].len(),
         }
     }
 
-    /// Asks once; the number of the answer.
-    pub fn ask(self, side: Side, set: &Bench) -> u8 {
+    /// Asks once; the number of the answer, if that side can be asked this.
+    pub fn ask(self, side: Side, set: &Bench) -> Option<u8> {
         match side {
-            Side::Library => asked_library(self, black_box(set)),
-            Side::Reference => asked_reference(self, black_box(set)),
+            Side::Library => Some(asked_library(self, black_box(set))),
+            Side::Reference => Some(asked_reference(self, black_box(set))),
+            Side::RapidJson if self == Question::StageA => Some(asked_rapidjson(READS?, black_box(set))),
+            Side::RapidJson => None,
         }
     }
 }
@@ -69,14 +77,13 @@ impl Question {
 #[inline(never)]
 #[no_mangle]
 fn asked_library(question: Question, set: &Bench) -> u8 {
-    let Bench { files: all, texts, ride, place } = set;
+    let Bench { files, ride, place, .. } = set;
     match question {
-        Question::StageA => (1..).zip(texts).map(|(file, text)| skaveldro::show_record(file, 1, text).number()).fold(0, u8::max),
-        Question::Verdict => skaveldro::verdict(files(all)).number(),
-        Question::Quote => skaveldro::quote(&all[4], &ride.plan, ride.seconds, ride.metres).number(),
+        Question::StageA | Question::StagesAB | Question::Verdict => skaveldro::verdict(set.files(question)).number(),
+        Question::Quote => skaveldro::quote(&files[4], &ride.plan, ride.seconds, ride.metres).number(),
         Question::Zone => {
             let point = Point { lon: place.lon, lat: place.lat };
-            skaveldro::zone_rule(&all[5], point, &place.vehicle_type, place.moment).number()
+            skaveldro::zone_rule(&files[5], point, &place.vehicle_type, place.moment).number()
         }
     }
 }
@@ -85,24 +92,24 @@ fn asked_library(question: Question, set: &Bench) -> u8 {
 #[inline(never)]
 #[no_mangle]
 fn asked_reference(question: Question, set: &Bench) -> u8 {
-    use reference::{quote, show_record, verdict, zone_rule, Quote, Ruling, Shown, Verdict};
-    let Bench { files: all, texts, ride, place } = set;
+    use reference::{quote, verdict, zone_rule, Quote, Ruling, Verdict};
+    let Bench { files, ride, place, .. } = set;
     match question {
-        Question::StageA => {
-            let number = |(file, text): (u64, &Vec<u8>)| match show_record(file, 1, text) {
-                Shown::NotClean(_) => 5,
-                _ => 0,
-            };
-            (1..).zip(texts).map(number).fold(0, u8::max)
-        }
-        Question::Verdict => u8::from(verdict(files(all)) != Verdict::Accepted),
-        Question::Quote => match quote(&all[4], &ride.plan, ride.seconds, ride.metres) {
+        Question::StageA | Question::StagesAB | Question::Verdict => u8::from(verdict(set.files(question)) != Verdict::Accepted),
+        Question::Quote => match quote(&files[4], &ride.plan, ride.seconds, ride.metres) {
             Quote::Fare { .. } => 0,
             _ => 1,
         },
-        Question::Zone => match zone_rule(&all[5], place.lon, place.lat, &place.vehicle_type, place.moment) {
+        Question::Zone => match zone_rule(&files[5], place.lon, place.lat, &place.vehicle_type, place.moment) {
             Ruling::NoRule => 9,
             _ => 0,
         },
     }
+}
+
+/// RapidJSON asked for stage A: 1 where it reads every text to its end, the last one being cut off there.
+#[inline(never)]
+#[no_mangle]
+fn asked_rapidjson(reads: Reads, set: &Bench) -> u8 {
+    u8::from(set.texts.iter().all(|text| reads(text) == text.count_bytes()))
 }

@@ -1,19 +1,22 @@
 //! A set near the ceilings, with questions that its files answer.
 
+use crate::questions::Question;
 use feeds::questions::{Questions, Ride, Where};
-use feeds::spelling::varied;
-use feeds::tree::Tree;
-use feeds::{sound, Rng, Set, Size};
+use feeds::{sound, Set, Size};
+use std::ffi::CString;
 use std::{fs, io};
 
 /// A sound set and what is asked about it.
 pub struct Bench {
     pub files: Set,
-    /// Each file in one more pair of brackets: a JSON text of about that length whose top value is no object, so that judging it ends
-    /// with stage A.
-    pub texts: Set,
     pub ride: Ride,
     pub place: Where,
+    /// File 6 up to its last bracket: a verdict ends with stage A, which reads it all.
+    cut_off: Vec<u8>,
+    /// File 6 with one of its last values of another type: a verdict ends with stage B, which reads it all.
+    mistyped: Vec<u8>,
+    /// The files of stage A for RapidJSON, which reads up to NUL.
+    pub texts: Vec<CString>,
 }
 
 impl Bench {
@@ -23,7 +26,8 @@ impl Bench {
             "full" => Size::FULL,
             _ => return None,
         };
-        let files = sound(7, &size);
+        let mut files = sound(7, &size);
+        files.iter_mut().for_each(|file| within_double(file));
         let mut questions = Questions::about(&files, 1);
         let ride = first(
             || questions.ride(),
@@ -39,20 +43,38 @@ impl Bench {
                 ruling == reference::Ruling::NoRule
             },
         );
-        Some(Bench { texts: files.each_ref().map(|file| in_brackets(file)), files, ride, place })
+        Bench::of(files, ride, place)
+    }
+
+    fn of(files: Set, ride: Ride, place: Where) -> Option<Bench> {
+        let (cut_off, mistyped) = (cut_off(&files[5])?, mistyped(&files[5])?);
+        let mut set = Bench { files, ride, place, cut_off, mistyped, texts: Vec::new() };
+        set.texts = set.files(Question::StageA).into_iter().map(|file| CString::new(file).ok()).collect::<Option<_>>()?;
+        Some(set)
+    }
+
+    /// The files that a verdict is asked on, by how far it is to go.
+    pub fn files(&self, question: Question) -> [&[u8]; 6] {
+        let mut files = feeds::files(&self.files);
+        match question {
+            Question::StageA => files[5] = &self.cut_off,
+            Question::StagesAB => files[5] = &self.mistyped,
+            _ => {}
+        }
+        files
     }
 
     pub fn bytes(&self) -> usize {
         self.files.iter().map(Vec::len).sum()
     }
 
-    /// Writes files, texts and questions one behind the other, each behind its length.
+    /// Writes files and questions one behind the other, each behind its length.
     pub fn write(&self, path: &str) -> io::Result<()> {
-        let Bench { files, texts, ride, place } = self;
+        let Bench { files, ride, place, .. } = self;
         let numbers =
             [ride.seconds, ride.metres, place.lon.cast_unsigned(), place.lat.cast_unsigned(), place.moment].map(u64::to_le_bytes);
         let mut bytes = Vec::new();
-        let parts = files.iter().chain(texts).chain([&ride.plan, &place.vehicle_type]).map(Vec::as_slice);
+        let parts = files.iter().chain([&ride.plan, &place.vehicle_type]).map(Vec::as_slice);
         for part in parts.chain(numbers.iter().map(|number| number.as_slice())) {
             bytes.extend(part.len().to_le_bytes());
             bytes.extend(part);
@@ -70,19 +92,35 @@ impl Bench {
             rest = after;
             Some(part.to_vec())
         };
-        let mut six = || [const { Vec::new() }; 6].map(|_: Vec<u8>| next()).into_iter().collect::<Option<Vec<_>>>();
-        let (files, texts) = (six()?.try_into().ok()?, six()?.try_into().ok()?);
+        let files =
+            [const { Vec::new() }; 6].map(|_: Vec<u8>| next()).into_iter().collect::<Option<Vec<_>>>()?.try_into().ok()?;
         let (plan, vehicle_type) = (next()?, next()?);
         let mut number = || Some(u64::from_le_bytes(next()?.try_into().ok()?));
         let ride = Ride { plan, seconds: number()?, metres: number()? };
         let (lon, lat) = (number()?.cast_signed(), number()?.cast_signed());
-        Some(Bench { files, texts, ride, place: Where { lon, lat, vehicle_type, moment: number()? } })
+        Bench::of(files, ride, Where { lon, lat, vehicle_type, moment: number()? })
     }
 }
 
-fn in_brackets(file: &[u8]) -> Vec<u8> {
-    let tree = reference::json::parse(file).map_or(Tree::Null, |tree| Tree::from(&tree));
-    varied(&Tree::Array(vec![tree]), skaveldro::MOST_BYTES, &mut Rng::new(7))
+/// Numbers past a double, which are JSON but which RapidJSON refuses, made less. They stand only in members that are not listed.
+fn within_double(file: &mut [u8]) {
+    for at in 0..file.len() {
+        if file[at..].starts_with(b"1e400") {
+            file[at + 2] = b'3';
+        }
+    }
+}
+
+fn cut_off(file: &[u8]) -> Option<Vec<u8>> {
+    let last = file.iter().rposition(|&byte| byte == b'}')?;
+    Some(file[..last].to_vec())
+}
+
+/// The last value of a zones file that can be made null so that stage B refuses it.
+fn mistyped(file: &[u8]) -> Option<Vec<u8>> {
+    let truths = (0..file.len()).rev().filter(|&at| file[at..].starts_with(b"true"));
+    let mut changed = truths.map(|at| [&file[..at], b"null", &file[at + 4..]].concat());
+    changed.find(|file| matches!(reference::show_record(6, 1, file), reference::Shown::NotClean(_)))
 }
 
 /// The first of many questions that is as wanted; the last one if none is.

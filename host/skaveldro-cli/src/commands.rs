@@ -10,12 +10,10 @@ use skaveldro::{quote as quote_ride, show_record, verdict, zone_rule, Point, Quo
 
 /// The verdict on a directory.
 pub fn check(directory: &str) -> Result<Report, Failure> {
-    let (files, empty) = files::set(directory)?;
+    let (files, notes) = files::set(directory)?;
     let verdict = verdict(files.each_ref().map(Vec::as_slice));
     let blamed = files.get(usize::from(verdict.parts().file).wrapping_sub(1));
-    let mut report = tell::judged(verdict.number(), verdict.word(), verdict.parts(), blamed.map(Vec::as_slice));
-    report.notes = empty.into_iter().map(|name| format!("{name} is empty and counts as absent")).collect();
-    Ok(report)
+    Ok(tell::judged(verdict.number(), verdict.word(), verdict.parts(), blamed.map(Vec::as_slice)).noting(notes))
 }
 
 /// What a word says. The file that it blames, if it is at hand, helps to say it.
@@ -25,53 +23,57 @@ pub fn explain(word: &str, path: Option<&str>) -> Result<Report, Failure> {
     let Reading::Parts(parts) = reading else {
         return Ok(tell::refused(reading.number(), format!("{word} is no verdict word")));
     };
-    let blamed = match path {
-        Some(path) if !parts.is_accepted() => Some(files::one(path, parts.file)?),
-        _ => None,
+    let (bytes, note) = match path {
+        Some(path) if !parts.is_accepted() => files::one(path, parts.file)?,
+        _ => (Vec::new(), None),
     };
-    Ok(tell::judged(reading.number(), word, parts, blamed.as_deref()))
+    let blamed = (!bytes.is_empty()).then_some(bytes.as_slice());
+    Ok(tell::judged(reading.number(), word, parts, blamed).noting(note))
 }
 
 /// The price of a ride.
 pub fn quote(path: &str, plan: &str, seconds: &str, metres: &str) -> Result<Report, Failure> {
     let (seconds, metres) = (whole("SECONDS", seconds)?, whole("METRES", metres)?);
-    let plans = files::one(path, 5)?;
+    let (plans, note) = files::one(path, 5)?;
     let answer = quote_ride(&plans, plan.as_bytes(), seconds, metres);
     let refused = |why: String| tell::refused(answer.number(), why);
-    Ok(match answer {
+    let report = match answer {
         Quote::TooLong => refused("a ride is priced up to 2678400 seconds and 1000000 metres".into()),
         Quote::NotClean(parts) => tell::unclean(answer.number(), parts, &plans),
         Quote::NoPlan => refused(format!("no plan has the id {plan:?}")),
         Quote::Outside => refused("the amount does not fit 64 bits".into()),
         Quote::Fare(fare) => tell::fare(fare),
-    })
+    };
+    Ok(report.noting(note))
 }
 
 /// The rule at a point.
 pub fn zone(path: &str, lat: &str, lon: &str, vehicle_type: &str, moment: &str) -> Result<Report, Failure> {
     let point = Point { lat: millionths("LAT", lat)?, lon: millionths("LON", lon)? };
     let moment = whole("MOMENT", moment)?;
-    let zones = files::one(path, 6)?;
+    let (zones, note) = files::one(path, 6)?;
     let answer = zone_rule(&zones, point, vehicle_type.as_bytes(), moment);
     let refused = |why: &str| tell::refused(answer.number(), why.into());
-    Ok(match answer {
+    let report = match answer {
         Ruling::OffMap => refused("the point is off the map: LAT goes from -90 to 90, LON from -180 to 180"),
         Ruling::NotClean(parts) => tell::unclean(answer.number(), parts, &zones),
         Ruling::NoRule => refused("no rule applies"),
         Ruling::Is(rule) => tell::rule(rule),
-    })
+    };
+    Ok(report.noting(note))
 }
 
 /// The bytes of a record.
 pub fn show(path: &str, file: &str, record: &str) -> Result<Report, Failure> {
     let (file, record) = (file_number(file)?, whole("RECORD", record)?);
-    let bytes = files::one(path, file)?;
+    let (bytes, note) = files::one(path, file)?;
     let answer = show_record(file, record, &bytes);
-    Ok(match answer {
+    let report = match answer {
         Shown::NoRecord => {
             tell::refused(answer.number(), format!("{} has no record {record}", FILE_NAMES[usize::from(file) - 1]))
         }
         Shown::NotClean(parts) => tell::unclean(answer.number(), parts, &bytes),
         Shown::Record { from, upto } => tell::record(&bytes, from, upto),
-    })
+    };
+    Ok(report.noting(note))
 }

@@ -16,42 +16,59 @@ pub fn read(path: &Path) -> Result<Vec<u8>, Failure> {
     }
 }
 
-/// The six files of a directory by their standard names, and those of them that are there without a byte.
-pub fn set(directory: &str) -> Result<([Vec<u8>; 6], Vec<&'static str>), Failure> {
+/// The six files of a directory by their standard names, with a note on each that is there without a byte, or that none is there.
+pub fn set(directory: &str) -> Result<([Vec<u8>; 6], Vec<String>), Failure> {
     let directory = Path::new(directory);
     if let Err(error) = fs::read_dir(directory) {
         return Err(unreadable(directory, &error));
     }
     let mut files = [const { Vec::new() }; 6];
-    let mut empty = Vec::new();
+    let mut notes = Vec::new();
+    let mut is_any = false;
     for (bytes, name) in files.iter_mut().zip(FILE_NAMES) {
         let path = directory.join(name);
         if is_absent(&path)? {
             continue;
         }
+        is_any = true;
         *bytes = read(&path)?;
-        if bytes.is_empty() {
-            empty.push(name);
+        notes.extend(note_on(bytes, name));
+    }
+    if !is_any {
+        notes.push(format!("there is none of the six files in {}", directory.display()));
+    }
+    Ok((files, notes))
+}
+
+/// One file, 1 to 6, of a directory, or the file itself, and a note where it counts as absent. One that its directory does not have
+/// has no bytes.
+pub fn one(path: &str, file: u8) -> Result<(Vec<u8>, Option<String>), Failure> {
+    let name = FILE_NAMES[usize::from(file) - 1];
+    let given = Path::new(path);
+    let bytes = if given.is_dir() {
+        let within = given.join(name);
+        if is_absent(&within)? {
+            return Ok((Vec::new(), Some(format!("there is no {name} in {path}"))));
         }
-    }
-    Ok((files, empty))
+        read(&within)?
+    } else {
+        read(given)?
+    };
+    let note = note_on(&bytes, name);
+    Ok((bytes, note))
 }
 
-/// One file, 1 to 6, of a directory, or the file itself; one that its directory does not have is absent, without bytes.
-pub fn one(path: &str, file: u8) -> Result<Vec<u8>, Failure> {
-    let path = Path::new(path);
-    if !path.is_dir() {
-        return read(path);
-    }
-    let path = path.join(FILE_NAMES[usize::from(file) - 1]);
-    if is_absent(&path)? {
-        return Ok(Vec::new());
-    }
-    read(&path)
+fn note_on(bytes: &[u8], name: &str) -> Option<String> {
+    bytes.is_empty().then(|| format!("{name} is empty and counts as absent"))
 }
 
+/// Is there nothing of that name? A link that leads nowhere is something that cannot be read.
 fn is_absent(path: &Path) -> Result<bool, Failure> {
-    path.try_exists().map(|exists| !exists).map_err(|error| unreadable(path, &error))
+    match path.symlink_metadata() {
+        Ok(_) => Ok(false),
+        Err(error) if error.kind() == io::ErrorKind::NotFound => Ok(true),
+        Err(error) => Err(unreadable(path, &error)),
+    }
 }
 
 fn unreadable(path: &Path, error: &io::Error) -> Failure {

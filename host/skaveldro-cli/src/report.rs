@@ -22,4 +22,9 @@ impl Report {
     pub fn text(text: String) -> Report {
         Report { status: 0, members: vec![("text", Json::Text(text.clone()))], text, notes: Vec::new() }
     }
+
+    /// The same with these notes.
+    pub fn noting(self, notes: impl IntoIterator<Item = String>) -> Report {
+        Report { notes: notes.into_iter().collect(), ..self }
+    }
 }

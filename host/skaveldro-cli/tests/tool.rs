@@ -4,13 +4,15 @@ use std::fs;
 use std::path::{Path, PathBuf};
 use std::process::{Command, Output};
 
-/// The directory that has the example feed.
-fn host() -> PathBuf {
-    Path::new(env!("CARGO_MANIFEST_DIR")).join("..")
+/// A sound feed set, seen from the directory that the tool is run in.
+const SAMPLE: &str = "crates/sample/data";
+
+fn root() -> PathBuf {
+    Path::new(env!("CARGO_MANIFEST_DIR")).join("../..")
 }
 
 fn run(words: &[&str]) -> Output {
-    Command::new(env!("CARGO_BIN_EXE_skaveldro")).args(words).current_dir(host()).output().expect("the tool runs")
+    Command::new(env!("CARGO_BIN_EXE_skaveldro")).args(words).current_dir(root()).output().expect("the tool runs")
 }
 
 /// Exit status and standard output.
@@ -48,7 +50,7 @@ fn examples_of_the_help_text() {
     while let Some(line) = lines.next() {
         let Some(command) = line.strip_prefix("    $ skaveldro ") else { continue };
         let shown: Vec<&str> =
-            std::iter::from_fn(|| lines.next_if(|line| line.starts_with("      "))).map(str::trim_start).collect();
+            std::iter::from_fn(|| lines.next_if(|line| line.starts_with("      "))).map(|line| &line[6..]).collect();
         let (_, answer) = told(&command.split(' ').collect::<Vec<_>>());
         if !shown.is_empty() {
             assert_eq!(answer.lines().collect::<Vec<_>>(), shown, "{command}");
@@ -74,13 +76,13 @@ fn bad_use() {
     assert!(blamed(&[]).contains("a command is missing"));
     assert!(blamed(&["judge"]).contains("there is no command \"judge\""));
     assert!(blamed(&["check"]).contains("skaveldro check DIR"));
-    assert!(blamed(&["check", "example", "--xml"]).contains("there is no option --xml"));
+    assert!(blamed(&["check", SAMPLE, "--xml"]).contains("there is no option --xml"));
     assert!(blamed(&["check", "nowhere"]).contains("cannot read nowhere"));
-    assert!(blamed(&["check", "example/vehicle_types.json"]).contains("cannot read"));
+    assert!(blamed(&["check", "crates/sample/data/vehicle_types.json"]).contains("cannot read"));
     assert!(blamed(&["quote", "nowhere.json", "p", "0", "0"]).contains("cannot read nowhere.json"));
-    assert!(blamed(&["quote", "example", "p", "-1", "0"]).contains("SECONDS has to be"));
-    assert!(blamed(&["zone", "example", "41.1234567", "0", "", "0"]).contains("LAT has to be"));
-    assert!(blamed(&["show", "example", "7", "1"]).contains("FILE is a number from 1 to 6"));
+    assert!(blamed(&["quote", SAMPLE, "electric", "-1", "0"]).contains("SECONDS has to be"));
+    assert!(blamed(&["zone", SAMPLE, "47.1234567", "0", "", "0"]).contains("LAT has to be"));
+    assert!(blamed(&["show", SAMPLE, "7", "1"]).contains("FILE is a number from 1 to 6"));
     assert!(blamed(&["explain", "12"]).contains("16 hexadecimal digits"));
 }
 
@@ -100,7 +102,7 @@ fn a_verdict_in_words_and_as_json() {
     assert_eq!(told(&["check", "--json", &directory]), (1, json));
     assert_eq!(told(&["explain", "1462800300000000", &directory]).1, told(&["check", &directory]).1);
     assert_eq!(
-        told(&["check", "example", "--json"]),
+        told(&["check", SAMPLE, "--json"]),
         (0, "{\"answer\":0,\"accepted\":true,\"word\":\"1000000000000000\"}\n".into())
     );
 }
@@ -128,13 +130,46 @@ fn texts_that_are_no_json_and_files_that_are_too_long() {
     assert!(told(&["check", &directory]).1.ends_with("the file ends before its JSON text does\n"));
 }
 
+/// Exit status, standard output and standard error.
+fn noted(words: &[&str]) -> (Option<i32>, String, String) {
+    let output = run(words);
+    let text = |bytes| String::from_utf8(bytes).expect("the answer is UTF-8");
+    (output.status.code(), text(output.stdout), text(output.stderr))
+}
+
 #[test]
-fn an_empty_file_is_absent_and_said_to_be() {
-    let directory = feed("empty", &[("free_bike_status.json", b"")]);
-    let output = run(&["check", &directory]);
-    assert_eq!(output.status.code(), Some(1));
-    assert!(String::from_utf8_lossy(&output.stderr).contains("free_bike_status.json is empty and counts as absent"));
-    assert!(String::from_utf8_lossy(&output.stdout).contains("needed where station_information.json is not given"));
+fn an_absent_file_is_said_to_be() {
+    let directory = feed("empty", &[("free_bike_status.json", b""), ("system_pricing_plans.json", b"")]);
+    let (status, answer, note) = noted(&["check", &directory]);
+    assert_eq!(status, Some(1));
+    assert!(answer.contains("needed where station_information.json is not given"), "{answer}");
+    assert!(note.contains("free_bike_status.json is empty and counts as absent"), "{note}");
+    let (status, answer, note) = noted(&["quote", &directory, "p", "0", "0"]);
+    assert_eq!((status, answer.as_str()), (Some(1), "no plan has the id \"p\"\n"));
+    assert!(note.contains("system_pricing_plans.json is empty and counts as absent"), "{note}");
+    let (status, answer, note) = noted(&["zone", &directory, "0", "0", "", "0"]);
+    assert_eq!((status, answer.as_str()), (Some(1), "no rule applies\n"));
+    assert!(note.contains("there is no geofencing_zones.json in "), "{note}");
+    let (_, answer, note) = noted(&["explain", "1220000000000007", &directory]);
+    assert!(answer.ends_with("station_information.json, byte 7: no JSON text goes on like this\n"), "{answer}");
+    assert!(note.contains("there is no station_information.json in "), "{note}");
+    let (_, _, note) = noted(&["check", &feed("nothing", &[])]);
+    assert!(note.contains("there is none of the six files in "), "{note}");
+    assert_eq!(noted(&["check", SAMPLE]).2, "");
+}
+
+/// A name that is there but cannot be read is not taken for an absent file.
+#[cfg(unix)]
+#[test]
+fn files_that_cannot_be_read() {
+    let directory = feed("unreadable", &[]);
+    let path = Path::new(&directory).join("geofencing_zones.json");
+    std::os::unix::fs::symlink("nowhere", &path).expect("there is room for a test");
+    assert!(blamed(&["check", &directory]).contains("cannot read"));
+    assert!(blamed(&["zone", &directory, "0", "0", "", "0"]).contains("geofencing_zones.json"));
+    fs::remove_file(&path).expect("the link is there");
+    fs::create_dir(&path).expect("there is room for a test");
+    assert!(blamed(&["check", &directory, "--json"]).contains("cannot read"));
 }
 
 #[test]
@@ -143,24 +178,37 @@ fn questions_without_an_answer() {
         let (status, answer) = told(words);
         assert!(status == 1 && answer.contains(text), "{words:?}: {answer}");
     };
-    asked(&["quote", "example", "minute", "2678401", "0"], "priced up to");
-    asked(&["quote", "example", "nobody", "0", "0"], "no plan has the id \"nobody\"");
-    asked(&["quote", "example/vehicle_types.json", "minute", "0", "0"], "the file is not clean\nsystem_pricing_plans.json");
-    asked(&["zone", "example", "0", "180.000001", "scooter", "0"], "off the map");
-    asked(&["zone", "example", "41.1425", "-8.61", "bike", "0"], "no rule applies");
-    asked(&["show", "example", "1", "3"], "vehicle_types.json has no record 3");
+    asked(&["quote", SAMPLE, "electric", "2678401", "0"], "priced up to");
+    asked(&["quote", SAMPLE, "nobody", "0", "0"], "no plan has the id \"nobody\"");
+    asked(
+        &["quote", "crates/sample/data/vehicle_types.json", "electric", "0", "0"],
+        "the file is not clean\nsystem_pricing_plans.json",
+    );
+    asked(&["zone", SAMPLE, "0", "180.000001", "scooter", "0"], "off the map");
+    asked(&["zone", SAMPLE, "47.37", "8.543", "city_bike", "1704067199"], "no rule applies");
+    asked(&["show", SAMPLE, "1", "4"], "vehicle_types.json has no record 4");
     asked(&["explain", "2000000000000000"], "no verdict word");
-    asked(&["zone", "example", "41.1425", "-8.61", "bike", "0", "--json"], "{\"answer\":9,");
+    asked(&["zone", SAMPLE, "47.37", "-8.543", "city_bike", "1704067200", "--json"], "{\"answer\":9,");
 }
 
 #[test]
 fn answers_as_json() {
-    let (_, fare) = told(&["quote", "example", "minute", "600", "2500", "--json"]);
-    assert_eq!(fare, "{\"answer\":0,\"amount\":26500,\"past_minutes\":false,\"past_kilometres\":false}\n");
-    let (_, rule) = told(&["zone", "example", "41.1425", "-8.61", "scooter", "0", "--json"]);
+    let fare = |plan, seconds, metres| told(&["quote", SAMPLE, plan, seconds, metres, "--json"]);
     let expected =
-        r#"{"answer":0,"ride_allowed":false,"ride_through_allowed":true,"maximum_speed_kph":6,"station_parking":null}"#;
-    assert_eq!(rule, format!("{expected}\n"));
-    let (_, record) = told(&["show", "example", "vehicle_types.json", "1", "--json"]);
-    assert!(record.contains(r#""record":{ "vehicle_type_id": "bike","#), "{record}");
+        |amount, past| (0, format!("{{\"answer\":0,\"amount\":{amount},\"past_minutes\":{past},\"past_kilometres\":false}}\n"));
+    assert_eq!(fare("electric", "5400", "12500"), expected(202500, false));
+    assert_eq!(fare("day_pass", "14399", "0"), expected(150000, false));
+    assert_eq!(fare("day_pass", "14400", "0"), expected(150000, true));
+    let rule = |vehicle_type| told(&["zone", SAMPLE, "47.37", "8.543", vehicle_type, "1704067200", "--json"]).1;
+    assert_eq!(
+        rule("scooter"),
+        "{\"answer\":0,\"ride_allowed\":false,\"ride_through_allowed\":false,\"maximum_speed_kph\":null,\"station_parking\":null}\n"
+    );
+    assert_eq!(
+        rule("city_bike"),
+        "{\"answer\":0,\"ride_allowed\":true,\"ride_through_allowed\":true,\"maximum_speed_kph\":10,\"station_parking\":true}\n"
+    );
+    let (_, record) = told(&["show", SAMPLE, "vehicle_types.json", "1", "--json"]);
+    assert!(record.contains(r#""record":{         "vehicle_type_id": "city_bike","#), "{record}");
+    assert_eq!(record.lines().count(), 1);
 }
