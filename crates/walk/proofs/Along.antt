@@ -1,7 +1,7 @@
 -- A walk along a whole array or object stands before an element or at the closing bracket, wherever it has come to: reading met the elements one after
 -- another up to that bracket, and each step goes past the next of them.
 use mathlib.Core.Bool.{false}
-use mathlib.Core.List.{List, [], _∷_}
+use mathlib.Core.List.{List, [], _∷_, foldl}
 use mathlib.Core.Logic.{_⊎_, inl, inr, ⊎-elim}
 use mathlib.Core.Path.{_≡_, refl, sym, ap, subst, _∙_}
 use Prim.Native.Nat.{ℕ, suc, _≤_}
@@ -16,19 +16,23 @@ use Rattle.lexeme.specs.Character.{paired}
 use Rattle.lexeme.specs.Tokens.{blanks}
 use Rattle.lexeme.proofs.Reading.{Eats, Ok, Takes}
 use Rattle.lexeme.proofs.Steps.{by-test, bad-done, made-done}
-use Rattle.json.specs.Tree.{Json}
+use Rattle.json.specs.Tree.{Json, Items, Members}
 use Rattle.json.specs.Text.{contents, bracketed, member, value}
 use Rattle.json.proofs.Steps.{contents-end, contents-some}
 use Rattle.json.proofs.Bound.{follows-as, Run, faulty, last, next, broken, run}
 use Rattle.json.proofs.Takes.{value-eats, value-takes, member-eats, member-takes}
 use Rattle.walk.specs.declared.Member.{Member}
 use Rattle.walk.specs.declared.Item.{Item}
+use Rattle.walk.specs.declared.MemberStep.{MemberStep}
+use Rattle.walk.specs.declared.ItemStep.{ItemStep}
 use Rattle.walk.specs.declared.MemberStep.the-variants as members
 use Rattle.walk.specs.declared.ItemStep.the-variants as items
-use Rattle.walk.specs.Walk.{onward, memberAt, itemAt}
-use Rattle.walk.specs.Along.{AlongItems, AlongMembers}
+use Rattle.walk.specs.Walk.{onward, memberAt, membersOf, itemAt, itemsOf}
+use Rattle.walk.specs.Part.{Whole}
+use Rattle.walk.specs.Along.{AlongItems, AlongMembers, ItemPassed, MemberPassed}
 use Rattle.walk.proofs.Steps.{Reads}
-use Rattle.walk.proofs.Folds.{Steps, memberSteps, itemSteps}
+use Rattle.walk.proofs.Folds as Folds
+use Rattle.walk.proofs.Folds.{Steps, Walk, walk-more, walk-end, memberSteps, itemSteps}
 use Rattle.walk.proofs.Wholes.{whole-array, whole-object}
 use Rattle.walk.proofs.Trees.{Meets, next-closes, next-begins, leaves, deepen, item-meets, item-stops, member-reads, member-meets, member-stops}
 
@@ -141,3 +145,35 @@ module _ (p : List ℕ) where
   along-member {at} a =
       let (d, h, s) = members-stand a in
       ⊎-elim inl (λ y. let r = member-reads p d h (blanks (drop at p)) (y .1) (y .0) (y .2) in inr (y .0 .0, y .0 .1, r .0, y .1, r .1)) (stands-reads s)
+
+-- A loop that passes over values, for any fold over items or members: its invariant is that the walk has come to `at`, and the fold will come to r.
+module _ (p : List ℕ) {A : Type 0} (g : A → Item → A) where
+  abbrev pub ItemsAlong : A → ℕ → A → Type 0
+  ItemsAlong s at r = AlongItems p at × Walk (itemSteps p) g s at r
+
+  pub items-along : {is : Items} → Whole p (Json.array is) → (s : A) → ItemsAlong s 1 (foldl g s (itemsOf p))
+  items-along w s = (AlongItems.start w, Folds.items-start p g s)
+
+  pub items-along-more : (s : A) (at : ℕ) (r : A) {o : ItemStep} {m : Item} → ItemPassed p at o → o ≡ items.Found m → ItemsAlong s at r → ItemsAlong (g s m) (m .next) r
+  items-along-more s at r {o} {m} h e (a, k) =
+      let f : itemAt p at ≡ items.Found m = sym (h .same a) ∙ e in
+      (AlongItems.next a f, walk-more (itemSteps p) g s at r m f k)
+
+  pub items-along-end : (s : A) (at : ℕ) (r : A) {o : ItemStep} → ItemPassed p at o → o ≡ items.End → ItemsAlong s at r → s ≡ r
+  items-along-end s at r h e (a, k) = walk-end (itemSteps p) g s at r (sym (h .same a) ∙ e) k
+
+module _ (p : List ℕ) {A : Type 0} (g : A → Member → A) where
+  abbrev pub MembersAlong : A → ℕ → A → Type 0
+  MembersAlong s at r = AlongMembers p at × Walk (memberSteps p) g s at r
+
+  pub members-along : {ms : Members} → Whole p (Json.object ms) → (s : A) → MembersAlong s 1 (foldl g s (membersOf p))
+  members-along w s = (AlongMembers.start w, Folds.members-start p g s)
+
+  pub members-along-more : (s : A) (at : ℕ) (r : A) {o : MemberStep} {m : Member} → MemberPassed p at o → o ≡ members.Found m → MembersAlong s at r
+      → MembersAlong (g s m) (m .next) r
+  members-along-more s at r {o} {m} h e (a, k) =
+      let f : memberAt p at ≡ members.Found m = sym (h .same a) ∙ e in
+      (AlongMembers.next a f, walk-more (memberSteps p) g s at r m f k)
+
+  pub members-along-end : (s : A) (at : ℕ) (r : A) {o : MemberStep} → MemberPassed p at o → o ≡ members.End → MembersAlong s at r → s ≡ r
+  members-along-end s at r h e (a, k) = walk-end (memberSteps p) g s at r (sym (h .same a) ∙ e) k
