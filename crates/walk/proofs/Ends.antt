@@ -21,7 +21,7 @@ use Rattle.lexeme.proofs.Rests.{at-cons, place-at, first-byte, rest-at, rest-af
 use Rattle.lexeme.proofs.NumberParts.{digit-inside, either-inside, equal-inside}
 use Rattle.lexeme.proofs.Takes.{number-takes}
 use Rattle.walk.specs.Skip.{quoted, outside, enclosed, numbered, skipped}
-use Rattle.walk.proofs.Quotes.{apart, Itself, quoted-mark, pass-backslash, pass-escaped}
+use Rattle.walk.proofs.Quotes.{apart, Itself, quoted-mark, escape-begins}
 use Rattle.walk.proofs.Skips.{Between, enclosed-between, enclosed-opens, enclosed-closes, enclosed-end, enclosed-mark, numbered-done, numbered-bad, skipped-string, skipped-number, skipped-array, skipped-object, skipped-true, skipped-false, skipped-null, skipped-none}
 use Rattle.walk.proofs.Finding.{failed}
 
@@ -46,10 +46,11 @@ module _ (s : List ℕ) (i : ℕ) where
   pub string-closes : i < length s → byte s i ≡ 0x22 → quoted false (drop i s) ≡ drop (i + 1) s
   string-closes h e = ap (quoted false) (at-cons s i h) ∙ quoted-mark (drop (i + 1) s) e
 
-  pub string-escapes : byte s i ≡ 0x5c → quoted false (drop i s) ≡ quoted false (drop (i + 2) s)
-  string-escapes e =
-      let two : i + 1 + 1 ≡ i + 2 = omega arith in
-      pass-backslash s i (eq-eqb (byte s i) 0x5c e) ∙ pass-escaped s (i + 1) ∙ ap (λ (k : ℕ). quoted false (drop k s)) two
+  pub string-escapes : (j : ℕ) → byte s i ≡ 0x5c → drop j s ≡ drop 2 (drop i s) → quoted false (drop i s) ≡ quoted false (drop j s)
+  string-escapes j e h = escape-begins (drop i s) (eq-eqb _ _ (sym (first-byte s i) ∙ e)) ∙ ap (quoted false) (sym h)
+
+  pub escape-later : (j : ℕ) → i < length s → drop j s ≡ drop 2 (drop i s) → i < j
+  escape-later j h e = omega (arith, ap length e, length-drop j s, length-drop 2 (drop i s), length-drop i s)
 
 quoted-splits : (e : Bool) (l : List ℕ) → (p : List ℕ) × (l ≡ p ++ quoted e l)
 unfolding quoted

@@ -67,10 +67,10 @@ module _ (l : List ℕ) (i : ℕ) where
   pub pass-itself : Itself (byte l i) → quoted false (drop i l) ≡ quoted false (drop (i + 1) l)
   pass-itself h = one-on false false (quoted-itself (drop (i + 1) l) (byte l i) h)
 
-  pub pass-backslash : eqb (byte l i) 0x5c ≡ true → quoted false (drop i l) ≡ quoted true (drop (i + 1) l)
+  pass-backslash : eqb (byte l i) 0x5c ≡ true → quoted false (drop i l) ≡ quoted true (drop (i + 1) l)
   pass-backslash h = one-on false true (quoted-backslash (drop (i + 1) l) (eqb-true (byte l i) 0x5c h))
 
-  pub pass-escaped : quoted true (drop i l) ≡ quoted false (drop (i + 1) l)
+  pass-escaped : quoted true (drop i l) ≡ quoted false (drop (i + 1) l)
   pass-escaped = one-on true false (quoted-escaped (drop (i + 1) l) (byte l i))
 
 -- what a character's first byte tells
@@ -123,8 +123,8 @@ TrailPassed l Other = Unit {0}
 passed-more : (m n : ℕ) (l : List ℕ) → Passed m l → Passed n (drop m l) → Passed (m + n) l
 passed-more m n l h k = h ∙ k ∙ ap (quoted false) (drop-drop n m l)
 
-pair-passed : (l : List ℕ) → eqb (byte l 0) 0x5c ≡ true → Passed 2 l
-pair-passed l h = pass-backslash l 0 h ∙ pass-escaped l 1
+pub escape-begins : (l : List ℕ) → eqb (byte l 0) 0x5c ≡ true → Passed 2 l
+escape-begins l h = pass-backslash l 0 h ∙ pass-escaped l 1
 
 module _ (l : List ℕ) where
   encoded-passed : (v more : ℕ) → Passed (suc more) l → CharacterPassed l (encoded v more)
@@ -177,7 +177,7 @@ trail-passed l =
   where
     go : eqb (byte l 0) 0x5c ≡ true → (q : Quad) → QuadPassed (drop 2 l) q → TrailPassed l (lowOf q)
     go a (Short n) h = tt
-    go a (Value w) h = choice (TrailPassed l) (within 0xdc00 0xdfff w) (passed-more 2 4 l (pair-passed l a) h) tt
+    go a (Value w) h = choice (TrailPassed l) (within 0xdc00 0xdfff w) (passed-more 2 4 l (escape-begins l a) h) tt
 
 -- an escape, and any character
 module _ (l : List ℕ) where
@@ -195,11 +195,11 @@ module _ (l : List ℕ) where
   unfolding escape unicode
   escape-passed h =
       by-test (eqb (byte l 1) 0x75) (λ a. rw a (go (quad (drop 2 l)) (quad-passed (drop 2 l)))) λ a. rw a
-      (choice (CharacterPassed l) (eqb (short (byte l 1)) 0) tt (pair-passed l h))
+      (choice (CharacterPassed l) (eqb (short (byte l 1)) 0) tt (escape-begins l h))
     where
       go : (q : Quad) → QuadPassed (drop 2 l) q → CharacterPassed l (unicode paired l q)
       go (Short n) k = tt
-      go (Value v) k = unit-passed (passed-more 2 4 l (pair-passed l h) k) v
+      go (Value v) k = unit-passed (passed-more 2 4 l (escape-begins l h) k) v
 
   character-passed : CharacterPassed l (next paired l)
   unfolding next nextBy within

@@ -20,7 +20,7 @@ use Rattle.lexeme.proofs.Steps.{by-test, bad-done, done-what, made-done, then-d
 use Rattle.lexeme.proofs.Takes.{solid-first}
 use Rattle.json.specs.Tree as Tree
 use Rattle.json.specs.Tree.{Json}
-use Rattle.json.specs.Text.{expect, after, contents, bracketed, member, value}
+use Rattle.json.specs.Text.{expect, contents, bracketed, member, value}
 use Rattle.json.specs.Text.After.{closed, more}
 use Rattle.json.proofs.Steps.{contents-end, contents-none, contents-some, expect-here, expect-other, member-then, named}
 use Rattle.json.proofs.Bound.{Follows, at-close, at-comma, follows-as, Run, faulty, last, next, broken, run}

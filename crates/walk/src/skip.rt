@@ -27,10 +27,7 @@ pub fn string_end(s: &[u8], at: usize) -> usize
             return i + 1;
         }
         if b == b'\\' {
-            if s.len() - i <= 2 {
-                return s.len();
-            }
-            i += 2;
+            i = ahead(s, i, 2);
             continue;
         }
         i += 1;
