@@ -14,7 +14,7 @@ use slots::gather;
 use slots::is_blank_text;
 use walk::ItemStep;
 use walk::ValueKind;
-use walk::next_item;
+use walk::pass_item;
 use walk::value_kind;
 use word::kind::Kind;
 ghost use mathlib.Core.Path.{_≡_};
@@ -103,7 +103,7 @@ fn judge_array(p: &[u8], i: usize, line: Line, place: Place, level: u8) -> Least
     let mut n: u32 = 0;
     let mut at: usize = 1;
     loop {
-        let ItemStep::Found(item) = next_item(p, at) else {
+        let ItemStep::Found(item) = pass_item(p, at) else {
             return lesser(place.excess(line, n), least);
         };
         n += 1;

@@ -78,13 +78,13 @@ HoldsValue p (Once from upto) = Value p from upto
 HoldsValue p Twice = Unit {0}
 
 -- what each member keeps, the fold over all keeps
-pub fold-keeps : {A M : Type 0} (P : A → Type 0) (g : A → M → A) (ms : List M) → ((s : A) (m : M) → List·Memᴰ m ms → P s → P (g s m))
+fold-keeps : {A M : Type 0} (P : A → Type 0) (g : A → M → A) (ms : List M) → ((s : A) (m : M) → List·Memᴰ m ms → P s → P (g s m))
     → (s : A) → P s → P (foldl g s ms)
 fold-keeps P g [] keeps s h = h
 fold-keeps P g (m ∷ ms) keeps s h = fold-keeps P g ms (λ t n i. keeps t n (List·Memᴰ·tail i)) (g s m) (keeps s m (List·Memᴰ·head refl) h)
 
 module _ (p : List ℕ) where
-  pub member-value : (m : Member) → List·Memᴰ m (membersOf p) → Value p (m .value) (m .«value_end»)
+  member-value : (m : Member) → List·Memᴰ m (membersOf p) → Value p (m .value) (m .«value_end»)
   unfolding membersOf
   member-value =
       each (memberSteps p) (λ m. Value p (m .value) (m .«value_end»)) (λ at m e.

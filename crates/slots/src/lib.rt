@@ -16,7 +16,7 @@ use schema::names::name_counts;
 use schema::names::name_firsts;
 use schema::names::name_is;
 use walk::MemberStep;
-use walk::next_member;
+use walk::pass_member;
 
 // What an object holds under a name: nothing, a value from one place up to another, or more than one.
 pub enum Found {
@@ -143,7 +143,7 @@ pub fn gather(p: &[u8], first: usize, count: usize) -> Slots
     };
     let mut at: usize = 1;
     loop {
-        match next_member(p, at) {
+        match pass_member(p, at) {
             MemberStep::End => {
                 return s;
             }

@@ -1,10 +1,15 @@
+pub mod Quotes
 pub mod Rests
 pub mod Steps
+pub mod Skips
 pub mod Places
 pub mod Finding
+pub mod Ends
 pub mod FirstByte
 pub mod Folds
 pub mod Wholes
 pub mod Parts
 pub mod Trees
+pub mod Along
+pub mod Passing
 pub mod Files

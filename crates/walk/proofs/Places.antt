@@ -22,37 +22,23 @@ use Rattle.walk.specs.declared.Item.{Item}
 use Rattle.walk.specs.declared.MemberStep.the-variants as members
 use Rattle.walk.specs.declared.ItemStep.the-variants as items
 use Rattle.walk.specs.Walk.{place, onward, memberAt, itemAt}
+pub use Rattle.walk.specs.Along.{Placed, ItemPlaced}
 use Rattle.walk.proofs.Rests.{Rest, rest-drop, rest-next, rest-blanks, rest-read, rest-inside, rest-there}
 use Rattle.walk.proofs.Steps.{expect-done, onward-end, onward-comma, onward-other, Reads, memberOf, itemOf, member-from, item-from}
 
--- a member in p, found at `at`
-pub record Placed (p : List ℕ) (at : ℕ) (m : Member) : Type 0 where
-  pub later : at < m .name
-  pub name : m .name ≤ m .«name_end»
-  pub apart : m .«name_end» + 1 < m .value
-  pub value : m .value < m .«value_end»
-  pub next : m .«value_end» ≤ m .next
-  pub inside : m .next ≤ length p
-
--- and what stands there
+-- what stands at the places of a member
 pub record Spelt (p : List ℕ) (at : ℕ) (m : Member) (text : List ℕ) (x : Json) : Type 0 where
   pub placed : Placed p at m
   pub spells : Strings.string paired 0 (drop (m .name) p) ≡ done text (drop (m .«name_end» + 1) p)
   pub reads : value paired depth (drop (m .value) p) ≡ done x (drop (m .«value_end») p)
 
--- an item in p, found at `at`
-pub record ItemPlaced (p : List ℕ) (at : ℕ) (m : Item) : Type 0 where
-  pub later : at ≤ m .value
-  pub value : m .value < m .«value_end»
-  pub next : m .«value_end» ≤ m .next
-  pub inside : m .next ≤ length p
-
+-- and at those of an item
 pub record ItemSpelt (p : List ℕ) (at : ℕ) (m : Item) (x : Json) : Type 0 where
   pub placed : ItemPlaced p at m
   pub reads : value paired depth (drop (m .value) p) ≡ done x (drop (m .«value_end») p)
 
 -- the next element is looked for at the end of this one or later
-onward-later : (p t : List ℕ) → length t ≤ length p → (place p t ≤ onward p (blanks t)) × (onward p (blanks t) ≤ length p)
+pub onward-later : (p t : List ℕ) → length t ≤ length p → (place p t ≤ onward p (blanks t)) × (onward p (blanks t) ≤ length p)
 onward-later p t h = go (blanks t) refl
   where
     go : (l : List ℕ) → blanks t ≡ l → (place p t ≤ onward p (blanks t)) × (onward p (blanks t) ≤ length p)

@@ -1,3 +1,5 @@
 pub mod Walk
 pub mod Part
+pub mod Skip
+pub mod Along
 pub mod Cases

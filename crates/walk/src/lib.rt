@@ -4,6 +4,9 @@ ghost use lib.ListN.{drop};
 ghost use Rattle.lexeme.specs.Tokens.{blanks};
 ghost use Rattle.walk.specs.Walk.{onward, memberAt, itemAt};
 ghost use Rattle.walk.specs.Part.{kindAt};
+ghost use Rattle.walk.specs.Along.{ItemPassed, MemberPassed};
+use crate::skip::skip_value;
+use crate::skip::string_end;
 use json::reader::name_by;
 use json::reader::read_value;
 use json::reader::value_by;
@@ -14,6 +17,8 @@ use lexeme::class::class_of;
 use lexeme::class::class_table;
 use lexeme::front::first;
 use limits::Limits;
+
+pub mod skip;
 
 // A member of an object: where the text of its name stands, without the quotation marks; where its value stands; where the next member is looked for.
 pub struct Member {
@@ -51,7 +56,7 @@ pub enum ValueKind {
     Object,
 }
 
-// The member of the object `p` that is looked for at `at`.
+// The member of the object `p` that is looked for at `at`, read whole: for any bytes.
 pub fn next_member(p: &[u8], at: usize) -> MemberStep
     ensures { λ r. ⌜ r ≡ memberAt (now (p .entry)) at ⌝ }
 {
@@ -77,7 +82,7 @@ pub fn next_member(p: &[u8], at: usize) -> MemberStep
     })
 }
 
-// The item of the array `p` that is looked for at `at`.
+// The item of the array `p` that is looked for at `at`, read whole: for any bytes.
 pub fn next_item(p: &[u8], at: usize) -> ItemStep
     ensures { λ r. ⌜ r ≡ itemAt (now (p .entry)) at ⌝ }
 {
@@ -85,6 +90,49 @@ pub fn next_item(p: &[u8], at: usize) -> ItemStep
     let Scan::End(value_end) = read_value(p, value, Limits::DEPTH) else {
         return ItemStep::End;
     };
+    ItemStep::Found(Item {
+        value: value,
+        value_end: value_end,
+        next: next_place(p, value_end),
+    })
+}
+
+// As `next_member`, with name and value passed over and not read: the same for an object that stage A passed, and in order in any bytes.
+pub fn pass_member(p: &[u8], at: usize) -> MemberStep
+    ensures { λ r. ⌜ MemberPassed (now (p .entry)) at r ⌝ }
+{
+    let quote = skip_blanks(p, at);
+    if first(p, quote) != b'"' {
+        return MemberStep::End;
+    }
+    let closed = string_end(p, quote + 1);
+    let colon = skip_blanks(p, closed);
+    if first(p, colon) != b':' {
+        return MemberStep::End;
+    }
+    let value = skip_blanks(p, colon + 1);
+    let value_end = skip_value(p, value);
+    if value_end <= value {
+        return MemberStep::End;
+    }
+    MemberStep::Found(Member {
+        name: quote + 1,
+        name_end: closed - 1,
+        value: value,
+        value_end: value_end,
+        next: next_place(p, value_end),
+    })
+}
+
+// As `next_item`, with the value passed over and not read: the same for an array that stage A passed, and in order in any bytes.
+pub fn pass_item(p: &[u8], at: usize) -> ItemStep
+    ensures { λ r. ⌜ ItemPassed (now (p .entry)) at r ⌝ }
+{
+    let value = skip_blanks(p, at);
+    let value_end = skip_value(p, value);
+    if value_end <= value {
+        return ItemStep::End;
+    }
     ItemStep::Found(Item {
         value: value,
         value_end: value_end,

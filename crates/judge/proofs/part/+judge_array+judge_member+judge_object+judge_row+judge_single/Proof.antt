@@ -5,7 +5,7 @@ use mathlib.Core.Path.{sym, ap, subst, _∙_}
 use Prim.Native.Nat.{ℕ, _+_, _*_, _-_, _<_, _≤_}
 use native.Mathlib.Omega.{arith}
 use lib.ListN.{length}
-use Rattle.walk.proofs.Places.{ItemPlaced, item-placed}
+use Rattle.walk.specs.Along.{ItemPlaced}
 use Rattle.slots.specs.declared.Found.the-variants.{Once}
 use Rattle.slots.specs.Found.{Within}
 use Rattle.fault.specs.declared.Least.{Least}
@@ -43,7 +43,7 @@ use Rattle.schema.proofs.lines.line_at.Reads as line-at-reads
 use Rattle.slots.proofs.Slots.slot.Reads as slot-reads
 use Rattle.slots.proofs.gather.Reads as gather-reads
 use Rattle.slots.proofs.is_blank_text.Reads as is-blank-text-reads
-use Rattle.walk.proofs.next_item.Reads as next-item-reads
+use Rattle.walk.proofs.pass_item.Reads as pass-item-reads
 use Rattle.judge.proofs.part.+judge_array+judge_member+judge_object+judge_row+judge_single.{
   statement,
 }
@@ -118,7 +118,7 @@ judge-single-below t =
     judge-single.Pre
 
 abbrev judge-array-calls : ℕ → judge-array-lts.Claims
-judge-array-calls t = (judge-positions-reads.Asked, judge-positions-reads.Learnt, brackets-reads.Asked, brackets-reads.Learnt, broken-reads.Asked, broken-reads.Learnt, next-item-reads.Asked, next-item-reads.Learnt, excess-reads.Asked, excess-reads.Learnt, lesser-reads.Asked, lesser-reads.Learnt, item-reads.Asked, item-reads.Learnt, judge-single-below t, judge-single.Post)
+judge-array-calls t = (judge-positions-reads.Asked, judge-positions-reads.Learnt, brackets-reads.Asked, brackets-reads.Learnt, broken-reads.Asked, broken-reads.Learnt, pass-item-reads.Asked, pass-item-reads.Learnt, excess-reads.Asked, excess-reads.Learnt, lesser-reads.Asked, lesser-reads.Learnt, item-reads.Asked, item-reads.Learnt, judge-single-below t, judge-single.Post)
 
 abbrev judge-member-calls : ℕ → judge-member-lts.Claims
 judge-member-calls t = (is-blank-text-reads.Asked, is-blank-text-reads.Learnt, absent-reads.Asked, absent-reads.Learnt, judge-array-below t, judge-array.Post, judge-single-below t, judge-single.Post)
@@ -160,13 +160,13 @@ judge-array-returns-3 t c =
     let s = k .before .before .before .before in
     let a = s .args in
     items-end (a .p .now) (a .i) (a .place) (a .level) (s .pre .1 .1) (k .before .if1 .left) (l .loop .at) (l .loop .least) (l .loop .n)
-    (sym (c .before .before .before .before .next-item .ensures) ∙ c .before .before .enum-told .given .1) (k .brackets .ensures) (l .before .if2 .left)
+    (c .before .before .before .before .pass-item .ensures) (c .before .before .enum-told .given .1) (k .brackets .ensures) (l .before .if2 .left)
     (c .lesser .ensures ∙ ap (λ (z : Least). lesser z (l .loop .least)) (c .before .excess .ensures)) (l .loop .inv .1)
 
 -- where the item that was met stands
 judge-array-placed : (t : ℕ) (c : judge-array-lts.After-known-told (judge-array-calls t) (judge-array-at t) judge-array.Post judge-array-Inv-loop judge-array-μ-loop) →
     ItemPlaced (c .before .before .before .before .before .before .before .before .before .before .args .p .now) (c .before .before .before .before .loop .at) (c .before .item .given .0 .0)
-judge-array-placed t c = item-placed _ _ _ (sym (c .before .before .before .next-item .ensures) ∙ c .before .item .given .1)
+judge-array-placed t c = c .before .before .before .pass-item .ensures .placed _ (c .before .item .given .1)
 
 judge-array-loop-again : (t : ℕ) → judge-array-lts.Need-loop-again (judge-array-calls t) (judge-array-at t) judge-array.Post judge-array-Inv-loop judge-array-μ-loop
 judge-array-loop-again t c =
@@ -178,7 +178,7 @@ judge-array-loop-again t c =
       omega arith,
       rw (c .lesser2 .ensures)
           (items-next (a .p .now) (a .i) (a .place) (a .level) (s .pre .1 .1) (l .before .before .before .if1 .left) (l .loop .at) (l .loop .least) (l .loop .n)
-          (d .before .item .given .0 .0) (sym (d .before .before .before .next-item .ensures) ∙ d .before .item .given .1)
+          (d .before .item .given .0 .0) (d .before .before .before .pass-item .ensures) (d .before .item .given .1)
           (rw (c .before .before .before .item2 .ensures) at (c .before .judge-single .ensures)) (l .loop .inv .1)),
     )
 
