@@ -13,3 +13,4 @@ pub mod Trees
 pub mod Along
 pub mod Passing
 pub mod Files
+pub mod Tails

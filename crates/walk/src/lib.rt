@@ -19,6 +19,7 @@ use lexeme::front::first;
 use limits::Limits;
 
 pub mod skip;
+pub mod tail;
 
 // A member of an object: where the text of its name stands, without the quotation marks; where its value stands; where the next member is looked for.
 pub struct Member {
