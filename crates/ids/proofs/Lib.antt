@@ -1,0 +1,4 @@
+pub mod Single
+pub mod Chains
+pub mod Entering
+pub mod Passing
