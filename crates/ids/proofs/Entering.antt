@@ -5,7 +5,7 @@ use Prim.Native.Nat.{ℕ, zero, suc, _+_, _*_, _%_, _≤_, _<_}
 use native.Mathlib.Decide.{ℕ-discrete}
 use native.Mathlib.Numerals.{add-one}
 use native.Mathlib.Omega.{arith}
-use lib.ListN.{length, getD, set, length-set}
+use lib.ListN.{length, getD, set, replicate, length-replicate, length-set}
 use lib.Seq.{getD-set-same, getD-set-other}
 use Rattle.limits.specs.Ceilings.{records}
 use Rattle.text.specs.Text.{digest}
@@ -16,6 +16,14 @@ use Rattle.ids.specs.Notes.{buckets, size, digestAt, startAt, endAt, lin
 use Rattle.ids.proofs.Chains.{last-here, last-before}
 
 -- with nothing noted
+zeros : (n i : ℕ) → _≡_ {A = ℕ} (getD (replicate n 0) i 0) 0
+zeros zero i = refl
+zeros (suc n) zero = refl
+zeros (suc n) (suc i) = zeros n i
+
+pub blank : Blank (replicate size 0)
+blank = record { long = length-replicate {A = ℕ} size 0; zeros = zeros size }
+
 blank-last : (notes : List ℕ) (bucket : ℕ) → lastIn notes bucket 0 ≡ 0
 unfolding lastIn
 blank-last notes bucket = refl

@@ -3,9 +3,11 @@ use mathlib.Core.Bool.{Bool, true, false}
 use mathlib.Core.List.{List, [], _∷_, foldl}
 use mathlib.Core.Logic.{_⊎_, inl, inr, ⊎-elim}
 use mathlib.Core.Path.{_≡_, refl, sym, ap, subst, _∙_}
-use Prim.Native.Nat.{ℕ}
+use Prim.Native.Nat.{ℕ, _<_}
 use native.Mathlib.Omega.{arith}
-use borrow.Author.Tests.{ne-eqb}
+use lib.Dec.{eqb}
+use lib.ListN.{length}
+use borrow.Author.Tests.{eqb-true, ne-eqb}
 use Rattle.notation.specs.Ascii.{bytes}
 use Rattle.notation.specs.Choice.{_⇒_else_}
 use Rattle.lexeme.specs.Character.{within}
@@ -18,12 +20,14 @@ use Rattle.walk.specs.declared.MemberStep.the-variants as members
 use Rattle.walk.specs.Walk.{part, memberAt, membersFrom, membersOf}
 use Rattle.walk.specs.Part.{kindAt}
 use Rattle.walk.proofs.Folds.{Walk, memberSteps, walk-more, walk-end}
+use Rattle.walk.proofs.Places.{member-placed}
 use Rattle.walk.proofs.Parts.{member-whole}
 use Rattle.slots.specs.declared.Found.{Found}
 use Rattle.slots.specs.declared.Found.the-variants.{Missing, Once, Twice}
 use Rattle.slots.specs.Found.{noted, foundIn}
 use Rattle.document.specs.Document.{Maybe, none, some}
-use Rattle.fields.specs.Values.{foundBytes, Standing, textBy, isId}
+use Rattle.fields.specs.Values.{code, foundBytes, Standing, memberOf, textBy, isId}
+use Rattle.fields.proofs.Ways.{member-found}
 use Rattle.ids.specs.Ids.{idName, idValue, idOf, hasId}
 use Rattle.ids.specs.Notes.{kept}
 
@@ -41,14 +45,13 @@ nothing-found : (name : List ℕ) → foundIn [] name ≡ Missing
 unfolding foundIn membersOf membersFrom
 nothing-found name = refl
 
--- by what is found
-module _ (file : ℕ) (q : List ℕ) where
-  pub id-found : (o : Found) → o ≡ foundIn q (idName file) → foundBytes q o ≡ idValue file q
-  unfolding idValue
-  id-found o e = ap (foundBytes q) e
-
-  none-found : (o : Found) → o ≡ foundIn q (idName file) → foundBytes q o ≡ [] → idOf file q ≡ none
-  none-found o e z = ap textBy (sym (id-found o e) ∙ z) ∙ no-text
+-- where nothing is found, or twice
+none-found : (file : ℕ) (q : List ℕ) (o : Found) → o ≡ foundIn q (idName file) → foundBytes q o ≡ [] → idOf file q ≡ none
+unfolding idValue memberOf
+none-found file q o e z =
+    ap textBy
+    (by-test (eqb (code (kindAt q)) 5) (λ t. rw (idValue, memberOf, t, ← e) z) (λ t. rw (idValue, memberOf, t)))
+    ∙ no-text
 
 -- what is kept of a record has the record's id, and once
 module _ (file : ℕ) (q : List ℕ) where
@@ -62,12 +65,28 @@ module _ (file : ℕ) (q : List ℕ) where
       go none e = none-found file [] Missing (sym (nothing-found (idName file))) refl
       go (some t) e = e
 
-  pub kept-single : foundIn (kept file q) (idName file) ≡ Twice → ⊥
+  kept-single : foundIn (kept file q) (idName file) ≡ Twice → ⊥
   kept-single = go (idOf file q) refl
     where
       go : (o : Maybe (List ℕ)) → idOf file q ≡ o → foundIn (held o) (idName file) ≡ Twice → ⊥
       go none e t = let n = nothing-found (idName file) in let z : _≡_ {A = ℕ} 0 1 = cc in omega arith
       go (some id) e t = let n = none-found file q Twice (sym t) refl in let z : _≡_ {A = ℕ} 0 1 = cc in omega arith
+
+  -- and is an object, or nothing
+  object-id : (id : List ℕ) → idOf file q ≡ some id → 5 ≡ code (kindAt q)
+  unfolding idValue memberOf
+  object-id id e =
+      by-test (eqb (code (kindAt q)) 5)
+      (λ t. sym (eqb-true (code (kindAt q)) 5 t))
+      (λ t.
+      let n : none ≡ some id = sym no-text ∙ (rw (idValue, memberOf, t) at e) in let z : _≡_ {A = ℕ} 0 1 = cc in absurd (omega arith))
+
+  kept-object : (0 < length (kept file q)) → 5 ≡ code (kindAt (kept file q))
+  kept-object = go (idOf file q) refl
+    where
+      go : (o : Maybe (List ℕ)) → idOf file q ≡ o → 0 < length (held o) → 5 ≡ code (kindAt (held o))
+      go none e h = absurd (omega arith)
+      go (some id) e h = object-id id e
 
 -- from the first member of the name on
 module _ (q name : List ℕ) where
@@ -112,8 +131,11 @@ module _ (file : ℕ) (id r q : List ℕ) (keeps : q ≡ kept file r) where
       -- v is what it holds
       pub member-decides : same (textOf x) (idName file) ≡ true → {v : List ℕ}
           → (Standing q (Once (m .value) (m .«value_end»)) → v ≡ foundBytes q (Once (m .value) (m .«value_end»))) → isId id (textBy v) ≡ hasId file id r
+      unfolding idValue
       member-decides e holds =
           let single : foundIn q (idName file) ≡ Twice → ⊥ = λ t. kept-single file r (ap (λ (y : List ℕ). foundIn y (idName file)) (sym keeps) ∙ t) in
-          ap (λ (y : List ℕ). isId id (textBy y))
-          (holds (member-whole q at m f) ∙ id-found file q (Once (m .value) (m .«value_end»)) (first-found q (idName file) (m .value) (m .«value_end») (m .next) (onward e) single))
-          ∙ kept-has
+          let found = first-found q (idName file) (m .value) (m .«value_end») (m .next) (onward e) single in
+          let k = member-placed q at m f in
+          let some : 0 < length (kept file r) = omega (arith, ap length keeps) in
+          let object : 5 ≡ code (kindAt q) = kept-object file r some ∙ ap (λ (y : List ℕ). code (kindAt y)) (sym keeps) in
+          ap (λ (y : List ℕ). isId id (textBy y)) (holds (member-whole q at m f) ∙ member-found q (idName file) 5 object refl (Once (m .value) (m .«value_end»)) found) ∙ kept-has

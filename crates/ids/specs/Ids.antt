@@ -8,9 +8,8 @@ use Rattle.notation.specs.Ascii.{bytes}
 use Rattle.notation.specs.Choice.{_⇒_else_}
 use Rattle.walk.specs.Walk.{itemsOf}
 use Rattle.walk.proofs.Parts.{itemOf}
-use Rattle.slots.specs.Found.{foundIn}
 use Rattle.document.specs.Document.{Maybe, none, some}
-use Rattle.fields.specs.Values.{foundBytes, textBy, isId}
+use Rattle.fields.specs.Values.{memberOf, textBy, isId}
 
 -- the name of the ids of a file's own records
 unfoldable pub idName : ℕ → List ℕ
@@ -23,7 +22,7 @@ idName file =
 
 -- what a record holds as its id
 unfoldable pub idValue : ℕ → List ℕ → List ℕ
-idValue file q = foundBytes q (foundIn q (idName file))
+idValue file q = memberOf q (idName file)
 
 -- the text of it
 abbrev pub idOf : ℕ → List ℕ → Maybe (List ℕ)

@@ -1,15 +1,12 @@
 // The id of a record.
-use document::find;
 use fields::STRING;
 use fields::code_of;
+use fields::member;
 use fields::unquoted;
-use fields::value_at;
-use slots::Found;
 use text::compare::same_text;
 use text::compare::text_is;
 ghost use mathlib.Core.Path.{_≡_};
 ghost use Rattle.text.specs.Text.{textOf, same};
-ghost use Rattle.slots.specs.Found.{foundIn};
 ghost use Rattle.fields.specs.Values.{textBy, isId};
 ghost use Rattle.ids.specs.Ids.{idName, idValue};
 
@@ -26,24 +23,17 @@ pub fn names_id(file: u8, spelled: &[u8]) -> bool
     }
 }
 
-// What the record `q` of a file holds under the name of its own id.
-fn find_id(file: u8, q: &[u8]) -> Found
-    ensures { λ r. ⌜ r ≡ foundIn (now (q .entry)) (idName file) ⌝ }
-{
-    match file {
-        1 => find(q, b"vehicle_type_id"),
-        2 => find(q, b"station_id"),
-        3 => find(q, b"station_id"),
-        4 => find(q, b"bike_id"),
-        _ => find(q, b"plan_id"),
-    }
-}
-
-// The bytes of the id of the record `q`, with its quotation marks.
+// What the record `q` of a file holds as its id.
 pub fn id_value(file: u8, q: &[u8]) -> &[u8]
     ensures { λ r. ⌜ now r ≡ idValue file (now (q .entry)) ⌝ }
 {
-    value_at(q, find_id(file, q))
+    match file {
+        1 => member(q, b"vehicle_type_id"),
+        2 => member(q, b"station_id"),
+        3 => member(q, b"station_id"),
+        4 => member(q, b"bike_id"),
+        _ => member(q, b"plan_id"),
+    }
 }
 
 // Whether a value is a text, and that of an id.
