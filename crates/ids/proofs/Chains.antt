@@ -44,13 +44,23 @@ module _ (notes : List ℕ) (bucket : ℕ) where
 
 -- the last record with an id
 module _ (file : ℕ) (id : List ℕ) (rs : List (List ℕ)) where
-  with-here : (n : ℕ) → hasId file id (getD rs n []) ≡ true → lastWith file id rs (suc n) ≡ suc n
+  pub with-here : (n : ℕ) → hasId file id (getD rs n []) ≡ true → lastWith file id rs (suc n) ≡ suc n
   unfolding lastWith
   with-here n e = rw (lastWith, e)
 
-  with-before : (n : ℕ) → hasId file id (getD rs n []) ≡ false → lastWith file id rs (suc n) ≡ lastWith file id rs n
+  pub with-before : (n : ℕ) → hasId file id (getD rs n []) ≡ false → lastWith file id rs (suc n) ≡ lastWith file id rs n
   unfolding lastWith
   with-before n e = rw (lastWith, e)
+
+  -- it is one of those records, and has the id
+  pub with-has : (m k : ℕ) → lastWith file id rs m ≡ suc k → (k < m) × (hasId file id (getD rs k []) ≡ true)
+  unfolding lastWith
+  with-has zero k e = absurd (omega arith)
+  with-has (suc m) k e =
+      let ih = with-has m k in
+      by-test (hasId file id (getD rs m []))
+      (λ t. let i : suc m ≡ suc k = sym (with-here m t) ∙ e in let z : m ≡ k = omega arith in (omega arith, subst (λ (x : ℕ). hasId file id (getD rs x []) ≡ true) z t))
+      (λ t. let r = ih (sym (with-before m t) ∙ e) in (omega (arith, r .0), r .1))
 
   pub with-none : lastWith file id rs 0 ≡ 0
   unfolding lastWith
@@ -65,6 +75,28 @@ module _ {file : ℕ} {p : List ℕ} {n : ℕ} {notes : List ℕ} (w : Noted fil
       go : (o : Maybe (List ℕ)) → idOf file (getD (recordBytes p) k []) ≡ o → isId id o ≡ false
       go none e = refl
       go (some t) e = by-test (same t id) (λ s. absurd (d (w .entries k h .digested t e ∙ digest-same t id s))) (λ s. s)
+
+  -- of this id, of its digest
+  alike : (k : ℕ) → k < n → hasId file id (getD (recordBytes p) k []) ≡ true → digestAt notes k ≡ digest id
+  alike k h = go (idOf file (getD (recordBytes p) k [])) refl
+    where
+      go : (o : Maybe (List ℕ)) → idOf file (getD (recordBytes p) k []) ≡ o → isId id o ≡ true → digestAt notes k ≡ digest id
+      go none e s = let z : _≡_ {A = ℕ} 0 1 = cc in absurd (omega arith)
+      go (some t) e s = w .entries k h .digested t e ∙ digest-same t id s
+
+  -- so a record with the id is on the chain
+  pub from-met : (m j : ℕ) → m ≤ n → j ≡ lastWith file id (recordBytes p) m → 0 < j → Searched file p notes j id
+  from-met m j i is h =
+      let z : j ≡ suc (j - 1) = omega arith in
+      let k = with-has file id (recordBytes p) m (j - 1) (sym is ∙ z) in
+      let falls : digestAt notes (j - 1) % buckets ≡ digest id % buckets = ap (λ (x : ℕ). x % buckets) (alike (j - 1) (omega (arith, k .0)) (k .1)) in
+      record {
+        count = n;
+        noted = w;
+        upto = j;
+        within = omega (arith, k .0);
+        last = z ∙ sym (last-here notes (digest id % buckets) (j - 1) falls) ∙ ap (lastIn notes (digest id % buckets)) (sym z);
+      }
 
   -- the chain leaves out no record with the id
   pub chained : (m : ℕ) → m ≤ n → lastWith file id (recordBytes p) m ≡ lastWith file id (recordBytes p) (lastIn notes (digest id % buckets) m)
@@ -127,11 +159,13 @@ module _ {file : ℕ} {p notes : List ℕ} {j : ℕ} {id : List ℕ} (s : Search
       let z : suc (j - 1) ≡ j = omega arith in
       sym z ∙ sym (with-here file id (recordBytes p) (j - 1) e) ∙ ap (lastWith file id (recordBytes p)) z
 
+  pub chain-before : lastWith file id (recordBytes p) (linkAt notes (j - 1)) ≡ lastWith file id (recordBytes p) (j - 1)
+  chain-before = ap (lastWith file id (recordBytes p)) link-is ∙ sym (chained (s .noted) id (j - 1) (omega (arith, inside)))
+
   pub chain-past : hasId file id (getD (recordBytes p) (j - 1) []) ≡ false
       → lastWith file id (recordBytes p) (linkAt notes (j - 1)) ≡ lastWith file id (recordBytes p) j
   chain-past e =
       let z : suc (j - 1) ≡ j = omega arith in
-      ap (lastWith file id (recordBytes p)) link-is
-      ∙ sym (chained (s .noted) id (j - 1) (omega (arith, inside)))
+      chain-before
       ∙ sym (with-before file id (recordBytes p) (j - 1) e)
       ∙ ap (lastWith file id (recordBytes p)) z

@@ -65,6 +65,14 @@ module _ (file : ℕ) (q : List ℕ) where
       go none e = none-found file [] Missing (sym (nothing-found (idName file))) refl
       go (some t) e = e
 
+  -- it is the record itself where there is an id
+  pub kept-whole : (id : List ℕ) → hasId file id q ≡ true → kept file q ≡ q
+  kept-whole id = go (idOf file q)
+    where
+      go : (o : Maybe (List ℕ)) → isId id o ≡ true → held o ≡ q
+      go none e = let z : _≡_ {A = ℕ} 0 1 = cc in absurd (omega arith)
+      go (some t) e = refl
+
   kept-single : foundIn (kept file q) (idName file) ≡ Twice → ⊥
   kept-single = go (idOf file q) refl
     where
