@@ -143,6 +143,11 @@ pub record Held (n : ℕ) (s : List ℕ) (x : Json) : Type 0 where
   pub field : ℕ
   pub sound : (y : Picked) → List·Memᴰ y list → (q : Place) × (faults (recordShape n) q field y ≡ [])
 
+-- the field of the ids
+pub id-field : (n : ℕ) → n ≤ 5 → n * 10 ≡ idField n
+unfolding idField
+id-field n i = rw (idField, ne-eqb n 6 (λ e. omega arith))
+
 -- kind 12 by the array p of the records
 pub record Repeats (n : ℕ) (s p : List ℕ) : Type 0 where
   pub short : length p ≤ ceiling.fileBytes
@@ -237,10 +242,6 @@ module _ (n : ℕ) (s : List ℕ) (reads : syntaxOf s ≡ Sound) (faultless : le
 
   -- of ids, by the array p of its records
   module _ (h : 1 ≤ n) (i : n ≤ 5) where
-    pub id-field : n * 10 ≡ idField n
-    unfolding idField
-    id-field = rw (idField, ne-eqb n 6 (λ e. omega arith))
-
     pub records-there : recordsSpan n s ≡ span.None → ⊥
     records-there k =
         let t = passed s reads in let r = held n h (omega arith) s t (none-found t) in let z : _≡_ {A = ℕ} 0 1 = cc (r .there .is) in omega arith
@@ -256,5 +257,5 @@ module _ (n : ℕ) (s : List ℕ) (reads : syntaxOf s ≡ Sound) (faultless : le
           names =
               ap (λ (x : Json). least (repeatsFrom (idField n) 1 [] (recordsOf n (pick (fileShape table23 n) x)))) (tree-is s t)
               ∙ ap (λ (z : List Picked). least (repeatsFrom (idField n) 1 [] z)) (r .are ∙ l)
-              ∙ subst (λ (φ : ℕ). least (repeatsFrom φ 1 [] (pickedItems (recordShape n) p)) ≡ blamed φ (firstRepeat n (recordBytes p))) id-field (least-first n h i p);
+              ∙ subst (λ (φ : ℕ). least (repeatsFrom φ 1 [] (pickedItems (recordShape n) p)) ≡ blamed φ (firstRepeat n (recordBytes p))) (id-field n i) (least-first n h i p);
         }

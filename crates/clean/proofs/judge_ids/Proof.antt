@@ -31,7 +31,7 @@ returns-3 c =
 returns-4 : tie.Need-returns-4
 returns-4 c =
     let r = c .before in let g = r .before .before .before .before in let a = g .args in let n = r .repeat-of .result in
-    ap (λ (φ : ℕ). Broken (place (a .file) (fault n φ 0 idTwice))) (id-field (a .file) (a .s .now) (g .pre .0) (g .pre .1) (omega arith) (omega arith))
+    ap (λ (φ : ℕ). Broken (place (a .file) (fault n φ 0 idTwice))) (id-field (a .file) (omega arith))
     ∙ ids-broken (a .file) n _ (r .repeat-of .ensures) (c .if3 .left)
 
 pub judge-ids-spec : {M : Type 1} → statement M
