@@ -30,15 +30,14 @@ use Rattle.document.specs.declared.Span.the-variants as span
 use Rattle.document.specs.Spans.{recordsSpan}
 use Rattle.document.proofs.Cuts.{part-length}
 use Rattle.document.proofs.Records.{recordShape, pickedItems}
+use Rattle.ids.specs.Ids.{recordBytes, repeatFrom, firstRepeat}
 use Rattle.clean.specs.Clean as clean
-use Rattle.clean.specs.Clean.{repeats}
-use Rattle.clean.specs.Noted.{idName, idsIn, repeatAt, blamed}
-use Rattle.clean.proofs.Noting.{repeat-none}
+use Rattle.clean.specs.Clean.{repeats, blamed}
 use Rattle.clean.proofs.Faultless.{object-there}
-use Rattle.clean.proofs.Repeated.{Held, held, tree-is, id-field, blames-none, blames-first}
+use Rattle.clean.proofs.Repeated.{Held, held, tree-is, id-field, repeats-none, repeats-are}
 use Rattle.cross.specs.Cross.{recordsIn, repeatsIn}
 use Rattle.cross.specs.Stage.{fileOf, Through}
-use Rattle.cross.specs.Staged.{atSpan, recordsPart, Recorded, idsLeast}
+use Rattle.cross.specs.Staged.{atSpan, recordsPart, Recorded, repeatOf, idsLeast}
 
 -- what is picked of the file s of number n, by the array p of its records
 pub record InBytes (n : ℕ) (s p : List ℕ) : Type 0 where
@@ -54,12 +53,12 @@ nothing-cut span.None = refl
 nothing-cut (span.Is from upto) = ap (take (upto - from)) (drop-nil from) ∙ take-nil (upto - from)
 
 absent-bytes : (n : ℕ) → InBytes n [] []
-unfolding recordsIn repeatsIn idsLeast idsIn itemsOf itemsFrom
+unfolding recordsIn repeatsIn idsLeast repeatOf firstRepeat repeatFrom recordBytes itemsOf itemsFrom
 absent-bytes n =
     record {
       recorded = record { short = omega arith; objects = λ m i. absurd (List·Memᴰ·not-nil i); few = omega arith };
       picked = refl;
-      repeated = by-test (ltb 5 n) (λ t. rw (idsLeast, t) (none-least [] refl)) (λ t. rw (idsLeast, t, repeat-none) (none-least [] refl));
+      repeated = by-test (ltb 5 n) (λ t. rw (idsLeast, repeatOf, t) (none-least [] refl)) (λ t. rw (idsLeast, repeatOf, t) (none-least [] refl));
       sound = λ m i. absurd (List·Memᴰ·not-nil i);
     }
 
@@ -89,17 +88,16 @@ module _ (n : ℕ) (h : 1 ≤ n) (i : n ≤ 6) (b : ℕ) (r : List ℕ) (t : Thr
   array = part s (through .there .start) (through .there .end)
 
   repeated-is : least (repeats n (pick (fileShape table23 n) (clean.treeOf s))) ≡ idsLeast n array
-  unfolding idsLeast
+  unfolding idsLeast repeatOf
   repeated-is =
       let reads = t .reads (λ e. omega arith) in
       let none = none-least _ (t .faultless (λ e. omega arith)) in
       by-test (ltb 5 n)
-      (λ u. rw (idsLeast, u) (blames-none n s (λ j k. let w = ltb-true 5 n u in omega arith) reads none))
+      (λ u. rw (idsLeast, repeatOf, u) (repeats-none n s reads none (λ j k. let w = ltb-true 5 n u in omega arith)))
       (λ u.
       let j : n ≤ 5 = ltb-false 5 n u in
-      let number = repeatAt 1 [] (idsIn (idName n) array) in
-      rw (idsLeast, u)
-      (blames-first n s h j _ _ number (through .there .is) (λ few. refl) reads none ∙ ap (λ (φ : ℕ). blamed φ number) (sym (id-field n h j))))
+      rw (idsLeast, repeatOf, u)
+      (repeats-are n s reads none h j (through .there .is) refl .names ∙ ap (λ (φ : ℕ). blamed φ (firstRepeat n (recordBytes array))) (sym (id-field n j))))
 
   -- records are objects
   record-object : (q : Place) (φ : ℕ) (x : Json) → faults (recordShape n) q φ (pick (recordShape n) x) ≡ [] → (ms : Members) × (x ≡ tree.object ms)

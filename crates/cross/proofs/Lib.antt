@@ -6,6 +6,5 @@ pub mod Walked
 pub mod Gathering
 pub mod Files
 pub mod Bounds
-pub mod Keeping
 pub mod Staging
 pub mod Sets

@@ -5,7 +5,7 @@ use mathlib.Core.Path.{_≡_}
 use Prim.Native.Nat.{ℕ, zero, suc, _+_, _*_, _≤_}
 use lib.Dec.{eqb, ltb}
 use lib.ListN.{length}
-use Rattle.limits.specs.Ceilings.{fileBytes}
+use Rattle.limits.specs.Ceilings.{fileBytes, records}
 use Rattle.notation.specs.Choice.{_⇒_else_, _and_}
 use Rattle.word.specs.Kinds.{condition}
 use Rattle.walk.specs.Walk.{part, itemsOf}
@@ -18,15 +18,16 @@ use Rattle.document.specs.declared.Span.{Span}
 use Rattle.document.specs.declared.Span.the-variants as span
 use Rattle.document.specs.Spans.{recordsSpan}
 use Rattle.document.proofs.Records.{recordShape, pickedItems}
-use Rattle.clean.specs.Noted.{idName, idsIn, repeatAt, blamed}
+use Rattle.ids.specs.Ids.{recordBytes, firstRepeat}
+use Rattle.clean.specs.Clean.{blamed}
 use Rattle.references.specs.declared.Set.{Set}
+use Rattle.cross.specs.declared.stage.Repeats.{Repeats}
 use Rattle.cross.specs.declared.stage.Crossed.{Crossed}
 use Rattle.cross.specs.declared.stage.Crossed.the-variants.{Nothing, At}
 use Rattle.references.specs.References.{when}
 use Rattle.cross.specs.Cross.{each}
-use Rattle.references.specs.Known as known
-use Rattle.references.specs.Known.{Objects}
 use Rattle.cross.specs.Judged as judged
+use Rattle.cross.specs.Judged.{Objects}
 
 -- the array of a file's records, by the file's bytes
 abbrev pub atSpan : List ℕ → Span → List ℕ
@@ -40,7 +41,7 @@ recordsPart file s = atSpan s (recordsSpan file s)
 pub record Recorded (p : List ℕ) : Type 0 where
   pub short : length p ≤ fileBytes
   pub objects : Objects p
-  pub few : length (itemsOf p) ≤ known.each
+  pub few : length (itemsOf p) ≤ records
 
 -- another file calls for this one
 unfoldable pub calledFor : ℕ → Set → Bool
@@ -49,9 +50,18 @@ calledFor file set =
     eqb file 3 ⇒ set .«stations_here» and not (set .«statuses_here») else
     eqb file 4 ⇒ not (set .«stations_here») and not (set .«bikes_here») else false
 
--- the first id that repeats
+-- the number of the first record whose id one before it has, or 0; records of file 6 have no ids
+unfoldable pub repeatOf : ℕ → List ℕ → ℕ
+repeatOf file p = ltb 5 file ⇒ 0 else firstRepeat file (recordBytes p)
+
 unfoldable pub idsLeast : ℕ → List ℕ → Least
-idsLeast file p = ltb 5 file ⇒ None else blamed (file * 10) (repeatAt 1 [] (idsIn (idName file) p))
+idsLeast file p = blamed (file * 10) (repeatOf file p)
+
+-- what is known of repeats in the files that references name
+pub record Repeating (repeats : Repeats) (types stations plans : List ℕ) : Type 0 where
+  pub ofTypes : repeats .types ≡ repeatOf 1 types
+  pub ofStations : repeats .stations ≡ repeatOf 2 stations
+  pub ofPlans : repeats .plans ≡ repeatOf 5 plans
 
 module _ (set : Set) (types stations plans : List ℕ) where
   -- the least of a file, of which p are the records

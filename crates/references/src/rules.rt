@@ -1,10 +1,9 @@
 // The rules on a field that depend on other fields or files: what it breaks, as a kind, or 0.
-use crate::ALL;
-use crate::Set;
 use crate::search::meets;
 use fields::STRING;
 use fields::code_of;
 use fields::unquoted;
+use ids::Notes;
 use word::kind::Kind;
 ghost use mathlib.Core.Path.{_≡_};
 ghost use Rattle.fields.specs.Values.{textBy, thereBy};
@@ -29,15 +28,14 @@ pub fn demanded(needed: bool, value: &[u8]) -> u8
 pub fn named(
     value: &[u8],
     file: u8,
-    set: Set,
     types: &[u8],
     stations: &[u8],
     plans: &[u8],
-    digests: &[u32; ALL],
-    starts: &[usize; ALL],
-    ends: &[usize; ALL],
+    type_notes: &[u32; Notes::SIZE],
+    station_notes: &[u32; Notes::SIZE],
+    plan_notes: &[u32; Notes::SIZE],
 ) -> bool
-    requires { ⌜ Known set (now types) (now stations) (now plans) (now digests) (now starts) (now ends) ⌝ }
+    requires { ⌜ Known (now types) (now stations) (now plans) (now «type_notes») (now «station_notes») (now «plan_notes») ⌝ }
     ensures { λ r. ⌜ r ≡ namedBy (testOf file) (fieldOf file) (recordsOf file (now (types .entry)) (now (stations .entry)) (now (plans .entry))) (textBy (now (value .entry))) ⌝ }
 {
     if code_of(value) != STRING {
@@ -47,13 +45,12 @@ pub fn named(
         file,
         unquoted(value),
         true,
-        set,
         types,
         stations,
         plans,
-        digests,
-        starts,
-        ends,
+        type_notes,
+        station_notes,
+        plan_notes,
     )
 }
 
@@ -62,15 +59,14 @@ pub fn named(
 pub fn refers(
     value: &[u8],
     file: u8,
-    set: Set,
     types: &[u8],
     stations: &[u8],
     plans: &[u8],
-    digests: &[u32; ALL],
-    starts: &[usize; ALL],
-    ends: &[usize; ALL],
+    type_notes: &[u32; Notes::SIZE],
+    station_notes: &[u32; Notes::SIZE],
+    plan_notes: &[u32; Notes::SIZE],
 ) -> u8
-    requires { ⌜ Known set (now types) (now stations) (now plans) (now digests) (now starts) (now ends) ⌝ }
+    requires { ⌜ Known (now types) (now stations) (now plans) (now «type_notes») (now «station_notes») (now «plan_notes») ⌝ }
     ensures { λ r. ⌜ listed r ≡ refersTo (textBy (now (value .entry))) (fieldOf file) (recordsOf file (now (types .entry)) (now (stations .entry)) (now (plans .entry))) ⌝ }
 {
     if code_of(value) != STRING {
@@ -80,13 +76,12 @@ pub fn refers(
         file,
         unquoted(value),
         false,
-        set,
         types,
         stations,
         plans,
-        digests,
-        starts,
-        ends,
+        type_notes,
+        station_notes,
+        plan_notes,
     ) {
         return 0;
     }

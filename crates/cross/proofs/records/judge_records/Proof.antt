@@ -18,11 +18,11 @@ use Rattle.cross.proofs.records.judge_records.Statement.{statement}
 use Rattle.cross.proofs.records.judge_records.Tie as tie
 
 abbrev Inv-loop : tie.InvT-loop
-Inv-loop file p set types stations plans digests starts ends least₀ n₀ at₀ least n at =
+Inv-loop file p set types stations plans typeNotes stationNotes planNotes least₀ n₀ at₀ least n at =
     (n < at) × Goes (broken set types stations plans file) (recordShape file) p n at least
 
 abbrev μ-loop : tie.MeasureT-loop
-μ-loop file p set types stations plans digests starts ends least₀ n₀ at₀ least n at = length p - at
+μ-loop file p set types stations plans typeNotes stationNotes planNotes least₀ n₀ at₀ least n at = length p - at
 
 loop-holds : tie.Need-loop-holds Inv-loop μ-loop
 loop-holds c = (omega arith, goes-start _ _ _)

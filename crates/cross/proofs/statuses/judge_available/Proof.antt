@@ -20,11 +20,11 @@ use Rattle.cross.proofs.statuses.judge_available.Statement.{statement}
 use Rattle.cross.proofs.statuses.judge_available.Tie as tie
 
 abbrev Inv-loop : tie.InvT-loop
-Inv-loop p n set types stations plans digests starts ends least₀ sub₀ at₀ t18 least sub at =
+Inv-loop p n types stations plans typeNotes stationNotes planNotes least₀ sub₀ at₀ t18 least sub at =
     (sub < at) × Goes (availableItem (recordsOf 1 types stations plans) n) available p sub at least
 
 abbrev μ-loop : tie.MeasureT-loop
-μ-loop p n set types stations plans digests starts ends least₀ sub₀ at₀ t18 least sub at = length p - at
+μ-loop p n types stations plans typeNotes stationNotes planNotes least₀ sub₀ at₀ t18 least sub at = length p - at
 
 loop-holds : tie.Need-loop-holds Inv-loop μ-loop
 loop-holds c = (omega arith, goes-start _ _ _)
