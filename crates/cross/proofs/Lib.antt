@@ -1,5 +1,4 @@
 pub mod Joined
-pub mod Sizes
 pub mod Layouts
 pub mod Fielded
 pub mod Walked

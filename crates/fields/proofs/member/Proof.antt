@@ -11,7 +11,7 @@ returns c = c .no-bytes .ensures ∙ member-none _ _ _ (c .before .before .code-
 returns-2 : tie.Need-returns-2
 returns-2 c =
     let f = c .before in let i = f .before in
-    c .value-at .ensures (found-standing _ _ _ (f .find .ensures))
+    c .value-at .ensures .0 (found-standing _ _ _ (f .find .ensures))
     ∙ member-found _ _ _ (i .before .code-of .ensures) (i .if1 .left) _ (f .find .ensures)
 
 pub member-spec : {M : Type 1} → statement M

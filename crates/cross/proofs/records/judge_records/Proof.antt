@@ -12,7 +12,7 @@ use Rattle.schema.specs.Pick.{pick}
 use Rattle.fault.specs.Fault.{least as leastOf}
 use Rattle.document.proofs.Records.{recordShape}
 use Rattle.cross.specs.Judged.{broken}
-use Rattle.cross.proofs.Sizes.{part-short}
+use Rattle.fields.proofs.Sizes.{part-short}
 use Rattle.cross.proofs.Walked.{Goes, goes-start, goes-end, goes-more, left-among}
 use Rattle.cross.proofs.records.judge_records.Statement.{statement}
 use Rattle.cross.proofs.records.judge_records.Tie as tie

@@ -10,7 +10,7 @@ use Rattle.document.proofs.Records.{recordShape, pickedItems}
 use Rattle.fields.specs.Values.{memberOf, arrayBy}
 use Rattle.references.specs.Known.{recordsOf}
 use Rattle.cross.specs.Cross.{ruleFaults, faultsOf}
-use Rattle.cross.proofs.Sizes.{member-short, array-short}
+use Rattle.fields.proofs.Sizes.{member-short, array-short}
 use Rattle.cross.proofs.Fielded.{zone-rules}
 use Rattle.cross.proofs.zones.judge_zone.Statement.{statement}
 use Rattle.cross.proofs.zones.judge_zone.Tie as tie

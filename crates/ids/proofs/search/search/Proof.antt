@@ -90,7 +90,7 @@ search-again c =
     let k = keeps (record { before = record { before = o; if1 = w .0 }; record-at = w .1 }) in
     past c (w .13 ∙ w .2 .inv .0)
     (sym (w .11 .ensures ∙ member-decides (a .file) id _ _ k (w .2 .at) (w .2 .inv .1) _ (sym (w .3 .ensures) ∙ w .5 .given .1) _ (w .7 .ensures)
-    (sym (w .8 .ensures) ∙ w .9 .taken) (w .10 .ensures)) ∙ w .12 .left))
+    (sym (w .8 .ensures) ∙ w .9 .taken) (w .10 .ensures .0)) ∙ w .12 .left))
     (λ w.
     past c (w .1 ∙ l .search .inv .0)
     (chain-apart (l .search .inv .1) (s .search-test .taken) (λ e. w .0 .left (o .digest-at .ensures ∙ e ∙ sym (l .before .digest-of .ensures))))))
@@ -110,7 +110,7 @@ returns-2 c =
     let a = o .before .before .before .before .args in let id = textOf (a .id .now) in
     chain-met (o .search .inv .1) (s .search-test .taken)
     (sym (u .is-this .ensures ∙ member-decides (a .file) id _ _ (keeps r) (l .loop .at) (l .loop .inv .1) _ (sym (t .next-member .ensures) ∙ d .m .given .1) _ (x .cut .ensures)
-    (sym (n .names-id .ensures) ∙ i .if2 .taken) (v .value-at .ensures)) ∙ c .if3 .taken)
+    (sym (n .names-id .ensures) ∙ i .if2 .taken) (v .value-at .ensures .0)) ∙ c .if3 .taken)
     ∙ o .search .inv .2
 
 pub search-spec : {M : Type 1} → statement M
