@@ -108,6 +108,16 @@ linesOf t = map lineOf (entriesOf t)
 abbrev pub lineAt : Table → ℕ → Line
 lineAt t i = getD (linesOf t) i noLine
 
+-- the lines column by column
+pub record LineColumns (t : Table) (f n v i u m s : List ℕ) : Type 0 where
+  pub fields : f ≡ map (λ l. l .field) (linesOf t)
+  pub needs : n ≡ map (λ l. l .need) (linesOf t)
+  pub values : v ≡ map (λ l. l .value) (linesOf t)
+  pub items : i ≡ map (λ l. l .item) (linesOf t)
+  pub numberings : u ≡ map (λ l. l .numbering) (linesOf t)
+  pub most : m ≡ map (λ l. l .most) (linesOf t)
+  pub insides : s ≡ map (λ l. l .inside) (linesOf t)
+
 -- Where each of several lists stands once they are laid one after the other: its first place, and how many places it takes.
 unfoldable pub rangesFrom : {A : Type 0} → ℕ → List (List A) → List Range
 rangesFrom k [] = []
