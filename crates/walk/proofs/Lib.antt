@@ -13,3 +13,5 @@ pub mod Trees
 pub mod Along
 pub mod Passing
 pub mod Files
+pub mod Memberless
+pub mod Open
