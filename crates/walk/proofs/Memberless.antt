@@ -134,7 +134,7 @@ itemless p a =
     (members-either p 1)) (along-item p a)
 
 -- the first byte of an object, and no other's
-pub object-first : {p : List ℕ} {ms : Members} → Whole p (Json.object ms) → byte p 0 ≡ 0x7b
+object-first : {p : List ℕ} {ms : Members} → Whole p (Json.object ms) → byte p 0 ≡ 0x7b
 unfolding kindAt
 object-first {p} w = go (start (byte p 0)) refl (whole-kind w)
   where

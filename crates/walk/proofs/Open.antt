@@ -1,6 +1,6 @@
 -- Behind a whole array or object anything may stand: along it a walk takes the same steps in a longer text. Each element is read the same there, since
 -- a bracket or a comma follows it, and its places are counted from the front.
-use mathlib.Core.List.{List, [], _∷_, _++_, append-assoc, List·Memᴰ}
+use mathlib.Core.List.{List, [], _∷_, _++_, append-assoc, map, List·Memᴰ, List·Memᴰ·head, List·Memᴰ·tail}
 use mathlib.Core.Logic.{⊎-elim}
 use mathlib.Core.Path.{_≡_, refl, sym, ap, subst, _∙_}
 use Prim.Native.Nat.{ℕ, zero, suc, _+_, _-_, _≤_, _<_}
@@ -201,3 +201,19 @@ module _ (p : List ℕ) (n : ℕ) where
 
   pub front-part : (from upto : ℕ) → from ≤ upto → upto ≤ length (take n p) → part p from upto ≡ part (take n p) from upto
   front-part from upto h i = ap (λ (l : List ℕ). part l from upto) (sym whole-text) ∙ part-on (take n p) (drop n p) from upto h i
+
+  -- what is made of each item and its bytes, and what holds of each
+  pub front-map : {A : Type 0} {is : Items} (f : Item → List ℕ → A) → Whole (take n p) (Json.array is)
+      → map (λ m. f m (itemOf p m)) (itemsOf p) ≡ map (λ m. f m (itemOf (take n p) m)) (itemsOf (take n p))
+  front-map {A} f w = ap (map (λ m. f m (itemOf p m))) (front-items w) ∙ go (itemsOf (take n p)) front-item
+    where
+      go : (l : List Item) → ((m : Item) → List·Memᴰ m l → itemOf p m ≡ itemOf (take n p) m)
+          → map (λ m. f m (itemOf p m)) l ≡ map (λ m. f m (itemOf (take n p) m)) l
+      go [] h = refl
+      go (m ∷ l) h =
+          ap (λ (q : List ℕ). f m q ∷ map (λ m. f m (itemOf p m)) l) (h m (List·Memᴰ·head refl))
+          ∙ ap (λ (k : List A). f m (itemOf (take n p) m) ∷ k) (go l (λ o i. h o (List·Memᴰ·tail i)))
+
+  pub front-each : {is : Items} (P : Item → List ℕ → Type 0) → Whole (take n p) (Json.array is)
+      → ((m : Item) → List·Memᴰ m (itemsOf (take n p)) → P m (itemOf (take n p) m)) → (m : Item) → List·Memᴰ m (itemsOf p) → P m (itemOf p m)
+  front-each P w holds m i = let j = subst (List·Memᴰ m) (front-items w) i in subst (P m) (sym (front-item m j)) (holds m j)

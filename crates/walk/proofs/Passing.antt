@@ -116,7 +116,7 @@ front-end : (o : MemberStep) → names.End ≡ frontOf o → members.End ≡ o
 front-end members.End e = refl
 front-end (members.Found m) e = let z : _≡_ {A = ℕ} 0 1 = cc in absurd (omega arith)
 
-front-found : (o : MemberStep) (n : Named) → names.Found n ≡ frontOf o
+pub front-found : (o : MemberStep) (n : Named) → names.Found n ≡ frontOf o
     → (m : Member) × (o ≡ members.Found m) × (n ≡ record { name = m .name; «name_end» = m .«name_end»; value = m .value })
 front-found members.End n e = let z : _≡_ {A = ℕ} 0 1 = cc in absurd (omega arith)
 front-found (members.Found m) n e = (m, refl, cc)
