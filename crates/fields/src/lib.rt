@@ -75,9 +75,9 @@ pub fn value_at(p: &[u8], found: Found) -> &[u8]
     }
 }
 
-// The member of a name, of the object `p`.
+// The member of a name, of the object `p`, which is one that stage A read.
 pub fn member<'a>(p: &'a [u8], name: &[u8]) -> &'a [u8]
-    ensures { λ r. ⌜ now r ≡ memberOf (now (p .entry)) (now (name .entry)) ⌝ }
+    ensures { λ r. ⌜ ((x : Json) → Whole (now (p .entry)) x → now r ≡ memberOf (now (p .entry)) (now (name .entry))) ⌝ }
 {
     if code_of(p) != OBJECT {
         return no_bytes(p);

@@ -1,26 +1,29 @@
 -- A walk along a whole array or object stands before an element or at the closing bracket, wherever it has come to: reading met the elements one after
 -- another up to that bracket, and each step goes past the next of them.
-use mathlib.Core.Bool.{false}
-use mathlib.Core.List.{List, [], _∷_, foldl}
+use mathlib.Core.Bool.{true, false}
+use mathlib.Core.List.{List, [], _∷_, _++_, append-nil, foldl}
 use mathlib.Core.Logic.{_⊎_, inl, inr, ⊎-elim}
 use mathlib.Core.Path.{_≡_, refl, sym, ap, subst, _∙_}
-use Prim.Native.Nat.{ℕ, suc, _≤_}
+use Prim.Native.Nat.{ℕ, suc, _≤_, _<_}
 use native.Mathlib.Omega.{arith}
-use lib.ListN.{length, drop}
+use lib.ListN.{length, drop, take, take-append-drop}
+use lib.Seq.{drop-append-le}
 use lib.Dec.{eqb}
 use borrow.Author.Tests.{eqb-true}
 use Rattle.limits.specs.Ceilings.{depth}
 use Rattle.lexeme.specs.Read.{Read}
 use Rattle.lexeme.specs.Read.Read.{done}
 use Rattle.lexeme.specs.Character.{paired}
+use Rattle.lexeme.specs.Numbers.{either}
 use Rattle.lexeme.specs.Tokens.{blanks}
-use Rattle.lexeme.proofs.Reading.{Eats, Ok, Takes}
+use Rattle.lexeme.proofs.Reading.{Eats, Any, Ok, Takes}
 use Rattle.lexeme.proofs.Steps.{by-test, bad-done, made-done}
 use Rattle.json.specs.Tree.{Json, Items, Members}
 use Rattle.json.specs.Text.{contents, bracketed, member, value}
 use Rattle.json.proofs.Steps.{contents-end, contents-some}
-use Rattle.json.proofs.Bound.{follows-as, Run, faulty, last, next, broken, run}
-use Rattle.json.proofs.Takes.{value-eats, value-takes, member-eats, member-takes}
+use Rattle.json.specs.Text.After.{closed, more}
+use Rattle.json.proofs.Bound.{Follows, at-close, at-comma, follows-as, Run, faulty, last, next, broken, run}
+use Rattle.json.proofs.Takes.{value-eats, value-takes, member-eats, member-takes, bracketed-takes}
 use Rattle.walk.specs.declared.Member.{Member}
 use Rattle.walk.specs.declared.Item.{Item}
 use Rattle.walk.specs.declared.MemberStep.{MemberStep}
@@ -33,7 +36,7 @@ use Rattle.walk.specs.Along.{AlongItems, AlongMembers, ItemPassed, Membe
 use Rattle.walk.proofs.Steps.{Reads}
 use Rattle.walk.proofs.Folds as Folds
 use Rattle.walk.proofs.Folds.{Steps, Walk, walk-more, walk-end, memberSteps, itemSteps}
-use Rattle.walk.proofs.Wholes.{whole-array, whole-object}
+use Rattle.walk.proofs.Wholes.{whole-some, whole-array, whole-object}
 use Rattle.walk.proofs.Trees.{Meets, next-closes, next-begins, leaves, deepen, item-meets, item-stops, member-reads, member-meets, member-stops}
 
 -- l begins with the closing bracket, or with elements up to it
@@ -41,13 +44,37 @@ data Stands {A : Type 0} (close : ℕ) (element : List ℕ → Read A) (l : List
   closing : {q : List ℕ} → l ≡ close ∷ q → Stands close element l
   going : {o : Read (List A)} {xs : List A} {q : List ℕ} → Run close element l o → o ≡ done xs q → Stands close element l
 
+-- the closing bracket or a comma follows r
+pub record Followed (close : ℕ) (r : List ℕ) : Type 0 where
+  pub by : ℕ
+  pub behind : List ℕ
+  pub there : blanks r ≡ by ∷ behind
+  pub is : either close 0x2c by ≡ true
+
+followed-closed : {close : ℕ} {r q : List ℕ} → Follows close r (closed q) → Followed close r
+unfolding either
+followed-closed (at-close e h) = record { by = _; behind = _; there = e; is = rw h }
+
+followed-more : {close : ℕ} {r q : List ℕ} → Follows close r (more q) → Followed close r
+unfolding either
+followed-more (at-comma e h c) = record { by = _; behind = _; there = e; is = rw (h, c) }
+
 -- what is read there
-stands-reads : {A : Type 0} {close : ℕ} {element : List ℕ → Read A} {l : List ℕ} → Stands close element l → ((q : List ℕ) × (l ≡ close ∷ q)) ⊎ ((x : A) × (r : List ℕ) × (element l ≡ done x r))
+stands-reads : {A : Type 0} {close : ℕ} {element : List ℕ → Read A} {l : List ℕ} → Stands close element l
+    → ((q : List ℕ) × (l ≡ close ∷ q)) ⊎ ((x : A) × (r : List ℕ) × (element l ≡ done x r) × Followed close r)
 stands-reads (closing {q} e) = inl (q, e)
 stands-reads (going (faulty e) i) = bad-done i
 stands-reads (going (broken e j) i) = bad-done i
-stands-reads (going (last {r = r} {x = x} e j) i) = inr (x, r, e)
-stands-reads (going (next {r = r} {x = x} e j u) i) = inr (x, r, e)
+stands-reads {close = close} (going (last {r = r} {x = x} e j) i) = inr (x, r, e, followed-closed (follows-as close r j))
+stands-reads {close = close} (going (next {r = r} {x = x} e j u) i) = inr (x, r, e, followed-more (follows-as close r j))
+
+-- what stands between the brackets of the first n bytes of p is read the same in p
+opened : {A : Type 0} (f : List ℕ → Read A) → Takes Any f → (p : List ℕ) (n : ℕ) (x : A) → 0 < length (take n p) → f (drop 1 (take n p)) ≡ done x [] → f (drop 1 p) ≡ done x (drop n p)
+opened f takes p n x h e =
+    let k = takes (drop 1 (take n p)) [] x e in
+    ap (λ (l : List ℕ). f (drop 1 l)) (sym (take-append-drop n p))
+    ∙ ap f (drop-append-le 1 (take n p) (drop n p) h ∙ ap (λ (l : List ℕ). l ++ drop n p) (k .splits ∙ append-nil (k .part)))
+    ∙ k .frame (drop n p) tt
 
 module _ {M A : Type 0} (p : List ℕ) (w : Steps (length p) M) (f : M → A) (close : ℕ) (element : List ℕ → Read A)
     (eats : Eats element) (takes : Takes Ok element)
@@ -103,13 +130,18 @@ module _ (p : List ℕ) where
       let o = whole-array w in
       let h : o .levels ≤ depth = omega (arith, o .less) in
       (o .levels, h, items-start (o .levels) h (o .elements) [] (o .reads))
+  items-stand (AlongItems.front n w) =
+      let o = whole-array w in
+      let d = o .levels in
+      let h : d ≤ depth = omega (arith, o .less) in
+      (d, h, items-start d h (o .elements) (drop n p) (opened _ (bracketed-takes 0x5d (value paired d) (value-eats paired d) (value-takes paired d)) p n (o .elements) (whole-some w) (o .reads)))
   items-stand (AlongItems.next {at} {m} a e) = let (d, h, s) = items-stand a in (d, h, items-next d h at m e s)
 
   pub along-item : {at : ℕ} → AlongItems p at
-      → ((q : List ℕ) × (blanks (drop at p) ≡ 0x5d ∷ q)) ⊎ ((x : Json) × (t : List ℕ) × (value paired depth (blanks (drop at p)) ≡ done x t))
+      → ((q : List ℕ) × (blanks (drop at p) ≡ 0x5d ∷ q)) ⊎ ((x : Json) × (t : List ℕ) × (value paired depth (blanks (drop at p)) ≡ done x t) × Followed 0x5d t)
   along-item {at} a =
       let (d, h, s) = items-stand a in
-      ⊎-elim inl (λ y. inr (y .0, y .1, deepen d h (blanks (drop at p)) (y .1) (y .0) (y .2))) (stands-reads s)
+      ⊎-elim inl (λ y. inr (y .0, y .1, deepen d h (blanks (drop at p)) (y .1) (y .0) (y .2), y .3)) (stands-reads s)
 
 -- along an object: its closing bracket, or a member
 module _ (p : List ℕ) where
@@ -137,14 +169,19 @@ module _ (p : List ℕ) where
       let o = whole-object w in
       let h : o .levels ≤ depth = omega (arith, o .less) in
       (o .levels, h, members-start (o .levels) h (o .elements) [] (o .reads))
+  members-stand (AlongMembers.front n w) =
+      let o = whole-object w in
+      let d = o .levels in
+      let h : d ≤ depth = omega (arith, o .less) in
+      (d, h, members-start d h (o .elements) (drop n p) (opened _ (bracketed-takes 0x7d (pairs d) (eats d h) (takes d h)) p n (o .elements) (whole-some w) (o .reads)))
   members-stand (AlongMembers.next {at} {m} a e) = let (d, h, s) = members-stand a in (d, h, members-next d h at m e s)
 
   pub along-member : {at : ℕ} → AlongMembers p at
       → ((q : List ℕ) × (blanks (drop at p) ≡ 0x7d ∷ q))
-      ⊎ ((name : List ℕ) × (x : Json) × (q : List ℕ) × (t : List ℕ) × Reads (blanks (drop at p)) name x q t)
+      ⊎ ((name : List ℕ) × (x : Json) × (q : List ℕ) × (t : List ℕ) × Reads (blanks (drop at p)) name x q t × Followed 0x7d t)
   along-member {at} a =
       let (d, h, s) = members-stand a in
-      ⊎-elim inl (λ y. let r = member-reads p d h (blanks (drop at p)) (y .1) (y .0) (y .2) in inr (y .0 .0, y .0 .1, r .0, y .1, r .1)) (stands-reads s)
+      ⊎-elim inl (λ y. let r = member-reads p d h (blanks (drop at p)) (y .1) (y .0) (y .2) in inr (y .0 .0, y .0 .1, r .0, y .1, r .1, y .3)) (stands-reads s)
 
 -- A loop that passes over values, for any fold over items or members: its invariant is that the walk has come to `at`, and the fold will come to r.
 module _ (p : List ℕ) {A : Type 0} (g : A → Item → A) where

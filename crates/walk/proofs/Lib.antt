@@ -14,3 +14,5 @@ pub mod Along
 pub mod Passing
 pub mod Files
 pub mod Tails
+pub mod Memberless
+pub mod Open

@@ -15,8 +15,8 @@ use Rattle.lexeme.proofs.Steps.{by-test}
 use Rattle.lexeme.proofs.Shrinks.{blanks-shrinks}
 use Rattle.lexeme.proofs.Takes.{string-takes, string-eats}
 use Rattle.json.specs.Tree.{Json}
-use Rattle.json.specs.Text.{value}
-use Rattle.json.proofs.Takes.{value-eats, value-takes}
+use Rattle.json.specs.Text.{expect, value}
+use Rattle.json.proofs.Takes.{blanks-takes, expect-takes, value-eats, value-takes}
 use Rattle.walk.specs.declared.Member.{Member}
 use Rattle.walk.specs.declared.Item.{Item}
 use Rattle.walk.specs.declared.MemberStep.the-variants as members
@@ -129,3 +129,13 @@ module _ (p : List ℕ) (at : ℕ) where
 
   pub item-placed : (m : Item) → itemAt p at ≡ items.Found m → ItemPlaced p at m
   item-placed m e = found-item m e .spelt .placed
+
+  -- the next member is looked for behind the value
+  pub next-found : (m : Member) → memberAt p at ≡ members.Found m → m .next ≡ onward p (blanks (drop (m .«value_end») p))
+  unfolding memberAt
+  next-found m e =
+      let f = member-from p (blanks (drop at p)) m e in
+      let sq = rest-read (expect 0x22 (Strings.string paired 0)) (expect-takes 0x22 _ (string-takes paired 0)) _ _ _ (f .reads .named) (rest-blanks (drop at p) (rest-drop at)) in
+      let after = expect-takes 0x3a (λ r. value paired depth (blanks r)) (blanks-takes (value paired depth) (value-eats paired depth) (value-takes paired depth)) in
+      let st : Rest p (f .afterValue) = rest-read (expect 0x3a (λ r. value paired depth (blanks r))) after _ _ _ (f .reads .valued) (rest-blanks (f .afterName) sq) in
+      ap (λ (z : Member). z .next) (f .is) ∙ ap (λ (l : List ℕ). onward p (blanks l)) (sym (ap (λ (z : Member). drop (z .«value_end») p) (f .is) ∙ rest-there st))

@@ -32,7 +32,7 @@ apart test c n b h = by-test (eqb b c) (λ e. true-false h (ap test (eqb-true b 
 abbrev pub Itself : ℕ → Type 0
 Itself b = (eqb b 0x22 ≡ false) × (eqb b 0x5c ≡ false)
 
-itself : (test : ℕ → Bool) → test 0x22 ≡ false → test 0x5c ≡ false → (b : ℕ) → test b ≡ true → Itself b
+pub itself : (test : ℕ → Bool) → test 0x22 ≡ false → test 0x5c ≡ false → (b : ℕ) → test b ≡ true → Itself b
 itself test m n b h = (apart test 0x22 m b h, apart test 0x5c n b h)
 
 -- a byte of a string, by what it is
@@ -45,7 +45,7 @@ module _ (l : List ℕ) where
   unfolding quoted
   quoted-backslash e = rw e
 
-  quoted-itself : (b : ℕ) → Itself b → quoted false (b ∷ l) ≡ quoted false l
+  pub quoted-itself : (b : ℕ) → Itself b → quoted false (b ∷ l) ≡ quoted false l
   unfolding quoted
   quoted-itself b h = rw (quoted, h .0, h .1)
 

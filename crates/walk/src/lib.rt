@@ -1,10 +1,12 @@
 // One level of a JSON value's bytes at a time: the members of an object, the items of an array, the kind of a value.
 ghost use mathlib.Core.Path.{_≡_};
+ghost use Prim.Native.Nat.{ℕ};
 ghost use lib.ListN.{drop};
 ghost use Rattle.lexeme.specs.Tokens.{blanks};
 ghost use Rattle.walk.specs.Walk.{onward, memberAt, itemAt};
 ghost use Rattle.walk.specs.Part.{kindAt};
-ghost use Rattle.walk.specs.Along.{ItemPassed, MemberPassed};
+ghost use Rattle.walk.specs.Along.{ItemPassed, MemberPassed, NamePassed};
+ghost use Rattle.walk.specs.declared.NameStep.the-variants as names;
 use crate::skip::skip_value;
 use crate::skip::string_end;
 use json::reader::name_by;
@@ -28,6 +30,18 @@ pub struct Member {
     pub value: usize,
     pub value_end: usize,
     pub next: usize,
+}
+
+// Its front: where the text of its name stands, and where its value begins.
+pub struct Named {
+    pub name: usize,
+    pub name_end: usize,
+    pub value: usize,
+}
+
+pub enum NameStep {
+    End,
+    Found(Named),
 }
 
 pub enum MemberStep {
@@ -102,24 +116,48 @@ pub fn next_item(p: &[u8], at: usize) -> ItemStep
 pub fn pass_member(p: &[u8], at: usize) -> MemberStep
     ensures { λ r. ⌜ MemberPassed (now (p .entry)) at r ⌝ }
 {
+    match pass_name(p, at) {
+        NameStep::End => {
+            return MemberStep::End;
+        }
+        NameStep::Found(n) => {
+            return pass_value(p, n);
+        }
+    }
+}
+
+// The front of a member alone.
+pub fn pass_name(p: &[u8], at: usize) -> NameStep
+    ensures { λ r. ⌜ NamePassed (now (p .entry)) at r ⌝ }
+{
     let quote = skip_blanks(p, at);
     if first(p, quote) != b'"' {
-        return MemberStep::End;
+        return NameStep::End;
     }
     let closed = string_end(p, quote + 1);
     let colon = skip_blanks(p, closed);
     if first(p, colon) != b':' {
-        return MemberStep::End;
+        return NameStep::End;
     }
-    let value = skip_blanks(p, colon + 1);
-    let value_end = skip_value(p, value);
-    if value_end <= value {
+    NameStep::Found(Named {
+        name: quote + 1,
+        name_end: closed - 1,
+        value: skip_blanks(p, colon + 1),
+    })
+}
+
+// And the whole member, its value passed over.
+pub fn pass_value(p: &[u8], n: Named) -> MemberStep
+    ensures { λ r. ⌜ ((at : ℕ) → NamePassed (now (p .entry)) at (names.Found n) → MemberPassed (now (p .entry)) at r) ⌝ }
+{
+    let value_end = skip_value(p, n.value);
+    if value_end <= n.value {
         return MemberStep::End;
     }
     MemberStep::Found(Member {
-        name: quote + 1,
-        name_end: closed - 1,
-        value: value,
+        name: n.name,
+        name_end: n.name_end,
+        value: n.value,
         value_end: value_end,
         next: next_place(p, value_end),
     })

@@ -1,54 +1,21 @@
--- `pass_member` passes blanks, a string, blanks, a colon and blanks, and skips a value: without one of these there is no member.
+-- `pass_member` passes a member's front, and then its value.
 use borrow.Author.Needs.{needs}
-use mathlib.Core.Path.{refl, sym, _∙_}
-use Prim.Native.Nat.{_+_, _<_}
-use native.Mathlib.Omega.{arith}
-use lib.ListN.{length}
-use Rattle.lexeme.proofs.NumberParts.{equal-inside}
-use Rattle.lexeme.proofs.Spans.{skipped}
-use Rattle.walk.proofs.Ends.{ended}
-use Rattle.walk.proofs.Passing.{member-unmarked, member-uncoloned, member-unpassed, member-passed}
+use mathlib.Core.Path.{subst}
+use Rattle.walk.specs.Along.{NamePassed}
+use Rattle.walk.proofs.Passing.{member-absent}
 use Rattle.walk.proofs.pass_member.Statement.{statement}
 use Rattle.walk.proofs.pass_member.Tie as tie
 
 returns : tie.Need-returns
 returns c =
-    let f = c .before in let k = f .before in let a = k .before .before .args in let p = a .p .now in let i = k .skip-blanks .result in
-    member-unmarked p (a .at) i (skipped p (a .at) i (k .skip-blanks .ensures)) (λ z. c .if1 .taken (f .first .ensures ∙ z))
+    let n = c .before .before in let a = n .before .before .args in
+    member-absent (a .p .now) (a .at) (subst (NamePassed (a .p .now) (a .at)) (c .enum-told .given .1) (n .pass-name .ensures))
 
 returns-2 : tie.Need-returns-2
 returns-2 c =
-    let f = c .before in let g = f .before in let e = g .before in let k = e .before .before .before in let a = k .before .before .args in let p = a .p .now in
-    let i = k .skip-blanks .result in let j = e .string-end .result in let s = g .skip-blanks2 .result in
-    member-uncoloned p (a .at) i (skipped p (a .at) i (k .skip-blanks .ensures)) j s (ended p (i + 1) j (e .string-end .ensures))
-    (skipped p j s (g .skip-blanks2 .ensures)) (λ z. c .if2 .taken (f .first2 .ensures ∙ z))
-
-returns-3 : tie.Need-returns-3
-returns-3 c =
-    let x = c .before in let h = x .before in let g = h .before .before .before in let e = g .before in let k = e .before .before .before in
-    let a = k .before .before .args in let p = a .p .now in
-    let i = k .skip-blanks .result in let j = e .string-end .result in let s = g .skip-blanks2 .result in let v = h .skip-blanks3 .result in
-    member-unpassed p (a .at) i (skipped p (a .at) i (k .skip-blanks .ensures)) j s (ended p (i + 1) j (e .string-end .ensures))
-    (skipped p j s (g .skip-blanks2 .ensures)) v (skipped p (s + 1) v (h .skip-blanks3 .ensures)) _ (x .skip-value .ensures) (c .if3 .taken)
-
-sub-t11 : tie.Need-sub-t11
-sub-t11 c =
-    let e = c .before .before .before .before .before .before in let q = e .before in let k = q .before .before in let p = k .before .before .args .p .now in
-    let i = k .skip-blanks .result in let j = e .string-end .result in
-    let here : i < length p = equal-inside 0x22 refl p i (sym (q .before .first .ensures) ∙ q .if1 .left) in
-    omega (arith, ended p (i + 1) j (e .string-end .ensures) .from (omega arith))
-
-returns-4 : tie.Need-returns-4
-returns-4 c =
-    let x = c .before .before in let h = x .before in let b = h .before in let g = b .before .before in let e = g .before in let q = e .before in let k = q .before .before in
-    let a = k .before .before .args in let p = a .p .now in
-    let i = k .skip-blanks .result in let j = e .string-end .result in let s = g .skip-blanks2 .result in let v = h .skip-blanks3 .result in
-    member-passed p (a .at) i (skipped p (a .at) i (k .skip-blanks .ensures)) j s (ended p (i + 1) j (e .string-end .ensures))
-    (skipped p j s (g .skip-blanks2 .ensures)) v (skipped p (s + 1) v (h .skip-blanks3 .ensures)) _ (x .skip-value .ensures)
-    (sym (q .before .first .ensures) ∙ q .if1 .left) (sym (b .before .first2 .ensures) ∙ b .if2 .left) (omega arith) _ (c .next-place .ensures)
+    let d = c .before .before in let n = d .before .before in let a = n .before .before .args in
+    c .pass-value .ensures (a .at) (subst (NamePassed (a .p .now) (a .at)) (d .n .given .1) (n .pass-name .ensures))
 
 pub pass-member-spec : {M : Type 1} → statement M
 pass-member-spec =
-    tie.close
-    (tie.spec (λ c κs. search needs) (λ c κs. search needs) returns (λ c. search needs) (λ c κs. search needs) (λ c κs. search needs) (λ c κs. search needs)
-    returns-2 (λ c. search needs) (λ c κs. search needs) (λ c κs. search needs) returns-3 (λ c. search needs) sub-t11 (λ c κs. search needs) returns-4)
+    tie.close (tie.spec (λ c κs. search needs) (λ c. search needs) returns (λ c. search needs) (λ c κs. search needs) returns-2)
