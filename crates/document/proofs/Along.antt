@@ -23,7 +23,7 @@ use Rattle.walk.specs.Skip.{skipped}
 use Rattle.walk.specs.Along.{AlongItems, ItemPassed}
 use Rattle.walk.proofs.Rests.{rest-drop, rest-blanks, rest-there}
 use Rattle.walk.proofs.Folds.{itemSteps, one-more}
-use Rattle.walk.proofs.Skips.{skip-value}
+use Rattle.walk.proofs.Finding.{valued-at}
 use Rattle.walk.proofs.Files.{passed}
 use Rattle.document.specs.declared.Span.{Span}
 use Rattle.document.specs.declared.Span.the-variants.{None, Is}
@@ -42,34 +42,22 @@ module _ (s : List ℕ) where
       go (done x r) i = let w : scan.End upto ≡ scan.End (place s r) = rw (begins, i) at h in rw (topSpan, i) (cc)
       go (bad k r) i = let w : scan.End upto ≡ scan.Fault k (place s r) = rw (begins, i) at h in let z : _≡_ {A = ℕ} 0 1 = cc in absurd (omega arith)
 
--- and skipped
-module _ (s : List ℕ) (from upto : ℕ) (e : from ≡ place s (blanks s)) (v : upto ≡ length s - length (skipped (drop from s))) where
-  -- a value that is read there ends there
-  ends : (x : Json) (r : List ℕ) → value paired depth (blanks s) ≡ done x r → (upto ≡ place s r) × (from < upto)
-  ends x r i =
-      let here : drop from s ≡ blanks s = ap (λ (n : ℕ). drop n s) e ∙ rest-there (rest-blanks s (rest-drop 0)) in
-      let u : upto ≡ place s r = v ∙ ap (λ (l : List ℕ). place s (skipped l)) here ∙ ap (place s) (skip-value depth x (blanks s) r i) in
-      (u, omega (arith, value-eats paired depth (blanks s) r x i, blanks-shrinks s))
+-- where it begins, and ends with nothing but blanks behind it
+module _ (s : List ℕ) (from : ℕ) (e : from ≡ place s (blanks s)) where
+  pub top-absent : Readable s → length s ≤ from → None ≡ topSpan s
+  unfolding topSpan value valueBy blanks
+  top-absent (Readable.absent i) h = rw i
+  top-absent (Readable.sound i) h = let t = passed s i in absurd (omega (arith, t .some, t .inside))
 
-  pub top-absent : upto ≤ from → None ≡ topSpan s
-  unfolding topSpan
-  top-absent h = go (value paired depth (blanks s)) refl
-    where
-      go : (o : Read Json) → value paired depth (blanks s) ≡ o → None ≡ topSpan s
-      go (done x r) i = absurd (omega (arith, ends x r i .1))
-      go (bad k r) i = rw (topSpan, i)
-
-  pub top-there : Readable s → from < upto → Is from upto ≡ topSpan s
-  unfolding topSpan
-  top-there (Readable.absent i) h = absurd (omega (arith, ap length i))
-  top-there (Readable.sound i) h = go (value paired depth (blanks s)) refl
-    where
-      go : (o : Read Json) → value paired depth (blanks s) ≡ o → Is from upto ≡ topSpan s
-      go (done x r) j = let u = ends x r j .0 in rw (topSpan, j, e, u)
-      go (bad k r) j =
-          let t = passed s i in
-          let w : None ≡ Is (place s (blanks s)) (t .end) = rw (topSpan, j) at (top-found s (t .end) (t .found)) in
-          let z : _≡_ {A = ℕ} 0 1 = cc in absurd (omega arith)
+  pub top-there : (upto : ℕ) → Readable s → from < length s
+      → ((x : Json) (r : List ℕ) → value paired depth (drop from s) ≡ done x r → blanks r ≡ [] → upto ≡ place s r) → Is from upto ≡ topSpan s
+  top-there upto (Readable.absent i) h v = absurd (omega (arith, ap length i))
+  top-there upto (Readable.sound i) h v =
+      let t = passed s i in
+      let l = valued-at s (place s (blanks s)) (t .end) (t .found) in
+      let u : upto ≡ t .end =
+      v (l .what) (drop (t .end) s) (ap (λ (n : ℕ). value paired depth (drop n s)) e ∙ l .reads) (t .after) ∙ sym (place-at s (t .end) (l .upto)) in
+      rw (e, u) (sym (top-found s (t .end) (t .found)))
 
 -- two names, or three
 module _ (file : ℕ) (s a b : List ℕ) where

@@ -21,7 +21,7 @@ use walk::pass_item;
 use walk::pass_member;
 use walk::pass_name;
 use walk::pass_value;
-use walk::skip::skip_value;
+use walk::tail::last_end;
 
 // A part of a file's bytes, from one place up to another; or none.
 pub enum Span {
@@ -97,11 +97,10 @@ pub fn top_span(s: &[u8]) -> Span
     ensures { λ r. ⌜ (Readable (now (s .entry)) → r ≡ topSpan (now (s .entry))) ⌝ }
 {
     let from = skip_blanks(s, 0);
-    let upto = skip_value(s, from);
-    if upto <= from {
+    if s.len() <= from {
         return Span::None;
     }
-    Span::Is(from, upto)
+    Span::Is(from, last_end(s, from))
 }
 
 // The rest of `p`, an object with whatever follows it, from the first value of a name on; no bytes where there is none.
