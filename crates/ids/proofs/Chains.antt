@@ -29,7 +29,7 @@ module _ (notes : List ℕ) (bucket : ℕ) where
   last-before n d = rw (lastIn, ne-eqb (digestAt notes n % buckets) bucket d)
 
   -- it is one of those entries, and falls into the bucket
-  pub last-falls : (m k : ℕ) → lastIn notes bucket m ≡ suc k → (k < m) × (digestAt notes k % buckets ≡ bucket)
+  last-falls : (m k : ℕ) → lastIn notes bucket m ≡ suc k → (k < m) × (digestAt notes k % buckets ≡ bucket)
   unfolding lastIn
   last-falls zero k e = absurd (omega arith)
   last-falls (suc m) k e =
@@ -69,7 +69,7 @@ module _ (file : ℕ) (id : List ℕ) (rs : List (List ℕ)) where
 -- in notes of the records of p
 module _ {file : ℕ} {p : List ℕ} {n : ℕ} {notes : List ℕ} (w : Noted file p n notes) (id : List ℕ) where
   -- of another digest, of another id
-  pub apart : (k : ℕ) → k < n → (digestAt notes k ≡ digest id → ⊥) → hasId file id (getD (recordBytes p) k []) ≡ false
+  apart : (k : ℕ) → k < n → (digestAt notes k ≡ digest id → ⊥) → hasId file id (getD (recordBytes p) k []) ≡ false
   apart k h d = go (idOf file (getD (recordBytes p) k [])) refl
     where
       go : (o : Maybe (List ℕ)) → idOf file (getD (recordBytes p) k []) ≡ o → isId id o ≡ false
@@ -99,7 +99,7 @@ module _ {file : ℕ} {p : List ℕ} {n : ℕ} {notes : List ℕ} (w : Noted fil
       }
 
   -- the chain leaves out no record with the id
-  pub chained : (m : ℕ) → m ≤ n → lastWith file id (recordBytes p) m ≡ lastWith file id (recordBytes p) (lastIn notes (digest id % buckets) m)
+  chained : (m : ℕ) → m ≤ n → lastWith file id (recordBytes p) m ≡ lastWith file id (recordBytes p) (lastIn notes (digest id % buckets) m)
   unfolding lastIn
   chained zero h = refl
   chained (suc m) h =

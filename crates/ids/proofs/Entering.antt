@@ -170,7 +170,7 @@ module _ {file : ℕ} {p : List ℕ} {n : ℕ} {notes : List ℕ} (w : Noted fil
             ∙ ap (λ (x : ℕ). lastIn (entered notes n d a e) (x % buckets) j) (sym (digest-old notes n d a e (w .long) h j k))
       ]
 
-  pub noted-more : Noted file p (n + 1) (entered notes n d a e)
+  noted-more : Noted file p (n + 1) (entered notes n d a e)
   noted-more =
       rw (add-one n) (record {
         long = entered-long notes n d a e (w .long) h;

@@ -58,7 +58,7 @@ module _ (file : ℕ) (q : List ℕ) where
   abbrev held : Maybe (List ℕ) → List ℕ
   held o = elim o [ none ↦ [] | some id ↦ q ]
 
-  pub kept-id : idOf file (kept file q) ≡ idOf file q
+  kept-id : idOf file (kept file q) ≡ idOf file q
   kept-id = go (idOf file q) refl
     where
       go : (o : Maybe (List ℕ)) → idOf file q ≡ o → idOf file (held o) ≡ o
