@@ -12,14 +12,12 @@ use Rattle.lexeme.specs.Read.{Read, placed}
 use Rattle.lexeme.specs.Read.Read.{done, bad}
 use Rattle.lexeme.specs.Character.{paired}
 use Rattle.lexeme.specs.Tokens.{blanks}
-use Rattle.lexeme.proofs.Shrinks.{blanks-shrinks}
+use Rattle.lexeme.proofs.Rests.{place-at}
 use Rattle.json.specs.Tree.{Json}
-use Rattle.json.specs.Text.{value}
-use Rattle.json.proofs.Takes.{value-eats}
+use Rattle.json.specs.Text.{value, valueBy}
 use Rattle.walk.specs.declared.Item.{Item}
 use Rattle.walk.specs.declared.ItemStep.the-variants as items
 use Rattle.walk.specs.Walk.{place, itemAt, itemsFrom, itemsOf}
-use Rattle.walk.specs.Skip.{skipped}
 use Rattle.walk.specs.Along.{AlongItems, ItemPassed}
 use Rattle.walk.proofs.Rests.{rest-drop, rest-blanks, rest-there}
 use Rattle.walk.proofs.Folds.{itemSteps, one-more}

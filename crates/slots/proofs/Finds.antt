@@ -78,7 +78,7 @@ HoldsValue p (Once from upto) = Value p from upto
 HoldsValue p Twice = Unit {0}
 
 -- what each member keeps, the fold over all keeps
-fold-keeps : {A M : Type 0} (P : A → Type 0) (g : A → M → A) (ms : List M) → ((s : A) (m : M) → List·Memᴰ m ms → P s → P (g s m))
+pub fold-keeps : {A M : Type 0} (P : A → Type 0) (g : A → M → A) (ms : List M) → ((s : A) (m : M) → List·Memᴰ m ms → P s → P (g s m))
     → (s : A) → P s → P (foldl g s ms)
 fold-keeps P g [] keeps s h = h
 fold-keeps P g (m ∷ ms) keeps s h = fold-keeps P g ms (λ t n i. keeps t n (List·Memᴰ·tail i)) (g s m) (keeps s m (List·Memᴰ·head refl) h)
