@@ -6,6 +6,8 @@ use fields::unquoted;
 use text::compare::same_text;
 use text::compare::text_is;
 ghost use mathlib.Core.Path.{_≡_};
+ghost use Rattle.json.specs.Tree.{Json};
+ghost use Rattle.walk.specs.Part.{Whole};
 ghost use Rattle.text.specs.Text.{textOf, same};
 ghost use Rattle.fields.specs.Values.{textBy, isId};
 ghost use Rattle.ids.specs.Ids.{idName, idValue};
@@ -25,7 +27,7 @@ pub fn names_id(file: u8, spelled: &[u8]) -> bool
 
 // What the record `q` of a file holds as its id.
 pub fn id_value(file: u8, q: &[u8]) -> &[u8]
-    ensures { λ r. ⌜ now r ≡ idValue file (now (q .entry)) ⌝ }
+    ensures { λ r. ⌜ ((x : Json) → Whole (now (q .entry)) x → now r ≡ idValue file (now (q .entry))) ⌝ }
 {
     match file {
         1 => member(q, b"vehicle_type_id"),

@@ -10,7 +10,7 @@ use fields::code_of;
 use fields::unquoted;
 use text::digest::digest_of;
 use walk::ItemStep;
-use walk::next_item;
+use walk::pass_item;
 ghost use mathlib.Core.Path.{_≡_};
 ghost use mathlib.Core.List.{[]};
 ghost use Prim.Native.Nat.{_+_, _≤_, _<_};
@@ -31,7 +31,7 @@ fn note_record(
     n: usize,
     notes: &mut [u32; Notes::SIZE],
 ) -> bool
-    requires { ⌜ (from ≤ fileBytes) × (upto ≤ fileBytes) × (n < records) × (part (now p) from upto ≡ getD (recordBytes (now p)) n []) × Noted file (now p) n (now notes) ⌝ }
+    requires { ⌜ (from ≤ fileBytes) × (upto ≤ fileBytes) × (n < records) × (part (now p) from upto ≡ getD (recordBytes (now p)) n []) × Noted file (now p) n (now notes) × Whole (part (now p) from upto) (treeOf (part (now p) from upto)) ⌝ }
     ensures { λ r. ⌜ (r ≡ repeated file (earlier (recordBytes (now (p .entry))) n) (part (now (p .entry)) from upto)) × Noted file (now (p .entry)) (n + 1) (now (notes .exit)) ⌝ }
 {
     let value = id_value(file, cut(p, from, upto));
@@ -63,14 +63,17 @@ fn first_of(first: u16, repeats: bool, n: usize) -> u16
 // Notes the records of the array `p`; the number of the first record whose id one before it has, or 0.
 // Shut out: the earlier of two records blamed; a record left out because its id repeats.
 pub fn note(file: u8, p: &[u8], notes: &mut [u32; Notes::SIZE]) -> u16
-    requires { ⌜ (length (now p) ≤ fileBytes) × (length (itemsOf (now p)) ≤ records) × Blank (now notes) ⌝ }
+    requires { ⌜ (length (now p) ≤ fileBytes) × (length (itemsOf (now p)) ≤ records) × Blank (now notes) × ((0 < length (now p)) → AlongItems (now p) 1) ⌝ }
     ensures { λ r. ⌜ (r ≡ firstRepeat file (recordBytes (now (p .entry)))) × Noted file (now (p .entry)) (length (itemsOf (now (p .entry)))) (now (notes .exit)) ⌝ }
 {
+    if p.len() == 0 {
+        return 0;
+    }
     let mut first: u16 = 0;
     let mut n: usize = 0;
     let mut at: usize = 1;
     loop {
-        match next_item(p, at) {
+        match pass_item(p, at) {
             ItemStep::End => {
                 return first;
             }

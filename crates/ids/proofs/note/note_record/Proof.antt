@@ -6,6 +6,7 @@ use Prim.Native.Nat.{ℕ, _+_}
 use lib.Dec.{ltb}
 use Rattle.text.specs.Text.{textOf}
 use Rattle.walk.specs.Walk.{part}
+use Rattle.walk.specs.Part.{Whole, treeOf}
 use Rattle.document.specs.Document.{none, some}
 use Rattle.fields.specs.Values.{textBy}
 use Rattle.fields.proofs.Ways.{text-none, text-some}
@@ -19,7 +20,9 @@ use Rattle.ids.proofs.note.note_record.Tie as tie
 
 -- the value of the id
 value-is : (c : tie.After-id-value) → let a = c .before .before .before .args in c .id-value .result .now ≡ idValue (a .file) (part (a .p .now) (a .from) (a .upto))
-value-is c = let a = c .before .before .before .args in c .id-value .ensures ∙ ap (λ q. idValue (a .file) q) (c .before .cut .ensures)
+value-is c =
+    let g = c .before .before .before in let a = g .args in
+    c .id-value .ensures _ (subst (λ q. Whole q (treeOf (part (a .p .now) (a .from) (a .upto)))) (sym (c .before .cut .ensures)) (g .pre .5)) ∙ ap (λ q. idValue (a .file) q) (c .before .cut .ensures)
 
 returns : tie.Need-returns
 returns c =
