@@ -27,13 +27,14 @@ use Rattle.rings.specs.Rings.{Found, at, count, ring, ringFound, ringsFound, po
 use Rattle.rings.specs.Parts.{ringShape, polygonShape, picked, partsOf, Outlined}
 use Rattle.rings.specs.declared.RingPoints.{RingPoints}
 use Rattle.geometry.specs.Shifted.{InRange, points}
-use Rattle.rings.proofs.Picked.{items-parts}
+use Rattle.rings.proofs.Picked.{Listed, items-parts}
 use Rattle.judge.specs.declared.Place.{Place}
 use Rattle.judge.specs.Faults.{faulty, numbered, faults}
 use Rattle.document.specs.Document.{elements, elementsOf}
 use Rattle.fields.specs.Values.{code, foundBytes, memberOf, arrayBy}
 use Rattle.clean.proofs.Faultless.{here, below, Demands, arrived, into, demands-there}
 use Rattle.zone.specs.Clean.{CleanRing, CleanItems, CleanZone}
+use Rattle.zone.proofs.Fields.{member-listing}
 use Rattle.zone.proofs.Zoned.{polygonBytes, zone-polygons}
 
 cons-nil : {A B : Type 0} {x : A} {l : List A} → x ∷ l ≡ [] → B
@@ -144,14 +145,20 @@ module _ (p : List ℕ) (m : Item) (short : length p ≤ ceiling.fileBytes) (w :
     unfolding polygonsFound
     polygon-is = polygon-items (f .0) (picked polygonShape p m) (append-eq-nil-iff {p = polygon (f .0) (picked polygonShape p m)} .0 (f .1) .0)
 
-    rings-are : listOf (polygon-is .0) ≡ partsOf ringShape (itemOf p m)
+    rings-are : Listed ringShape (itemOf p m) (listOf (polygon-is .0))
     rings-are = items-parts shape.positions 1 ringShape (treeOf (itemOf p m)) (polygon-is .0) w (polygon-is .1)
 
     pub polygon-rings : partsOf ringShape (itemOf p m) ≡ elements (picked polygonShape p m)
-    polygon-rings = sym (ap elements (polygon-is .1) ∙ rings-are)
+    polygon-rings = sym (ap elements (polygon-is .1) ∙ rings-are .parts)
 
     pub polygon-clean : CleanItems ringShape ringsFound (itemOf p m)
-    polygon-clean = record { short = item-short p m short; first = f .0; clear = ap (ringsFound (f .0)) (sym rings-are) ∙ polygon-is .2 }
+    polygon-clean =
+        record {
+          short = item-short p m short;
+          listing = rings-are .listing;
+          first = f .0;
+          clear = ap (ringsFound (f .0)) (sym (rings-are .parts)) ∙ polygon-is .2;
+        }
 
 -- the coordinates of a zone
 coordinates-demanded : Demands zone (71 ∷ 73 ∷ []) coordinates
@@ -165,6 +172,7 @@ zone-clean p c =
     let d = demands-there coordinates-demanded (c .clear .place) (c .clear .field) (treeOf p) (c .clear .clear) in
     record {
       short = omega (arith, array-short deep, member-short inner (bytes "coordinates"), member-short p (bytes "geometry"), c .short);
+      listing = member-listing inner (bytes "coordinates");
       first = 1;
       clear =
           ap (polygonsFound 1) (zone-polygons (c .whole) ∙ ap elementsOf (d .2))

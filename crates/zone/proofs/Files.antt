@@ -6,7 +6,9 @@ use Prim.Native.Nat.{ℕ}
 use native.Mathlib.Omega.{arith}
 use lib.ListN.{length}
 use Rattle.json.specs.Cases.{reading}
+use Rattle.json.specs.Tree.{Json}
 use Rattle.walk.specs.Walk.{part}
+use Rattle.walk.specs.Part.{Whole}
 use Rattle.walk.proofs.Files.{passed}
 use Rattle.schema.specs.Shape.{fileShape}
 use Rattle.schema.specs.Table23.{table23, file, zones, zone}
@@ -16,10 +18,10 @@ use Rattle.rings.specs.Parts.{partsOf}
 use Rattle.document.specs.declared.Span.the-variants as span
 use Rattle.document.specs.Document.{along, field}
 use Rattle.document.specs.Spans.{recordsSpan}
-use Rattle.document.proofs.Records.{recordShape, pickedItems}
+use Rattle.document.proofs.Records.{recordShape}
 use Rattle.clean.specs.Clean.{treeOf, recordsOf}
 use Rattle.clean.proofs.Cleans.{Sound, clean-held}
-use Rattle.clean.proofs.Repeated.{Held}
+use Rattle.clean.proofs.Repeated.{Held, records-at}
 use Rattle.zone.specs.declared.Ruling.the-variants.{NoRule}
 use Rattle.zone.specs.Zone.{rules, firstFor, ruleAt}
 use Rattle.zone.specs.Answer.{ruling}
@@ -40,20 +42,24 @@ module _ {s : List ℕ} (k : Sound 6 s) where
   spanned e = let h = held .there .is in let z : _≡_ {A = ℕ} 0 1 = cc in absurd (omega arith)
 
   module _ (from upto : ℕ) (at : recordsSpan 6 s ≡ span.Is from upto) where
-    zones-are : held .list ≡ partsOf zone (part s from upto)
-    unfolding recordShape partsOf
-    zones-are =
+    zones-whole : Whole (part s from upto) (Json.array (held .there .trees))
+    zones-whole =
         let t = held .there in
         let h = t .is in
         let a : t .start ≡ from = cc in
         let b : t .end ≡ upto = cc in
-        t .picked ∙ ap (λ (n : ℕ). pickedItems zone (part s n (t .end))) a ∙ ap (λ (n : ℕ). pickedItems zone (part s from n)) b
+        rw (← a, ← b) (t .there .whole)
+
+    zones-are : held .list ≡ partsOf zone (part s from upto)
+    unfolding recordShape partsOf
+    zones-are = records-at (held .there) at
 
     pub zones-clean : CleanZones (part s from upto)
     unfolding recordShape
     zones-clean =
         record {
           short = omega (arith, part-short s from upto, passed s (k .reads) .short);
+          listing = record { whole = λ h. (held .there .trees, zones-whole) };
           clear = λ x i.
               let f = held .sound x (subst (List·Memᴰ x) (sym zones-are) i) in
               record { place = f .0; field = held .field; clear = f .1 };

@@ -10,7 +10,7 @@ use fields::array_in;
 use fields::member;
 use geometry::Position;
 use walk::ItemStep;
-use walk::next_item;
+use walk::pass_item;
 ghost use mathlib.Core.Path.{_≡_};
 ghost use Rattle.walk.specs.Part.{treeOf};
 ghost use Rattle.schema.specs.Shape.{fileShape};
@@ -59,7 +59,7 @@ fn rule_of_zones(p: &[u8], q: Position, type_id: &[u8], moment: u64) -> Ruling
 {
     let mut at: usize = 1;
     loop {
-        match next_item(p, at) {
+        match pass_item(p, at) {
             ItemStep::End => {
                 return Ruling::NoRule;
             }

@@ -1,12 +1,12 @@
 -- Without ids the rule is for every type, and with them for those that they name.
 use borrow.Author.Needs.{needs}
-use mathlib.Core.Path.{sym, ap, _∙_}
+use mathlib.Core.Path.{sym, ap, subst, _∙_}
 use lib.ListN.{length}
-use Rattle.rings.specs.Parts.{partsOf}
+use Rattle.rings.specs.Parts.{Listing, partsOf}
 use Rattle.fields.specs.Values.{arrayBy}
 use Rattle.zone.specs.Zone.{anyText}
 use Rattle.zone.specs.Values.{idShape}
-use Rattle.zone.proofs.Fields.{applies-all, applies-named}
+use Rattle.zone.proofs.Fields.{member-listing, applies-all, applies-named}
 use Rattle.zone.proofs.rules.applies.Statement.{statement}
 use Rattle.zone.proofs.rules.applies.Tie as tie
 
@@ -14,6 +14,9 @@ returns : tie.Need-returns
 returns c x w =
     let a = c .before .before .before .before .before .args in
     applies-all w (a .type-id .now) (sym (ap length (c .before .member .ensures)) ∙ c .if1 .taken)
+
+names-type-requires : tie.Need-names-type-requires
+names-type-requires c κs = subst Listing (sym (c .array-in .ensures ∙ ap arrayBy (c .before .before .member .ensures))) (member-listing _ _)
 
 returns-2 : tie.Need-returns-2
 returns-2 c x w =
@@ -29,5 +32,5 @@ applies-spec =
     (λ c κs. search needs)
     returns
     (λ c κs. search needs)
-    (λ c κs. search needs)
+    names-type-requires
     returns-2)

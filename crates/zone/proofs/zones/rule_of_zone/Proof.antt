@@ -1,15 +1,16 @@
 -- A zone that does not hold the point, or does not count, has no rule there; another has its rules in order.
 use borrow.Author.Needs.{needs}
 use borrow.Author.Tests.{not-true, not-false}
-use mathlib.Core.Path.{_≡_, sym, ap, _∙_}
+use mathlib.Core.Path.{_≡_, sym, ap, subst, _∙_}
 use Rattle.notation.specs.Ascii.{bytes}
 use Rattle.schema.specs.Table23.{rule}
 use Rattle.geometry.specs.Shifted.{point}
-use Rattle.rings.specs.Parts.{partsOf}
+use Rattle.rings.specs.Parts.{Listing, partsOf}
 use Rattle.fields.specs.Values.{memberOf, arrayBy}
 use Rattle.zone.specs.Zone.{firstFor}
 use Rattle.zone.specs.Answer.{ruling}
 use Rattle.zone.specs.Values.{countsBy}
+use Rattle.zone.proofs.Fields.{member-listing}
 use Rattle.zone.proofs.Zoned.{propertyBytes, zone-off, zone-past, zone-first}
 use Rattle.zone.proofs.zones.rule_of_zone.Statement.{statement}
 use Rattle.zone.proofs.zones.rule_of_zone.Tie as tie
@@ -33,6 +34,9 @@ returns-2 c =
     zone-past (s .pre .0 .whole) (point (s .args .q)) (s .args .moment) (s .args .type-id .now)
     (sym (h .zone-holds .ensures) ∙ not-false (h .zone-holds .result) (i .if1 .left))
     (sym (asked t) ∙ not-true (t .counts .result) (c .if2 .taken))
+
+first-for-requires : tie.Need-first-for-requires
+first-for-requires c κs = subst Listing (sym (c .array-in .ensures ∙ ap arrayBy (c .before .member2 .ensures))) (member-listing _ _)
 
 returns-3 : tie.Need-returns-3
 returns-3 c =
@@ -58,5 +62,5 @@ rule-of-zone-spec =
     (λ c. search needs)
     (λ c κs. search needs)
     (λ c κs. search needs)
-    (λ c κs. search needs)
+    first-for-requires
     returns-3)
