@@ -19,6 +19,8 @@ ghost use lib.ListN.{length, getD};
 ghost use Rattle.notation.specs.Choice.{_⇒_else_, _and_};
 ghost use Rattle.limits.specs.Ceilings.{records, fileBytes};
 ghost use Rattle.walk.specs.Walk.{part, itemsOf};
+ghost use Rattle.walk.specs.Part.{Whole, treeOf};
+ghost use Rattle.walk.specs.Along.{AlongItems};
 ghost use Rattle.ids.specs.Ids.{recordBytes, repeated, earlier, firstRepeat};
 ghost use Rattle.ids.specs.Notes.{Noted, Blank};
 

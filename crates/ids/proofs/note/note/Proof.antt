@@ -22,7 +22,7 @@ use Rattle.ids.proofs.note.note.Tie as tie
 
 abbrev Inv-loop : tie.InvT-loop
 Inv-loop file p notes₀ first₀ n₀ at₀ notes first n at =
-    Passes p n at × Noted file p n notes × (toCome file (recordBytes p) n first ≡ firstRepeat file (recordBytes p))
+    Passes p n at × AlongItems p at × Noted file p n notes × (toCome file (recordBytes p) n first ≡ firstRepeat file (recordBytes p))
 
 abbrev μ-loop : tie.MeasureT-loop
 μ-loop file p notes₀ first₀ n₀ at₀ notes first n at = length p - at
@@ -34,8 +34,8 @@ returns : tie.Need-returns Inv-loop μ-loop
 returns c =
     let t = c .before .before in let l = t .before in let a = l .before .before .args in
     let e = pass-end _ (l .loop .inv .0) (sym (t .next-item .ensures) ∙ c .enum-told .given .1) in (
-      come-end _ _ (l .loop .n) (l .loop .first) (e .1) ∙ l .loop .inv .2,
-      subst (λ (n : ℕ). Noted (a .file) (a .p .now) n (l .loop .notes)) (e .0) (l .loop .inv .1),
+      come-end _ _ (l .loop .n) (l .loop .first) (e .1) ∙ l .loop .inv .3,
+      subst (λ (n : ℕ). Noted (a .file) (a .p .now) n (l .loop .notes)) (e .0) (l .loop .inv .2),
     )
 
 -- where a record is found
@@ -58,7 +58,7 @@ note-record-requires c κs =
       omega arith,
       room d,
       pass-record _ (l .loop .inv .0) (d .m .given .0 .0) (sym (t .next-item .ensures) ∙ d .m .given .1),
-      l .loop .inv .1,
+      l .loop .inv .2,
     )
 
 loop-again : tie.Need-loop-again Inv-loop μ-loop
@@ -72,7 +72,7 @@ loop-again c =
       ap (toCome (a .file) rs (l .loop .n + 1))
           (c .first-of .ensures ∙ ap (λ (t : Bool). eqb (l .loop .first) 0 and t ⇒ l .loop .n + 1 else l .loop .first) is)
           ∙ come-more (a .file) rs (l .loop .n) (l .loop .first) (inside d)
-          ∙ l .loop .inv .2,
+          ∙ l .loop .inv .3,
     )
 
 pub note-spec : {M : Type 1} → statement M
