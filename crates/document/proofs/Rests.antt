@@ -1,5 +1,5 @@
 -- The rest of a file from its records on, name by name: where the span of a value is one, the rest that the code has come to begins with that value.
-use mathlib.Core.List.{List, [], _∷_}
+use mathlib.Core.List.{List, [], _∷_, List·Memᴰ}
 use mathlib.Core.Path.{_≡_, refl, sym, ap, subst, _∙_}
 use Prim.Native.Nat.{ℕ, _+_, _-_, _≤_}
 use native.Mathlib.Omega.{arith}
@@ -11,12 +11,16 @@ use Rattle.json.specs.Tree.{Json}
 use Rattle.json.specs.Text.{syntaxOf}
 use Rattle.json.proofs.Values.{value-empty}
 use Rattle.lexeme.specs.Tokens.{blanks}
+use Rattle.walk.specs.declared.Item.{Item}
 use Rattle.walk.specs.Walk.{place, part, itemsOf}
 use Rattle.walk.specs.Part.{Whole, treeOf}
 use Rattle.walk.specs.Along.{AlongItems}
 use Rattle.walk.proofs.Files.{passed}
 use Rattle.walk.proofs.Wholes.{whole-some}
-use Rattle.walk.proofs.Open.{front-items}
+use Rattle.walk.proofs.Parts.{itemOf}
+use Rattle.walk.proofs.Open.{front-items, front-each}
+use Rattle.schema.specs.Shape.{Shape}
+use Rattle.schema.specs.Pick.{Picked}
 use Rattle.slots.specs.declared.Found.{Found}
 use Rattle.slots.specs.declared.Found.the-variants.{Missing, Once, Twice}
 use Rattle.slots.specs.Found.{foundIn}
@@ -25,7 +29,7 @@ use Rattle.document.specs.declared.Span.the-variants.{None, Is}
 use Rattle.document.specs.Spans.{moved, memberAt, membersAlong, topSpan, namesTo, recordsSpan, nth, nthIn, recordSpan, Listed, ValueFrom, RecordsFrom}
 use Rattle.document.proofs.Cuts.{part-rest}
 use Rattle.document.proofs.Fields.{Stands, stands-found}
-use Rattle.document.proofs.Records.{top-is, top-stands}
+use Rattle.document.proofs.Records.{top-is, top-stands, pickedItems, open-items, Records}
 
 pub record Begins (s : List ℕ) (span : Span) (p : List ℕ) : Type 0 where
   pub inside : length p ≤ length s
@@ -80,6 +84,33 @@ none-from {r = r} f e = go r (omega (arith, f .inside, ap length e))
     go : (l : List ℕ) → length l ≤ 0 → l ≡ []
     go [] h = refl
     go (b ∷ l) h = absurd (omega arith)
+
+-- Of a file whose records are picked, the rest from its records on has them for its items, and a walk goes along them.
+module _ {file : ℕ} {s p : List ℕ} {σ : Shape} {l : List Picked} (f : RecordsFrom file s p) (sound : syntaxOf s ≡ Sound) (r : Records s (recordsSpan file s) σ l) where
+  pub rest-is : p ≡ drop (r .start) s
+  rest-is = f .starts sound (r .start) (r .end) (r .is)
+
+  front : Whole (take (r .end - r .start) p) (Json.array (r .trees))
+  front = subst (λ (q : List ℕ). Whole (take (r .end - r .start) q) (Json.array (r .trees))) (sym rest-is) (r .there .whole)
+
+  pub rest-along : AlongItems p 1
+  rest-along = AlongItems.front (r .end - r .start) front
+
+  pub rest-items : itemsOf p ≡ itemsOf (part s (r .start) (r .end))
+  rest-items = ap itemsOf rest-is ∙ front-items (drop (r .start) s) (r .end - r .start) (r .there .whole)
+
+  pub rest-picked : l ≡ pickedItems σ p
+  rest-picked = r .picked ∙ sym (ap (pickedItems σ) rest-is ∙ open-items σ s (r .start) (r .end) (r .there .whole))
+
+  -- what holds of each record, by its bytes in the array
+  pub rest-each : (P : Item → List ℕ → Type 0) → let q = part s (r .start) (r .end) in
+      ((m : Item) → List·Memᴰ m (itemsOf q) → P m (itemOf q m)) → (m : Item) → List·Memᴰ m (itemsOf p) → P m (itemOf p m)
+  rest-each P h =
+      subst (λ (z : List ℕ). (m : Item) → List·Memᴰ m (itemsOf z) → P m (itemOf z m)) (sym rest-is)
+      (front-each (drop (r .start) s) (r .end - r .start) P (r .there .whole) h)
+
+pub records-listed : {file : ℕ} {s : List ℕ} {σ : Shape} {l : List Picked} → syntaxOf s ≡ Sound → Records s (recordsSpan file s) σ l → Listed file s
+records-listed sound r = Listed.listed (r .start) (r .end) sound (r .is) (r .there .whole)
 
 none-along : (s : List ℕ) (names : List (List ℕ)) → membersAlong s names None ≡ None
 unfolding membersAlong
