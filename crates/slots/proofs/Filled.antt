@@ -23,7 +23,7 @@ use Rattle.slots.specs.declared.Found.the-variants.{Missing, Once, Twice
 use Rattle.slots.specs.declared.Slots.{Slots}
 use Rattle.slots.specs.Found.{oneMore, noted, foundIn, Within}
 use Rattle.slots.specs.Rows.{mostRows, namesIn, lineNames, rowNamed}
-use Rattle.slots.specs.Slots.{empty, slotAt, putIn, absorbed, gathered, Gathered}
+use Rattle.slots.specs.Slots.{slotsOf, empty, slotAt, putIn, absorbed, gathered, Gathered}
 use Rattle.slots.proofs.Named.{Apart, distinct-apart, names-laid, named-by, named-else}
 
 -- a slot by its state
@@ -48,10 +48,10 @@ module _ (s : Slots) (row : ℕ) where
 -- one value more, by the state
 module _ (s : Slots) (row from upto : ℕ) where
   abbrev pub putFirst : Slots
-  putFirst = record { state = set (s .state) row 1; from = set (s .from) row from; upto = set (s .upto) row upto }
+  putFirst = slotsOf (set (s .state) row 1) (set (s .from) row from) (set (s .upto) row upto)
 
   abbrev pub putAgain : Slots
-  putAgain = record { state = set (s .state) row 2; from = s .from; upto = s .upto }
+  putAgain = slotsOf (set (s .state) row 2) (s .from) (s .upto)
 
   pub put-past : mostRows ≤ row → putIn s row from upto ≡ s
   unfolding putIn

@@ -21,9 +21,13 @@ use Rattle.slots.specs.declared.Slots.{Slots}
 use Rattle.slots.specs.Found.{foundIn, Within}
 use Rattle.slots.specs.Rows.{mostRows, namesIn, rowNamed}
 
+-- slots by their columns
+abbrev pub slotsOf : (state from upto : List ℕ) → Slots
+slotsOf state from upto = record { state = state; from = from; upto = upto }
+
 -- none filled
 abbrev pub empty : Slots
-empty = record { state = replicate mostRows 0; from = replicate mostRows 0; upto = replicate mostRows 0 }
+empty = slotsOf (replicate mostRows 0) (replicate mostRows 0) (replicate mostRows 0)
 
 -- a slot by its state: 0 missing, 1 once, else twice
 unfoldable pub slotAt : Slots → ℕ → Found
@@ -37,8 +41,8 @@ slotAt s row =
 unfoldable pub putIn : Slots → (row from upto : ℕ) → Slots
 putIn s row from upto =
     ltb row mostRows ⇒ (
-    eqb (getD (s .state) row 0) 0 ⇒ record { state = set (s .state) row 1; from = set (s .from) row from; upto = set (s .upto) row upto } else
-    record { state = set (s .state) row 2; from = s .from; upto = s .upto })
+    eqb (getD (s .state) row 0) 0 ⇒ slotsOf (set (s .state) row 1) (set (s .from) row from) (set (s .upto) row upto) else
+    slotsOf (set (s .state) row 2) (s .from) (s .upto))
     else s
 
 -- a member goes to the row of its name
