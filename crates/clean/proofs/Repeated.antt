@@ -20,6 +20,7 @@ use Rattle.json.specs.Text.{syntaxOf}
 use Rattle.text.specs.Text.{same}
 use Rattle.walk.specs.declared.Item.{Item}
 use Rattle.walk.specs.Walk.{part, itemsOf}
+use Rattle.walk.specs.Along.{AlongItems}
 use Rattle.walk.specs.Part.{treeOf}
 use Rattle.walk.proofs.Parts.{itemOf, items-whole}
 use Rattle.walk.proofs.Files.{Passed, passed}
@@ -39,8 +40,9 @@ use Rattle.document.specs.declared.Span.{Span}
 use Rattle.document.specs.declared.Span.the-variants as span
 use Rattle.document.specs.Document as document
 use Rattle.document.specs.Document.{Maybe, none, some, then, textIn, elementsOf, along, path}
-use Rattle.document.specs.Spans.{recordsSpan}
+use Rattle.document.specs.Spans.{recordsSpan, RecordsFrom}
 use Rattle.document.proofs.Fields.{noRow, past, field-lacks}
+use Rattle.document.proofs.Rests.{rest-along, rest-picked}
 use Rattle.document.proofs.Records.{recordShape, pickedItems, Records, records-stand}
 use Rattle.ids.specs.Ids.{idOf, recordBytes, anyHas, repeated, repeatFrom, firstRepeat}
 use Rattle.ids.proofs.Passing.{repeated-none, repeated-some}
@@ -152,6 +154,7 @@ id-field n i = rw (idField, ne-eqb n 6 (λ e. omega arith))
 pub record Repeats (n : ℕ) (s p : List ℕ) : Type 0 where
   pub short : length p ≤ ceiling.fileBytes
   pub few : length (itemsOf p) ≤ ceiling.records
+  pub along : AlongItems p 1
   pub names : least (repeats n (pick (fileShape table23 n) (clean.treeOf s))) ≡ blamed (idField n) (firstRepeat n (recordBytes p))
 
 -- the records at a span, by its places
@@ -242,18 +245,15 @@ module _ (n : ℕ) (s : List ℕ) (reads : syntaxOf s ≡ Sound) (faultless : le
 
   -- of ids, by the array p of its records
   module _ (h : 1 ≤ n) (i : n ≤ 5) where
-    pub records-there : recordsSpan n s ≡ span.None → ⊥
-    records-there k =
-        let t = passed s reads in let r = held n h (omega arith) s t (none-found t) in let z : _≡_ {A = ℕ} 0 1 = cc (r .there .is) in omega arith
-
-    pub repeats-are : {from upto : ℕ} → recordsSpan n s ≡ span.Is from upto → {p : List ℕ} → p ≡ part s from upto → Repeats n s p
+    pub repeats-are : {p : List ℕ} → RecordsFrom n s p → Repeats n s p
     unfolding repeats
-    repeats-are {from} {upto} k {p} is =
+    repeats-are {p} f =
         let t = passed s reads in let r = held n h (omega arith) s t (none-found t) in
-        let l : r .list ≡ pickedItems (recordShape n) p = records-at (r .there) k ∙ ap (pickedItems (recordShape n)) (sym is) in
+        let l : r .list ≡ pickedItems (recordShape n) p = rest-picked f reads (r .there) in
         record {
-          short = omega (arith, t .short, ap length is, length-take (upto - from) (drop from s), length-drop from s);
+          short = omega (arith, t .short, f .inside);
           few = omega (arith, r .few, ap length l ∙ length-map (itemsOf p) (λ m. pick (recordShape n) (treeOf (itemOf p m))));
+          along = rest-along f reads (r .there);
           names =
               ap (λ (x : Json). least (repeatsFrom (idField n) 1 [] (recordsOf n (pick (fileShape table23 n) x)))) (tree-is s t)
               ∙ ap (λ (z : List Picked). least (repeatsFrom (idField n) 1 [] z)) (r .are ∙ l)
