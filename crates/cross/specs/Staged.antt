@@ -1,22 +1,20 @@
 -- What the code answers of one file and of all, from the arrays of their records: presence, repeated ids and what the records demand.
 use mathlib.Core.Bool.{Bool, true, false, not}
-use mathlib.Core.List.{List, [], _∷_}
+use mathlib.Core.List.{List}
 use mathlib.Core.Path.{_≡_}
-use Prim.Native.Nat.{ℕ, zero, suc, _+_, _*_, _≤_}
+use Prim.Native.Nat.{ℕ, zero, suc, _+_, _*_, _≤_, _<_}
 use lib.Dec.{eqb, ltb}
 use lib.ListN.{length}
 use Rattle.limits.specs.Ceilings.{fileBytes, records}
 use Rattle.notation.specs.Choice.{_⇒_else_, _and_}
 use Rattle.word.specs.Kinds.{condition}
-use Rattle.walk.specs.Walk.{part, itemsOf}
+use Rattle.walk.specs.Walk.{itemsOf}
+use Rattle.walk.specs.Along.{AlongItems}
 use Rattle.fault.specs.declared.Fault.{Fault}
 use Rattle.fault.specs.declared.Least.{Least}
 use Rattle.fault.specs.declared.Least.the-variants.{None, Is}
 use Rattle.fault.specs.Fault.{least, lesser}
 use Rattle.judge.specs.Faults.{top, faulty}
-use Rattle.document.specs.declared.Span.{Span}
-use Rattle.document.specs.declared.Span.the-variants as span
-use Rattle.document.specs.Spans.{recordsSpan}
 use Rattle.document.proofs.Records.{recordShape, pickedItems}
 use Rattle.ids.specs.Ids.{recordBytes, firstRepeat}
 use Rattle.clean.specs.Clean.{blamed}
@@ -29,19 +27,12 @@ use Rattle.cross.specs.Cross.{each}
 use Rattle.cross.specs.Judged as judged
 use Rattle.cross.specs.Judged.{Objects}
 
--- the array of a file's records, by the file's bytes
-abbrev pub atSpan : List ℕ → Span → List ℕ
-atSpan s span.None = []
-atSpan s (span.Is from upto) = part s from upto
-
-unfoldable pub recordsPart : ℕ → List ℕ → List ℕ
-recordsPart file s = atSpan s (recordsSpan file s)
-
--- an array of records that is within its ceilings
+-- an array of records, with whatever follows it, that is within its ceilings; or no bytes
 pub record Recorded (p : List ℕ) : Type 0 where
   pub short : length p ≤ fileBytes
   pub objects : Objects p
   pub few : length (itemsOf p) ≤ records
+  pub along : (0 < length p) → AlongItems p 1
 
 -- another file calls for this one
 unfoldable pub calledFor : ℕ → Set → Bool

@@ -8,11 +8,13 @@ use fault::lesser;
 use ids::Notes;
 use references::Set;
 use walk::ItemStep;
-use walk::next_item;
+use walk::pass_item;
 ghost use mathlib.Core.Path.{_≡_};
-ghost use Prim.Native.Nat.{_≤_};
+ghost use Prim.Native.Nat.{_≤_, _<_};
 ghost use lib.ListN.{length};
 ghost use Rattle.limits.specs.Ceilings.{fileBytes};
+ghost use Rattle.walk.specs.Part.{Whole, treeOf};
+ghost use Rattle.walk.specs.Along.{AlongItems};
 ghost use Rattle.fault.specs.Fault.{least};
 ghost use Rattle.document.proofs.Records.{recordShape, pickedItems};
 ghost use Rattle.cross.specs.Cross.{each};
@@ -32,7 +34,7 @@ fn judge_record(
     station_notes: &[u32; Notes::SIZE],
     plan_notes: &[u32; Notes::SIZE],
 ) -> Least
-    requires { ⌜ Known (now types) (now stations) (now plans) (now «type_notes») (now «station_notes») (now «plan_notes») × (length (now p) ≤ fileBytes) ⌝ }
+    requires { ⌜ Known (now types) (now stations) (now plans) (now «type_notes») (now «station_notes») (now «plan_notes») × (length (now p) ≤ fileBytes) × Whole (now p) (treeOf (now p)) ⌝ }
     ensures { λ r. ⌜ Judges set (now (types .entry)) (now (stations .entry)) (now (plans .entry)) file n (now (p .entry)) r ⌝ }
 {
     match file {
@@ -97,14 +99,17 @@ pub fn judge_records(
     station_notes: &[u32; Notes::SIZE],
     plan_notes: &[u32; Notes::SIZE],
 ) -> Least
-    requires { ⌜ Known (now types) (now stations) (now plans) (now «type_notes») (now «station_notes») (now «plan_notes») × (length (now p) ≤ fileBytes) × Objects (now p) ⌝ }
+    requires { ⌜ Known (now types) (now stations) (now plans) (now «type_notes») (now «station_notes») (now «plan_notes») × (length (now p) ≤ fileBytes) × Objects (now p) × ((0 < length (now p)) → AlongItems (now p) 1) ⌝ }
     ensures { λ r. ⌜ r ≡ least (each (broken set (now (types .entry)) (now (stations .entry)) (now (plans .entry)) file) 1 (pickedItems (recordShape file) (now (p .entry)))) ⌝ }
 {
+    if p.len() == 0 {
+        return Least::None;
+    }
     let mut least = Least::None;
     let mut n: u32 = 0;
     let mut at: usize = 1;
     loop {
-        let ItemStep::Found(item) = next_item(p, at) else {
+        let ItemStep::Found(item) = pass_item(p, at) else {
             return least;
         };
         n += 1;

@@ -3,9 +3,7 @@ use crate::records::judge_records;
 use clean::Cleanness;
 use clean::parts_of;
 use clean::repeats::first_repeat;
-use document::Span;
-use document::cut;
-use document::records_span;
+use document::records_from;
 use fault::Fault;
 use fault::Least;
 use fault::lesser;
@@ -25,7 +23,7 @@ ghost use Rattle.clean.specs.Clean.{blamed};
 ghost use Rattle.references.specs.References.{when};
 ghost use Rattle.references.specs.Known.{Known};
 ghost use Rattle.cross.specs.Stage.{Through, filesOf, stageC};
-ghost use Rattle.cross.specs.Staged.{Recorded, recordsPart, calledFor, repeatOf, Repeating, fileLeast, numberedLeast, firstFrom};
+ghost use Rattle.cross.specs.Staged.{Recorded, calledFor, repeatOf, Repeating, fileLeast, numberedLeast, firstFrom};
 
 // The first broken rule of stage C, with its file; or none.
 pub enum Crossed {
@@ -38,20 +36,6 @@ struct Repeats {
     types: u16,
     stations: u16,
     plans: u16,
-}
-
-// The array of a file's records; no bytes where there is none.
-fn records_part(file: u8, s: &[u8]) -> &[u8]
-    ensures { λ r. ⌜ now r ≡ recordsPart file (now (s .entry)) ⌝ }
-{
-    match records_span(file, s) {
-        Span::None => {
-            return cut(s, 0, 0);
-        }
-        Span::Is(from, upto) => {
-            return cut(s, from, upto);
-        }
-    }
 }
 
 // Whether a file that is needed is lacking.
@@ -323,12 +307,12 @@ pub fn judge_set(
     ensures { λ r. ⌜ r ≡ stageC (filesOf (now (types .entry)) (now (stations .entry)) (now (statuses .entry)) (now (bikes .entry)) (now (plans .entry)) (now (zones .entry))) ⌝ }
 {
     let crossed = judge_parts(
-        records_part(1, types),
-        records_part(2, stations),
-        records_part(3, statuses),
-        records_part(4, bikes),
-        records_part(5, plans),
-        records_part(6, zones),
+        records_from(1, types),
+        records_from(2, stations),
+        records_from(3, statuses),
+        records_from(4, bikes),
+        records_from(5, plans),
+        records_from(6, zones),
         Set::of(types, stations, statuses, bikes, plans),
     );
     match crossed {

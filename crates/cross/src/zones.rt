@@ -13,6 +13,7 @@ ghost use mathlib.Core.Path.{_≡_};
 ghost use Prim.Native.Nat.{_≤_};
 ghost use lib.ListN.{length};
 ghost use Rattle.limits.specs.Ceilings.{fileBytes};
+ghost use Rattle.walk.specs.Part.{Whole, treeOf};
 ghost use Rattle.schema.specs.Shape.{Sort, scalar};
 ghost use Rattle.schema.specs.Table23.{rule as ruleShape};
 ghost use Rattle.fault.specs.Fault.{least};
@@ -121,10 +122,14 @@ pub fn judge_zone(
     station_notes: &[u32; Notes::SIZE],
     plan_notes: &[u32; Notes::SIZE],
 ) -> Least
-    requires { ⌜ Known (now types) (now stations) (now plans) (now «type_notes») (now «station_notes») (now «plan_notes») × (length (now p) ≤ fileBytes) ⌝ }
+    requires { ⌜ Known (now types) (now stations) (now plans) (now «type_notes») (now «station_notes») (now «plan_notes») × (length (now p) ≤ fileBytes) × Whole (now p) (treeOf (now p)) ⌝ }
     ensures { λ r. ⌜ Judges set (now (types .entry)) (now (stations .entry)) (now (plans .entry)) 6 n (now (p .entry)) r ⌝ }
 {
-    let rules = array_in(member(member(p, b"properties"), b"rules"));
+    let properties = member(p, b"properties");
+    if properties.len() == 0 {
+        return Least::None;
+    }
+    let rules = array_in(member(properties, b"rules"));
     judge_rules(
         rules,
         n,

@@ -1,13 +1,17 @@
--- The search among the records with an id: from the last one back, each is met or passed, and those between have other ids.
+-- The search among the records with an id: from the last one back, each is met or passed, and those between have other ids. A record that it comes to is
+-- whole, as every item is.
 use mathlib.Core.Bool.{Bool, true, false}
-use mathlib.Core.List.{List, []}
-use mathlib.Core.Path.{_≡_, refl, sym, ap, _∙_}
+use mathlib.Core.List.{List, [], _∷_, map, List·Memᴰ, List·Memᴰ·head, List·Memᴰ·tail}
+use mathlib.Core.Path.{_≡_, refl, sym, ap, subst, _∙_}
 use Prim.Native.Nat.{ℕ, zero, suc, _-_, _≤_, _<_}
 use native.Mathlib.Omega.{arith}
 use lib.ListN.{length, getD}
 use Rattle.notation.specs.Choice.{_⇒_else_, _and_}
 use Rattle.lexeme.proofs.Steps.{by-test}
+use Rattle.walk.specs.declared.Item.{Item}
 use Rattle.walk.specs.Walk.{part, itemsOf}
+use Rattle.walk.specs.Part.{Whole, treeOf}
+use Rattle.walk.proofs.Parts.{itemOf, items-whole}
 use Rattle.ids.specs.Ids.{hasId, recordBytes, lastWith}
 use Rattle.ids.specs.Notes.{startAt, endAt, linkAt, Noted, Searched}
 use Rattle.ids.proofs.Single.{kept-whole}
@@ -36,6 +40,17 @@ module _ (file : ℕ) (tested : Bool) (id : List ℕ) (rs : List (List ℕ)) whe
       meets-before m (ap (λ (b : Bool). b and (tested ⇒ passing file (getD rs m []) else true)) t) ∙ ih
       ∙ ap (anyMeets file tested id rs) (sym (with-before file id rs m t)))
 
+-- every record of an array is whole
+each-whole : (bytesOf : Item → List ℕ) (ms : List Item) → ((m : Item) → List·Memᴰ m ms → Whole (bytesOf m) (treeOf (bytesOf m)))
+    → (k : ℕ) → k < length ms → Whole (getD (map bytesOf ms) k []) (treeOf (getD (map bytesOf ms) k []))
+each-whole f [] w k h = absurd (omega arith)
+each-whole f (m ∷ ms) w zero h = w m (List·Memᴰ·head refl)
+each-whole f (m ∷ ms) w (suc k) h = each-whole f ms (λ n i. w n (List·Memᴰ·tail i)) k (omega arith)
+
+record-whole : (p : List ℕ) (k : ℕ) → k < length (itemsOf p) → Whole (getD (recordBytes p) k []) (treeOf (getD (recordBytes p) k []))
+unfolding recordBytes
+record-whole p = each-whole (itemOf p) (itemsOf p) (items-whole p)
+
 -- the search has come to j, the last of the first m records that has the id
 pub record Comes (file : ℕ) (tested : Bool) (id p : List ℕ) (j : ℕ) : Type 0 where
   pub upto : ℕ
@@ -63,11 +78,16 @@ module _ {file : ℕ} {tested : Bool} {id p : List ℕ} {j : ℕ} (w : Comes fil
 
     -- by whether the record passes
     module _ (q : List ℕ) (is : q ≡ part p (startAt notes (j - 1)) (endAt notes (j - 1))) where
+      itself : q ≡ getD (recordBytes p) (j - 1) []
+      itself = is ∙ chain-entry comes-on h ∙ kept-whole file (getD (recordBytes p) (j - 1) []) id (has .1)
+
+      pub comes-whole : Whole q (treeOf q)
+      comes-whole = subst (λ (x : List ℕ). Whole x (treeOf x)) (sym itself) (record-whole p (j - 1) (omega (arith, has .0, w .within)))
+
       asked : {t : Bool} → t ≡ (tested ⇒ passing file q else true) → t ≡ meeting file tested id (getD (recordBytes p) (j - 1) [])
       asked e =
           e
-          ∙ ap (λ (x : List ℕ). tested ⇒ passing file x else true)
-          (is ∙ chain-entry comes-on h ∙ kept-whole file (getD (recordBytes p) (j - 1) []) id (has .1))
+          ∙ ap (λ (x : List ℕ). tested ⇒ passing file x else true) itself
           ∙ sym (ap (λ (b : Bool). b and (tested ⇒ passing file (getD (recordBytes p) (j - 1) []) else true)) (has .1))
 
       pub comes-met : {t : Bool} → t ≡ (tested ⇒ passing file q else true) → t ≡ true → true ≡ anyMeets file tested id (recordBytes p) (length (itemsOf p))

@@ -16,6 +16,7 @@ ghost use lib.ListN.{length};
 ghost use Rattle.notation.specs.Choice.{_⇒_else_};
 ghost use Rattle.text.specs.Text.{textOf};
 ghost use Rattle.walk.specs.Walk.{itemsOf};
+ghost use Rattle.walk.specs.Part.{Whole, treeOf};
 ghost use Rattle.fields.specs.Values.{textBy};
 ghost use Rattle.ids.specs.Ids.{recordBytes};
 ghost use Rattle.ids.specs.Notes.{Noted};
@@ -34,6 +35,7 @@ pub fn is_driven(value: &[u8]) -> bool
 
 // Whether the record `q` is of the sort that its file's references are asked about: a type that no human drives, a station with a capacity.
 fn passes(file: u8, q: &[u8]) -> bool
+    requires { ⌜ Whole (now q) (treeOf (now q)) ⌝ }
     ensures { λ r. ⌜ r ≡ passing file (now (q .entry)) ⌝ }
 {
     match file {
@@ -45,6 +47,7 @@ fn passes(file: u8, q: &[u8]) -> bool
 
 // The same where that is asked.
 fn passes_test(file: u8, q: &[u8], tested: bool) -> bool
+    requires { ⌜ Whole (now q) (treeOf (now q)) ⌝ }
     ensures { λ r. ⌜ r ≡ (tested ⇒ passing file (now (q .entry)) else true) ⌝ }
 {
     if tested {

@@ -9,7 +9,7 @@ use Rattle.cross.proofs.stage.judge_file.Statement.{statement}
 use Rattle.cross.proofs.stage.judge_file.Tie as tie
 
 judge-records-requires : tie.Need-judge-records-requires
-judge-records-requires c κs = let g = c .before .before .before .before .before .before .pre in (g .0, g .1 .short, g .1 .objects)
+judge-records-requires c κs = let g = c .before .before .before .before .before .before .pre in (g .0, g .1 .short, g .1 .objects, g .1 .along)
 
 returns : tie.Need-returns
 unfolding fileLeast idsLeast

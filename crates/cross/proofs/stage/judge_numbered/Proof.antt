@@ -7,14 +7,14 @@ use Rattle.cross.proofs.stage.judge_numbered.Statement.{statement}
 use Rattle.cross.proofs.stage.judge_numbered.Tie as tie
 
 first-repeat-requires : tie.Need-first-repeat-requires
-first-repeat-requires c κs = let x = c .before .before .before .before .before .before .before .pre in (x .4 .short, x .4 .few)
+first-repeat-requires c κs = let x = c .before .before .before .before .before .before .before .pre in (x .4 .short, x .4 .few, x .4 .along)
 
 judge-file-requires-3 : tie.Need-judge-file-requires-3
 unfolding repeatOf
 judge-file-requires-3 c κs = let x = c .before .before .before .before .before .before .before .before .pre in (x .0, x .4, omega arith, c .first-repeat .ensures)
 
 first-repeat-requires-2 : tie.Need-first-repeat-requires-2
-first-repeat-requires-2 c κs = let x = c .before .before .before .before .before .before .before .pre in (x .5 .short, x .5 .few)
+first-repeat-requires-2 c κs = let x = c .before .before .before .before .before .before .before .pre in (x .5 .short, x .5 .few, x .5 .along)
 
 judge-file-requires-4 : tie.Need-judge-file-requires-4
 unfolding repeatOf

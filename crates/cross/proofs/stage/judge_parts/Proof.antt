@@ -6,13 +6,13 @@ use Rattle.cross.proofs.stage.judge_parts.Statement.{statement}
 use Rattle.cross.proofs.stage.judge_parts.Tie as tie
 
 note-requires : tie.Need-note-requires
-note-requires c κs = let x = c .before .before .before .before .before .before .before .pre .0 in (x .short, x .few, blank)
+note-requires c κs = let x = c .before .before .before .before .before .before .before .pre .0 in (x .short, x .few, blank, x .along)
 
 note-requires-2 : tie.Need-note-requires-2
-note-requires-2 c κs = let x = c .before .before .before .before .before .before .before .before .before .pre .1 in (x .short, x .few, blank)
+note-requires-2 c κs = let x = c .before .before .before .before .before .before .before .before .before .pre .1 in (x .short, x .few, blank, x .along)
 
 note-requires-3 : tie.Need-note-requires-3
-note-requires-3 c κs = let x = c .before .before .before .before .before .before .before .before .before .before .before .pre .4 in (x .short, x .few, blank)
+note-requires-3 c κs = let x = c .before .before .before .before .before .before .before .before .before .before .before .pre .4 in (x .short, x .few, blank, x .along)
 
 judge-noted-requires : tie.Need-judge-noted-requires
 unfolding repeatOf

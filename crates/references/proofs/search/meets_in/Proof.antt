@@ -9,7 +9,7 @@ use Rattle.text.specs.Text.{textOf}
 use Rattle.ids.specs.Ids.{recordBytes, lastWith}
 use Rattle.ids.specs.Notes.{linkAt, Searched}
 use Rattle.ids.proofs.Chains.{from-head, head-all, chain-room, chain-next}
-use Rattle.references.proofs.Searches.{Comes, comes-start, comes-end, comes-on, comes-met, comes-past, comes-less}
+use Rattle.references.proofs.Searches.{Comes, comes-start, comes-end, comes-on, comes-whole, comes-met, comes-past, comes-less}
 use Rattle.references.proofs.search.meets_in.Statement.{statement}
 use Rattle.references.proofs.search.meets_in.Tie as tie
 
@@ -35,6 +35,11 @@ on c = let l = c .before in comes-on (l .loop .inv) (c .loop-test .taken) (l .be
 
 room : (c : tie.In-loop Inv-loop μ-loop) → c .before .loop .j - 1 < records
 room c = chain-room (on c) (c .loop-test .taken)
+
+passes-test-requires : tie.Need-passes-test-requires Inv-loop μ-loop
+passes-test-requires c κs =
+    let i = c .before in let l = i .before in
+    comes-whole (l .loop .inv) (i .loop-test .taken) (l .before .before .before .before .before .before .pre) _ (c .record-at .ensures)
 
 returns : tie.Need-returns Inv-loop μ-loop
 returns c =
@@ -72,4 +77,4 @@ pub meets-in-spec : {M : Type 1} → statement M
 meets-in-spec =
     tie.close
     (tie.spec Inv-loop μ-loop (λ c κs. search needs) (λ c κs. search needs) search-requires loop-holds (λ c. search needs) (λ c κs. room c)
-    (λ c κs. search needs) returns (λ c. omega arith) (λ c κs. room (c .before .before .before)) search-requires-2 loop-less loop-again returns-2)
+    passes-test-requires returns (λ c. omega arith) (λ c κs. room (c .before .before .before)) search-requires-2 loop-less loop-again returns-2)
