@@ -3,11 +3,14 @@ use mathlib.Core.Bool.{Bool, true, false}
 use mathlib.Core.List.{List, [], _∷_}
 use mathlib.Core.Path.{_≡_, refl, sym, ap, subst, _∙_}
 use Prim.Native.Nat.{ℕ}
+use native.Mathlib.Omega.{arith}
+use lib.ListN.{length}
 use Rattle.walk.specs.declared.Item.{Item}
 use Rattle.walk.specs.declared.ItemStep.{ItemStep}
 use Rattle.walk.specs.declared.ItemStep.the-variants as step
+use Rattle.walk.specs.Walk.{itemsOf}
 use Rattle.walk.specs.Part.{Whole, treeOf}
-use Rattle.walk.specs.Along.{ItemPassed}
+use Rattle.walk.specs.Along.{AlongItems, ItemPassed}
 use Rattle.walk.proofs.Parts.{itemOf}
 use Rattle.schema.specs.Shape.{Shape}
 use Rattle.schema.specs.Pick.{Picked}
@@ -36,6 +39,12 @@ module _ {A : Type 0} (g : Search A) (σ : Shape) (p : List ℕ) where
 
   pub searches-start : Listing p → g .Fit (partsOf σ p) → Searches 1 (g .among (partsOf σ p))
   searches-start h f = record { left = partsOf σ p; items = left-start σ p h; fit = f; comes = refl }
+
+  -- where more follows the array
+  pub searches-along : AlongItems p 1 → g .Fit (partsOf σ p) → Searches 1 (g .among (partsOf σ p))
+  unfolding partsOf itemsOf
+  searches-along h f =
+      record { left = partsOf σ p; items = record { along = λ i. h; most = length p; enough = omega arith; are = refl }; fit = f; comes = refl }
 
   module _ {at : ℕ} {r : A} (w : Searches at r) {s : ItemStep} (f : ItemPassed p at s) where
     pub searches-end : s ≡ step.End → g .nothing ≡ r

@@ -6,6 +6,7 @@ use Prim.Native.Nat.{ℕ, _≤_}
 use lib.ListN.{length}
 use Rattle.limits.specs.Ceilings.{fileBytes}
 use Rattle.walk.specs.Part.{Whole, treeOf}
+use Rattle.walk.specs.Along.{AlongItems}
 use Rattle.schema.specs.Shape.{Shape}
 use Rattle.schema.specs.Table23.{zone}
 use Rattle.schema.specs.Pick.{Picked, pick}
@@ -39,7 +40,8 @@ pub record CleanZone (p : List ℕ) : Type 0 where
   pub whole : Whole p (treeOf p)
   pub clear : Faultless (pick zone (treeOf p))
 
+-- those of the zones, an array and what follows it
 pub record CleanZones (p : List ℕ) : Type 0 where
   pub short : length p ≤ fileBytes
-  pub listing : Listing p
+  pub along : AlongItems p 1
   pub clear : (x : Picked) → List·Memᴰ x (partsOf zone p) → Faultless x

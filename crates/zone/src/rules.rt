@@ -10,8 +10,7 @@ use fields::member;
 use walk::ItemStep;
 use walk::pass_item;
 ghost use mathlib.Core.Path.{_≡_};
-ghost use Rattle.json.specs.Tree.{Json};
-ghost use Rattle.walk.specs.Part.{Whole};
+ghost use Rattle.walk.specs.Part.{Whole, treeOf};
 ghost use Rattle.schema.specs.Pick.{pick};
 ghost use Rattle.schema.specs.Table23.{rule};
 ghost use Rattle.rings.specs.Parts.{Listing, partsOf};
@@ -52,6 +51,7 @@ fn is_number(q: &[u8]) -> bool
 
 // The values of the rule `p`.
 fn values_in(p: &[u8]) -> Rule
+    requires { ⌜ Whole (now p) (treeOf (now p)) ⌝ }
     ensures { λ r. ⌜ r ≡ valuesBy (now (p .entry)) ⌝ }
 {
     let speed = member(p, b"maximum_speed_kph");
@@ -91,7 +91,8 @@ fn names_type(p: &[u8], type_id: &[u8]) -> bool
 
 // Whether the rule `p` is for a type: it names the type, or has no ids. An empty array names nobody.
 fn applies(p: &[u8], type_id: &[u8]) -> bool
-    ensures { λ r. ⌜ ((x : Json) → Whole (now (p .entry)) x → r ≡ appliesTo (pick rule x) (now («type_id» .entry))) ⌝ }
+    requires { ⌜ Whole (now p) (treeOf (now p)) ⌝ }
+    ensures { λ r. ⌜ r ≡ appliesTo (pick rule (treeOf (now (p .entry)))) (now («type_id» .entry)) ⌝ }
 {
     let ids = member(p, b"vehicle_type_id");
     if ids.len() == 0 {

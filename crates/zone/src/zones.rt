@@ -3,9 +3,7 @@ use crate::Ruling;
 use crate::area::zone_holds;
 use crate::rules::first_for;
 use crate::window::counts;
-use document::Span;
-use document::cut;
-use document::records_span;
+use document::records_from;
 use fields::array_in;
 use fields::member;
 use geometry::Position;
@@ -52,7 +50,7 @@ fn rule_of_zone(p: &[u8], q: Position, type_id: &[u8], moment: u64) -> Ruling
     first_for(array_in(member(properties, b"rules")), type_id)
 }
 
-// The first rule among the zones of the array `p`.
+// The first rule among the zones of the array at the front of `p`.
 fn rule_of_zones(p: &[u8], q: Position, type_id: &[u8], moment: u64) -> Ruling
     requires { ⌜ CleanZones (now p) × OnMap q ⌝ }
     ensures { λ r. ⌜ r ≡ ruling (firstFor (rules (partsOf zone (now (p .entry))) (point q) moment) (now («type_id» .entry))) ⌝ }
@@ -84,8 +82,5 @@ pub fn rule_in(s: &[u8], q: Position, type_id: &[u8], moment: u64) -> Ruling
     if s.len() == 0 {
         return Ruling::NoRule;
     }
-    let Span::Is(from, upto) = records_span(Ruling::FILE, s) else {
-        return Ruling::NoRule;
-    };
-    rule_of_zones(cut(s, from, upto), q, type_id, moment)
+    rule_of_zones(records_from(Ruling::FILE, s), q, type_id, moment)
 }

@@ -4,7 +4,9 @@ use mathlib.Core.Path.{_≡_, sym, ap, _∙_}
 use Prim.Native.Nat.{_-_}
 use native.Mathlib.Omega.{arith}
 use lib.ListN.{length}
+use Rattle.walk.specs.Part.{Whole, treeOf}
 use Rattle.walk.specs.Along.{ItemPlaced}
+use Rattle.walk.proofs.Parts.{itemOf}
 use Rattle.schema.specs.Table23.{rule}
 use Rattle.rings.specs.Parts.{picked, partsOf}
 use Rattle.zone.specs.declared.Ruling.the-variants.{Is}
@@ -38,19 +40,24 @@ placed : (c : Met) →
     ItemPlaced (c .before .before .before .before .before .before .before .args .p .now) (c .before .before .before .before .loop .at) (c .before .m .given .0 .0)
 placed c = let n = c .before .before .before in n .pass-item .ensures .placed _ (c .before .m .given .1)
 
+-- it is whole
+whole : (c : Met) →
+    let q = itemOf (c .before .before .before .before .before .before .before .args .p .now) (c .before .m .given .0 .0) in Whole q (treeOf q)
+whole c =
+    let d = c .before in let n = d .before .before in let k = n .before in let a = k .before .before .before .args in
+    searches-whole (rulesFor (a .type-id .now)) rule (a .p .now) (k .loop .inv) (n .pass-item .ensures) (d .m .given .0 .0) (d .m .given .1)
+
 -- what was asked of it
 asked : (c : tie.After-applies Inv-loop μ-loop) →
     let d = c .before .before .before in let a = d .before .before .before .before .before .before .args in
     c .applies .result ≡ applies (picked rule (a .p .now) (d .m .given .0 .0)) (a .type-id .now)
-asked c =
-    let d = c .before .before .before in let n = d .before .before in let k = n .before in let a = k .before .before .before .args in
-    c .applies .ensures _ (searches-whole (rulesFor (a .type-id .now)) rule (a .p .now) (k .loop .inv) (n .pass-item .ensures) (d .m .given .0 .0) (d .m .given .1))
+asked c = c .applies .ensures
 
 returns-2 : tie.Need-returns-2 Inv-loop μ-loop
 returns-2 c =
     let t = c .before .before in let i = t .before in let d = i .before .before .before in let n = d .before .before in let k = n .before in
     let a = k .before .before .before .args in let m = d .m .given .0 .0 in let at = d .m .given .1 in
-    ap Is (c .values-in .ensures ∙ rule-values (searches-whole (rulesFor (a .type-id .now)) rule (a .p .now) (k .loop .inv) (n .pass-item .ensures) m at))
+    ap Is (c .values-in .ensures ∙ rule-values (whole (i .before .before)))
     ∙ searches-here (rulesFor (a .type-id .now)) rule (a .p .now) (k .loop .inv) (n .pass-item .ensures) m at (sym (asked i) ∙ t .if1 .taken)
 
 loop-again : tie.Need-loop-again Inv-loop μ-loop
@@ -73,11 +80,11 @@ first-for-spec =
     (λ c. let m = placed c in omega arith)
     (λ c. let m = placed c in omega arith)
     (λ c. let m = placed c in omega arith)
-    (λ c κs. search needs)
+    (λ c κs. whole (c .before))
     (λ c. let m = placed (c .before .before .before) in omega arith)
     (λ c. let m = placed (c .before .before .before) in omega arith)
     (λ c. let m = placed (c .before .before .before) in omega arith)
-    (λ c κs. search needs)
+    (λ c κs. whole (c .before .before .before .before))
     returns-2
     (λ c. let m = placed (c .before .before .before) in omega arith)
     loop-again)

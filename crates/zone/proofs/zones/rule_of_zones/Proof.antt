@@ -13,7 +13,7 @@ use Rattle.zone.specs.Zone.{zoneRules, rules, firstFor}
 use Rattle.zone.specs.Answer.{ruling}
 use Rattle.zone.specs.Values.{isRule}
 use Rattle.zone.proofs.Cleared.{item-short}
-use Rattle.zone.proofs.Searching.{Searches, searches-start, searches-end, searches-whole, searches-fit, searches-here, searches-later}
+use Rattle.zone.proofs.Searching.{Searches, searches-along, searches-end, searches-whole, searches-fit, searches-here, searches-later}
 use Rattle.zone.proofs.Searched.{zones}
 use Rattle.zone.proofs.zones.rule_of_zones.Statement.{statement}
 use Rattle.zone.proofs.zones.rule_of_zones.Tie as tie
@@ -28,7 +28,7 @@ abbrev μ-loop : tie.MeasureT-loop
 loop-holds : tie.Need-loop-holds Inv-loop μ-loop
 loop-holds c =
     let s = c .before .before in let a = s .args in
-    searches-start (zones (a .type-id .now) (point (a .q)) (a .moment)) zone (a .p .now) (s .pre .0 .listing) (s .pre .0 .clear)
+    searches-along (zones (a .type-id .now) (point (a .q)) (a .moment)) zone (a .p .now) (s .pre .0 .along) (s .pre .0 .clear)
 
 returns : tie.Need-returns Inv-loop μ-loop
 returns c =
