@@ -21,7 +21,6 @@ use Rattle.schema.specs.Shape as shape
 use Rattle.schema.specs.Shape.{Shape, Rows, fileShape}
 use Rattle.schema.specs.Table23.{table23, vehicleType, station, status, bike, plan, zone}
 use Rattle.schema.specs.Pick.{Picked, pick}
-use Rattle.fault.specs.declared.Least.the-variants.{None}
 use Rattle.fault.specs.Fault.{least}
 use Rattle.fault.proofs.Leasts.{none-least}
 use Rattle.judge.specs.declared.Place.{Place}

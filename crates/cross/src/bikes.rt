@@ -6,7 +6,7 @@ use ids::Notes;
 use judge::Place;
 use references::Set;
 use references::rules::demanded;
-use references::rules::named;
+use references::rules::demanded_by;
 use references::rules::refers;
 use slots::gather;
 ghost use mathlib.Core.Bool.{not};
@@ -59,17 +59,20 @@ fn judge_vehicle(
             plan_notes,
         ),
     );
-    let driven = named(
-        reference,
-        1,
-        types,
-        stations,
-        plans,
-        type_notes,
-        station_notes,
-        plan_notes,
+    let c = place.broken(
+        46,
+        demanded_by(
+            reference,
+            range,
+            1,
+            types,
+            stations,
+            plans,
+            type_notes,
+            station_notes,
+            plan_notes,
+        ),
     );
-    let c = place.broken(46, demanded(driven, range));
     lesser(lesser(a, b), c)
 }
 

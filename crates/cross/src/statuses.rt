@@ -9,7 +9,7 @@ use ids::Notes;
 use judge::Place;
 use references::Set;
 use references::rules::demanded;
-use references::rules::named;
+use references::rules::demanded_by;
 use references::rules::refers;
 use slots::gather;
 use walk::ItemStep;
@@ -145,17 +145,20 @@ fn judge_station(
             plan_notes,
         ),
     );
-    let roomy = named(
-        reference,
-        2,
-        types,
-        stations,
-        plans,
-        type_notes,
-        station_notes,
-        plan_notes,
+    let b = place.broken(
+        32,
+        demanded_by(
+            reference,
+            docks,
+            2,
+            types,
+            stations,
+            plans,
+            type_notes,
+            station_notes,
+            plan_notes,
+        ),
     );
-    let b = place.broken(32, demanded(roomy, docks));
     lesser(a, b)
 }
 

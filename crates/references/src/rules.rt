@@ -25,7 +25,7 @@ pub fn demanded(needed: bool, value: &[u8]) -> u8
 }
 
 // Whether a record of file 1, 2 or 5 that a reference names is of the sort that is asked about there; none is where no reference is given.
-pub fn named(
+fn named(
     value: &[u8],
     file: u8,
     types: &[u8],
@@ -52,6 +52,38 @@ pub fn named(
         station_notes,
         plan_notes,
     )
+}
+
+// What a field breaks that is needed where a record which a reference names is of that sort: the kind, or 0. The record is searched for only where the
+// field is not given.
+pub fn demanded_by(
+    reference: &[u8],
+    value: &[u8],
+    file: u8,
+    types: &[u8],
+    stations: &[u8],
+    plans: &[u8],
+    type_notes: &[u32; Notes::SIZE],
+    station_notes: &[u32; Notes::SIZE],
+    plan_notes: &[u32; Notes::SIZE],
+) -> u8
+    requires { ⌜ Known (now types) (now stations) (now plans) (now «type_notes») (now «station_notes») (now «plan_notes») ⌝ }
+    ensures { λ r. ⌜ listed r ≡ demandedOf (namedBy (testOf file) (fieldOf file) (recordsOf file (now (types .entry)) (now (stations .entry)) (now (plans .entry))) (textBy (now (reference .entry)))) (thereBy (now (value .entry))) ⌝ }
+{
+    if 0 < value.len() {
+        return 0;
+    }
+    let needed = named(
+        reference,
+        file,
+        types,
+        stations,
+        plans,
+        type_notes,
+        station_notes,
+        plan_notes,
+    );
+    demanded(needed, value)
 }
 
 // What a reference breaks that names no record: the kind, or 0.
