@@ -4,11 +4,11 @@ use mathlib.Core.Bool.{Bool, true, false}
 use mathlib.Core.List.{List, [], _∷_, map, List·Memᴰ, List·Memᴰ·head, List·Memᴰ·tail, List·Memᴰ·cases-cons, List·Memᴰ·not-nil}
 use mathlib.Core.Logic.{⊎-elim}
 use mathlib.Core.Path.{_≡_, refl, sym, ap, subst, _∙_}
-use Prim.Native.Nat.{ℕ, zero, suc, _+_, _-_, _*_, _≤_}
+use Prim.Native.Nat.{ℕ, zero, suc, _+_, _*_, _≤_}
 use native.Mathlib.Decide.{ℕ-discrete}
 use native.Mathlib.Omega.{arith}
 use lib.Dec.{eqb}
-use lib.ListN.{length, drop, length-map, length-take, length-drop}
+use lib.ListN.{length, length-map}
 use borrow.Author.Tests.{leb-true, ne-eqb}
 use Rattle.limits.specs.Ceilings as ceiling
 use Rattle.notation.specs.Choice.{_⇒_else_}
@@ -36,8 +36,6 @@ use Rattle.fault.proofs.Leasts.{least-one, least-none, none-least, least-early}
 use Rattle.rings.specs.Rings as rings
 use Rattle.judge.specs.declared.Place.{Place}
 use Rattle.judge.specs.Faults.{top, faults, fileFaults}
-use Rattle.document.specs.declared.Span.{Span}
-use Rattle.document.specs.declared.Span.the-variants as span
 use Rattle.document.specs.Document as document
 use Rattle.document.specs.Document.{Maybe, none, some, then, textIn, elementsOf, along, path}
 use Rattle.document.specs.Spans.{recordsSpan, RecordsFrom}
@@ -156,14 +154,6 @@ pub record Repeats (n : ℕ) (s p : List ℕ) : Type 0 where
   pub few : length (itemsOf p) ≤ ceiling.records
   pub along : AlongItems p 1
   pub names : least (repeats n (pick (fileShape table23 n) (clean.treeOf s))) ≡ blamed (idField n) (firstRepeat n (recordBytes p))
-
--- the records at a span, by its places
-pub records-at : {s : List ℕ} {at : Span} {σ : Shape} {l : List Picked} → Records s at σ l → {from upto : ℕ} → at ≡ span.Is from upto → l ≡ pickedItems σ (part s from upto)
-records-at {s} {σ = σ} r {from} {upto} k =
-    let i = r .is in
-    let a : r .start ≡ from = cc in
-    let b : r .end ≡ upto = cc in
-    r .picked ∙ ap (λ (z : ℕ). pickedItems σ (part s z (r .end))) a ∙ ap (λ (z : ℕ). pickedItems σ (part s from z)) b
 
 pub held : (n : ℕ) → 1 ≤ n → n ≤ 6 → (s : List ℕ) (t : Passed s) → fileFaults (fileShape table23 n) (t .tree) ≡ [] → Held n s (t .tree)
 unfolding fileFaults recordsOf rings.count
