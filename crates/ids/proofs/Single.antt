@@ -1,34 +1,40 @@
 -- A record that is noted has its id once or not at all, so the first member of the id's name holds the id, and a record without such a member has none.
 use mathlib.Core.Bool.{Bool, true, false}
-use mathlib.Core.List.{List, [], _∷_, foldl}
+use mathlib.Core.List.{List, [], _∷_, foldl, map, List·Memᴰ, List·Memᴰ·head, List·Memᴰ·tail}
 use mathlib.Core.Logic.{_⊎_, inl, inr, ⊎-elim}
 use mathlib.Core.Path.{_≡_, refl, sym, ap, subst, _∙_}
-use Prim.Native.Nat.{ℕ, _<_}
+use Prim.Native.Nat.{ℕ, zero, suc, _<_}
 use native.Mathlib.Omega.{arith}
 use lib.Dec.{eqb}
-use lib.ListN.{length}
+use lib.ListN.{length, getD}
 use borrow.Author.Tests.{eqb-true, ne-eqb}
 use Rattle.notation.specs.Ascii.{bytes}
 use Rattle.notation.specs.Choice.{_⇒_else_}
 use Rattle.lexeme.specs.Character.{within}
 use Rattle.lexeme.specs.Numbers.{digit}
-use Rattle.lexeme.specs.Tokens.{start}
+use Rattle.lexeme.specs.Tokens.{blanks, start}
 use Rattle.lexeme.proofs.Steps.{by-test}
 use Rattle.text.specs.Text.{textOf, same}
+use Rattle.json.specs.Tree.{Json}
+use Rattle.json.specs.Text.{expect}
+use Rattle.walk.specs.declared.Item.{Item}
 use Rattle.walk.specs.declared.Member.{Member}
+use Rattle.walk.specs.declared.MemberStep.{MemberStep}
 use Rattle.walk.specs.declared.MemberStep.the-variants as members
-use Rattle.walk.specs.Walk.{part, memberAt, membersFrom, membersOf}
-use Rattle.walk.specs.Part.{kindAt}
+use Rattle.walk.specs.Walk.{part, memberIn, memberAt, membersFrom, membersOf, itemsOf}
+use Rattle.walk.specs.Part.{Whole, treeOf, kindOf, kindAt}
+use Rattle.walk.specs.Along.{AlongMembers, MemberPassed}
+use Rattle.walk.proofs.Wholes.{whole-kind}
 use Rattle.walk.proofs.Folds.{Walk, memberSteps, walk-more, walk-end}
 use Rattle.walk.proofs.Places.{member-placed}
-use Rattle.walk.proofs.Parts.{member-whole}
+use Rattle.walk.proofs.Parts.{itemOf, items-whole, member-whole}
 use Rattle.slots.specs.declared.Found.{Found}
 use Rattle.slots.specs.declared.Found.the-variants.{Missing, Once, Twice}
 use Rattle.slots.specs.Found.{noted, foundIn}
 use Rattle.document.specs.Document.{Maybe, none, some}
 use Rattle.fields.specs.Values.{code, foundBytes, Standing, memberOf, textBy, isId}
 use Rattle.fields.proofs.Ways.{member-found}
-use Rattle.ids.specs.Ids.{idName, idValue, idOf, hasId}
+use Rattle.ids.specs.Ids.{idName, idValue, idOf, hasId, recordBytes}
 use Rattle.ids.specs.Notes.{kept}
 
 -- of any other number than 1 to 4
@@ -95,6 +101,55 @@ module _ (file : ℕ) (q : List ℕ) where
       go : (o : Maybe (List ℕ)) → idOf file q ≡ o → 0 < length (held o) → 5 ≡ code (kindAt (held o))
       go none e h = absurd (omega arith)
       go (some id) e h = object-id id e
+
+-- a record of an array is whole, or past the last there is nothing
+item-or-nothing : (p : List ℕ) (ms : List Item) → ((m : Item) → List·Memᴰ m ms → Whole (itemOf p m) (treeOf (itemOf p m))) → (j : ℕ)
+    → 0 < length (getD (map (itemOf p) ms) j []) → (x : Json) × Whole (getD (map (itemOf p) ms) j []) x
+item-or-nothing p [] w j h = absurd (omega arith)
+item-or-nothing p (m ∷ ms) w zero h = (_, w m (List·Memᴰ·head refl))
+item-or-nothing p (m ∷ ms) w (suc j) h = item-or-nothing p ms (λ n i. w n (List·Memᴰ·tail i)) j h
+
+module _ (file : ℕ) (p : List ℕ) (j : ℕ) {q : List ℕ} (keeps : q ≡ kept file (getD (recordBytes p) j [])) where
+  -- what is kept of one is the record, where it is anything
+  kept-itself : (r : List ℕ) → 0 < length (kept file r) → kept file r ≡ r
+  kept-itself r = go (idOf file r)
+    where
+      go : (o : Maybe (List ℕ)) → 0 < length (held file r o) → held file r o ≡ r
+      go none h = absurd (omega arith)
+      go (some t) h = refl
+
+  pub kept-along : 0 < length q → AlongMembers q 1
+  unfolding recordBytes
+  kept-along h =
+      let r = getD (recordBytes p) j [] in
+      let some : 0 < length (kept file r) = omega (arith, ap length keeps) in
+      let same : q ≡ r = keeps ∙ kept-itself r some in
+      let (x, w) = item-or-nothing p (itemsOf p) (items-whole p) j (omega (arith, ap length same)) in
+      let w′ : Whole q x = subst (λ (l : List ℕ). Whole l x) (sym same) w in
+      let object : 5 ≡ code (kindAt q) = kept-object file r some ∙ ap (λ (y : List ℕ). code (kindAt y)) (sym keeps) in
+      of-object x w′ (object ∙ ap code (whole-kind w′))
+    where
+      of-object : (x : Json) → Whole q x → 5 ≡ code (kindOf x) → AlongMembers q 1
+      of-object Json.null w e = absurd (omega arith)
+      of-object (Json.boolean b) w e = absurd (omega arith)
+      of-object (Json.number s) w e = absurd (omega arith)
+      of-object (Json.string s) w e = absurd (omega arith)
+      of-object (Json.array is) w e = absurd (omega arith)
+      of-object (Json.object ms) w e = AlongMembers.start w
+
+-- a step that passes over values, along such a record or in nothing
+nothing-at : (at : ℕ) → memberAt [] at ≡ members.End
+unfolding memberAt memberIn expect blanks
+nothing-at zero = refl
+nothing-at (suc n) = refl
+
+pub passed-end : (q : List ℕ) (at : ℕ) {o : MemberStep} → MemberPassed q at o → o ≡ members.End → (0 < length q → AlongMembers q at) → memberAt q at ≡ members.End
+passed-end [] at h e a = nothing-at at
+passed-end (b ∷ q) at h e a = sym (h .same (a (omega arith))) ∙ e
+
+pub passed-found : (q : List ℕ) (at : ℕ) {o : MemberStep} {m : Member} → MemberPassed q at o → o ≡ members.Found m → (0 < length q → AlongMembers q at)
+    → memberAt q at ≡ members.Found m
+passed-found q at {m = m} h e a = let k = h .placed m e in sym (h .same (a (omega arith))) ∙ e
 
 -- from the first member of the name on
 module _ (q name : List ℕ) where

@@ -10,7 +10,7 @@ use fields::value_at;
 use slots::Found;
 use text::digest::digest_of;
 use walk::MemberStep;
-use walk::next_member;
+use walk::pass_member;
 ghost use mathlib.Core.Path.{_≡_};
 ghost use Rattle.text.specs.Text.{textOf};
 ghost use Rattle.ids.specs.Ids.{lastWith, recordBytes};
@@ -32,7 +32,7 @@ pub fn search(file: u8, p: &[u8], notes: &[u32; Notes::SIZE], from: usize, id: &
             let record = record_at(p, notes, k);
             let mut at: usize = 1;
             loop {
-                match next_member(record, at) {
+                match pass_member(record, at) {
                     MemberStep::End => {
                         break;
                     }

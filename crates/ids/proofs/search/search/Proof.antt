@@ -10,20 +10,22 @@ use native.Mathlib.Omega.{arith}
 use lib.ListN.{length, getD}
 use Rattle.limits.specs.Ceilings.{records}
 use Rattle.text.specs.Text.{textOf}
-use Rattle.walk.proofs.Places.{member-placed}
+use Rattle.walk.specs.Along.{AlongMembers}
 use Rattle.walk.proofs.Folds.{Walk, memberSteps, members-start}
 use Rattle.slots.specs.declared.Found.the-variants.{Missing}
 use Rattle.slots.specs.Found.{noted, foundIn}
 use Rattle.ids.specs.Ids.{idName, hasId, recordBytes, lastWith}
 use Rattle.ids.specs.Notes.{kept, Searched}
-use Rattle.ids.proofs.Single.{member-lacking, member-other, member-decides}
+use Rattle.ids.proofs.Single.{kept-along, passed-end, passed-found, member-lacking, member-other, member-decides}
 use Rattle.ids.proofs.Chains.{with-none, chain-room, chain-entry, chain-apart, chain-next, chain-less, chain-met, chain-past}
 use Rattle.ids.proofs.search.search.Statement.{statement}
 use Rattle.ids.proofs.search.search.Tie as tie
 
 abbrev Inv-loop : tie.InvT-loop
 Inv-loop file p notes from id digest met₀ j k «record» at₀ met at =
-    (met ≡ 0) × Walk (memberSteps «record») (noted «record» (idName file)) Missing at (foundIn «record» (idName file))
+    (met ≡ 0)
+    × Walk (memberSteps «record») (noted «record» (idName file)) Missing at (foundIn «record» (idName file))
+    × ((0 < length «record») → AlongMembers «record» at)
 
 abbrev μ-loop : tie.MeasureT-loop
 μ-loop file p notes from id digest met₀ j k «record» at₀ met at = length «record» - at
@@ -35,10 +37,6 @@ Inv-search file p notes from id digest met₀ j₀ met j =
 abbrev μ-search : tie.MeasureT-search
 μ-search file p notes from id digest met₀ j₀ met j = j
 
-loop-holds : tie.Need-loop-holds Inv-loop μ-loop Inv-search μ-search
-unfolding foundIn
-loop-holds c = (c .before .before .before .before .search .inv .0, members-start _ _ Missing)
-
 -- the entry is there
 room : (c : tie.In-search Inv-loop μ-loop Inv-search μ-search) → c .before .search .j - 1 < records
 room c = chain-room (c .before .search .inv .1) (c .search-test .taken)
@@ -49,17 +47,22 @@ keeps : (c : tie.After-record-at Inv-loop μ-loop Inv-search μ-search) →
     c .record-at .result .now ≡ kept (a .file) (getD (recordBytes (a .p .now)) (l .search .j - 1) [])
 keeps c = let s = c .before .before .before in c .record-at .ensures ∙ chain-entry (s .before .search .inv .1) (s .search-test .taken)
 
+loop-holds : tie.Need-loop-holds Inv-loop μ-loop Inv-search μ-search
+unfolding foundIn
+loop-holds c = (c .before .before .before .before .search .inv .0, members-start _ _ Missing, kept-along _ _ _ (keeps c))
+
 loop-less : tie.Need-loop-less Inv-loop μ-loop Inv-search μ-search
 loop-less c =
-    let d = c .before .before .before .before in let m = member-placed _ _ _ (sym (d .before .before .next-member .ensures) ∙ d .m .given .1) in omega arith
+    let d = c .before .before .before .before in let m = d .before .before .pass-member .ensures .placed _ (d .m .given .1) in omega arith
 
 loop-again : tie.Need-loop-again Inv-loop μ-loop Inv-search μ-search
 loop-again c =
     let n = c .before in let u = n .before in let d = u .before .before in let t = d .before .before in let l = t .before in let r = l .before in
-    let a = r .before .before .before .before .before .before .before .before .args in (
+    let a = r .before .before .before .before .before .before .before .before .args in
+    let f = passed-found _ _ (t .pass-member .ensures) (d .m .given .1) (l .loop .inv .2) in (
       l .loop .inv .0,
-      member-other (a .file) (textOf (a .id .now)) _ _ (keeps r) (l .loop .at) (l .loop .inv .1) _ (sym (t .next-member .ensures) ∙ d .m .given .1) _ (u .cut .ensures)
-          (sym (n .names-id .ensures) ∙ c .if2 .left),
+      member-other (a .file) (textOf (a .id .now)) _ _ (keeps r) (l .loop .at) (l .loop .inv .1) _ f _ (u .cut .ensures) (sym (n .names-id .ensures) ∙ c .if2 .left),
+      λ h. AlongMembers.next (l .loop .inv .2 h) f,
     )
 
 -- past a record that has another id, or none
@@ -84,12 +87,12 @@ search-again c =
     ⊎-elim
     (λ w.
     let k = keeps (record { before = record { before = o; if1 = w .0 }; record-at = w .1 }) in
-    past c (w .6 ∙ w .2 .inv .0) (member-lacking (a .file) id _ _ k (w .2 .at) (w .2 .inv .1) (sym (w .3 .ensures) ∙ w .5 .given .1)))
+    past c (w .6 ∙ w .2 .inv .0) (member-lacking (a .file) id _ _ k (w .2 .at) (w .2 .inv .1) (passed-end _ _ (w .3 .ensures) (w .5 .given .1) (w .2 .inv .2))))
     (⊎-elim
     (λ w.
     let k = keeps (record { before = record { before = o; if1 = w .0 }; record-at = w .1 }) in
     past c (w .13 ∙ w .2 .inv .0)
-    (sym (w .11 .ensures ∙ member-decides (a .file) id _ _ k (w .2 .at) (w .2 .inv .1) _ (sym (w .3 .ensures) ∙ w .5 .given .1) _ (w .7 .ensures)
+    (sym (w .11 .ensures ∙ member-decides (a .file) id _ _ k (w .2 .at) (w .2 .inv .1) _ (passed-found _ _ (w .3 .ensures) (w .5 .given .1) (w .2 .inv .2)) _ (w .7 .ensures)
     (sym (w .8 .ensures) ∙ w .9 .taken) (w .10 .ensures .0)) ∙ w .12 .left))
     (λ w.
     past c (w .1 ∙ l .search .inv .0)
@@ -109,7 +112,7 @@ returns-2 c =
     let t = d .before .before in let l = t .before in let r = l .before in let s = r .before .before .before in let o = s .before in
     let a = o .before .before .before .before .args in let id = textOf (a .id .now) in
     chain-met (o .search .inv .1) (s .search-test .taken)
-    (sym (u .is-this .ensures ∙ member-decides (a .file) id _ _ (keeps r) (l .loop .at) (l .loop .inv .1) _ (sym (t .next-member .ensures) ∙ d .m .given .1) _ (x .cut .ensures)
+    (sym (u .is-this .ensures ∙ member-decides (a .file) id _ _ (keeps r) (l .loop .at) (l .loop .inv .1) _ (passed-found _ _ (t .pass-member .ensures) (d .m .given .1) (l .loop .inv .2)) _ (x .cut .ensures)
     (sym (n .names-id .ensures) ∙ i .if2 .taken) (v .value-at .ensures .0)) ∙ c .if3 .taken)
     ∙ o .search .inv .2
 
