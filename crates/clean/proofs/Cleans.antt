@@ -1,14 +1,13 @@
 -- What a clean file that is there is sure to hold: stage A passes it, stage B finds nothing in it, no id repeats, and so its records stand where
 -- the code looks for them.
-use mathlib.Core.List.{List, [], _∷_}
+use mathlib.Core.List.{List, []}
 use mathlib.Core.Path.{_≡_, refl, sym, ap, _∙_}
 use Prim.Native.Nat.{ℕ, _≤_}
 use native.Mathlib.Omega.{arith}
 use lib.ListN.{length}
 use Rattle.json.specs.declared.Syntax.{Syntax}
 use Rattle.json.specs.declared.Syntax.the-variants as syntax
-use Rattle.lexeme.specs.Tokens.{blanks}
-use Rattle.json.specs.Text.{value, valueBy, syntaxOf}
+use Rattle.json.specs.Text.{syntaxOf}
 use Rattle.walk.proofs.Files.{passed}
 use Rattle.schema.specs.Shape.{fileShape}
 use Rattle.schema.specs.Table23.{table23}
@@ -18,8 +17,6 @@ use Rattle.fault.specs.declared.Least.the-variants.{None, Is}
 use Rattle.fault.specs.Fault.{least}
 use Rattle.fault.proofs.Leasts.{least-none}
 use Rattle.judge.specs.Faults.{fileFaults}
-use Rattle.document.specs.declared.Span.the-variants as span
-use Rattle.document.specs.Spans.{membersAlong, topSpan, namesTo, recordsSpan}
 use Rattle.clean.specs.declared.Cleanness.{Cleanness}
 use Rattle.clean.specs.declared.Cleanness.the-variants.{Clean}
 use Rattle.clean.specs.Clean.{treeOf, repeats, broken, judged, cleanOf}
@@ -51,24 +48,3 @@ pub clean-held : (n : ℕ) → 1 ≤ n → n ≤ 6 → (s : List ℕ) → Sound 
 clean-held n h i s c =
     let t = passed s (c .reads) in
     rw (tree-is s t) (held n h i s t (ap (fileFaults (fileShape table23 n)) (sym (tree-is s t)) ∙ c .faultless))
-
--- A file that is not there has no records, so where those of a clean file are found it is there, and where they are not it is absent.
-
-no-members : (names : List (List ℕ)) → membersAlong [] names span.None ≡ span.None
-unfolding membersAlong
-no-members [] = refl
-no-members (name ∷ names) = no-members names
-
-absent-span : (n : ℕ) → recordsSpan n [] ≡ span.None
-unfolding recordsSpan topSpan value valueBy blanks
-absent-span n = no-members (namesTo n)
-
-module _ (n : ℕ) (h : 1 ≤ n) (i : n ≤ 6) where
-  pub found-held : (s : List ℕ) → cleanOf n s ≡ Clean → {from upto : ℕ} → recordsSpan n s ≡ span.Is from upto → Held n s (treeOf s)
-  found-held [] c e = let a = absent-span n in let z : _≡_ {A = ℕ} 0 1 = cc in absurd (omega arith)
-  found-held (b ∷ s) c e = clean-held n h i (b ∷ s) (clean-sound n (b ∷ s) (λ k. omega arith) c)
-
-  pub lost-absent : (s : List ℕ) → cleanOf n s ≡ Clean → recordsSpan n s ≡ span.None → s ≡ []
-  lost-absent [] c e = refl
-  lost-absent (b ∷ s) c e =
-      let r = clean-held n h i (b ∷ s) (clean-sound n (b ∷ s) (λ k. omega arith) c) .there .is in let z : _≡_ {A = ℕ} 0 1 = cc in absurd (omega arith)

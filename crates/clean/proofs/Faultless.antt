@@ -4,7 +4,7 @@ use mathlib.Core.Bool.{Bool, true, false}
 use mathlib.Core.List.{List, [], _∷_, _++_, List·Memᴰ, List·Memᴰ·cases-cons, List·Memᴰ·not-nil}
 use mathlib.Core.Logic.{_⊎_, inl, inr, ⊎-elim}
 use mathlib.Core.Path.{_≡_, refl, sym, ap, _∙_}
-use Prim.Native.Nat.{ℕ, zero, suc, _+_, _*_, _≤_}
+use Prim.Native.Nat.{ℕ, zero, suc, _+_, _≤_}
 use native.Mathlib.Omega.{arith}
 use lib.Dec.{eqb, leb}
 use lib.ListN.{length}
@@ -14,11 +14,11 @@ use Rattle.word.specs.Kinds.{nameTwice, tooMany}
 use Rattle.json.specs.Tree as tree
 use Rattle.json.specs.Tree.{Json, Members}
 use Rattle.schema.specs.Shape as shape
-use Rattle.schema.specs.Shape.{Shape, Rows, Need, Numbering, Sort, fileShape}
-use Rattle.schema.specs.Table23.{table23, listing, file, zones, vehicleType, station, status, bike, plan}
+use Rattle.schema.specs.Shape.{Shape, Rows, Need, Numbering, fileShape}
+use Rattle.schema.specs.Table23.{table23, listing, file, zones}
 use Rattle.schema.specs.Pick.{Picked, PickedItems, items, noItem, item, Slots, Slot, missing, once, twice, given, put, each, pick, pickRows, find, listOf}
 use Rattle.fault.specs.declared.Fault.{Fault}
-use Rattle.scalar.specs.Scalars.{unless, kindsOf, numberKinds, booleanKinds}
+use Rattle.scalar.specs.Scalars.{unless}
 use Rattle.rings.specs.Rings as rings
 use Rattle.judge.specs.declared.Place.{Place}
 use Rattle.judge.specs.Faults.{Judge, faulty, absence, itemPlace, byNumbering, eachItem, coordinateFaults, slotFaults, faults, rowFaults}
@@ -26,7 +26,6 @@ use Rattle.document.specs.Document.{none, some, onceOnly, field, fieldItems, al
 use Rattle.document.proofs.Fields as fields
 use Rattle.document.proofs.Fields.{Lists, over, at-row}
 use Rattle.document.proofs.Records.{recordShape}
-use Rattle.clean.specs.Noted.{idName}
 
 cons-nil : {A B : Type 0} {x : A} {l : List A} → x ∷ l ≡ [] → B
 cons-nil e = let z : _≡_ {A = ℕ} 0 1 = cc in absurd (omega arith)
@@ -154,16 +153,6 @@ module _ {f : ℕ} {name : List ℕ} {rows : Rows} (p : Place) (φ : ℕ) (x : J
       (λ k. let a = array-there p f numbering single most σ (k .0) (k .2) in rw (k .1, a .1) (leb-true (rings.count (a .0)) most (a .2)))
       (field-sound l)
 
--- an id is a string
-pub id-there : (p : Place) (φ : ℕ) (x : Json) → faults (shape.scalar Sort.id) p φ (pick (shape.scalar Sort.id) x) ≡ [] → (t : List ℕ) × (x ≡ tree.string t)
-unfolding faults pick kindsOf numberKinds booleanKinds
-id-there p φ (tree.string t) e = (t, refl)
-id-there p φ tree.null e = none-faulty p φ _ _ e
-id-there p φ (tree.boolean b) e = none-faulty p φ _ _ e
-id-there p φ (tree.number s) e = none-faulty p φ _ _ e
-id-there p φ (tree.array is) e = none-faulty p φ _ _ e
-id-there p φ (tree.object ms) e = none-faulty p φ _ _ e
-
 -- the field of a required row
 pub field-there : {f : ℕ} {name : List ℕ} {σ : Shape} {rows : Rows} → Requires f name σ rows → (ms : Members) (z : Json) → given (find name ms) ≡ once z
     → field f (pick (shape.object rows) (tree.object ms)) ≡ some (pick σ z)
@@ -186,7 +175,7 @@ demands-there (into {f = f} {rows = rows} {fs = fs} r d) p φ x e =
     let g = ap (λ (y : Json). field f (pick (shape.object rows) y)) (o .1) ∙ field-there r (o .0) (h .0) (h .1) in
     (k .0, k .1, rw (along, g) (k .2), k .3)
 
--- the records of each file are demanded, and, of files 1 to 5, their ids
+-- the records of each file are demanded
 pub demands-to : (n : ℕ) → 1 ≤ n → n ≤ 6 → Demands (fileShape table23 n) (path (eqb n 6)) (shape.array shape.records ceiling.records (recordShape n))
 unfolding fileShape table23 listing file zones recordShape
 demands-to zero h i = absurd (omega arith)
@@ -197,13 +186,3 @@ demands-to (suc (suc (suc (suc zero)))) h i = into (below refl (below refl (belo
 demands-to (suc (suc (suc (suc (suc zero))))) h i = into (below refl (below refl (below refl here))) (into here arrived)
 demands-to (suc (suc (suc (suc (suc (suc zero)))))) h i = into (below refl (below refl (below refl here))) (into here (into (below refl here) arrived))
 demands-to (suc (suc (suc (suc (suc (suc (suc n))))))) h i = absurd (omega arith)
-
-pub id-demanded : (n : ℕ) → 1 ≤ n → n ≤ 5 → (rows : Rows) × (recordShape n ≡ shape.object rows) × Requires (n * 10) (idName n) (shape.scalar Sort.id) rows
-unfolding recordShape vehicleType station status bike plan idName
-id-demanded zero h i = absurd (omega arith)
-id-demanded (suc zero) h i = (_, refl, here)
-id-demanded (suc (suc zero)) h i = (_, refl, here)
-id-demanded (suc (suc (suc zero))) h i = (_, refl, here)
-id-demanded (suc (suc (suc (suc zero)))) h i = (_, refl, here)
-id-demanded (suc (suc (suc (suc (suc zero))))) h i = (_, refl, here)
-id-demanded (suc (suc (suc (suc (suc (suc n)))))) h i = absurd (omega arith)

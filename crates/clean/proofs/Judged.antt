@@ -38,8 +38,7 @@ use Rattle.clean.specs.declared.Cleanness.{Cleanness}
 use Rattle.clean.specs.declared.Cleanness.the-variants.{Clean, Broken}
 use Rattle.clean.specs.declared.Shown.{Shown}
 use Rattle.clean.specs.declared.Shown.the-variants.{NoFile}
-use Rattle.clean.specs.Clean.{treeOf, idField, repeats, place, broken, judged, cleanOf}
-use Rattle.clean.specs.Noted.{blamed}
+use Rattle.clean.specs.Clean.{treeOf, idField, repeats, blamed, place, broken, judged, cleanOf}
 use Rattle.clean.specs.Show.{ofClean, recordShown, shownOf}
 use Rattle.clean.proofs.Repeated.{tree-is}
 

@@ -1,4 +1,3 @@
-pub mod Noting
 pub mod Faultless
 pub mod Repeated
 pub mod Judged

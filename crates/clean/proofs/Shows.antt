@@ -19,7 +19,8 @@ use Rattle.fault.specs.declared.Least.the-variants.{None, Is}
 use Rattle.fault.specs.Fault.{least}
 use Rattle.fault.proofs.Leasts.{least-none}
 use Rattle.judge.specs.Faults.{fileFaults}
-use Rattle.document.specs.Spans.{recordSpan}
+use Rattle.document.specs.Spans.{recordSpan, Listed}
+use Rattle.document.proofs.Rests.{records-listed}
 use Rattle.document.proofs.Records.{recordShape, record-at, record-past}
 use Rattle.clean.specs.declared.Cleanness.{Cleanness}
 use Rattle.clean.specs.declared.Cleanness.the-variants.{Clean, Broken}
@@ -87,3 +88,10 @@ module _ (file : ℕ) (s : List ℕ) (some : length s ≡ 0 → ⊥) (e : cleanO
     pub shows-no-more : (k : ℕ) → length (recordsOf file picked) ≤ k → shownOf file (suc k) s ≡ NoRecord
     unfolding recordSpan
     shows-no-more k j = by-span (suc k) ∙ ap recordShown (record-past (records h i .there) k (omega (arith, ap length (are h i))))
+
+-- a clean file has its records in an array, or is not there
+pub listed : (file : ℕ) (s : List ℕ) → 1 ≤ file → file ≤ 6 → cleanOf file s ≡ Clean → Listed file s
+listed file [] h i e = Listed.absent refl
+listed file (b ∷ s) h i e =
+    let some : length (b ∷ s) ≡ 0 → ⊥ = λ z. omega arith in
+    records-listed (sound file (b ∷ s) some e) (records file (b ∷ s) some e h i .there)

@@ -59,6 +59,10 @@ repeatsFrom f n passed (x ∷ l) = repeatedId f n passed x ++ repeatsFrom f (n +
 unfoldable pub repeats : ℕ → Picked → List Fault
 repeats file x = repeatsFrom (idField file) 1 [] (recordsOf file x)
 
+-- the fault of an id used before, by the record's number; none where that is 0
+abbrev pub blamed : (field number : ℕ) → Least
+blamed field number = eqb number 0 ⇒ None else Is (fault number field 0 idTwice)
+
 -- the parts of a word for a fault of a file
 abbrev pub place : ℕ → Fault → Parts
 place file f =

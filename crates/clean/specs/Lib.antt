@@ -1,4 +1,2 @@
-pub mod Ids
 pub mod Clean
 pub mod Show
-pub mod Noted

@@ -5,6 +5,7 @@ use Prim.Native.Nat.{ℕ}
 use lib.Dec.{leb}
 use Rattle.notation.specs.Choice.{_⇒_else_, _and_}
 use Rattle.word.specs.declared.Parts.{Parts}
+use Rattle.word.specs.Word.{noParts}
 use Rattle.walk.specs.Walk.{part}
 use Rattle.document.specs.declared.Span.{Span}
 use Rattle.document.specs.declared.Span.the-variants.{None, Is}
@@ -20,9 +21,6 @@ pub record Answer : Type 0 where
   pub number : ℕ
   pub parts : Parts
   pub shown : List ℕ
-
-abbrev pub noParts : Parts
-noParts = record { file = 0; kind = 0; field = 0; «record» = 0; sub = 0; offset = 0 }
 
 abbrev pub answer : List ℕ → Shown → Answer
 answer s NoFile = record { number = 10; parts = noParts; shown = [] }

@@ -5,10 +5,10 @@ use document::record_span;
 use document::top_span;
 use fault::Fault;
 use fault::Least;
-use ids::repeat_of;
 use json::Syntax;
 use json::check_syntax;
 use judge::judge_file;
+use repeats::repeat_of;
 use word::Parts;
 use word::kind::Kind;
 ghost use mathlib.Core.Path.{_≡_};
@@ -25,7 +25,7 @@ ghost use Rattle.clean.specs.declared.Cleanness.the-variants.{Clean};
 ghost use Rattle.clean.specs.Clean.{treeOf, repeats, place, broken, judged, cleanOf};
 ghost use Rattle.clean.specs.Show.{answer, shownOf};
 
-pub mod ids;
+pub mod repeats;
 
 // A file that is clean, or the first rule that it breaks, as a word's parts.
 pub enum Cleanness {
@@ -39,12 +39,6 @@ pub enum Shown {
     NotClean(Parts),
     NoRecord,
     Record(usize, usize),
-}
-
-// Where a text stands in some bytes, without its quotation marks.
-pub struct Place {
-    pub from: usize,
-    pub upto: usize,
 }
 
 // The parts of a word for a fault of a file.

@@ -30,13 +30,13 @@ use Rattle.document.specs.Document.{Maybe, field, fieldItems, text, textIn, spe
 use Rattle.fields.specs.Values.{integerIn}
 use Rattle.document.proofs.Records.{recordShape}
 use Rattle.fields.proofs.Fields.{rowOf, listed}
-use Rattle.clean.specs.Ids.{among}
-use Rattle.clean.specs.Noted.{idName, idIn, idsIn, repeatAt, blamed}
+use Rattle.ids.specs.Ids.{recordBytes, repeated, repeatFrom, firstRepeat}
+use Rattle.clean.specs.Clean.{blamed}
 use Rattle.clean.proofs.Faultless.{field-sound, items-few}
 use Rattle.references.specs.References.{when, anyWith, any, roomy, driven, named, refers, demanded}
 use Rattle.cross.specs.Cross.{Files, at, absentees, sumOf, availableFaults, idFaults, ruleFaults, typeFaults, statusFaults, bikeFaults, zoneFaults, each, faultsOf, fileIn, crossFaults}
 use Rattle.cross.specs.Stage.{fileOf}
-use Rattle.cross.specs.Staged.{idsLeast}
+use Rattle.cross.specs.Staged.{repeatOf, idsLeast}
 use Rattle.cross.proofs.Files.{InBytes}
 
 -- the kinds of stage C
@@ -159,11 +159,11 @@ each-fits faults′ g n (m ∷ ms) h k =
     all-append (k m (List·Memᴰ·head refl) n (omega arith)) (each-fits faults′ g (n + 1) ms (omega arith) (λ l i. k l (List·Memᴰ·tail i)))
 
 -- Repeated ids.
-repeat-few : (n : ℕ) (passed ids : List (List ℕ)) → repeatAt (n + 1) passed ids ≤ n + length ids
-unfolding repeatAt
-repeat-few n passed [] = omega arith
-repeat-few n passed (x ∷ l) =
-    by-test (among passed x) (λ t. rw (repeatAt, t) (omega arith)) (λ t. rw (repeatAt, t) (omega (arith, repeat-few (n + 1) (x ∷ passed) l)))
+repeat-few : (file n : ℕ) (passed rs : List (List ℕ)) → repeatFrom file (n + 1) passed rs ≤ n + length rs
+unfolding repeatFrom
+repeat-few file n passed [] = omega arith
+repeat-few file n passed (q ∷ l) =
+    by-test (repeated file passed q) (λ t. rw (repeatFrom, t) (omega arith)) (λ t. rw (repeatFrom, t) (omega (arith, repeat-few file (n + 1) (q ∷ passed) l)))
 
 blamed-fits : (φ number : ℕ) → φ ≤ fields → number ≤ greatest → Holds Fitting (blamed φ number)
 blamed-fits φ number h i =
@@ -171,12 +171,13 @@ blamed-fits φ number h i =
     (λ t. rw t (holding {f = fault number φ 0 idTwice} (record { rec = i; field = h; sub = omega arith; kind = record { least = omega arith; most = omega arith } })))
 
 ids-least-fits : (n : ℕ) (p : List ℕ) → length (itemsOf p) ≤ greatest → Holds Fitting (idsLeast n p)
-unfolding idsLeast idsIn
+unfolding idsLeast repeatOf firstRepeat recordBytes
 ids-least-fits n p h =
-    by-test (ltb 5 n) (λ t. rw (idsLeast, t) nothing)
+    by-test (ltb 5 n) (λ t. rw (idsLeast, repeatOf, t) nothing)
     (λ t.
     let i = ltb-false 5 n t in
-    rw (idsLeast, t) (blamed-fits (n * 10) (repeatAt 1 [] (idsIn (idName n) p)) (omega arith) (omega (arith, repeat-few 0 [] (idsIn (idName n) p), length-map (itemsOf p) (idIn (idName n) p)))))
+    rw (idsLeast, repeatOf, t)
+    (blamed-fits (n * 10) (firstRepeat n (recordBytes p)) (omega arith) (omega (arith, repeat-few n 0 [] (recordBytes p), length-map (itemsOf p) (itemOf p)))))
 
 -- One file.
 module _ (files : Files) (file : ℕ) (h : 1 ≤ file) (i : file ≤ 6) {s p : List ℕ} (e : fileIn files file ≡ fileOf file s) (b : InBytes file s p) where

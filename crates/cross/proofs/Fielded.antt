@@ -5,6 +5,7 @@ use mathlib.Core.Path.{_≡_, refl, sym, ap, _∙_}
 use Prim.Native.Nat.{ℕ, zero, suc, _+_, _^_, _<_}
 use native.Mathlib.Omega.{arith}
 use lib.Dec.{eqb, ltb}
+use lib.ListN.{length}
 use borrow.Author.Tests.{eq-eqb, ne-eqb, lt-ltb}
 use Rattle.limits.specs.Ceilings as ceiling
 use Rattle.notation.specs.Ascii.{bytes}
@@ -37,6 +38,10 @@ use Rattle.cross.specs.Cross.{at, each, availableFaults, idFaults, ruleF
 pub none-there : (n : ℕ) → eqb n 0 ≡ not (ltb 0 n)
 none-there zero = refl
 none-there (suc n) = ne-eqb (suc n) 0 (λ e. omega arith) ∙ sym (ap not (lt-ltb 0 (suc n) (omega arith)))
+
+pub no-bytes : (q : List ℕ) → length q ≡ 0 → q ≡ []
+no-bytes [] e = refl
+no-bytes (b ∷ q) e = absurd (omega arith)
 
 -- a count is small, whatever is read
 number-small : (s : List ℕ) (n : Number) → numberOf s ≡ n → wholeOf n < 10 ^ 12
@@ -83,6 +88,15 @@ nothing-in : (σ : Shape) (name : List ℕ) → pickedItems σ (arrayBy (memberO
 unfolding memberOf kindAt start digit within
 nothing-in σ name = holds-items shape.subs 0 σ [] none refl
 
+-- bytes that hold something are whole
+holds-whole : (σ : Shape) (q : List ℕ) (o : Maybe Picked) → Holds σ q o → (length q ≡ 0 → ⊥) → (x : Json) × Whole q x
+holds-whole σ q none h k = absurd (k (ap length h))
+holds-whole σ q (some y) h k = (h .0, h .1)
+
+pub properties-whole : {p : List ℕ} {x : Json} → Whole p x → (length (memberOf p (bytes "properties")) ≡ 0 → ⊥) → (y : Json) × Whole (memberOf p (bytes "properties")) y
+unfolding zone rowOf
+properties-whole {p} {x} w = holds-whole _ _ (field 74 (pick zone x)) (member-holds (listed refl) p x w)
+
 -- what an item breaks, and so the items one after another
 module _ (types : List Picked) (n : ℕ) where
   abbrev pub availableItem : ℕ → Picked → List Fault
@@ -123,6 +137,13 @@ module _ (types : List Picked) (n : ℕ) where
       → ruleFaults types n 1 (pickedItems rule (arrayBy (memberOf (memberOf p (bytes "properties")) (bytes "rules")))) ≡ zoneFaults types n (pick zone x)
   unfolding zoneFaults zone rowOf
   zone-rules {p} {x} w = in-properties (listed refl) (memberOf p (bytes "properties")) (field 74 (pick zone x)) (member-holds (listed refl) p x w)
+
+  -- a zone without properties has no rules
+  pub zone-bare : {p : List ℕ} {x : Json} → Whole p x → memberOf p (bytes "properties") ≡ [] → zoneFaults types n (pick zone x) ≡ []
+  unfolding ruleFaults
+  zone-bare w e =
+      sym (zone-rules w)
+      ∙ ap (ruleFaults types n 1) (ap (λ q. pickedItems rule (arrayBy (memberOf q (bytes "rules")))) e ∙ nothing-in rule (bytes "rules"))
 
 -- records of other files than 1, 3, 4 and 6 break nothing
 pub breaks-nothing : (typed planned : Bool) (types stations plans : List Picked) (file n : ℕ)

@@ -1,18 +1,19 @@
--- A file of the set that is through stages A and B: in its bytes stand the records that are picked of it, each of them an object, and the first
+-- A file of the set that is through stages A and B: in the rest of its bytes from its records on stand the records that are picked of it, each of them an object, and the first
 -- id that repeats there is the least of its repeats. An absent file has no records either way.
 use mathlib.Core.List.{List, [], _∷_, List·Memᴰ, List·Memᴰ·not-nil, Memᴰ·map}
 use mathlib.Core.Path.{_≡_, refl, sym, ap, subst, _∙_}
-use Prim.Native.Nat.{ℕ, zero, suc, _-_, _≤_}
+use Prim.Native.Nat.{ℕ, zero, suc, _≤_}
 use native.Mathlib.Omega.{arith}
 use lib.Dec.{ltb}
-use lib.ListN.{length, take, length-map}
-use lib.Seq.{take-nil, drop-nil}
+use lib.ListN.{length, length-map}
 use borrow.Author.Tests.{ltb-true, ltb-false}
 use Rattle.lexeme.proofs.Steps.{by-test}
+use Rattle.json.specs.declared.Syntax.the-variants.{Sound}
+use Rattle.json.specs.Text.{syntaxOf}
 use Rattle.json.specs.Tree as tree
 use Rattle.json.specs.Tree.{Json, Members}
 use Rattle.walk.specs.declared.Item.{Item}
-use Rattle.walk.specs.Walk.{part, itemsFrom, itemsOf}
+use Rattle.walk.specs.Walk.{itemsFrom, itemsOf}
 use Rattle.walk.specs.Part.{treeOf}
 use Rattle.walk.proofs.Parts.{itemOf}
 use Rattle.walk.proofs.Files.{passed}
@@ -20,27 +21,23 @@ use Rattle.schema.specs.Shape as shape
 use Rattle.schema.specs.Shape.{Shape, Rows, fileShape}
 use Rattle.schema.specs.Table23.{table23, vehicleType, station, status, bike, plan, zone}
 use Rattle.schema.specs.Pick.{Picked, pick}
-use Rattle.fault.specs.declared.Least.the-variants.{None}
 use Rattle.fault.specs.Fault.{least}
 use Rattle.fault.proofs.Leasts.{none-least}
 use Rattle.judge.specs.declared.Place.{Place}
 use Rattle.judge.specs.Faults.{faults, fileFaults}
-use Rattle.document.specs.declared.Span.{Span}
-use Rattle.document.specs.declared.Span.the-variants as span
-use Rattle.document.specs.Spans.{recordsSpan}
-use Rattle.document.proofs.Cuts.{part-length}
+use Rattle.document.specs.Spans.{RecordsFrom}
 use Rattle.document.proofs.Records.{recordShape, pickedItems}
+use Rattle.document.proofs.Rests.{none-from, rest-along, rest-picked}
+use Rattle.ids.specs.Ids.{recordBytes, repeatFrom, firstRepeat}
 use Rattle.clean.specs.Clean as clean
-use Rattle.clean.specs.Clean.{repeats}
-use Rattle.clean.specs.Noted.{idName, idsIn, repeatAt, blamed}
-use Rattle.clean.proofs.Noting.{repeat-none}
+use Rattle.clean.specs.Clean.{repeats, blamed}
 use Rattle.clean.proofs.Faultless.{object-there}
-use Rattle.clean.proofs.Repeated.{Held, held, tree-is, id-field, blames-none, blames-first}
+use Rattle.clean.proofs.Repeated.{Held, held, tree-is, id-field, repeats-none, repeats-are}
 use Rattle.cross.specs.Cross.{recordsIn, repeatsIn}
 use Rattle.cross.specs.Stage.{fileOf, Through}
-use Rattle.cross.specs.Staged.{atSpan, recordsPart, Recorded, idsLeast}
+use Rattle.cross.specs.Staged.{Recorded, repeatOf, idsLeast}
 
--- what is picked of the file s of number n, by the array p of its records
+-- what is picked of the file s of number n, by the rest p from its records on
 pub record InBytes (n : ℕ) (s p : List ℕ) : Type 0 where
   pub recorded : Recorded p
   pub picked : recordsIn n (fileOf n s) ≡ pickedItems (recordShape n) p
@@ -48,18 +45,13 @@ pub record InBytes (n : ℕ) (s p : List ℕ) : Type 0 where
   pub sound : (m : Item) → List·Memᴰ m (itemsOf p)
       → (q : Place) × (φ : ℕ) × (faults (recordShape n) q φ (pick (recordShape n) (treeOf (itemOf p m))) ≡ [])
 
--- nothing is cut from no bytes
-nothing-cut : (at : Span) → atSpan [] at ≡ []
-nothing-cut span.None = refl
-nothing-cut (span.Is from upto) = ap (take (upto - from)) (drop-nil from) ∙ take-nil (upto - from)
-
 absent-bytes : (n : ℕ) → InBytes n [] []
-unfolding recordsIn repeatsIn idsLeast idsIn itemsOf itemsFrom
+unfolding recordsIn repeatsIn idsLeast repeatOf firstRepeat repeatFrom recordBytes itemsOf itemsFrom
 absent-bytes n =
     record {
-      recorded = record { short = omega arith; objects = λ m i. absurd (List·Memᴰ·not-nil i); few = omega arith };
+      recorded = record { short = omega arith; objects = λ m i. absurd (List·Memᴰ·not-nil i); few = omega arith; along = λ h. absurd (omega arith) };
       picked = refl;
-      repeated = by-test (ltb 5 n) (λ t. rw (idsLeast, t) (none-least [] refl)) (λ t. rw (idsLeast, t, repeat-none) (none-least [] refl));
+      repeated = by-test (ltb 5 n) (λ t. rw (idsLeast, repeatOf, t) (none-least [] refl)) (λ t. rw (idsLeast, repeatOf, t) (none-least [] refl));
       sound = λ m i. absurd (List·Memᴰ·not-nil i);
     }
 
@@ -75,31 +67,32 @@ object-shape (suc (suc (suc (suc (suc zero))))) h i = (_, refl)
 object-shape (suc (suc (suc (suc (suc (suc zero)))))) h i = (_, refl)
 object-shape (suc (suc (suc (suc (suc (suc (suc n))))))) h i = absurd (omega arith)
 
--- A file that is there.
-module _ (n : ℕ) (h : 1 ≤ n) (i : n ≤ 6) (b : ℕ) (r : List ℕ) (t : Through n (b ∷ r)) where
+-- A file that is there, with the rest p from its records on.
+module _ (n : ℕ) (h : 1 ≤ n) (i : n ≤ 6) (b : ℕ) (r : List ℕ) (t : Through n (b ∷ r)) {p : List ℕ} (f : RecordsFrom n (b ∷ r) p) where
   abbrev s : List ℕ
   s = b ∷ r
 
+  reads : syntaxOf s ≡ Sound
+  reads = t .reads (λ e. omega arith)
+
   through : Held n s (clean.treeOf s)
   through =
-      let v = passed s (t .reads (λ e. omega arith)) in
+      let v = passed s reads in
       rw (tree-is s v) (held n h i s v (ap (fileFaults (fileShape table23 n)) (sym (tree-is s v)) ∙ t .faultless (λ e. omega arith)))
 
-  abbrev array : List ℕ
-  array = part s (through .there .start) (through .there .end)
+  are-picked : through .list ≡ pickedItems (recordShape n) p
+  are-picked = rest-picked f reads (through .there)
 
-  repeated-is : least (repeats n (pick (fileShape table23 n) (clean.treeOf s))) ≡ idsLeast n array
-  unfolding idsLeast
+  repeated-is : least (repeats n (pick (fileShape table23 n) (clean.treeOf s))) ≡ idsLeast n p
+  unfolding idsLeast repeatOf
   repeated-is =
-      let reads = t .reads (λ e. omega arith) in
       let none = none-least _ (t .faultless (λ e. omega arith)) in
       by-test (ltb 5 n)
-      (λ u. rw (idsLeast, u) (blames-none n s (λ j k. let w = ltb-true 5 n u in omega arith) reads none))
+      (λ u. rw (idsLeast, repeatOf, u) (repeats-none n s reads none (λ j k. let w = ltb-true 5 n u in omega arith)))
       (λ u.
       let j : n ≤ 5 = ltb-false 5 n u in
-      let number = repeatAt 1 [] (idsIn (idName n) array) in
-      rw (idsLeast, u)
-      (blames-first n s h j _ _ number (through .there .is) (λ few. refl) reads none ∙ ap (λ (φ : ℕ). blamed φ number) (sym (id-field n h j))))
+      rw (idsLeast, repeatOf, u)
+      (repeats-are n s reads none h j f .names ∙ ap (λ (φ : ℕ). blamed φ (firstRepeat n (recordBytes p))) (sym (id-field n j))))
 
   -- records are objects
   record-object : (q : Place) (φ : ℕ) (x : Json) → faults (recordShape n) q φ (pick (recordShape n) x) ≡ [] → (ms : Members) × (x ≡ tree.object ms)
@@ -108,36 +101,30 @@ module _ (n : ℕ) (h : 1 ≤ n) (i : n ≤ 6) (b : ℕ) (r : List ℕ) (t : Thr
       subst (λ (σ : Shape). faults σ q φ (pick σ x) ≡ [] → (ms : Members) × (x ≡ tree.object ms)) (sym (d .1))
       (λ e. let o = object-there q φ (d .0) x e in (o .0, o .1))
 
-  sound-item : (m : Item) → List·Memᴰ m (itemsOf array)
-      → (q : Place) × (φ : ℕ) × (faults (recordShape n) q φ (pick (recordShape n) (treeOf (itemOf array m))) ≡ [])
+  abbrev pickedItem : Item → Picked
+  pickedItem m = pick (recordShape n) (treeOf (itemOf p m))
+
+  sound-item : (m : Item) → List·Memᴰ m (itemsOf p) → (q : Place) × (φ : ℕ) × (faults (recordShape n) q φ (pickedItem m) ≡ [])
   sound-item m j =
-      let g : Item → Picked = λ k. pick (recordShape n) (treeOf (itemOf array k)) in
-      let y = through .sound (g m) (subst (List·Memᴰ (g m)) (sym (through .there .picked)) (Memᴰ·map g j)) in
+      let y = through .sound (pickedItem m) (subst (List·Memᴰ (pickedItem m)) (sym are-picked) (Memᴰ·map pickedItem j)) in
       (y .0, through .field, y .1)
 
-  there-bytes : InBytes n s array
+  there-bytes : InBytes n s p
   unfolding recordsIn repeatsIn
   there-bytes =
-      let g : Item → Picked = λ k. pick (recordShape n) (treeOf (itemOf array k)) in
-      let inside = through .there .there .inside in
-      let short = passed s (t .reads (λ e. omega arith)) .short in
       record {
         recorded =
             record {
-              short = omega (arith, part-length s (through .there .start) (through .there .end));
+              short = omega (arith, f .inside, passed s reads .short);
               objects = λ m j. let y = sound-item m j in record-object (y .0) (y .1) _ (y .2);
-              few = omega (arith, through .few, ap length (through .there .picked) ∙ length-map (itemsOf array) g);
+              few = omega (arith, through .few, ap length are-picked ∙ length-map (itemsOf p) pickedItem);
+              along = λ k. rest-along f reads (through .there);
             };
-        picked = through .are ∙ through .there .picked;
+        picked = through .are ∙ are-picked;
         repeated = repeated-is;
         sound = sound-item;
       }
 
-pub file-bytes : (n : ℕ) → 1 ≤ n → n ≤ 6 → (s : List ℕ) → Through n s → InBytes n s (recordsPart n s)
-unfolding recordsPart
-file-bytes n h i [] t = subst (InBytes n []) (sym (nothing-cut (recordsSpan n []))) (absent-bytes n)
-file-bytes n h i (b ∷ r) t = subst (InBytes n (b ∷ r)) (sym (ap (atSpan (b ∷ r)) (through n h i b r t .there .is))) (there-bytes n h i b r t)
-
--- the records of such a file, cut out
-pub part-recorded : (n : ℕ) → 1 ≤ n → n ≤ 6 → (s : List ℕ) → Through n s → {p : List ℕ} → p ≡ recordsPart n s → Recorded p
-part-recorded n h i s t e = subst Recorded (sym e) (file-bytes n h i s t .recorded)
+pub file-bytes : (n : ℕ) → 1 ≤ n → n ≤ 6 → (s : List ℕ) → Through n s → {p : List ℕ} → RecordsFrom n s p → InBytes n s p
+file-bytes n h i [] t f = subst (InBytes n []) (sym (none-from f refl)) (absent-bytes n)
+file-bytes n h i (b ∷ r) t f = there-bytes n h i b r t f

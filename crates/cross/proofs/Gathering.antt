@@ -28,7 +28,7 @@ use Rattle.fields.proofs.Values.{member-holds, holds-there}
 use Rattle.fields.proofs.Fields.{field-text, field-given, field-spelled, field-items, rowOf, listed}
 use Rattle.references.specs.References.{when, roomy, driven, notHuman, named, refers, demanded}
 use Rattle.cross.specs.Cross.{at, sumOf, availableFaults, typeFaults, statusFaults, bikeFaults}
-use Rattle.cross.proofs.Layouts.{Reads, slot-member, slot-short, type-layout, status-layout, bike-layout}
+use Rattle.cross.proofs.Layouts.{Reads, slot-member, type-layout, status-layout, bike-layout}
 
 -- a vehicle type
 module _ (planned : Bool) (plans : List Picked) (n : ℕ) where
@@ -51,11 +51,7 @@ module _ (planned : Bool) (plans : List Picked) (n : ℕ) where
       (ap thereBy (slot-member g type-layout 3 (omega arith) b w) ∙ field-given (listed refl) w)
       (ap textBy plan ∙ field-text (listed refl) w) (ap thereBy plan ∙ field-given (listed refl) w)
 
--- a status; its field 37 is no longer than the record
-pub counts-short : {p : List ℕ} {s : Slots} → Gathered p 25 10 s → {counts : List ℕ} → Reads p s 7 counts → length counts ≤ length p
-unfolding status namesIn
-counts-short g c = slot-short g status-layout 7 (omega arith) c
-
+-- a status
 module _ (typed : Bool) (types stations : List Picked) (n : ℕ) where
   abbrev statusOf : (station : Maybe (List ℕ)) (docks there : Bool) (counts : List Picked) (bikes : Maybe (List ℕ)) → List Fault
   statusOf station docks there counts bikes =

@@ -24,7 +24,6 @@ use Rattle.slots.specs.Rows.{mostRows, namesIn}
 use Rattle.slots.specs.Slots.{slotAt, Gathered}
 use Rattle.fields.specs.Values.{code, foundBytes, Standing, memberOf}
 use Rattle.fields.proofs.Ways.{found-standing, member-found}
-use Rattle.cross.proofs.Sizes.{found-short}
 
 -- rows that fill so many lines from `first` on, with a slot each
 pub record Layout (first count : ℕ) (rows : Rows) : Type 0 where
@@ -76,14 +75,10 @@ Reads p s j q = (o : Found) × (o ≡ slotAt s j) × (Standing p o → q ≡ fou
 
 module _ {p : List ℕ} {first count : ℕ} {s : Slots} (g : Gathered p first count s) {rows : Rows}
     (l : Layout first count rows) (j : ℕ) (h : j < length (namesIn rows)) {q : List ℕ} (r : Reads p s j q) where
-  slot-found : r .0 ≡ foundIn p (getD (namesIn rows) j [])
-  slot-found = r .1 ∙ g .slot rows (l .laid) (l .lines) (l .distinct) (l .few) j h
-
-  slot-value : q ≡ foundBytes p (r .0)
-  slot-value = r .2 (found-standing p (getD (namesIn rows) j []) (r .0) slot-found)
-
-  pub slot-short : length q ≤ length p
-  slot-short = omega (arith, ap length slot-value, found-short p (r .0))
+  slot-found : {ms : Members} → Whole p (tree.object ms) → r .0 ≡ foundIn p (getD (namesIn rows) j [])
+  slot-found w = r .1 ∙ g .slot w rows (l .laid) (l .lines) (l .distinct) (l .few) j h
 
   pub slot-member : {ms : Members} → Whole p (tree.object ms) → q ≡ memberOf p (getD (namesIn rows) j [])
-  slot-member w = slot-value ∙ member-found p (getD (namesIn rows) j []) 5 (sym (ap code (whole-kind w))) refl (r .0) slot-found
+  slot-member w =
+      let name = getD (namesIn rows) j [] in let e = slot-found w in
+      r .2 (found-standing p name (r .0) e) ∙ member-found p name 5 (sym (ap code (whole-kind w))) refl (r .0) e

@@ -1,11 +1,9 @@
 pub mod Joined
-pub mod Sizes
 pub mod Layouts
 pub mod Fielded
 pub mod Walked
 pub mod Gathering
 pub mod Files
 pub mod Bounds
-pub mod Keeping
 pub mod Staging
 pub mod Sets

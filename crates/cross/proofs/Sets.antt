@@ -24,9 +24,9 @@ use Rattle.cross.specs.declared.stage.Crossed.{Crossed}
 use Rattle.cross.specs.declared.stage.Crossed.the-variants.{Nothing, At}
 use Rattle.cross.specs.Cross.{Files, here, absentees, fileIn, crossFaults}
 use Rattle.references.specs.Known as known
-use Rattle.cross.specs.Stage.{fileOf, filesOf, stageC, Through}
-use Rattle.cross.specs.Staged.{recordsPart, calledFor, fileLeast, numberedLeast, crossing, firstFrom}
-use Rattle.cross.proofs.Files.{InBytes, file-bytes}
+use Rattle.cross.specs.Stage.{fileOf, filesOf, stageC}
+use Rattle.cross.specs.Staged.{calledFor, fileLeast, numberedLeast, crossing, firstFrom}
+use Rattle.cross.proofs.Files.{InBytes}
 use Rattle.cross.proofs.Bounds.{Fitting, cross-fits}
 use Rattle.cross.proofs.Staging.{first-at}
 
@@ -53,69 +53,57 @@ there-is : (n : ℕ) (s : List ℕ) → here (fileOf n s) ≡ ltb 0 (length s)
 there-is n [] = refl
 there-is n (b ∷ s) = sym (lt-ltb 0 (length (b ∷ s)) (omega arith))
 
--- what the code answers, from the records of all files in bytes
-abbrev pub numbered : (types stations statuses bikes plans zones : List ℕ) → ℕ → Least
-numbered types stations statuses bikes plans zones =
-    numberedLeast (setOf types stations statuses bikes plans) (recordsPart 1 types) (recordsPart 2 stations) (recordsPart 5 plans) (recordsPart 3 statuses)
-    (recordsPart 4 bikes) (recordsPart 6 zones)
+-- six files, each with the rest from its records on
+pub record AllInBytes (types stations statuses bikes plans zones a b c d e g : List ℕ) : Type 0 where
+  pub first : InBytes 1 types a
+  pub second : InBytes 2 stations b
+  pub third : InBytes 3 statuses c
+  pub fourth : InBytes 4 bikes d
+  pub fifth : InBytes 5 plans e
+  pub sixth : InBytes 6 zones g
 
-pub crossed-is : (types stations statuses bikes plans zones : List ℕ) {set : Set} {a b c d e g : List ℕ} → set ≡ setOf types stations statuses bikes plans
-    → a ≡ recordsPart 1 types → b ≡ recordsPart 2 stations → c ≡ recordsPart 3 statuses → d ≡ recordsPart 4 bikes → e ≡ recordsPart 5 plans → g ≡ recordsPart 6 zones
-    → firstFrom (numberedLeast set a b e c d g) 1 6 ≡ firstFrom (numbered types stations statuses bikes plans zones) 1 6
-crossed-is types stations statuses bikes plans zones h i j k l m n = rw (h, i, j, k, l, m, n)
-
-pub record AllThrough (types stations statuses bikes plans zones : List ℕ) : Type 0 where
-  pub first : Through 1 types
-  pub second : Through 2 stations
-  pub third : Through 3 statuses
-  pub fourth : Through 4 bikes
-  pub fifth : Through 5 plans
-  pub sixth : Through 6 zones
-
-module _ (types stations statuses bikes plans zones : List ℕ) (through : AllThrough types stations statuses bikes plans zones) where
+module _ {types stations statuses bikes plans zones a b c d e g : List ℕ} (all : AllInBytes types stations statuses bikes plans zones a b c d e g) where
   abbrev files : Files
   files = filesOf types stations statuses bikes plans zones
 
   abbrev set : Set
   set = setOf types stations statuses bikes plans
 
-  abbrev leasts : ℕ → Least
-  leasts = numbered types stations statuses bikes plans zones
+  -- what the code answers, from the records of all files in bytes
+  abbrev pub leasts : ℕ → Least
+  leasts = numberedLeast set a b e c d g
 
   presence : (file : ℕ) → calledFor file set ≡ absentees files file
   unfolding absentees calledFor
   presence file = rw (calledFor, absentees, there-is 2 stations, there-is 3 statuses, there-is 4 bikes)
 
-  file-least : (file : ℕ) (s : List ℕ) → fileIn files file ≡ fileOf file s → InBytes file s (recordsPart file s)
-      → fileLeast set (recordsPart 1 types) (recordsPart 2 stations) (recordsPart 5 plans) file (recordsPart file s) ≡ least (crossFaults files file)
+  file-least : (file : ℕ) (s p : List ℕ) → fileIn files file ≡ fileOf file s → InBytes file s p → fileLeast set a b e file p ≡ least (crossFaults files file)
   unfolding fileLeast crossFaults known.recordsOf
-  file-least file s e b =
-      let x = file-bytes 1 (omega arith) (omega arith) types (through .first) in
-      let y = file-bytes 2 (omega arith) (omega arith) stations (through .second) in
-      let z = file-bytes 5 (omega arith) (omega arith) plans (through .fifth) in
-      rw (fileLeast, crossFaults, e, presence file, x .picked, y .picked, z .picked, b .picked, there-is 1 types, there-is 5 plans, ← b .repeated)
+  file-least file s p e h =
+      rw (fileLeast, crossFaults, e, presence file, all .first .picked, all .second .picked, all .fifth .picked, h .picked, there-is 1 types, there-is 5 plans, ← h .repeated)
       (least-three _ _ _)
 
   -- the file of a number
   record Numbered (file : ℕ) : Type 0 where
     bytes : List ℕ
+    rest : List ℕ
     is : fileIn files file ≡ fileOf file bytes
-    held : InBytes file bytes (recordsPart file bytes)
-    judged : leasts file ≡ fileLeast set (recordsPart 1 types) (recordsPart 2 stations) (recordsPart 5 plans) file (recordsPart file bytes)
+    held : InBytes file bytes rest
+    judged : leasts file ≡ fileLeast set a b e file rest
 
   number : (file : ℕ) → 1 ≤ file → file ≤ 6 → Numbered file
   unfolding numberedLeast fileIn
   number zero h i = absurd (omega arith)
-  number (suc zero) h i = record { bytes = types; is = refl; held = file-bytes 1 h i types (through .first); judged = refl }
-  number (suc (suc zero)) h i = record { bytes = stations; is = refl; held = file-bytes 2 h i stations (through .second); judged = refl }
-  number (suc (suc (suc zero))) h i = record { bytes = statuses; is = refl; held = file-bytes 3 h i statuses (through .third); judged = refl }
-  number (suc (suc (suc (suc zero)))) h i = record { bytes = bikes; is = refl; held = file-bytes 4 h i bikes (through .fourth); judged = refl }
-  number (suc (suc (suc (suc (suc zero))))) h i = record { bytes = plans; is = refl; held = file-bytes 5 h i plans (through .fifth); judged = refl }
-  number (suc (suc (suc (suc (suc (suc zero)))))) h i = record { bytes = zones; is = refl; held = file-bytes 6 h i zones (through .sixth); judged = refl }
+  number (suc zero) h i = record { bytes = types; rest = a; is = refl; held = all .first; judged = refl }
+  number (suc (suc zero)) h i = record { bytes = stations; rest = b; is = refl; held = all .second; judged = refl }
+  number (suc (suc (suc zero))) h i = record { bytes = statuses; rest = c; is = refl; held = all .third; judged = refl }
+  number (suc (suc (suc (suc zero)))) h i = record { bytes = bikes; rest = d; is = refl; held = all .fourth; judged = refl }
+  number (suc (suc (suc (suc (suc zero))))) h i = record { bytes = plans; rest = e; is = refl; held = all .fifth; judged = refl }
+  number (suc (suc (suc (suc (suc (suc zero)))))) h i = record { bytes = zones; rest = g; is = refl; held = all .sixth; judged = refl }
   number (suc (suc (suc (suc (suc (suc (suc file))))))) h i = absurd (omega arith)
 
   numbered-least : (file : ℕ) → 1 ≤ file → file ≤ 6 → leasts file ≡ least (crossFaults files file)
-  numbered-least file h i = let t = number file h i in t .judged ∙ file-least file (t .bytes) (t .is) (t .held)
+  numbered-least file h i = let t = number file h i in t .judged ∙ file-least file (t .bytes) (t .rest) (t .is) (t .held)
 
   pub stage-is : cleanness (firstFrom leasts 1 6) ≡ stageC files
   unfolding firstFrom stageC

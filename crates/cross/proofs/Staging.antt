@@ -1,23 +1,18 @@
 -- The steps of stage C in bytes: what one file is asked, by its number, and the first file that breaks a rule.
-use mathlib.Core.Bool.{Bool, false}
-use mathlib.Core.List.{List, []}
+use mathlib.Core.Bool.{false}
+use mathlib.Core.List.{List}
 use mathlib.Core.Path.{_≡_, refl, sym, ap, _∙_}
-use Prim.Native.Nat.{ℕ, zero, suc, _+_, _-_, _*_, _≤_, _<_}
+use Prim.Native.Nat.{ℕ, zero, suc, _+_, _-_, _≤_, _<_}
 use native.Mathlib.Omega.{arith}
-use borrow.Author.Tests.{lt-ltb, le-ltb, ne-eqb}
-use Rattle.notation.specs.Choice.{_⇒_else_}
-use Rattle.word.specs.Kinds.{idTwice}
+use borrow.Author.Tests.{ne-eqb}
 use Rattle.fault.specs.declared.Fault.{Fault}
 use Rattle.fault.specs.declared.Least.{Least}
 use Rattle.fault.specs.declared.Least.the-variants.{None, Is}
-use Rattle.fault.specs.Fault.{fault, lesser}
-use Rattle.clean.specs.Noted.{idName, idsIn, repeatAt, blamed}
+use Rattle.fault.specs.Fault.{lesser}
 use Rattle.references.specs.declared.Set.{Set}
-use Rattle.references.specs.Known.{counting}
 use Rattle.cross.specs.declared.stage.Crossed.{Crossed}
 use Rattle.cross.specs.declared.stage.Crossed.the-variants.{Nothing, At}
-use Rattle.references.specs.Known as known
-use Rattle.cross.specs.Staged.{calledFor, idsLeast, fileLeast, numberedLeast, crossing, firstFrom}
+use Rattle.cross.specs.Staged.{calledFor, fileLeast, numberedLeast, crossing, firstFrom}
 
 -- What one file is asked.
 
@@ -25,23 +20,6 @@ use Rattle.cross.specs.Staged.{calledFor, idsLeast, fileLeast, numberedL
 pub called-else : (file : ℕ) (set : Set) → (file ≡ 2 → ⊥) → (file ≡ 3 → ⊥) → (file ≡ 4 → ⊥) → false ≡ calledFor file set
 unfolding calledFor
 called-else file set h i j = rw (calledFor, ne-eqb file 2 h, ne-eqb file 3 i, ne-eqb file 4 j)
-
--- ids, by the number of the record that repeats one
-module _ (file : ℕ) (p : List ℕ) where
-  pub ids-unasked : 5 < file → None ≡ idsLeast file p
-  unfolding idsLeast
-  ids-unasked h = rw (idsLeast, lt-ltb 5 file h)
-
-  module _ (h : file ≤ 5) (n : ℕ) (e : n ≡ repeatAt 1 [] (idsIn (idName file) p)) where
-    ids-asked : blamed (file * 10) n ≡ idsLeast file p
-    unfolding idsLeast
-    ids-asked = rw (idsLeast, le-ltb 5 file h, e)
-
-    pub ids-single : n ≡ 0 → None ≡ idsLeast file p
-    ids-single z = ap (blamed (file * 10)) (sym z) ∙ ids-asked
-
-    pub ids-repeated : (n ≡ 0 → ⊥) → Is (fault n (file * 10) 0 idTwice) ≡ idsLeast file p
-    ids-repeated z = ap (λ (t : Bool). t ⇒ None else Is (fault n (file * 10) 0 idTwice)) (sym (ne-eqb n 0 z)) ∙ ids-asked
 
 -- the parts of a file's judgement
 pub lesser-both : {a b c d : Least} → a ≡ c → b ≡ d → lesser a b ≡ lesser c d
@@ -56,13 +34,6 @@ numbered-else set types stations plans statuses bikes zones file h i j k l =
     rw (numberedLeast, ne-eqb file 1 h, ne-eqb file 2 i, ne-eqb file 3 j, ne-eqb file 4 k, ne-eqb file 5 l)
 
 -- The first of the files.
-
--- how many records there are does not change which files there are
-pub counted-same : {set : Set} (here′ : Set) (n m k : ℕ) → set ≡ counting here′ n m k → (types stations plans statuses bikes zones : List ℕ)
-    → firstFrom (numberedLeast set types stations plans statuses bikes zones) 1 6 ≡ firstFrom (numberedLeast here′ types stations plans statuses bikes zones) 1 6
-unfolding numberedLeast fileLeast calledFor
-counted-same here′ n m k e types stations plans statuses bikes zones =
-    ap (λ (u : Set). firstFrom (numberedLeast u types stations plans statuses bikes zones) 1 6) e
 
 -- from a file on, of six
 module _ (least′ : ℕ → Least) where

@@ -78,6 +78,10 @@ module _ (faults : ℕ → Picked → List Fault) where
     abbrev pub Goes : (n at : ℕ) → Least → Type 0
     Goes n at acc = Left σ p (going n acc) at (least (each faults 1 (pickedItems σ p)))
 
+    pub goes-none : p ≡ [] → None ≡ least (each faults 1 (pickedItems σ p))
+    unfolding each least itemsOf itemsFrom
+    goes-none e = ap (λ (q : List ℕ). least (each faults 1 (pickedItems σ q))) (sym e)
+
     pub goes-start : Goes 0 1 None
     goes-start = subst (Left σ p (going 0 None) 1) (none-lesser (least (each faults 1 (pickedItems σ p)))) (left-start σ p (going 0 None))
 

@@ -1,10 +1,13 @@
 -- What the code answers of one record: the least of its broken rules, where the records that it may refer to are known.
-use mathlib.Core.List.{List, _++_}
+use mathlib.Core.List.{List, List·Memᴰ}
 use mathlib.Core.Path.{_≡_}
 use Prim.Native.Nat.{ℕ}
 use Rattle.json.specs.Tree as tree
 use Rattle.json.specs.Tree.{Members}
-use Rattle.walk.specs.Part.{Whole}
+use Rattle.walk.specs.declared.Item.{Item}
+use Rattle.walk.specs.Walk.{itemsOf}
+use Rattle.walk.specs.Part.{Whole, treeOf}
+use Rattle.walk.proofs.Parts.{itemOf}
 use Rattle.schema.specs.Pick.{Picked, pick}
 use Rattle.fault.specs.declared.Fault.{Fault}
 use Rattle.fault.specs.declared.Least.{Least}
@@ -13,6 +16,10 @@ use Rattle.document.proofs.Records.{recordShape}
 use Rattle.references.specs.declared.Set.{Set}
 use Rattle.references.specs.Known.{recordsOf}
 use Rattle.cross.specs.Cross.{faultsOf}
+
+-- every record of the array is an object
+abbrev pub Objects : List ℕ → Type 0
+Objects p = (m : Item) → List·Memᴰ m (itemsOf p) → (ms : Members) × (treeOf (itemOf p m) ≡ tree.object ms)
 
 module _ (set : Set) (types stations plans : List ℕ) where
   -- the rules that the n-th record of a file breaks

@@ -1,46 +1,37 @@
 -- What the code answers of one file and of all, from the arrays of their records: presence, repeated ids and what the records demand.
-use mathlib.Core.Bool.{Bool, true, false, not}
-use mathlib.Core.List.{List, [], _∷_}
+use mathlib.Core.Bool.{Bool, false, not}
+use mathlib.Core.List.{List}
 use mathlib.Core.Path.{_≡_}
-use Prim.Native.Nat.{ℕ, zero, suc, _+_, _*_, _≤_}
+use Prim.Native.Nat.{ℕ, zero, suc, _+_, _*_, _≤_, _<_}
 use lib.Dec.{eqb, ltb}
 use lib.ListN.{length}
-use Rattle.limits.specs.Ceilings.{fileBytes}
+use Rattle.limits.specs.Ceilings.{fileBytes, records}
 use Rattle.notation.specs.Choice.{_⇒_else_, _and_}
 use Rattle.word.specs.Kinds.{condition}
-use Rattle.walk.specs.Walk.{part, itemsOf}
-use Rattle.fault.specs.declared.Fault.{Fault}
+use Rattle.walk.specs.Walk.{itemsOf}
+use Rattle.walk.specs.Along.{AlongItems}
 use Rattle.fault.specs.declared.Least.{Least}
 use Rattle.fault.specs.declared.Least.the-variants.{None, Is}
 use Rattle.fault.specs.Fault.{least, lesser}
 use Rattle.judge.specs.Faults.{top, faulty}
-use Rattle.document.specs.declared.Span.{Span}
-use Rattle.document.specs.declared.Span.the-variants as span
-use Rattle.document.specs.Spans.{recordsSpan}
 use Rattle.document.proofs.Records.{recordShape, pickedItems}
-use Rattle.clean.specs.Noted.{idName, idsIn, repeatAt, blamed}
+use Rattle.ids.specs.Ids.{recordBytes, firstRepeat}
+use Rattle.clean.specs.Clean.{blamed}
 use Rattle.references.specs.declared.Set.{Set}
+use Rattle.cross.specs.declared.stage.Repeats.{Repeats}
 use Rattle.cross.specs.declared.stage.Crossed.{Crossed}
 use Rattle.cross.specs.declared.stage.Crossed.the-variants.{Nothing, At}
 use Rattle.references.specs.References.{when}
 use Rattle.cross.specs.Cross.{each}
-use Rattle.references.specs.Known as known
-use Rattle.references.specs.Known.{Objects}
 use Rattle.cross.specs.Judged as judged
+use Rattle.cross.specs.Judged.{Objects}
 
--- the array of a file's records, by the file's bytes
-abbrev pub atSpan : List ℕ → Span → List ℕ
-atSpan s span.None = []
-atSpan s (span.Is from upto) = part s from upto
-
-unfoldable pub recordsPart : ℕ → List ℕ → List ℕ
-recordsPart file s = atSpan s (recordsSpan file s)
-
--- an array of records that is within its ceilings
+-- an array of records, with whatever follows it, that is within its ceilings; or no bytes
 pub record Recorded (p : List ℕ) : Type 0 where
   pub short : length p ≤ fileBytes
   pub objects : Objects p
-  pub few : length (itemsOf p) ≤ known.each
+  pub few : length (itemsOf p) ≤ records
+  pub along : (0 < length p) → AlongItems p 1
 
 -- another file calls for this one
 unfoldable pub calledFor : ℕ → Set → Bool
@@ -49,9 +40,18 @@ calledFor file set =
     eqb file 3 ⇒ set .«stations_here» and not (set .«statuses_here») else
     eqb file 4 ⇒ not (set .«stations_here») and not (set .«bikes_here») else false
 
--- the first id that repeats
+-- the number of the first record whose id one before it has, or 0; records of file 6 have no ids
+unfoldable pub repeatOf : ℕ → List ℕ → ℕ
+repeatOf file p = ltb 5 file ⇒ 0 else firstRepeat file (recordBytes p)
+
 unfoldable pub idsLeast : ℕ → List ℕ → Least
-idsLeast file p = ltb 5 file ⇒ None else blamed (file * 10) (repeatAt 1 [] (idsIn (idName file) p))
+idsLeast file p = blamed (file * 10) (repeatOf file p)
+
+-- what is known of repeats in the files that references name
+pub record Repeating (repeats : Repeats) (types stations plans : List ℕ) : Type 0 where
+  pub ofTypes : repeats .types ≡ repeatOf 1 types
+  pub ofStations : repeats .stations ≡ repeatOf 2 stations
+  pub ofPlans : repeats .plans ≡ repeatOf 5 plans
 
 module _ (set : Set) (types stations plans : List ℕ) where
   -- the least of a file, of which p are the records

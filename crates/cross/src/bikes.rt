@@ -2,11 +2,11 @@
 use fault::Least;
 use fault::lesser;
 use fields::value_at;
+use ids::Notes;
 use judge::Place;
-use references::ALL;
 use references::Set;
 use references::rules::demanded;
-use references::rules::named;
+use references::rules::demanded_by;
 use references::rules::refers;
 use slots::gather;
 ghost use mathlib.Core.Bool.{not};
@@ -38,11 +38,11 @@ fn judge_vehicle(
     types: &[u8],
     stations: &[u8],
     plans: &[u8],
-    digests: &[u32; ALL],
-    starts: &[usize; ALL],
-    ends: &[usize; ALL],
+    type_notes: &[u32; Notes::SIZE],
+    station_notes: &[u32; Notes::SIZE],
+    plan_notes: &[u32; Notes::SIZE],
 ) -> Least
-    requires { ⌜ Known set (now types) (now stations) (now plans) (now digests) (now starts) (now ends) ⌝ }
+    requires { ⌜ Known (now types) (now stations) (now plans) (now «type_notes») (now «station_notes») (now «plan_notes») ⌝ }
     ensures { λ r. ⌜ r ≡ least (faulty place 45 (demandedOf (set .«types_here») (thereBy (now (reference .entry))) ++ refersTo (textBy (now (reference .entry))) 10 (recordsOf 1 (now (types .entry)) (now (stations .entry)) (now (plans .entry)))) ++ faulty place 46 (demandedOf (namedBy drivenOf 10 (recordsOf 1 (now (types .entry)) (now (stations .entry)) (now (plans .entry))) (textBy (now (reference .entry)))) (thereBy (now (range .entry))))) ⌝ }
 {
     let a = place.broken(45, demanded(set.types_here, reference));
@@ -51,27 +51,28 @@ fn judge_vehicle(
         refers(
             reference,
             1,
-            set,
             types,
             stations,
             plans,
-            digests,
-            starts,
-            ends,
+            type_notes,
+            station_notes,
+            plan_notes,
         ),
     );
-    let driven = named(
-        reference,
-        1,
-        set,
-        types,
-        stations,
-        plans,
-        digests,
-        starts,
-        ends,
+    let c = place.broken(
+        46,
+        demanded_by(
+            reference,
+            range,
+            1,
+            types,
+            stations,
+            plans,
+            type_notes,
+            station_notes,
+            plan_notes,
+        ),
     );
-    let c = place.broken(46, demanded(driven, range));
     lesser(lesser(a, b), c)
 }
 
@@ -83,11 +84,11 @@ pub fn judge_bike(
     types: &[u8],
     stations: &[u8],
     plans: &[u8],
-    digests: &[u32; ALL],
-    starts: &[usize; ALL],
-    ends: &[usize; ALL],
+    type_notes: &[u32; Notes::SIZE],
+    station_notes: &[u32; Notes::SIZE],
+    plan_notes: &[u32; Notes::SIZE],
 ) -> Least
-    requires { ⌜ Known set (now types) (now stations) (now plans) (now digests) (now starts) (now ends) ⌝ }
+    requires { ⌜ Known (now types) (now stations) (now plans) (now «type_notes») (now «station_notes») (now «plan_notes») ⌝ }
     ensures { λ r. ⌜ Judges set (now (types .entry)) (now (stations .entry)) (now (plans .entry)) 4 n (now (p .entry)) r ⌝ }
 {
     let slots = gather(p, 40, 10);
@@ -107,22 +108,21 @@ pub fn judge_bike(
         types,
         stations,
         plans,
-        digests,
-        starts,
-        ends,
+        type_notes,
+        station_notes,
+        plan_notes,
     );
     let c = place.broken(
         47,
         refers(
             station,
             2,
-            set,
             types,
             stations,
             plans,
-            digests,
-            starts,
-            ends,
+            type_notes,
+            station_notes,
+            plan_notes,
         ),
     );
     let d = place.broken(
@@ -130,13 +130,12 @@ pub fn judge_bike(
         refers(
             value_at(p, slots.slot(8)),
             5,
-            set,
             types,
             stations,
             plans,
-            digests,
-            starts,
-            ends,
+            type_notes,
+            station_notes,
+            plan_notes,
         ),
     );
     lesser(lesser(a, b), lesser(c, d))

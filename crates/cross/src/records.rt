@@ -5,19 +5,21 @@ use crate::types::judge_type;
 use crate::zones::judge_zone;
 use fault::Least;
 use fault::lesser;
-use references::ALL;
+use ids::Notes;
 use references::Set;
 use walk::ItemStep;
-use walk::next_item;
+use walk::pass_item;
 ghost use mathlib.Core.Path.{_≡_};
-ghost use Prim.Native.Nat.{_≤_};
+ghost use Prim.Native.Nat.{_≤_, _<_};
 ghost use lib.ListN.{length};
 ghost use Rattle.limits.specs.Ceilings.{fileBytes};
+ghost use Rattle.walk.specs.Part.{Whole, treeOf};
+ghost use Rattle.walk.specs.Along.{AlongItems};
 ghost use Rattle.fault.specs.Fault.{least};
 ghost use Rattle.document.proofs.Records.{recordShape, pickedItems};
 ghost use Rattle.cross.specs.Cross.{each};
-ghost use Rattle.references.specs.Known.{Known, Objects};
-ghost use Rattle.cross.specs.Judged.{broken, Judges};
+ghost use Rattle.references.specs.Known.{Known};
+ghost use Rattle.cross.specs.Judged.{broken, Judges, Objects};
 
 // The n-th record `p` of a file. Those of files 2 and 5 refer to nothing.
 fn judge_record(
@@ -28,18 +30,58 @@ fn judge_record(
     types: &[u8],
     stations: &[u8],
     plans: &[u8],
-    digests: &[u32; ALL],
-    starts: &[usize; ALL],
-    ends: &[usize; ALL],
+    type_notes: &[u32; Notes::SIZE],
+    station_notes: &[u32; Notes::SIZE],
+    plan_notes: &[u32; Notes::SIZE],
 ) -> Least
-    requires { ⌜ Known set (now types) (now stations) (now plans) (now digests) (now starts) (now ends) × (length (now p) ≤ fileBytes) ⌝ }
+    requires { ⌜ Known (now types) (now stations) (now plans) (now «type_notes») (now «station_notes») (now «plan_notes») × (length (now p) ≤ fileBytes) × Whole (now p) (treeOf (now p)) ⌝ }
     ensures { λ r. ⌜ Judges set (now (types .entry)) (now (stations .entry)) (now (plans .entry)) file n (now (p .entry)) r ⌝ }
 {
     match file {
-        1 => judge_type(p, n, set, types, stations, plans, digests, starts, ends),
-        3 => judge_status(p, n, set, types, stations, plans, digests, starts, ends),
-        4 => judge_bike(p, n, set, types, stations, plans, digests, starts, ends),
-        6 => judge_zone(p, n, set, types, stations, plans, digests, starts, ends),
+        1 => judge_type(
+            p,
+            n,
+            set,
+            types,
+            stations,
+            plans,
+            type_notes,
+            station_notes,
+            plan_notes,
+        ),
+        3 => judge_status(
+            p,
+            n,
+            set,
+            types,
+            stations,
+            plans,
+            type_notes,
+            station_notes,
+            plan_notes,
+        ),
+        4 => judge_bike(
+            p,
+            n,
+            set,
+            types,
+            stations,
+            plans,
+            type_notes,
+            station_notes,
+            plan_notes,
+        ),
+        6 => judge_zone(
+            p,
+            n,
+            set,
+            types,
+            stations,
+            plans,
+            type_notes,
+            station_notes,
+            plan_notes,
+        ),
         _ => Least::None,
     }
 }
@@ -53,18 +95,21 @@ pub fn judge_records(
     types: &[u8],
     stations: &[u8],
     plans: &[u8],
-    digests: &[u32; ALL],
-    starts: &[usize; ALL],
-    ends: &[usize; ALL],
+    type_notes: &[u32; Notes::SIZE],
+    station_notes: &[u32; Notes::SIZE],
+    plan_notes: &[u32; Notes::SIZE],
 ) -> Least
-    requires { ⌜ Known set (now types) (now stations) (now plans) (now digests) (now starts) (now ends) × (length (now p) ≤ fileBytes) × Objects (now p) ⌝ }
+    requires { ⌜ Known (now types) (now stations) (now plans) (now «type_notes») (now «station_notes») (now «plan_notes») × (length (now p) ≤ fileBytes) × Objects (now p) × ((0 < length (now p)) → AlongItems (now p) 1) ⌝ }
     ensures { λ r. ⌜ r ≡ least (each (broken set (now (types .entry)) (now (stations .entry)) (now (plans .entry)) file) 1 (pickedItems (recordShape file) (now (p .entry)))) ⌝ }
 {
+    if p.len() == 0 {
+        return Least::None;
+    }
     let mut least = Least::None;
     let mut n: u32 = 0;
     let mut at: usize = 1;
     loop {
-        let ItemStep::Found(item) = next_item(p, at) else {
+        let ItemStep::Found(item) = pass_item(p, at) else {
             return least;
         };
         n += 1;
@@ -80,9 +125,9 @@ pub fn judge_records(
                 types,
                 stations,
                 plans,
-                digests,
-                starts,
-                ends,
+                type_notes,
+                station_notes,
+                plan_notes,
             ),
         );
         at = item.next;

@@ -1,33 +1,29 @@
 // Stage C of a set: file by file whether it is called for, which id repeats, and what its records demand.
 use crate::records::judge_records;
 use clean::Cleanness;
-use clean::ids::first_repeat;
 use clean::parts_of;
-use document::Span;
-use document::cut;
-use document::records_span;
+use clean::repeats::first_repeat;
+use document::records_from;
 use fault::Fault;
 use fault::Least;
 use fault::lesser;
+use ids::Notes;
+use ids::note::note;
 use judge::Place;
-use references::ALL;
-use references::EACH;
 use references::Set;
-use references::note::note;
 use word::kind::Kind;
 ghost use mathlib.Core.Bool.{not};
 ghost use mathlib.Core.Path.{_≡_};
-ghost use Prim.Native.Nat.{_≤_};
-ghost use lib.ListN.{length};
+ghost use Prim.Native.Nat.{_*_, _≤_};
 ghost use Rattle.notation.specs.Choice.{_and_};
-ghost use Rattle.walk.specs.Walk.{itemsOf};
 ghost use Rattle.word.specs.Kinds.{condition};
 ghost use Rattle.fault.specs.Fault.{least};
 ghost use Rattle.judge.specs.Faults.{top, faulty};
+ghost use Rattle.clean.specs.Clean.{blamed};
 ghost use Rattle.references.specs.References.{when};
-ghost use Rattle.references.specs.Known.{Known, each};
+ghost use Rattle.references.specs.Known.{Known};
 ghost use Rattle.cross.specs.Stage.{Through, filesOf, stageC};
-ghost use Rattle.cross.specs.Staged.{Recorded, recordsPart, calledFor, idsLeast, fileLeast, numberedLeast, firstFrom};
+ghost use Rattle.cross.specs.Staged.{Recorded, calledFor, repeatOf, Repeating, fileLeast, numberedLeast, firstFrom};
 
 // The first broken rule of stage C, with its file; or none.
 pub enum Crossed {
@@ -35,18 +31,11 @@ pub enum Crossed {
     At(u8, Fault),
 }
 
-// The array of a file's records; no bytes where there is none.
-fn records_part(file: u8, s: &[u8]) -> &[u8]
-    ensures { λ r. ⌜ now r ≡ recordsPart file (now (s .entry)) ⌝ }
-{
-    match records_span(file, s) {
-        Span::None => {
-            return cut(s, 0, 0);
-        }
-        Span::Is(from, upto) => {
-            return cut(s, from, upto);
-        }
-    }
+// The number of the first record whose id one before it has, or 0, in each file that references name.
+struct Repeats {
+    types: u16,
+    stations: u16,
+    plans: u16,
 }
 
 // Whether a file that is needed is lacking.
@@ -82,91 +71,145 @@ fn judge_presence(file: u8, set: Set) -> Least
     Least::None
 }
 
-// Ids used before in the file. Records of file 6 have none.
-fn judge_ids(file: u8, p: &[u8]) -> Least
-    requires { ⌜ length (itemsOf (now p)) ≤ each ⌝ }
-    ensures { λ r. ⌜ r ≡ idsLeast file (now (p .entry)) ⌝ }
+// The rule that the first record breaks which repeats an id, by its number; none where that is 0.
+fn judge_ids(file: u8, repeat: u16) -> Least
+    requires { ⌜ file ≤ 6 ⌝ }
+    ensures { λ r. ⌜ r ≡ blamed (file * 10) repeat ⌝ }
 {
-    if 5 < file {
-        return Least::None;
-    }
-    let n = first_repeat(file, p);
-    if n == 0 {
+    if repeat == 0 {
         return Least::None;
     }
     Least::Is(Fault {
-        record: n as u32,
+        record: repeat as u32,
         field: file * 10,
         sub: 0,
         kind: Kind::ID_TWICE,
     })
 }
 
-// One file of the set, of which `p` are the records.
+// One file of the set, of which `p` are the records and `repeat` is the number of the first that repeats an id, or 0.
 fn judge_file(
     file: u8,
     p: &[u8],
+    repeat: u16,
     set: Set,
     types: &[u8],
     stations: &[u8],
     plans: &[u8],
-    digests: &[u32; ALL],
-    starts: &[usize; ALL],
-    ends: &[usize; ALL],
+    type_notes: &[u32; Notes::SIZE],
+    station_notes: &[u32; Notes::SIZE],
+    plan_notes: &[u32; Notes::SIZE],
 ) -> Least
-    requires { ⌜ Known set (now types) (now stations) (now plans) (now digests) (now starts) (now ends) × Recorded (now p) ⌝ }
+    requires { ⌜ Known (now types) (now stations) (now plans) (now «type_notes») (now «station_notes») (now «plan_notes») × Recorded (now p) × (file ≤ 6) × (repeat ≡ repeatOf file (now p)) ⌝ }
     ensures { λ r. ⌜ r ≡ fileLeast set (now (types .entry)) (now (stations .entry)) (now (plans .entry)) file (now (p .entry)) ⌝ }
 {
     let a = judge_presence(file, set);
-    let b = judge_ids(file, p);
-    let c = judge_records(file, p, set, types, stations, plans, digests, starts, ends);
+    let b = judge_ids(file, repeat);
+    let c = judge_records(
+        file,
+        p,
+        set,
+        types,
+        stations,
+        plans,
+        type_notes,
+        station_notes,
+        plan_notes,
+    );
     lesser(a, lesser(b, c))
 }
 
-// The file with this number.
+// The file with this number. Files 3 and 4 are noted for their repeats alone.
 fn judge_numbered(
     file: u8,
     statuses: &[u8],
     bikes: &[u8],
     zones: &[u8],
+    repeats: Repeats,
     set: Set,
     types: &[u8],
     stations: &[u8],
     plans: &[u8],
-    digests: &[u32; ALL],
-    starts: &[usize; ALL],
-    ends: &[usize; ALL],
+    type_notes: &[u32; Notes::SIZE],
+    station_notes: &[u32; Notes::SIZE],
+    plan_notes: &[u32; Notes::SIZE],
 ) -> Least
-    requires { ⌜ Known set (now types) (now stations) (now plans) (now digests) (now starts) (now ends) × Recorded (now types) × Recorded (now stations) × Recorded (now statuses) × Recorded (now bikes) × Recorded (now plans) × Recorded (now zones) ⌝ }
+    requires { ⌜ Known (now types) (now stations) (now plans) (now «type_notes») (now «station_notes») (now «plan_notes») × Repeating repeats (now types) (now stations) (now plans) × Recorded (now types) × Recorded (now stations) × Recorded (now statuses) × Recorded (now bikes) × Recorded (now plans) × Recorded (now zones) ⌝ }
     ensures { λ r. ⌜ r ≡ numberedLeast set (now (types .entry)) (now (stations .entry)) (now (plans .entry)) (now (statuses .entry)) (now (bikes .entry)) (now (zones .entry)) file ⌝ }
 {
     match file {
-        1 => judge_file(1, types, set, types, stations, plans, digests, starts, ends),
-        2 => judge_file(
-            2,
-            stations,
+        1 => judge_file(
+            1,
+            types,
+            repeats.types,
             set,
             types,
             stations,
             plans,
-            digests,
-            starts,
-            ends,
+            type_notes,
+            station_notes,
+            plan_notes,
+        ),
+        2 => judge_file(
+            2,
+            stations,
+            repeats.stations,
+            set,
+            types,
+            stations,
+            plans,
+            type_notes,
+            station_notes,
+            plan_notes,
         ),
         3 => judge_file(
             3,
             statuses,
+            first_repeat(3, statuses),
             set,
             types,
             stations,
             plans,
-            digests,
-            starts,
-            ends,
+            type_notes,
+            station_notes,
+            plan_notes,
         ),
-        4 => judge_file(4, bikes, set, types, stations, plans, digests, starts, ends),
-        5 => judge_file(5, plans, set, types, stations, plans, digests, starts, ends),
-        _ => judge_file(6, zones, set, types, stations, plans, digests, starts, ends),
+        4 => judge_file(
+            4,
+            bikes,
+            first_repeat(4, bikes),
+            set,
+            types,
+            stations,
+            plans,
+            type_notes,
+            station_notes,
+            plan_notes,
+        ),
+        5 => judge_file(
+            5,
+            plans,
+            repeats.plans,
+            set,
+            types,
+            stations,
+            plans,
+            type_notes,
+            station_notes,
+            plan_notes,
+        ),
+        _ => judge_file(
+            6,
+            zones,
+            0,
+            set,
+            types,
+            stations,
+            plans,
+            type_notes,
+            station_notes,
+            plan_notes,
+        ),
     }
 }
 
@@ -175,15 +218,16 @@ fn judge_noted(
     statuses: &[u8],
     bikes: &[u8],
     zones: &[u8],
+    repeats: Repeats,
     set: Set,
     types: &[u8],
     stations: &[u8],
     plans: &[u8],
-    digests: &[u32; ALL],
-    starts: &[usize; ALL],
-    ends: &[usize; ALL],
+    type_notes: &[u32; Notes::SIZE],
+    station_notes: &[u32; Notes::SIZE],
+    plan_notes: &[u32; Notes::SIZE],
 ) -> Crossed
-    requires { ⌜ Known set (now types) (now stations) (now plans) (now digests) (now starts) (now ends) × Recorded (now types) × Recorded (now stations) × Recorded (now statuses) × Recorded (now bikes) × Recorded (now plans) × Recorded (now zones) ⌝ }
+    requires { ⌜ Known (now types) (now stations) (now plans) (now «type_notes») (now «station_notes») (now «plan_notes») × Repeating repeats (now types) (now stations) (now plans) × Recorded (now types) × Recorded (now stations) × Recorded (now statuses) × Recorded (now bikes) × Recorded (now plans) × Recorded (now zones) ⌝ }
     ensures { λ r. ⌜ r ≡ firstFrom (numberedLeast set (now (types .entry)) (now (stations .entry)) (now (plans .entry)) (now (statuses .entry)) (now (bikes .entry)) (now (zones .entry))) 1 6 ⌝ }
 {
     let mut file: u8 = 1;
@@ -193,13 +237,14 @@ fn judge_noted(
             statuses,
             bikes,
             zones,
+            repeats,
             set,
             types,
             stations,
             plans,
-            digests,
-            starts,
-            ends,
+            type_notes,
+            station_notes,
+            plan_notes,
         ) {
             Least::Is(f) => {
                 return Crossed::At(file, f);
@@ -212,7 +257,7 @@ fn judge_noted(
     Crossed::Nothing
 }
 
-// The same with nothing noted yet; `here` tells which files there are.
+// The same with nothing noted yet: each file that references name is noted once, which tells its first repeat.
 fn judge_parts(
     types: &[u8],
     stations: &[u8],
@@ -220,29 +265,31 @@ fn judge_parts(
     bikes: &[u8],
     plans: &[u8],
     zones: &[u8],
-    here: Set,
+    set: Set,
 ) -> Crossed
     requires { ⌜ Recorded (now types) × Recorded (now stations) × Recorded (now statuses) × Recorded (now bikes) × Recorded (now plans) × Recorded (now zones) ⌝ }
-    ensures { λ r. ⌜ r ≡ firstFrom (numberedLeast here (now (types .entry)) (now (stations .entry)) (now (plans .entry)) (now (statuses .entry)) (now (bikes .entry)) (now (zones .entry))) 1 6 ⌝ }
+    ensures { λ r. ⌜ r ≡ firstFrom (numberedLeast set (now (types .entry)) (now (stations .entry)) (now (plans .entry)) (now (statuses .entry)) (now (bikes .entry)) (now (zones .entry))) 1 6 ⌝ }
 {
-    let mut digests: [u32; ALL] = [0; ALL];
-    let mut starts: [usize; ALL] = [0; ALL];
-    let mut ends: [usize; ALL] = [0; ALL];
-    let n = note(1, types, 0, &mut digests, &mut starts, &mut ends);
-    let m = note(2, stations, EACH, &mut digests, &mut starts, &mut ends);
-    let k = note(5, plans, 2 * EACH, &mut digests, &mut starts, &mut ends);
-    let set = here.counting(n, m, k);
+    let mut type_notes: [u32; Notes::SIZE] = [0; Notes::SIZE];
+    let mut station_notes: [u32; Notes::SIZE] = [0; Notes::SIZE];
+    let mut plan_notes: [u32; Notes::SIZE] = [0; Notes::SIZE];
+    let repeats = Repeats {
+        types: note(1, types, &mut type_notes),
+        stations: note(2, stations, &mut station_notes),
+        plans: note(5, plans, &mut plan_notes),
+    };
     judge_noted(
         statuses,
         bikes,
         zones,
+        repeats,
         set,
         types,
         stations,
         plans,
-        &digests,
-        &starts,
-        &ends,
+        &type_notes,
+        &station_notes,
+        &plan_notes,
     )
 }
 
@@ -260,12 +307,12 @@ pub fn judge_set(
     ensures { λ r. ⌜ r ≡ stageC (filesOf (now (types .entry)) (now (stations .entry)) (now (statuses .entry)) (now (bikes .entry)) (now (plans .entry)) (now (zones .entry))) ⌝ }
 {
     let crossed = judge_parts(
-        records_part(1, types),
-        records_part(2, stations),
-        records_part(3, statuses),
-        records_part(4, bikes),
-        records_part(5, plans),
-        records_part(6, zones),
+        records_from(1, types),
+        records_from(2, stations),
+        records_from(3, statuses),
+        records_from(4, bikes),
+        records_from(5, plans),
+        records_from(6, zones),
         Set::of(types, stations, statuses, bikes, plans),
     );
     match crossed {

@@ -5,11 +5,11 @@ use fields::array_in;
 use fields::integer_in;
 use fields::member;
 use fields::value_at;
+use ids::Notes;
 use judge::Place;
-use references::ALL;
 use references::Set;
 use references::rules::demanded;
-use references::rules::named;
+use references::rules::demanded_by;
 use references::rules::refers;
 use slots::gather;
 use walk::ItemStep;
@@ -58,15 +58,14 @@ fn sum_of(p: &[u8]) -> u64
 fn judge_available(
     p: &[u8],
     n: u32,
-    set: Set,
     types: &[u8],
     stations: &[u8],
     plans: &[u8],
-    digests: &[u32; ALL],
-    starts: &[usize; ALL],
-    ends: &[usize; ALL],
+    type_notes: &[u32; Notes::SIZE],
+    station_notes: &[u32; Notes::SIZE],
+    plan_notes: &[u32; Notes::SIZE],
 ) -> Least
-    requires { ⌜ Known set (now types) (now stations) (now plans) (now digests) (now starts) (now ends) × (length (now p) ≤ fileBytes) ⌝ }
+    requires { ⌜ Known (now types) (now stations) (now plans) (now «type_notes») (now «station_notes») (now «plan_notes») × (length (now p) ≤ fileBytes) ⌝ }
     ensures { λ r. ⌜ r ≡ least (availableFaults (recordsOf 1 (now (types .entry)) (now (stations .entry)) (now (plans .entry))) n 1 (pickedItems availableShape (now (p .entry)))) ⌝ }
 {
     let mut least = Least::None;
@@ -91,13 +90,12 @@ fn judge_available(
                 refers(
                     reference,
                     1,
-                    set,
                     types,
                     stations,
                     plans,
-                    digests,
-                    starts,
-                    ends,
+                    type_notes,
+                    station_notes,
+                    plan_notes,
                 ),
             ),
         );
@@ -124,15 +122,14 @@ fn judge_station(
     reference: &[u8],
     docks: &[u8],
     place: Place,
-    set: Set,
     types: &[u8],
     stations: &[u8],
     plans: &[u8],
-    digests: &[u32; ALL],
-    starts: &[usize; ALL],
-    ends: &[usize; ALL],
+    type_notes: &[u32; Notes::SIZE],
+    station_notes: &[u32; Notes::SIZE],
+    plan_notes: &[u32; Notes::SIZE],
 ) -> Least
-    requires { ⌜ Known set (now types) (now stations) (now plans) (now digests) (now starts) (now ends) ⌝ }
+    requires { ⌜ Known (now types) (now stations) (now plans) (now «type_notes») (now «station_notes») (now «plan_notes») ⌝ }
     ensures { λ r. ⌜ r ≡ least (faulty place 30 (refersTo (textBy (now (reference .entry))) 20 (recordsOf 2 (now (types .entry)) (now (stations .entry)) (now (plans .entry)))) ++ faulty place 32 (demandedOf (namedBy roomyOf 20 (recordsOf 2 (now (types .entry)) (now (stations .entry)) (now (plans .entry))) (textBy (now (reference .entry)))) (thereBy (now (docks .entry))))) ⌝ }
 {
     let a = place.broken(
@@ -140,27 +137,28 @@ fn judge_station(
         refers(
             reference,
             2,
-            set,
             types,
             stations,
             plans,
-            digests,
-            starts,
-            ends,
+            type_notes,
+            station_notes,
+            plan_notes,
         ),
     );
-    let roomy = named(
-        reference,
-        2,
-        set,
-        types,
-        stations,
-        plans,
-        digests,
-        starts,
-        ends,
+    let b = place.broken(
+        32,
+        demanded_by(
+            reference,
+            docks,
+            2,
+            types,
+            stations,
+            plans,
+            type_notes,
+            station_notes,
+            plan_notes,
+        ),
     );
-    let b = place.broken(32, demanded(roomy, docks));
     lesser(a, b)
 }
 
@@ -173,11 +171,11 @@ fn judge_counts(
     types: &[u8],
     stations: &[u8],
     plans: &[u8],
-    digests: &[u32; ALL],
-    starts: &[usize; ALL],
-    ends: &[usize; ALL],
+    type_notes: &[u32; Notes::SIZE],
+    station_notes: &[u32; Notes::SIZE],
+    plan_notes: &[u32; Notes::SIZE],
 ) -> Least
-    requires { ⌜ Known set (now types) (now stations) (now plans) (now digests) (now starts) (now ends) × (length (now available) ≤ fileBytes) ⌝ }
+    requires { ⌜ Known (now types) (now stations) (now plans) (now «type_notes») (now «station_notes») (now «plan_notes») × (length (now available) ≤ fileBytes) ⌝ }
     ensures { λ r. ⌜ r ≡ least (faulty (at n 0) 37 (demandedOf (set .«types_here») (thereBy (now (available .entry))) ++ when (thereBy (now (available .entry)) and not (eqb (sumOf (pickedItems availableShape (arrayBy (now (available .entry))))) (integerIn (spelledBy (now (bikes .entry)))))) sumDiffers) ++ availableFaults (recordsOf 1 (now (types .entry)) (now (stations .entry)) (now (plans .entry))) n 1 (pickedItems availableShape (arrayBy (now (available .entry))))) ⌝ }
 {
     let place = Place { record: n, sub: 0 };
@@ -186,13 +184,12 @@ fn judge_counts(
     let c = judge_available(
         array_in(available),
         n,
-        set,
         types,
         stations,
         plans,
-        digests,
-        starts,
-        ends,
+        type_notes,
+        station_notes,
+        plan_notes,
     );
     lesser(lesser(a, b), c)
 }
@@ -205,11 +202,11 @@ pub fn judge_status(
     types: &[u8],
     stations: &[u8],
     plans: &[u8],
-    digests: &[u32; ALL],
-    starts: &[usize; ALL],
-    ends: &[usize; ALL],
+    type_notes: &[u32; Notes::SIZE],
+    station_notes: &[u32; Notes::SIZE],
+    plan_notes: &[u32; Notes::SIZE],
 ) -> Least
-    requires { ⌜ Known set (now types) (now stations) (now plans) (now digests) (now starts) (now ends) × (length (now p) ≤ fileBytes) ⌝ }
+    requires { ⌜ Known (now types) (now stations) (now plans) (now «type_notes») (now «station_notes») (now «plan_notes») × (length (now p) ≤ fileBytes) ⌝ }
     ensures { λ r. ⌜ Judges set (now (types .entry)) (now (stations .entry)) (now (plans .entry)) 3 n (now (p .entry)) r ⌝ }
 {
     let slots = gather(p, 25, 10);
@@ -218,13 +215,12 @@ pub fn judge_status(
         value_at(p, slots.slot(0)),
         value_at(p, slots.slot(2)),
         place,
-        set,
         types,
         stations,
         plans,
-        digests,
-        starts,
-        ends,
+        type_notes,
+        station_notes,
+        plan_notes,
     );
     let b = judge_counts(
         value_at(p, slots.slot(7)),
@@ -234,9 +230,9 @@ pub fn judge_status(
         types,
         stations,
         plans,
-        digests,
-        starts,
-        ends,
+        type_notes,
+        station_notes,
+        plan_notes,
     );
     lesser(a, b)
 }

@@ -2,8 +2,8 @@
 use fault::Least;
 use fault::lesser;
 use fields::value_at;
+use ids::Notes;
 use judge::Place;
-use references::ALL;
 use references::Set;
 use references::rules::demanded;
 use references::rules::refers;
@@ -20,11 +20,11 @@ pub fn judge_type(
     types: &[u8],
     stations: &[u8],
     plans: &[u8],
-    digests: &[u32; ALL],
-    starts: &[usize; ALL],
-    ends: &[usize; ALL],
+    type_notes: &[u32; Notes::SIZE],
+    station_notes: &[u32; Notes::SIZE],
+    plan_notes: &[u32; Notes::SIZE],
 ) -> Least
-    requires { ⌜ Known set (now types) (now stations) (now plans) (now digests) (now starts) (now ends) ⌝ }
+    requires { ⌜ Known (now types) (now stations) (now plans) (now «type_notes») (now «station_notes») (now «plan_notes») ⌝ }
     ensures { λ r. ⌜ Judges set (now (types .entry)) (now (stations .entry)) (now (plans .entry)) 1 n (now (p .entry)) r ⌝ }
 {
     let slots = gather(p, 5, 5);
@@ -38,13 +38,12 @@ pub fn judge_type(
         refers(
             reference,
             5,
-            set,
             types,
             stations,
             plans,
-            digests,
-            starts,
-            ends,
+            type_notes,
+            station_notes,
+            plan_notes,
         ),
     );
     lesser(a, lesser(b, c))

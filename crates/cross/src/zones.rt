@@ -3,8 +3,8 @@ use fault::Least;
 use fault::lesser;
 use fields::array_in;
 use fields::member;
+use ids::Notes;
 use judge::Place;
-use references::ALL;
 use references::Set;
 use references::rules::refers;
 use walk::ItemStep;
@@ -13,6 +13,7 @@ ghost use mathlib.Core.Path.{_≡_};
 ghost use Prim.Native.Nat.{_≤_};
 ghost use lib.ListN.{length};
 ghost use Rattle.limits.specs.Ceilings.{fileBytes};
+ghost use Rattle.walk.specs.Part.{Whole, treeOf};
 ghost use Rattle.schema.specs.Shape.{Sort, scalar};
 ghost use Rattle.schema.specs.Table23.{rule as ruleShape};
 ghost use Rattle.fault.specs.Fault.{least};
@@ -25,15 +26,14 @@ ghost use Rattle.cross.specs.Judged.{Judges};
 fn judge_named(
     p: &[u8],
     place: Place,
-    set: Set,
     types: &[u8],
     stations: &[u8],
     plans: &[u8],
-    digests: &[u32; ALL],
-    starts: &[usize; ALL],
-    ends: &[usize; ALL],
+    type_notes: &[u32; Notes::SIZE],
+    station_notes: &[u32; Notes::SIZE],
+    plan_notes: &[u32; Notes::SIZE],
 ) -> Least
-    requires { ⌜ Known set (now types) (now stations) (now plans) (now digests) (now starts) (now ends) ⌝ }
+    requires { ⌜ Known (now types) (now stations) (now plans) (now «type_notes») (now «station_notes») (now «plan_notes») ⌝ }
     ensures { λ r. ⌜ r ≡ least (idFaults (recordsOf 1 (now (types .entry)) (now (stations .entry)) (now (plans .entry))) (place .«record») (place .sub) (pickedItems (scalar Sort.id) (now (p .entry)))) ⌝ }
 {
     let mut least = Least::None;
@@ -51,13 +51,12 @@ fn judge_named(
                 refers(
                     &p[from..upto],
                     1,
-                    set,
                     types,
                     stations,
                     plans,
-                    digests,
-                    starts,
-                    ends,
+                    type_notes,
+                    station_notes,
+                    plan_notes,
                 ),
             ),
         );
@@ -69,15 +68,14 @@ fn judge_named(
 fn judge_rules(
     p: &[u8],
     n: u32,
-    set: Set,
     types: &[u8],
     stations: &[u8],
     plans: &[u8],
-    digests: &[u32; ALL],
-    starts: &[usize; ALL],
-    ends: &[usize; ALL],
+    type_notes: &[u32; Notes::SIZE],
+    station_notes: &[u32; Notes::SIZE],
+    plan_notes: &[u32; Notes::SIZE],
 ) -> Least
-    requires { ⌜ Known set (now types) (now stations) (now plans) (now digests) (now starts) (now ends) × (length (now p) ≤ fileBytes) ⌝ }
+    requires { ⌜ Known (now types) (now stations) (now plans) (now «type_notes») (now «station_notes») (now «plan_notes») × (length (now p) ≤ fileBytes) ⌝ }
     ensures { λ r. ⌜ r ≡ least (ruleFaults (recordsOf 1 (now (types .entry)) (now (stations .entry)) (now (plans .entry))) n 1 (pickedItems ruleShape (now (p .entry)))) ⌝ }
 {
     let mut least = Least::None;
@@ -100,13 +98,12 @@ fn judge_rules(
             judge_named(
                 ids,
                 place,
-                set,
                 types,
                 stations,
                 plans,
-                digests,
-                starts,
-                ends,
+                type_notes,
+                station_notes,
+                plan_notes,
             ),
         );
         at = item.next;
@@ -121,13 +118,26 @@ pub fn judge_zone(
     types: &[u8],
     stations: &[u8],
     plans: &[u8],
-    digests: &[u32; ALL],
-    starts: &[usize; ALL],
-    ends: &[usize; ALL],
+    type_notes: &[u32; Notes::SIZE],
+    station_notes: &[u32; Notes::SIZE],
+    plan_notes: &[u32; Notes::SIZE],
 ) -> Least
-    requires { ⌜ Known set (now types) (now stations) (now plans) (now digests) (now starts) (now ends) × (length (now p) ≤ fileBytes) ⌝ }
+    requires { ⌜ Known (now types) (now stations) (now plans) (now «type_notes») (now «station_notes») (now «plan_notes») × (length (now p) ≤ fileBytes) × Whole (now p) (treeOf (now p)) ⌝ }
     ensures { λ r. ⌜ Judges set (now (types .entry)) (now (stations .entry)) (now (plans .entry)) 6 n (now (p .entry)) r ⌝ }
 {
-    let rules = array_in(member(member(p, b"properties"), b"rules"));
-    judge_rules(rules, n, set, types, stations, plans, digests, starts, ends)
+    let properties = member(p, b"properties");
+    if properties.len() == 0 {
+        return Least::None;
+    }
+    let rules = array_in(member(properties, b"rules"));
+    judge_rules(
+        rules,
+        n,
+        types,
+        stations,
+        plans,
+        type_notes,
+        station_notes,
+        plan_notes,
+    )
 }

@@ -1,52 +1,61 @@
 -- The code's steps along the names that lead to a file's records: the top value, a member in a span, an item by its number.
 use mathlib.Core.List.{List, [], _∷_}
 use mathlib.Core.Path.{_≡_, refl, sym, ap, _∙_}
-use Prim.Native.Nat.{ℕ, zero, suc, _+_, _-_, _≤_}
+use Prim.Native.Nat.{ℕ, zero, suc, _+_, _-_, _≤_, _<_}
 use native.Mathlib.Omega.{arith}
-use lib.Dec.{eqb}
 use lib.ListN.{length, drop}
 use borrow.Author.Tests.{ne-eqb}
 use Rattle.notation.specs.Ascii.{bytes}
-use Rattle.notation.specs.Choice.{_⇒_else_}
 use Rattle.limits.specs.Ceilings.{depth}
-use Rattle.lexeme.specs.declared.Scan.{Scan}
 use Rattle.lexeme.specs.declared.Scan.the-variants as scan
 use Rattle.lexeme.specs.Read.{Read, placed}
 use Rattle.lexeme.specs.Read.Read.{done, bad}
 use Rattle.lexeme.specs.Character.{paired}
 use Rattle.lexeme.specs.Tokens.{blanks}
+use Rattle.lexeme.proofs.Rests.{place-at}
 use Rattle.json.specs.Tree.{Json}
-use Rattle.json.specs.Text.{value}
+use Rattle.json.specs.Text.{value, valueBy}
 use Rattle.walk.specs.declared.Item.{Item}
-use Rattle.walk.specs.Walk.{place, part, itemsFrom, itemsOf}
+use Rattle.walk.specs.declared.ItemStep.the-variants as items
+use Rattle.walk.specs.Walk.{place, itemAt, itemsFrom, itemsOf}
+use Rattle.walk.specs.Along.{AlongItems, ItemPassed}
 use Rattle.walk.proofs.Rests.{rest-drop, rest-blanks, rest-there}
-use Rattle.walk.proofs.Folds.{Steps, itemSteps, one-more}
-use Rattle.slots.specs.declared.Found.{Found}
-use Rattle.slots.specs.Found.{foundIn}
+use Rattle.walk.proofs.Folds.{itemSteps, one-more}
+use Rattle.walk.proofs.Finding.{valued-at}
+use Rattle.walk.proofs.Files.{passed}
 use Rattle.document.specs.declared.Span.{Span}
 use Rattle.document.specs.declared.Span.the-variants.{None, Is}
-use Rattle.document.specs.Spans.{moved, memberAt, membersAlong, topSpan, namesTo, recordsSpan, nth}
+use Rattle.document.specs.Spans.{memberAt, membersAlong, topSpan, namesTo, recordsSpan, nth, Readable}
 
--- the top value, by where it was read
-module _ (s : List ℕ) (from : ℕ) (e : from ≡ place s (blanks s)) where
-  begins : value paired depth (drop from s) ≡ value paired depth (blanks s)
-  begins = ap (value paired depth) (ap (λ (n : ℕ). drop n s) e ∙ rest-there (rest-blanks s (rest-drop 0)))
-
-  pub top-there : (upto : ℕ) → scan.End upto ≡ placed s (value paired depth (drop from s)) → Is from upto ≡ topSpan s
+-- the top value, where it was read
+module _ (s : List ℕ) where
+  pub top-found : (upto : ℕ) → scan.End upto ≡ placed s (value paired depth (drop (place s (blanks s)) s)) → topSpan s ≡ Is (place s (blanks s)) upto
   unfolding topSpan placed
-  top-there upto h = go (value paired depth (blanks s)) refl
+  top-found upto h = go (value paired depth (blanks s)) refl
     where
-      go : (o : Read Json) → value paired depth (blanks s) ≡ o → Is from upto ≡ topSpan s
+      begins : value paired depth (drop (place s (blanks s)) s) ≡ value paired depth (blanks s)
+      begins = ap (value paired depth) (rest-there (rest-blanks s (rest-drop 0)))
+
+      go : (o : Read Json) → value paired depth (blanks s) ≡ o → topSpan s ≡ Is (place s (blanks s)) upto
       go (done x r) i = let w : scan.End upto ≡ scan.End (place s r) = rw (begins, i) at h in rw (topSpan, i) (cc)
       go (bad k r) i = let w : scan.End upto ≡ scan.Fault k (place s r) = rw (begins, i) at h in let z : _≡_ {A = ℕ} 0 1 = cc in absurd (omega arith)
 
-  pub top-absent : (k n : ℕ) → scan.Fault k n ≡ placed s (value paired depth (drop from s)) → None ≡ topSpan s
-  unfolding topSpan placed
-  top-absent k n h = go (value paired depth (blanks s)) refl
-    where
-      go : (o : Read Json) → value paired depth (blanks s) ≡ o → None ≡ topSpan s
-      go (done x r) i = let w : scan.Fault k n ≡ scan.End (place s r) = rw (begins, i) at h in let z : _≡_ {A = ℕ} 0 1 = cc in absurd (omega arith)
-      go (bad j r) i = rw (topSpan, i)
+-- where it begins, and ends with nothing but blanks behind it
+module _ (s : List ℕ) (from : ℕ) (e : from ≡ place s (blanks s)) where
+  pub top-absent : Readable s → length s ≤ from → None ≡ topSpan s
+  unfolding topSpan value valueBy blanks
+  top-absent (Readable.absent i) h = rw i
+  top-absent (Readable.sound i) h = let t = passed s i in absurd (omega (arith, t .some, t .inside))
+
+  pub top-there : (upto : ℕ) → Readable s → from < length s
+      → ((x : Json) (r : List ℕ) → value paired depth (drop from s) ≡ done x r → blanks r ≡ [] → upto ≡ place s r) → Is from upto ≡ topSpan s
+  top-there upto (Readable.absent i) h v = absurd (omega (arith, ap length i))
+  top-there upto (Readable.sound i) h v =
+      let t = passed s i in
+      let l = valued-at s (place s (blanks s)) (t .end) (t .found) in
+      let u : upto ≡ t .end =
+      v (l .what) (drop (t .end) s) (ap (λ (n : ℕ). value paired depth (drop n s)) e ∙ l .reads) (t .after) ∙ sym (place-at s (t .end) (l .upto)) in
+      rw (e, u) (sym (top-found s (t .end) (t .found)))
 
 -- two names, or three
 module _ (file : ℕ) (s a b : List ℕ) where
@@ -90,25 +99,32 @@ nth-zero from (m ∷ l) = refl
 
 -- what is left to count comes to r
 abbrev pub Counts : List ℕ → ℕ → ℕ → ℕ → Span → Type 0
-Counts p from left at r = (k : ℕ) × (length p ≤ at + k) × (nth from (itemsFrom k p at) left ≡ r)
+Counts p from left at r = AlongItems p at × (k : ℕ) × (length p ≤ at + k) × (nth from (itemsFrom k p at) left ≡ r)
 
 module _ (p : List ℕ) (from : ℕ) where
-  pub counts-start : (n : ℕ) → Counts p from n 1 (nth from (itemsOf p) n)
+  pub counts-start : (n : ℕ) → AlongItems p 1 → Counts p from n 1 (nth from (itemsOf p) n)
   unfolding itemsOf
-  counts-start n = (length p, omega arith, refl)
+  counts-start n a = (a, length p, omega arith, refl)
 
   module _ (left at : ℕ) (r : Span) (w : Counts p from left at r) where
-    pub counts-end : itemSteps p .Ends at → None ≡ r
-    counts-end f = sym (ap (λ (l : List Item). nth from l left) (itemSteps p .end (w .0) at f) ∙ nth-none from left) ∙ w .2
+    pub counts-end : ItemPassed p at items.End → None ≡ r
+    counts-end f = sym (ap (λ (l : List Item). nth from l left) (itemSteps p .end (w .1) at (sym (f .same (w .0)))) ∙ nth-none from left) ∙ w .3
 
-    module _ (m : Item) (f : itemSteps p .Finds at m) where
+    module _ (m : Item) (f : ItemPassed p at (items.Found m)) where
+      found : itemAt p at ≡ items.Found m
+      found = sym (f .same (w .0))
+
       pub counts-here : left ≡ 1 → Is (from + m .value) (from + m .«value_end») ≡ r
       counts-here e =
-          let j = one-more (itemSteps p) (w .0) at m f (w .1) in
+          let j = one-more (itemSteps p) (w .1) at m found (w .2) in
           sym (nth-here from m (itemsFrom (j .0) p (m .next))) ∙ ap (nth from (m ∷ itemsFrom (j .0) p (m .next))) (sym e)
-          ∙ ap (λ (l : List Item). nth from l left) (sym (j .2)) ∙ w .2
+          ∙ ap (λ (l : List Item). nth from l left) (sym (j .2)) ∙ w .3
 
       pub counts-later : 1 ≤ left → (left ≡ 1 → ⊥) → Counts p from (left - 1) (m .next) r
       counts-later h i =
-          let j = one-more (itemSteps p) (w .0) at m f (w .1) in
-          (j .0, j .1, sym (nth-later from m (itemsFrom (j .0) p (m .next)) left h i) ∙ ap (λ (l : List Item). nth from l left) (sym (j .2)) ∙ w .2)
+          let j = one-more (itemSteps p) (w .1) at m found (w .2) in (
+            AlongItems.next (w .0) found,
+            j .0,
+            j .1,
+            sym (nth-later from m (itemsFrom (j .0) p (m .next)) left h i) ∙ ap (λ (l : List Item). nth from l left) (sym (j .2)) ∙ w .3,
+          )

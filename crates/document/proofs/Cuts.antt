@@ -1,11 +1,14 @@
 -- Parts of a list: a part of a part is a part of the whole, and places past the end cut nothing off.
 use mathlib.Core.List.{List, [], _∷_}
-use mathlib.Core.Path.{_≡_, refl, sym, ap, _∙_}
-use Prim.Native.Nat.{ℕ, zero, suc, _+_, _-_, _≤_, min}
+use mathlib.Core.Path.{_≡_, sym, ap, _∙_}
+use Prim.Native.Nat.{ℕ, zero, suc, _+_, _-_, _≤_}
 use native.Mathlib.Omega.{arith}
 use lib.ListN.{length, take, drop, length-take, length-drop, drop-of-length-le}
-use lib.Seq.{take-all, take-nil, take-take, drop-drop, drop-length, drop-nil}
+use lib.Seq.{take-all, take-nil, take-take, drop-drop, drop-length}
 use Rattle.walk.specs.Walk.{part}
+
+pub part-rest : (s : List ℕ) (from : ℕ) → part s from (length s) ≡ drop from s
+part-rest s from = take-all (length s - from) (drop from s) (omega (arith, length-drop from s))
 
 module _ (s : List ℕ) (from upto : ℕ) where
   -- nothing, from the end on
@@ -21,9 +24,8 @@ module _ (s : List ℕ) (from upto : ℕ) where
   pub cut-rest : length s ≤ upto → part s from (length s) ≡ part s from upto
   cut-rest h =
       let n = length-drop from s in
-      let a : length (drop from s) ≤ length s - from = omega arith in
       let b : length (drop from s) ≤ upto - from = omega arith in
-      take-all (length s - from) (drop from s) a ∙ sym (take-all (upto - from) (drop from s) b)
+      part-rest s from ∙ sym (take-all (upto - from) (drop from s) b)
 
   pub part-length : length (part s from upto) ≤ upto - from
   part-length = omega (arith, length-take (upto - from) (drop from s))

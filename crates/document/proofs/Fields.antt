@@ -117,7 +117,7 @@ pub record Stands (s : List ℕ) (from upto : ℕ) (x : Json) : Type 0 where
   pub some : from < upto
   pub inside : upto ≤ length s
 
--- a member at a place in the object at a span
+-- a member at a place in the object at a span, and what is found there
 pub record Reached (s name : List ℕ) (from upto : ℕ) (z : Json) : Type 0 where
   pub start : ℕ
   pub end : ℕ
@@ -129,24 +129,29 @@ tree-once p Missing z h = let k : _≡_ {A = ℕ} 0 1 = cc in absurd (omega arit
 tree-once p (Once a e) z h = (a, e, refl, cc)
 tree-once p Twice z h = let k : _≡_ {A = ℕ} 0 1 = cc in absurd (omega arith)
 
+pub stands-found : (s name : List ℕ) (from upto : ℕ) {x : Json} → Stands s from upto x → (a e : ℕ) → foundIn (part s from upto) name ≡ Once a e
+    → Stands s (from + a) (from + e) (treeOf (part (part s from upto) a e))
+stands-found s name from upto w a e f =
+    let p = part s from upto in
+    let v = found-value p name a e f in
+    let n : length p ≡ upto - from = part-inside s from upto (w .inside) in
+    let i : e ≤ upto - from = omega (arith, v .inside) in
+    let less = v .some in let outer = w .inside in
+    record {
+      whole = subst (λ (q : List ℕ). Whole q (treeOf (part p a e))) (part-part s from upto a e i) (v .whole);
+      some = omega arith;
+      inside = omega arith;
+    }
+
 pub reached : (s name : List ℕ) (from upto : ℕ) {ms : Members} → Stands s from upto (tree.object ms) → (z : Json) → find name ms ≡ once z
     → Reached s name from upto z
 reached s name from upto w z f =
     let p = part s from upto in
     let t = tree-once p (foundIn p name) z (sym (find-found p name (w .whole)) ∙ f) in
     let a = t .0 in let e = t .1 in
-    let v = found-value p name a e (t .2) in
-    let n : length p ≡ upto - from = part-inside s from upto (w .inside) in
-    let i : e ≤ upto - from = omega (arith, v .inside) in
-    let less = v .some in let outer = w .inside in
     record {
       start = from + a;
       end = from + e;
       is = ap (moved from) (t .2);
-      there =
-          record {
-            whole = subst (λ (q : List ℕ). Whole q z) (part-part s from upto a e i) (subst (Whole (part p a e)) (t .3) (v .whole));
-            some = omega arith;
-            inside = omega arith;
-          };
+      there = subst (Stands s (from + a) (from + e)) (t .3) (stands-found s name from upto w a e (t .2));
     }

@@ -1,4 +1,6 @@
 pub mod Cuts
 pub mod Along
 pub mod Fields
+pub mod First
 pub mod Records
+pub mod Rests

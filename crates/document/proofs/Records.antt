@@ -4,7 +4,7 @@ use mathlib.Core.Path.{_≡_, refl, sym, ap, subst, _∙_}
 use Prim.Native.Nat.{ℕ, zero, suc, _+_, _-_, _≤_, _<_}
 use native.Mathlib.Omega.{arith}
 use lib.Dec.{eqb}
-use lib.ListN.{length, getD, length-map}
+use lib.ListN.{length, drop, getD, length-map}
 use Rattle.limits.specs.Ceilings as ceiling
 use Rattle.notation.specs.Choice.{_⇒_else_}
 use Rattle.json.specs.Tree as tree
@@ -17,6 +17,7 @@ use Rattle.walk.proofs.Folds as iterated
 use Rattle.walk.proofs.Folds.{itemSteps}
 use Rattle.walk.proofs.Parts.{itemOf, items-whole}
 use Rattle.walk.proofs.Trees.{array-parts}
+use Rattle.walk.proofs.Open.{front-map}
 use Rattle.walk.proofs.Files.{valueStart, Passed}
 use Rattle.schema.specs.Shape as shape
 use Rattle.schema.specs.Shape.{Shape, Rows, fileShape}
@@ -25,15 +26,15 @@ use Rattle.schema.specs.Pick.{Picked, PickedItems, items, pick, each, listOf}
 use Rattle.document.specs.declared.Span.{Span}
 use Rattle.document.specs.declared.Span.the-variants.{None, Is}
 use Rattle.document.specs.Document.{Maybe, none, some, field, along, path}
-use Rattle.document.specs.Spans.{memberAt, membersAlong, topSpan, namesTo, recordsSpan, nth, nthIn}
+use Rattle.document.specs.Spans.{membersAlong, topSpan, namesTo, recordsSpan, nth, nthIn}
 use Rattle.document.proofs.Cuts.{part-part, part-inside}
-use Rattle.document.proofs.Along.{top-there}
+use Rattle.document.proofs.Along.{top-found}
 use Rattle.document.proofs.Fields.{Lists, here, below, none-some, some-some, field-held, Stands, reached}
 
 -- the value of a file that passes
 module _ (s : List ℕ) (t : Passed s) where
   pub top-is : topSpan s ≡ Is (valueStart s) (t .end)
-  top-is = sym (top-there s (valueStart s) refl (t .end) (t .found))
+  top-is = top-found s (t .end) (t .found)
 
   pub top-stands : Stands s (valueStart s) (t .end) (t .tree)
   top-stands = record { whole = t .whole; some = t .some; inside = t .inside }
@@ -96,6 +97,11 @@ leads-to (suc (suc (suc (suc (suc (suc (suc n))))))) h i = absurd (omega arith)
 -- the items of the array p, picked
 abbrev pub pickedItems : Shape → List ℕ → List Picked
 pickedItems σ p = map (λ m. pick σ (treeOf (itemOf p m))) (itemsOf p)
+
+-- they are the same where more follows the array
+pub open-items : {is : Items} (σ : Shape) (s : List ℕ) (from upto : ℕ) → Whole (part s from upto) (tree.array is)
+    → pickedItems σ (drop from s) ≡ pickedItems σ (part s from upto)
+open-items σ s from upto w = front-map (drop from s) (upto - from) (λ m q. pick σ (treeOf q)) w
 
 -- an array at a span, whose items l is picked from
 pub record Records (s : List ℕ) (span : Span) (σ : Shape) (l : List Picked) : Type 0 where

@@ -1,21 +1,27 @@
-// Where the records of a file stand in its bytes: along the names that lead to them, and then item by item. Every function is total: where a
-// name is missing or twice there, or no value stands where one is looked for, there is no span.
+// Where the records of a file stand in its bytes: along the names that lead to them, and then item by item. The file is one that stage A read, so
+// values are passed over and not read again.
 ghost use mathlib.Core.Path.{_≡_};
-ghost use lib.Dec.{eqb};
+ghost use Prim.Native.Nat.{_+_, _<_};
+ghost use lib.ListN.{length};
 ghost use Rattle.notation.specs.Choice.{_⇒_else_};
-ghost use Rattle.walk.specs.Walk.{part};
+ghost use Rattle.json.specs.Tree.{Json};
+ghost use Rattle.walk.specs.Walk.{part, itemsOf};
+ghost use Rattle.walk.specs.Part.{Whole};
+ghost use Rattle.walk.specs.Along.{AlongItems};
 ghost use Rattle.slots.specs.Found.{oneMore, foundIn};
-ghost use Rattle.document.specs.Spans.{moved, memberAt, topSpan, recordsSpan, nthIn, recordSpan};
-use json::reader::read_value;
-use lexeme::Scan;
+ghost use Rattle.document.specs.Spans.{topSpan, nth, recordSpan, Readable, Listed, ValueFrom, RecordsFrom};
 use lexeme::blank::skip_blanks;
-use limits::Limits;
+use lexeme::front::first;
 use slots::Found;
 use text::compare::text_is;
 use walk::ItemStep;
 use walk::MemberStep;
-use walk::next_item;
-use walk::next_member;
+use walk::NameStep;
+use walk::pass_item;
+use walk::pass_member;
+use walk::pass_name;
+use walk::pass_value;
+use walk::tail::last_end;
 
 // A part of a file's bytes, from one place up to another; or none.
 pub enum Span {
@@ -61,14 +67,17 @@ fn counted(named: bool, found: Found, from: usize, upto: usize) -> Found
     found
 }
 
-// What the object `p` holds under a name.
+// What the object `p` holds under a name. Its values are passed over: it is one that stage A read.
 pub fn find(p: &[u8], name: &[u8]) -> Found
-    ensures { λ r. ⌜ r ≡ foundIn (now (p .entry)) (now (name .entry)) ⌝ }
+    ensures { λ r. ⌜ ((x : Json) → Whole (now (p .entry)) x → r ≡ foundIn (now (p .entry)) (now (name .entry))) ⌝ }
 {
     let mut found = Found::Missing;
+    if first(p, 0) != b'{' {
+        return found;
+    }
     let mut at: usize = 1;
     loop {
-        match next_member(p, at) {
+        match pass_member(p, at) {
             MemberStep::End => {
                 return found;
             }
@@ -85,80 +94,89 @@ pub fn find(p: &[u8], name: &[u8]) -> Found
 
 // The value of the whole file, without the blanks around it.
 pub fn top_span(s: &[u8]) -> Span
-    ensures { λ r. ⌜ r ≡ topSpan (now (s .entry)) ⌝ }
+    ensures { λ r. ⌜ (Readable (now (s .entry)) → r ≡ topSpan (now (s .entry))) ⌝ }
 {
     let from = skip_blanks(s, 0);
-    match read_value(s, from, Limits::DEPTH) {
-        Scan::End(upto) => Span::Is(from, upto),
-        Scan::Fault(_, _) => Span::None,
+    if s.len() <= from {
+        return Span::None;
     }
+    Span::Is(from, last_end(s, from))
 }
 
-// The value under a name, in the object at a span of `s`.
-pub fn member_span(s: &[u8], name: &[u8], span: Span) -> Span
-    ensures { λ r. ⌜ r ≡ memberAt (now (s .entry)) (now (name .entry)) span ⌝ }
+// The rest of `p`, an object with whatever follows it, from the first value of a name on; no bytes where there is none.
+fn value_from<'a>(p: &'a [u8], name: &[u8]) -> &'a [u8]
+    ensures { λ r. ⌜ ValueFrom (now (p .entry)) (now (name .entry)) (now r) ⌝ }
 {
-    match span {
-        Span::None => {
-            return Span::None;
+    if first(p, 0) != b'{' {
+        return cut(p, 0, 0);
+    }
+    let mut at: usize = 1;
+    loop {
+        match pass_name(p, at) {
+            NameStep::End => {
+                return cut(p, 0, 0);
+            }
+            NameStep::Found(n) => {
+                let start = n.name;
+                let end = n.name_end;
+                let value = n.value;
+                if text_is(&p[start..end], name) {
+                    return &p[value..];
+                }
+                match pass_value(p, n) {
+                    MemberStep::End => {
+                        return cut(p, 0, 0);
+                    }
+                    MemberStep::Found(m) => {
+                        at = m.next;
+                    }
+                }
+            }
         }
-        Span::Is(from, upto) => match find(cut(s, from, upto), name) {
-            Found::Missing => {
-                return Span::None;
-            }
-            Found::Once(a, e) => {
-                return Span::Is(from + a, from + e);
-            }
-            Found::Twice => {
-                return Span::None;
-            }
-        },
     }
 }
 
-// The array of a file's records.
-// Shut out: the first of two members of one name taken for it; an object's member of that name deeper down.
-pub fn records_span(file: u8, s: &[u8]) -> Span
-    ensures { λ r. ⌜ r ≡ recordsSpan file (now (s .entry)) ⌝ }
+// The rest of a file from its records on. Nothing is passed over but what stands before them.
+// Shut out: an object's member of a name on the way that stands deeper down.
+pub fn records_from(file: u8, s: &[u8]) -> &[u8]
+    ensures { λ r. ⌜ RecordsFrom file (now (s .entry)) (now r) ⌝ }
 {
-    let data = member_span(s, b"data", top_span(s));
+    let from = skip_blanks(s, 0);
+    let data = value_from(&s[from..], b"data");
     match file {
         1 => {
-            return member_span(s, b"vehicle_types", data);
+            return value_from(data, b"vehicle_types");
         }
         2 => {
-            return member_span(s, b"stations", data);
+            return value_from(data, b"stations");
         }
         3 => {
-            return member_span(s, b"stations", data);
+            return value_from(data, b"stations");
         }
         4 => {
-            return member_span(s, b"bikes", data);
+            return value_from(data, b"bikes");
         }
         5 => {
-            return member_span(s, b"plans", data);
+            return value_from(data, b"plans");
         }
         _ => {
-            return member_span(s, b"features", member_span(s, b"geofencing_zones", data));
+            return value_from(value_from(data, b"geofencing_zones"), b"features");
         }
     }
 }
 
-// The n-th item, counted from 1, of the array at a span of `s`.
-pub fn nth_span(s: &[u8], span: Span, n: usize) -> Span
-    ensures { λ r. ⌜ r ≡ nthIn (now (s .entry)) span n ⌝ }
+// The n-th item, counted from 1, of the array at the front of `p`, whose places are counted on from a number.
+fn nth_span(p: &[u8], from: usize, n: usize) -> Span
+    requires { ⌜ from + length (now p) < 18_446_744_073_709_551_616 ⌝ }
+    ensures { λ r. ⌜ (AlongItems (now (p .entry)) 1 → r ≡ nth from (itemsOf (now (p .entry))) n) ⌝ }
 {
-    let Span::Is(from, upto) = span else {
-        return Span::None;
-    };
     if n == 0 {
         return Span::None;
     }
-    let p = cut(s, from, upto);
     let mut left = n;
     let mut at: usize = 1;
     loop {
-        match next_item(p, at) {
+        match pass_item(p, at) {
             ItemStep::End => {
                 return Span::None;
             }
@@ -176,7 +194,11 @@ pub fn nth_span(s: &[u8], span: Span, n: usize) -> Span
 // The n-th record of a file, counted from 1.
 // Shut out: records counted from 0; the last record shown where n is past it.
 pub fn record_span(file: u8, s: &[u8], n: usize) -> Span
-    ensures { λ r. ⌜ r ≡ recordSpan file (now (s .entry)) n ⌝ }
+    ensures { λ r. ⌜ (Listed file (now (s .entry)) → r ≡ recordSpan file (now (s .entry)) n) ⌝ }
 {
-    nth_span(s, records_span(file, s), n)
+    let p = records_from(file, s);
+    if p.len() == 0 {
+        return Span::None;
+    }
+    nth_span(p, s.len() - p.len(), n)
 }

@@ -1,3 +1,4 @@
+pub mod Sizes
 pub mod Ways
 pub mod Values
 pub mod Fields

@@ -10,6 +10,8 @@ use walk::ValueKind;
 use walk::value_kind;
 ghost use mathlib.Core.List.{[]};
 ghost use mathlib.Core.Path.{_≡_};
+ghost use Prim.Native.Nat.{_≤_};
+ghost use lib.ListN.{length};
 ghost use Rattle.notation.specs.Choice.{_⇒_else_};
 ghost use Rattle.json.specs.Tree.{Json};
 ghost use Rattle.walk.specs.Part.{Whole, kindAt, inside};
@@ -48,7 +50,7 @@ fn no_bytes(q: &[u8]) -> &[u8]
 
 // A value as it stands, and of "" nothing.
 fn unless_blank(q: &[u8]) -> &[u8]
-    ensures { λ r. ⌜ ((x : Json) → Whole (now (q .entry)) x → now r ≡ (blankText x ⇒ [] else now (q .entry))) ⌝ }
+    ensures { λ r. ⌜ ((x : Json) → Whole (now (q .entry)) x → now r ≡ (blankText x ⇒ [] else now (q .entry))) × (length (now r) ≤ length (now (q .entry))) ⌝ }
 {
     if is_blank_text(q) {
         return no_bytes(q);
@@ -58,7 +60,7 @@ fn unless_blank(q: &[u8]) -> &[u8]
 
 // The bytes of what was found in the object `p`.
 pub fn value_at(p: &[u8], found: Found) -> &[u8]
-    ensures { λ r. ⌜ (Standing (now (p .entry)) found → now r ≡ foundBytes (now (p .entry)) found) ⌝ }
+    ensures { λ r. ⌜ (Standing (now (p .entry)) found → now r ≡ foundBytes (now (p .entry)) found) × (length (now r) ≤ length (now (p .entry))) ⌝ }
 {
     match found {
         Found::Missing => {
@@ -73,9 +75,9 @@ pub fn value_at(p: &[u8], found: Found) -> &[u8]
     }
 }
 
-// The member of a name, of the object `p`.
+// The member of a name, of the object `p`, which is one that stage A read.
 pub fn member<'a>(p: &'a [u8], name: &[u8]) -> &'a [u8]
-    ensures { λ r. ⌜ now r ≡ memberOf (now (p .entry)) (now (name .entry)) ⌝ }
+    ensures { λ r. ⌜ ((x : Json) → Whole (now (p .entry)) x → now r ≡ memberOf (now (p .entry)) (now (name .entry))) ⌝ }
 {
     if code_of(p) != OBJECT {
         return no_bytes(p);

@@ -1,15 +1,19 @@
 -- What stages B and C find first in a file is within the word, in a set whose files are through the stages before: a file has no more records, nor a record
 -- more items, than the word can number.
 use mathlib.Core.List.{List, [], _∷_}
-use mathlib.Core.Path.{_≡_, refl}
+use mathlib.Core.Path.{_≡_, refl, ap}
 use Prim.Native.Nat.{ℕ, zero, suc, _≤_}
 use native.Mathlib.Omega.{arith}
+use lib.ListN.{length, drop, length-drop}
 use Rattle.word.specs.Kinds.{nameTwice, sumDiffers}
 use Rattle.fault.specs.declared.Fault.{Fault}
 use Rattle.fault.specs.declared.Least.the-variants.{Is}
 use Rattle.fault.specs.Fault.{least}
 use Rattle.judge.specs.Bounds.{greatest, fields}
 use Rattle.judge.proofs.Fits.{first-fits}
+use Rattle.document.specs.declared.Span.{Span}
+use Rattle.document.specs.declared.Span.the-variants as span
+use Rattle.document.specs.Spans.{recordsSpan, RecordsFrom}
 use Rattle.clean.specs.Clean.{treeOf}
 use Rattle.cross.specs.Cross.{fileIn, crossFaults}
 use Rattle.cross.specs.Stage.{fileOf, Through}
@@ -45,8 +49,18 @@ picked-file s (suc (suc (suc (suc (suc zero))))) h i = refl
 picked-file s (suc (suc (suc (suc (suc (suc zero)))))) h i = refl
 picked-file s (suc (suc (suc (suc (suc (suc (suc file))))))) h i = absurd (omega arith)
 
+-- the rest of a file from its records on
+records-rest : (file : ℕ) (s : List ℕ) → (p : List ℕ) × RecordsFrom file s p
+records-rest file s = go (recordsSpan file s) refl
+  where
+    go : (o : Span) → recordsSpan file s ≡ o → (p : List ℕ) × RecordsFrom file s p
+    go span.None e = ([], record { inside = omega arith; starts = λ h from upto i. let z : _≡_ {A = ℕ} 0 1 = cc in absurd (omega arith) })
+    go (span.Is at end) e =
+        (drop at s, record { inside = omega (arith, length-drop at s); starts = λ h from upto i. let z : at ≡ from = cc in ap (λ (k : ℕ). drop k s) z })
+
 pub cross-fits : (s : Feeds) → ((file : ℕ) → 1 ≤ file → file ≤ 6 → Through file (bytesOf s file))
     → (file : ℕ) → 1 ≤ file → file ≤ 6 → (f : Fault) → least (crossFaults (picked s) file) ≡ Is f → InWord f
 cross-fits s through file h i f e =
-    let t = cross.cross-fits (picked s) file h i (picked-file s file h i) (file-bytes file h i (bytesOf s file) (through file h i)) f e in let k = t .kind in
+    let b = file-bytes file h i (bytesOf s file) (through file h i) (records-rest file (bytesOf s file) .1) in
+    let t = cross.cross-fits (picked s) file h i (picked-file s file h i) b f e in let k = t .kind in
     record { rec = t .rec; field = t .field; sub = t .sub; low = omega arith; high = k .most }

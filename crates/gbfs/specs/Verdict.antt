@@ -8,7 +8,7 @@ use lib.ListN.{length, drop}
 use Rattle.notation.specs.Choice.{_⇒_else_}
 use Rattle.word.specs.declared.Parts.{Parts}
 use Rattle.word.specs.Form.{form1}
-use Rattle.word.specs.Word.{wordOf}
+use Rattle.word.specs.Word.{noParts, wordOf}
 use Rattle.json.specs.declared.Syntax.{Syntax}
 use Rattle.json.specs.declared.Syntax.the-variants as syntax
 use Rattle.json.specs.Text.{syntaxOf}
@@ -117,7 +117,7 @@ acceptance (Broken p) = NotAccepted
 
 -- an accepting word says nothing else
 abbrev pub said : Cleanness → Parts
-said Clean = record { file = 0; kind = 0; field = 0; «record» = 0; sub = 0; offset = 0 }
+said Clean = noParts
 said (Broken p) = p
 
 unfoldable pub answerOf : Feeds → (buffer : List ℕ) → Acceptance

@@ -245,6 +245,9 @@ value-finds (suc d) =
     subst (λ z. Front (Nested (Value d) z) (0x7b ∷ l) r) (m .2)
     (object-front l r (m .0) (bracketed-finds 0x7d (member-eats paired (value paired d) eats) (member-finds ih) l r (m .0) (m .1))))
 
+pub value-spells : (d : ℕ) (x : Json) (l r : List ℕ) → value paired d l ≡ done x r → (s : List ℕ) × (l ≡ s ++ r) × Value d x s
+value-spells d x l r e = let k = value-finds d l r x e in (k .part, k .splits, k .spells)
+
 finish-done : (y : Json) (l : List ℕ) (x : Json) (r : List ℕ) → finish y l ≡ done x r → (l ≡ []) × (y ≡ x) × ([] ≡ r)
 unfolding finish
 finish-done y [] x r e = (refl, done-what e, done-rest e)

@@ -14,10 +14,12 @@ use Rattle.word.specs.Kinds.{wrongType, tooMany}
 use Rattle.json.specs.Tree as tree
 use Rattle.json.specs.Tree.{Json, Items, Members}
 use Rattle.walk.specs.declared.Item.{Item}
+use Rattle.walk.specs.declared.ItemStep.{ItemStep}
 use Rattle.walk.specs.declared.ItemStep.the-variants as items
-use Rattle.walk.specs.Walk.{part, itemAt, itemsOf}
+use Rattle.walk.specs.Walk.{part, itemsOf}
 use Rattle.walk.specs.Part.{Whole, treeOf, kindAt}
-use Rattle.walk.proofs.Folds.{Walk, itemSteps, items-start, walk-more, walk-end}
+use Rattle.walk.specs.Along.{ItemPassed}
+use Rattle.walk.proofs.Along.{ItemsAlong, items-along, items-along-more, items-along-end}
 use Rattle.walk.proofs.Parts.{itemOf, item-whole}
 use Rattle.walk.proofs.Trees.{array-parts}
 use Rattle.schema.specs.declared.Line.{Line}
@@ -120,7 +122,7 @@ module _ (p : List ℕ) (first count : ℕ) (q : Place) (level : ℕ) (s : Fille
         ends = ap (λ (k : ℕ). first + k) c;
         readied = under-less level n (λ k. readyRows rows k) (and-right (leb (length (namesIn rows)) mostRows) _ few);
         slotting =
-            slotted p first count s g rows l c (and-left (distinctRows rows) _ e)
+            slotted w first count s g rows l c (and-left (distinctRows rows) _ e)
             (leb-true (length (namesIn rows)) mostRows (and-left (leb (length (namesIn rows)) mostRows) _ few));
         makes = none-lesser _;
       }
@@ -198,12 +200,13 @@ array-total : (judge : Judge) (numbering : Numbering) (most : ℕ) (q : Place) (
     lesser (least (faulty q φ (unless (leb n most) tooMany))) acc ≡ least (arrayFaults judge numbering most q φ (picking.items P))
 array-total judge numbering most q φ P n acc k a = rw (k, a) (sym (least-append _ _))
 
--- the items that are left, from the place `at` on
+-- the items of a whole array that are left, from the place `at` on
 abbrev pub ItemsGo : List ℕ → ℕ → Place → ℕ → ℕ → Least → ℕ → Type 0
 ItemsGo p i q level at acc n =
     (field : ℕ) (need : Need) (name : List ℕ) (numbering : Numbering) (most : ℕ) (σ : Shape) (rows : Rows) →
     Laid table23 i (shape.row field need name (shape.array numbering most σ) rows) → ready (shape.array numbering most σ) level ≡ true →
-    Walk (itemSteps p) (judged p numbering σ q field) (acc, n) at (foldl (judged p numbering σ q field) (None, 0) (itemsOf p))
+    (is : Items) → Whole p (Json.array is) →
+    ItemsAlong p (judged p numbering σ q field) (acc, n) at (foldl (judged p numbering σ q field) (None, 0) (itemsOf p))
 
 -- an array that is numbered otherwise than by positions
 ready-items : (numbering : Numbering) → (numberingLetter numbering ≡ code "p" → ⊥) → (most : ℕ) (σ : Shape) (level : ℕ) →
@@ -224,7 +227,7 @@ counted-faults shape.positions n most σ q φ x = absurd (n refl)
 
 module _ (p : List ℕ) (i : ℕ) (q : Place) (level : ℕ) where
   pub items-begin : ItemsGo p i q level 1 None 0
-  items-begin field need name numbering most σ rows l e = items-start p (judged p numbering σ q field) (None, 0)
+  items-begin field need name numbering most σ rows l e is w = items-along p (judged p numbering σ q field) w (None, 0)
 
   module _ {line : Line} (line-is : line ≡ lineAt table23 i) (other : line .numbering ≡ code "p" → ⊥) where
     -- the same of the row's numbering
@@ -233,46 +236,48 @@ module _ (p : List ℕ) (i : ℕ) (q : Place) (level : ℕ) where
     not-positions field need name numbering most σ rows l k =
         other (ap (λ (m : Line). m .numbering) line-is ∙ line-numbering i field need name numbering most σ rows l ∙ k)
 
-    pub items-next : (at : ℕ) (acc : Least) (n : ℕ) (m : Item) {r : Least} → itemAt p at ≡ items.Found m →
+    pub items-next : (at : ℕ) (acc : Least) (n : ℕ) (m : Item) {o : ItemStep} {r : Least} → ItemPassed p at o → o ≡ items.Found m →
         Single (part p (m .value) (m .«value_end»)) (line .item) i (itemPlaceOf (line .numbering) (n + 1) q) level r →
         ItemsGo p i q level at acc n → ItemsGo p i q level (m .next) (lesser acc r) (n + 1)
-    items-next at acc n m {r} f s go field need name numbering most σ rows l e =
+    items-next at acc n m {r = r} f g s go field need name numbering most σ rows l e is w =
+        let a = go field need name numbering most σ rows l e is w in
         let k = ready-items numbering (not-positions field need name numbering most σ rows l) most σ level e in
-        let a = and-left (plain σ) (ready σ level) k in
+        let b = and-left (plain σ) (ready σ level) k in
         let o = subst (λ (z : Line). Single (part p (m .value) (m .«value_end»)) (z .item) i (itemPlaceOf (z .numbering) (n + 1) q) level r) line-is s in
         let h =
-        o .is σ (item-told i field need name numbering most σ rows l a)
-        (λ b. plain-single σ a (line-item i field need name numbering most σ rows l ∙ b)) (and-right (plain σ) (ready σ level) k)
-        (treeOf (itemOf p m)) (item-whole p at m f)
+        o .is σ (item-told i field need name numbering most σ rows l b)
+        (λ c. plain-single σ b (line-item i field need name numbering most σ rows l ∙ c)) (and-right (plain σ) (ready σ level) k)
+        (treeOf (itemOf p m)) (item-whole p at m (sym (f .same (a .0)) ∙ g))
         ∙ ap (λ (z : Place). least (faults σ z (lineAt table23 i .field) (pick σ (treeOf (itemOf p m))))) (line-place i field need name numbering most σ rows l (n + 1) q)
         ∙ ap (λ (φ : ℕ). least (faults σ (itemPlace numbering (n + 1) q) φ (pick σ (treeOf (itemOf p m)))))
         (line-field i field need name (shape.array numbering most σ) rows l) in
-        rw h (walk-more (itemSteps p) (judged p numbering σ q field) (acc, n) at _ m f (go field need name numbering most σ rows l e))
+        rw h (items-along-more p (judged p numbering σ q field) (acc, n) at _ f g a)
 
-    pub items-end : (at : ℕ) (acc : Least) (n : ℕ) {b : ℕ} {r : Least} → itemAt p at ≡ items.End → b ≡ bracketsOf (kindAt p) → b ≡ code "[" →
+    pub items-end : (at : ℕ) (acc : Least) (n : ℕ) {o : ItemStep} {b : ℕ} {r : Least} → ItemPassed p at o → o ≡ items.End → b ≡ bracketsOf (kindAt p) → b ≡ code "[" →
         r ≡ lesser (least (faulty q (line .field) (unless (leb n (line .most)) tooMany))) acc → ItemsGo p i q level at acc n → Array p i q level r
     unfolding pick
-    items-end at acc n {r = r} f b c h go = record { is = is }
+    items-end at acc n {r = r} f g b c h go = record { is = is }
       where
         is : (field : ℕ) (need : Need) (name : List ℕ) (numbering : Numbering) (most : ℕ) (σ : Shape) (rows : Rows) →
             Laid table23 i (shape.row field need name (shape.array numbering most σ) rows) → ready (shape.array numbering most σ) level ≡ true →
             (x : Json) → Whole p x → r ≡ least (faults (shape.array numbering most σ) q field (pick (shape.array numbering most σ) x))
         is field need name numbering most σ rows l e x w =
             let P = picks p numbering σ q field (itemsOf p) in
-            let we = walk-end (itemSteps p) (judged p numbering σ q field) (acc, n) at _ f (go field need name numbering most σ rows l e) in
+            let m = whole-items w (sym b ∙ c) in
+            let v = subst (Whole p) (m .1) w in
+            let we = items-along-end p (judged p numbering σ q field) (acc, n) at _ f g (go field need name numbering most σ rows l e (m .0) v) in
             let a : acc ≡ least (eachItem (λ r f y. faults σ r f y) numbering q field 0 P) =
             ap (λ (z : Least × ℕ). z .0) we ∙ items-least p numbering σ q field (itemsOf p) None 0 ∙ none-lesser _ in
             let k : n ≡ count P = ap (λ (z : Least × ℕ). z .1) we ∙ items-count p numbering σ q field (itemsOf p) None 0 ∙ omega arith in
-            let m = whole-items w (sym b ∙ c) in
-            let v : pick (shape.array numbering most σ) x ≡ picking.items P =
-            ap (pick (shape.array numbering most σ)) (m .1) ∙ ap (λ (z : Items). picking.items (each (λ y. pick σ y) z)) (array-parts p (subst (Whole p) (m .1) w)) in
+            let t : pick (shape.array numbering most σ) x ≡ picking.items P =
+            ap (pick (shape.array numbering most σ)) (m .1) ∙ ap (λ (z : Items). picking.items (each (λ y. pick σ y) z)) (array-parts p v) in
             h ∙ ap (λ (z : Line). lesser (least (faulty q (z .field) (unless (leb n (z .most)) tooMany))) acc) line-is
             ∙ ap (λ (φ : ℕ). lesser (least (faulty q φ (unless (leb n (lineAt table23 i .most)) tooMany))) acc)
             (line-field i field need name (shape.array numbering most σ) rows l)
             ∙ ap (λ (z : ℕ). lesser (least (faulty q field (unless (leb n z) tooMany))) acc) (line-most i field need name numbering most σ rows l)
             ∙ array-total (λ r f y. faults σ r f y) numbering most q field P n acc k a
             ∙ ap least (sym (counted-faults numbering (not-positions field need name numbering most σ rows l) most σ q field (picking.items P)))
-            ∙ ap (λ (z : Picked). least (faults (shape.array numbering most σ) q field z)) (sym v)
+            ∙ ap (λ (z : Picked). least (faults (shape.array numbering most σ) q field z)) (sym t)
 
     pub array-other : {b : ℕ} {r : Least} → b ≡ bracketsOf (kindAt p) → (b ≡ code "[" → ⊥) → r ≡ least (faulty q (line .field) (wrongType ∷ [])) → Array p i q level r
     array-other b n h =

@@ -9,12 +9,14 @@ use rings::zone::judge_coordinates;
 use scalar::judge_scalar;
 use schema::Line;
 use schema::lines::line_at;
+use schema::lines::line_columns;
 use slots::Found;
 use slots::gather;
 use slots::is_blank_text;
+use slots::slot_in;
 use walk::ItemStep;
 use walk::ValueKind;
-use walk::next_item;
+use walk::pass_item;
 use walk::value_kind;
 use word::kind::Kind;
 ghost use mathlib.Core.Path.{_≡_};
@@ -103,7 +105,7 @@ fn judge_array(p: &[u8], i: usize, line: Line, place: Place, level: u8) -> Least
     let mut n: u32 = 0;
     let mut at: usize = 1;
     loop {
-        let ItemStep::Found(item) = next_item(p, at) else {
+        let ItemStep::Found(item) = pass_item(p, at) else {
             return lesser(place.excess(line, n), least);
         };
         n += 1;
@@ -173,15 +175,23 @@ pub fn judge_object(
         return place.broken(field, Kind::WRONG_TYPE);
     }
     let slots = gather(p, first, count);
+    let table = line_columns();
     let mut least = Least::None;
     let mut i = first;
     let mut row: usize = 0;
     while i < first + count {
-        let line = line_at(i);
-        least = lesser(
-            least,
-            judge_row(p, slots.slot(row), i, line, place, level - 1),
+        let line = line_at(
+            &table.fields,
+            &table.needs,
+            &table.values,
+            &table.items,
+            &table.numberings,
+            &table.most,
+            &table.insides,
+            i,
         );
+        let found = slot_in(&slots.state, &slots.from, &slots.upto, row);
+        least = lesser(least, judge_row(p, found, i, line, place, level - 1));
         i = i + 1 + wide(line.inside);
         row += 1;
     }

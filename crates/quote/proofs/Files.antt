@@ -1,11 +1,12 @@
--- Of a clean file of plans: its records are the items of the span, the plan that is looked up is the picked one, whole and with few segments, and
--- its quote is the file's. An absent file has no span and no plans.
+-- Of a clean file of plans: its records are the items at the front of the rest, the plan that is looked up is the picked one, whole and with few
+-- segments, and its quote is the file's. An absent file has no plans.
 use mathlib.Core.Bool.{true, false}
 use mathlib.Core.List.{List, [], _∷_, map, List·Memᴰ, List·Memᴰ·head, List·Memᴰ·tail}
 use mathlib.Core.Path.{_≡_, refl, sym, ap, subst, _∙_}
 use Prim.Native.Nat.{ℕ, _≤_, _<_}
 use native.Mathlib.Omega.{arith}
 use lib.Dec.{leb}
+use lib.ListN.{length}
 use borrow.Author.Tests.{le-leb, lt-leb, leb-true}
 use Rattle.lexeme.proofs.Steps.{by-test}
 use Rattle.lexeme.specs.Read as read
@@ -15,6 +16,7 @@ use Rattle.json.specs.Text.{text, value, valueBy}
 use Rattle.walk.specs.declared.Item.{Item}
 use Rattle.walk.specs.Walk.{part, itemsOf}
 use Rattle.walk.specs.Part.{Whole, treeOf}
+use Rattle.walk.specs.Along.{AlongItems}
 use Rattle.walk.proofs.Parts.{itemOf, items-whole}
 use Rattle.schema.specs.Shape.{fileShape}
 use Rattle.schema.specs.Table23.{table23, listing, file, plan}
@@ -22,24 +24,23 @@ use Rattle.schema.specs.Pick.{Picked, pick}
 use Rattle.schema.proofs.Tests.{and-left, and-right}
 use Rattle.judge.specs.declared.Place.{Place}
 use Rattle.judge.specs.Faults.{faults}
-use Rattle.document.specs.declared.Span.the-variants as span
 use Rattle.document.specs.Document.{some, field, along}
-use Rattle.document.specs.Spans.{recordsSpan}
+use Rattle.document.specs.Spans.{RecordsFrom}
 use Rattle.document.proofs.Records.{recordShape, pickedItems}
+use Rattle.document.proofs.Rests.{rest-along, rest-picked}
 use Rattle.fields.proofs.Fields.{rowOf, listed}
 use Rattle.clean.specs.declared.Cleanness.{Cleanness}
-use Rattle.clean.specs.declared.Cleanness.the-variants.{Clean}
 use Rattle.clean.specs.Clean as clean
 use Rattle.clean.specs.Clean.{recordsOf, cleanOf}
 use Rattle.clean.proofs.Faultless.{items-few}
-use Rattle.clean.proofs.Repeated.{Held, records-at}
-use Rattle.clean.proofs.Cleans.{found-held, lost-absent}
+use Rattle.clean.proofs.Repeated.{Held}
+use Rattle.clean.proofs.Cleans.{Sound, clean-held}
 use Rattle.quote.specs.declared.Lookup.{Lookup}
 use Rattle.quote.specs.declared.Lookup.the-variants as found
 use Rattle.quote.specs.declared.Quote.the-variants.{TooLong, NoPlan}
 use Rattle.quote.specs.Plan.{planOf, plans}
 use Rattle.quote.specs.Lookup.{isPlan, lookupIn, lookup}
-use Rattle.quote.specs.Tally.{Few}
+use Rattle.quote.specs.Tally.{Few, Fit}
 use Rattle.quote.specs.Quote.{mostSeconds, mostMetres, planQuote, cleanQuote, short, ofClean, quoteOf}
 use Rattle.quote.proofs.Looking.{recordOf, planAt, lookup-plan}
 
@@ -67,10 +68,6 @@ plan-few x q φ e =
     record { minutes = items-few q φ x e (listed {f = 61} refl) (λ a b. refl); kilometres = items-few q φ x e (listed {f = 56} refl) (λ a b. refl) }
 
 -- a plan that is found is one of the records
-pub record Fit (q : List ℕ) : Type 0 where
-  pub whole : Whole q (treeOf q)
-  pub few : Few (pick plan (treeOf q))
-
 module _ (p id : List ℕ) (φ from upto : ℕ) where
   fit-in : (ms : List Item) → ((m : Item) → List·Memᴰ m ms → Whole (itemOf p m) (treeOf (itemOf p m)))
       → ((y : Picked) → List·Memᴰ y (map (recordOf p) ms) → (q : Place) × (faults plan q φ y ≡ [])) → lookupIn p id ms ≡ found.Plan from upto → Fit (part p from upto)
@@ -88,44 +85,43 @@ module _ (p id : List ℕ) (φ from upto : ℕ) where
           rw (← a, ← b) (record { whole = w m (List·Memᴰ·head refl); few = plan-few (treeOf (itemOf p m)) (n .0) φ (n .1) })
 
 -- an absent file has no plans
-no-plans : (id : List ℕ) (seconds metres : ℕ) → NoPlan ≡ cleanQuote (pick (fileShape table23 5) (clean.treeOf [])) id seconds metres
+pub quote-absent : (s id : List ℕ) (seconds metres : ℕ) → length s ≡ 0 → NoPlan ≡ cleanQuote (pick (fileShape table23 5) (clean.treeOf s)) id seconds metres
 unfolding cleanQuote planOf plans along field pick fileShape table23 listing file clean.treeOf text blanks value valueBy read.then
-no-plans id seconds metres = refl
+quote-absent [] id seconds metres e = refl
+quote-absent (b ∷ s) id seconds metres e = absurd (omega arith)
 
--- the file
-module _ (s : List ℕ) (c : cleanOf 5 s ≡ Clean) (id : List ℕ) where
-  pub quote-absent : (seconds metres : ℕ) → recordsSpan 5 s ≡ span.None → NoPlan ≡ cleanQuote (pick (fileShape table23 5) (clean.treeOf s)) id seconds metres
-  quote-absent seconds metres e = rw (lost-absent 5 (omega arith) (omega arith) s c e) (no-plans id seconds metres)
+-- the file, and its rest p from the plans on
+module _ {s p : List ℕ} (k : Sound 5 s) (f : RecordsFrom 5 s p) where
+  abbrev held : Held 5 s (clean.treeOf s)
+  held = clean-held 5 (omega arith) (omega arith) s k
 
-  module _ (from upto : ℕ) (at : recordsSpan 5 s ≡ span.Is from upto) where
-    held : Held 5 s (clean.treeOf s)
-    held = found-held 5 (omega arith) (omega arith) s c at
+  pub plans-along : AlongItems p 1
+  plans-along = rest-along f (k .reads) (held .there)
 
-    records-are : held .list ≡ pickedItems plan (part s from upto)
-    unfolding recordShape
-    records-are = records-at (held .there) at
+  records-are : held .list ≡ pickedItems plan p
+  unfolding recordShape
+  records-are = rest-picked f (k .reads) (held .there)
 
-    plans-are : planAt (part s from upto) (lookup (part s from upto) id) ≡ planOf (plans (pick (fileShape table23 5) (clean.treeOf s))) id
+  module _ (id : List ℕ) where
+    plans-are : planAt p (lookup p id) ≡ planOf (plans (pick (fileShape table23 5) (clean.treeOf s))) id
     unfolding plans recordsOf
-    plans-are = lookup-plan (part s from upto) id ∙ ap (λ (l : List Picked). planOf l id) (sym (held .are ∙ records-are))
+    plans-are = lookup-plan p id ∙ ap (λ (l : List Picked). planOf l id) (sym (held .are ∙ records-are))
 
-    quoted : (o : Lookup) → lookup (part s from upto) id ≡ o → (seconds metres : ℕ)
-        → planQuote seconds metres (planAt (part s from upto) o) ≡ cleanQuote (pick (fileShape table23 5) (clean.treeOf s)) id seconds metres
+    quoted : (o : Lookup) → lookup p id ≡ o → (seconds metres : ℕ)
+        → planQuote seconds metres (planAt p o) ≡ cleanQuote (pick (fileShape table23 5) (clean.treeOf s)) id seconds metres
     unfolding cleanQuote
-    quoted o e seconds metres = ap (planQuote seconds metres) (ap (planAt (part s from upto)) (sym e) ∙ plans-are)
+    quoted o e seconds metres = ap (planQuote seconds metres) (ap (planAt p) (sym e) ∙ plans-are)
 
-    pub quote-none : (seconds metres : ℕ) → lookup (part s from upto) id ≡ found.Nothing
-        → NoPlan ≡ cleanQuote (pick (fileShape table23 5) (clean.treeOf s)) id seconds metres
+    pub quote-none : (seconds metres : ℕ) → lookup p id ≡ found.Nothing → NoPlan ≡ cleanQuote (pick (fileShape table23 5) (clean.treeOf s)) id seconds metres
     quote-none seconds metres e = quoted found.Nothing e seconds metres
 
-    module _ (start end : ℕ) (e : lookup (part s from upto) id ≡ found.Plan start end) where
-      pub quote-fit : Fit (part (part s from upto) start end)
+    module _ (start end : ℕ) (e : lookup p id ≡ found.Plan start end) where
+      pub quote-fit : Fit (part p start end)
       unfolding lookup recordShape
       quote-fit =
-          fit-in (part s from upto) id (held .field) start end (itemsOf (part s from upto)) (items-whole (part s from upto))
-          (λ y i. held .sound y (subst (List·Memᴰ y) (sym records-are) i)) e
+          fit-in p id (held .field) start end (itemsOf p) (items-whole p) (λ y i. held .sound y (subst (List·Memᴰ y) (sym records-are) i)) e
 
-      pub quote-some : (seconds metres : ℕ) → planQuote seconds metres (some (pick plan (treeOf (part (part s from upto) start end))))
+      pub quote-some : (seconds metres : ℕ) → planQuote seconds metres (some (pick plan (treeOf (part p start end))))
           ≡ cleanQuote (pick (fileShape table23 5) (clean.treeOf s)) id seconds metres
       quote-some seconds metres = quoted (found.Plan start end) e seconds metres
 

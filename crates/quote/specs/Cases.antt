@@ -17,7 +17,8 @@ use Rattle.clean.specs.Clean.{treeOf, idField, recordsOf, usedBefore, repeatedI
 use Rattle.quote.specs.declared.Quote.{Quote}
 use Rattle.quote.specs.declared.Quote.the-variants.{TooLong, NotClean, NoPlan, Outside, Fare}
 use Rattle.quote.specs.Plan.{priceAt, segment, perKilometre, perMinute, planOf, plans, sum, pastMinutes, pastKilometres}
-use Rattle.quote.specs.Quote.{noParts, answer, cleanQuote, short, quoteOf}
+use Rattle.word.specs.Word.{noParts}
+use Rattle.quote.specs.Quote.{answer, cleanQuote, short, quoteOf}
 
 -- opens every definition of a quote
 unfoldable pub quoting : Unit {0}

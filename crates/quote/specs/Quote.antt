@@ -6,6 +6,7 @@ use lib.Dec.{leb}
 use lib.IntN.{ℤ, pos}
 use Rattle.notation.specs.Choice.{_⇒_else_, _and_}
 use Rattle.word.specs.declared.Parts.{Parts}
+use Rattle.word.specs.Word.{noParts}
 use Rattle.schema.specs.Shape.{fileShape}
 use Rattle.schema.specs.Table23.{table23}
 use Rattle.schema.specs.Pick.{Picked, pick}
@@ -26,9 +27,6 @@ mostSeconds = 2_678_400
 
 abbrev pub mostMetres : ℕ
 mostMetres = 1_000_000
-
-abbrev pub noParts : Parts
-noParts = record { file = 0; kind = 0; field = 0; «record» = 0; sub = 0; offset = 0 }
 
 -- an answer's number and values
 pub record Answer : Type 0 where

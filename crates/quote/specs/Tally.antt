@@ -5,7 +5,9 @@ use lib.ListN.{length}
 use Rattle.limits.specs.Ceilings.{segments}
 use Rattle.walk.specs.declared.Item.{Item}
 use Rattle.walk.specs.Walk.{part, itemsOf}
-use Rattle.schema.specs.Pick.{Picked}
+use Rattle.walk.specs.Part.{Whole, treeOf}
+use Rattle.schema.specs.Table23.{plan}
+use Rattle.schema.specs.Pick.{Picked, pick}
 use Rattle.document.specs.Document.{fieldItems}
 use Rattle.fare.specs.declared.Sum.{Sum}
 use Rattle.fare.specs.declared.Marks.{Marks}
@@ -36,3 +38,8 @@ tally p sum ride = tallied segments p ride sum unmarked (itemsOf p)
 pub record Few (plan : Picked) : Type 0 where
   pub minutes : length (fieldItems 61 plan) ≤ segments
   pub kilometres : length (fieldItems 56 plan) ≤ segments
+
+-- the bytes of such a plan, whole
+pub record Fit (p : List ℕ) : Type 0 where
+  pub whole : Whole p (treeOf p)
+  pub few : Few (pick plan (treeOf p))

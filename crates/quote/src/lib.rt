@@ -3,9 +3,8 @@ use crate::plans::find_plan;
 use crate::trip::quote_plan;
 use clean::Cleanness;
 use clean::check_clean;
-use document::Span;
 use document::cut;
-use document::records_span;
+use document::records_from;
 use fare::Kilometres;
 use fare::Marks;
 use fare::Minutes;
@@ -78,10 +77,10 @@ fn quote_clean(s: &[u8], id: &[u8], seconds: u64, metres: u64) -> Quote
     requires { ⌜ (cleanOf 5 (now s) ≡ Clean) × (seconds ≤ mostSeconds) × (metres ≤ mostMetres) ⌝ }
     ensures { λ r. ⌜ r ≡ cleanQuote (pick (fileShape table23 5) (treeOf (now (s .entry)))) (now (id .entry)) seconds metres ⌝ }
 {
-    let Span::Is(from, upto) = records_span(Quote::FILE, s) else {
+    if s.len() == 0 {
         return Quote::NoPlan;
-    };
-    let records = cut(s, from, upto);
+    }
+    let records = records_from(Quote::FILE, s);
     let Lookup::Plan(start, end) = find_plan(records, id) else {
         return Quote::NoPlan;
     };
@@ -89,7 +88,7 @@ fn quote_clean(s: &[u8], id: &[u8], seconds: u64, metres: u64) -> Quote
 }
 
 // What a trip costs by the plan of an id, of the bytes of file 5; an absent file has no plans. The file is read a constant number of times: once by
-// stage A, once by stage B for each level of the table, once for its ids, once for each name on the way to its records, and once for the plan.
+// stage A, once by stage B for each level of the table, once for its ids, once on the way to its records, and once for the plan.
 // Shut out: a file's faults, or an amount, told of a ride that is too long; a plan quoted from a file that only stage A passes; the first plan of the
 // file taken where none has the id.
 pub fn quote_trip(s: &[u8], id: &[u8], seconds: u64, metres: u64) -> Quote

@@ -3,10 +3,11 @@ use crate::Lookup;
 use fields::is_id;
 use fields::member;
 use walk::ItemStep;
-use walk::next_item;
+use walk::pass_item;
 ghost use mathlib.Core.Path.{_≡_};
 ghost use Rattle.json.specs.Tree.{Json};
 ghost use Rattle.walk.specs.Part.{Whole};
+ghost use Rattle.walk.specs.Along.{AlongItems};
 ghost use Rattle.schema.specs.Pick.{pick};
 ghost use Rattle.schema.specs.Table23.{plan};
 ghost use Rattle.quote.specs.Lookup.{isPlan, lookup};
@@ -18,14 +19,15 @@ fn is_plan(p: &[u8], id: &[u8]) -> bool
     is_id(member(p, b"plan_id"), id)
 }
 
-// The first plan of the id among the items of the array `p`, by its place there.
+// The first plan of the id among the items of the array at the front of `p`, by its place there.
 // Shut out: a plan found by an id that only begins as asked, or is spelled as asked and decodes to another; a later one of two.
 pub fn find_plan(p: &[u8], id: &[u8]) -> Lookup
+    requires { ⌜ AlongItems (now p) 1 ⌝ }
     ensures { λ r. ⌜ r ≡ lookup (now (p .entry)) (now (id .entry)) ⌝ }
 {
     let mut at: usize = 1;
     loop {
-        match next_item(p, at) {
+        match pass_item(p, at) {
             ItemStep::End => {
                 return Lookup::Nothing;
             }

@@ -13,6 +13,7 @@ use walk::next_item;
 ghost use mathlib.Core.Path.{_≡_};
 ghost use Prim.Native.Nat.{_≤_};
 ghost use Rattle.limits.specs.Ceilings.{segments};
+ghost use Rattle.walk.specs.Part.{Whole, treeOf};
 ghost use Rattle.fare.specs.Folds.{withCharge};
 ghost use Rattle.fare.specs.Bounds.{mostRide, Payable, Room};
 ghost use Rattle.quote.specs.Values.{segmentBy};
@@ -20,6 +21,7 @@ ghost use Rattle.quote.specs.Tally.{lengthOf, tally as tallyOf};
 
 // The segment that an object is.
 fn segment_in(p: &[u8]) -> Segment
+    requires { ⌜ Whole (now p) (treeOf (now p)) ⌝ }
     ensures { λ r. ⌜ r ≡ segmentBy (now (p .entry)) ⌝ }
 {
     let end = member(p, b"end");

@@ -1,3 +1,2 @@
-pub mod Noting
-pub mod Searches
 pub mod Meets
+pub mod Searches

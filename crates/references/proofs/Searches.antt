@@ -1,114 +1,115 @@
--- The search for a record of an id. A record whose id has another digest is not met, for equal texts have equal digests; what is left of the
--- records decides as all of them do.
+-- The search among the records with an id: from the last one back, each is met or passed, and those between have other ids. A record that it comes to is
+-- whole, as every item is.
 use mathlib.Core.Bool.{Bool, true, false}
-use mathlib.Core.List.{List, []}
-use mathlib.Core.Path.{_≡_, refl, sym, ap, _∙_}
-use Prim.Native.Nat.{ℕ, _+_, _≤_, _<_}
-use native.Mathlib.Numerals.{add-one}
+use mathlib.Core.List.{List, [], _∷_, map, List·Memᴰ, List·Memᴰ·head, List·Memᴰ·tail}
+use mathlib.Core.Path.{_≡_, refl, sym, ap, subst, _∙_}
+use Prim.Native.Nat.{ℕ, zero, suc, _-_, _≤_, _<_}
 use native.Mathlib.Omega.{arith}
-use lib.ListN.{length, getD, drop, drop-of-length-le, length-map}
-use lib.Seq.{drop-cons}
-use lib.Dec.{eqb}
-use borrow.Author.Tests.{eqb-true, eqb-false}
+use lib.ListN.{length, getD}
 use Rattle.notation.specs.Choice.{_⇒_else_, _and_}
 use Rattle.lexeme.proofs.Steps.{by-test}
-use Rattle.text.specs.Text.{textOf, same, digest}
-use Rattle.text.proofs.Laws.{digest-same}
+use Rattle.walk.specs.declared.Item.{Item}
 use Rattle.walk.specs.Walk.{part, itemsOf}
-use Rattle.walk.specs.Part.{kindAt, inside}
-use Rattle.walk.proofs.Parts.{itemOf}
-use Rattle.slots.specs.declared.Found.{Found}
-use Rattle.slots.specs.Found.{foundIn}
-use Rattle.document.specs.Document.{Maybe, none, some}
-use Rattle.fields.specs.Values.{code, foundBytes, textBy}
-use Rattle.fields.proofs.Ways.{text-none, text-some}
-use Rattle.clean.specs.Noted.{idName}
-use Rattle.references.specs.Known.{all, recordBytes, idValue, idText, passing, meeting, anyMeets, Noted}
+use Rattle.walk.specs.Part.{Whole, treeOf}
+use Rattle.walk.proofs.Parts.{itemOf, items-whole}
+use Rattle.ids.specs.Ids.{hasId, recordBytes, lastWith}
+use Rattle.ids.specs.Notes.{startAt, endAt, linkAt, Noted, Searched}
+use Rattle.ids.proofs.Single.{kept-whole}
+use Rattle.ids.proofs.Chains.{with-here, with-before, with-has, from-met, chain-entry, chain-before, chain-less}
+use Rattle.references.specs.Known.{passing, meeting, anyMeets}
 
--- what is found under the name of the id
-pub id-found : (file : ℕ) (q : List ℕ) (o : Found) → o ≡ foundIn q (idName file) → foundBytes q o ≡ idValue file q
-unfolding idValue
-id-found file q o e = ap (foundBytes q) e
-
--- a record by the text of its id, of which v is the value
-module _ (file : ℕ) (tested : Bool) (id q : List ℕ) where
-  abbrev with-text : Maybe (List ℕ) → Bool
-  with-text o = elim o [ none ↦ false | some t ↦ same t id and (tested ⇒ passing file q else true) ]
-
-module _ (file : ℕ) (tested : Bool) (id q v : List ℕ) (is : v ≡ idValue file q) (n : ℕ) (e : n ≡ code (kindAt v)) where
-  pub not-text : (n ≡ 3 → ⊥) → false ≡ meeting file tested id q
-  not-text h = sym (ap (with-text file tested id q) (ap textBy (sym is) ∙ text-none v n e h))
-
-  by-text : n ≡ 3 → meeting file tested id q ≡ (same (textOf (inside v)) id and (tested ⇒ passing file q else true))
-  by-text h = ap (with-text file tested id q) (ap textBy (sym is) ∙ text-some v n e h)
-
-  pub other-id : n ≡ 3 → same (textOf (inside v)) id ≡ false → false ≡ meeting file tested id q
-  other-id h s = sym (by-text h ∙ ap (λ (t : Bool). t and (tested ⇒ passing file q else true)) s)
-
-  pub this-id : n ≡ 3 → same (textOf (inside v)) id ≡ true → meeting file tested id q ≡ (tested ⇒ passing file q else true)
-  this-id h s = by-text h ∙ ap (λ (t : Bool). t and (tested ⇒ passing file q else true)) s
-
--- of another digest, of another text
-apart : (file : ℕ) (tested : Bool) (id q : List ℕ) → (digest (idText file q) ≡ digest id → ⊥) → meeting file tested id q ≡ false
-apart file tested id q n =
-    let v = idValue file q in
-    by-test (eqb (code (kindAt v)) 3)
-    (λ t.
-    by-test (same (textOf (inside v)) id)
-    (λ s. absurd (n (digest-same (textOf (inside v)) id s)))
-    (λ s. sym (other-id file tested id q v refl (code (kindAt v)) refl (eqb-true (code (kindAt v)) 3 t) s)))
-    (λ t. sym (not-text file tested id q v refl (code (kindAt v)) refl (eqb-false (code (kindAt v)) 3 t)))
-
--- the records from the j-th on
 module _ (file : ℕ) (tested : Bool) (id : List ℕ) (rs : List (List ℕ)) where
-  abbrev pub Left : ℕ → Bool
-  Left j = anyMeets file tested id (drop j rs)
-
-  none-left : (j : ℕ) → length rs ≤ j → false ≡ Left j
+  -- the n-th record
+  meets-here : (n : ℕ) → meeting file tested id (getD rs n []) ≡ true → anyMeets file tested id rs (suc n) ≡ true
   unfolding anyMeets
-  none-left j h = sym (ap (anyMeets file tested id) (drop-of-length-le rs h))
+  meets-here n e = rw (anyMeets, e)
 
-  step : (j : ℕ) → j < length rs → Left j ≡ (meeting file tested id (getD rs j []) ⇒ true else Left (j + 1))
+  meets-before : (n : ℕ) → meeting file tested id (getD rs n []) ≡ false → anyMeets file tested id rs (suc n) ≡ anyMeets file tested id rs n
   unfolding anyMeets
-  step j h = rw (drop-cons rs j [] h, add-one j)
+  meets-before n e = rw (anyMeets, e)
 
-  met-here : (j : ℕ) → j < length rs → meeting file tested id (getD rs j []) ≡ true → true ≡ Left j
-  met-here j h e = sym (step j h ∙ ap (λ (t : Bool). t ⇒ true else Left (j + 1)) e)
+  -- records behind the last one with the id are not met
+  skipped : (m : ℕ) → anyMeets file tested id rs m ≡ anyMeets file tested id rs (lastWith file id rs m)
+  unfolding lastWith
+  skipped zero = refl
+  skipped (suc m) =
+      let ih = skipped m in
+      by-test (hasId file id (getD rs m []))
+      (λ t. ap (anyMeets file tested id rs) (sym (with-here file id rs m t)))
+      (λ t.
+      meets-before m (ap (λ (b : Bool). b and (tested ⇒ passing file (getD rs m []) else true)) t) ∙ ih
+      ∙ ap (anyMeets file tested id rs) (sym (with-before file id rs m t)))
 
-  met-later : (j : ℕ) → j < length rs → meeting file tested id (getD rs j []) ≡ false → Left (j + 1) ≡ Left j
-  met-later j h e = sym (step j h ∙ ap (λ (t : Bool). t ⇒ true else Left (j + 1)) e)
+-- every record of an array is whole
+each-whole : (bytesOf : Item → List ℕ) (ms : List Item) → ((m : Item) → List·Memᴰ m ms → Whole (bytesOf m) (treeOf (bytesOf m)))
+    → (k : ℕ) → k < length ms → Whole (getD (map bytesOf ms) k []) (treeOf (getD (map bytesOf ms) k []))
+each-whole f [] w k h = absurd (omega arith)
+each-whole f (m ∷ ms) w zero h = w m (List·Memᴰ·head refl)
+each-whole f (m ∷ ms) w (suc k) h = each-whole f ms (λ n i. w n (List·Memᴰ·tail i)) k (omega arith)
 
--- a file whose records are noted: past the last, and at the j-th
-pub past-last : {file : ℕ} {p : List ℕ} {first count : ℕ} {digests starts ends : List ℕ} → Noted file p first count digests starts ends → (j : ℕ) → count ≤ j
-    → (tested : Bool) (id : List ℕ) → false ≡ Left file tested id (recordBytes p) j
+record-whole : (p : List ℕ) (k : ℕ) → k < length (itemsOf p) → Whole (getD (recordBytes p) k []) (treeOf (getD (recordBytes p) k []))
 unfolding recordBytes
-past-last {file} {p} k j h tested id = none-left file tested id (recordBytes p) j (omega (arith, k .counted, length-map (itemsOf p) (itemOf p)))
+record-whole p = each-whole (itemOf p) (itemsOf p) (items-whole p)
 
-module _ {file : ℕ} {p : List ℕ} {first count : ℕ} {digests starts ends : List ℕ} (k : Noted file p first count digests starts ends) (j : ℕ) (h : j < count) where
-  pub noted-room : first + j < all
-  noted-room = omega (arith, k .few, k .room)
+-- the search has come to j, the last of the first m records that has the id
+pub record Comes (file : ℕ) (tested : Bool) (id p : List ℕ) (j : ℕ) : Type 0 where
+  pub upto : ℕ
+  pub within : upto ≤ length (itemsOf p)
+  pub last : j ≡ lastWith file id (recordBytes p) upto
+  pub left : anyMeets file tested id (recordBytes p) upto ≡ anyMeets file tested id (recordBytes p) (length (itemsOf p))
 
-  noted-inside : j < length (recordBytes p)
-  unfolding recordBytes
-  noted-inside = omega (arith, k .counted, length-map (itemsOf p) (itemOf p))
+pub comes-start : {file : ℕ} {tested : Bool} {id p : List ℕ} {j : ℕ} → j ≡ lastWith file id (recordBytes p) (length (itemsOf p)) → Comes file tested id p j
+comes-start {p = p} e = record { upto = length (itemsOf p); within = omega arith; last = e; left = refl }
 
-  noted-at : j < length (itemsOf p)
-  noted-at = omega (arith, k .counted)
+module _ {file : ℕ} {tested : Bool} {id p : List ℕ} {j : ℕ} (w : Comes file tested id p j) where
+  here : anyMeets file tested id (recordBytes p) j ≡ anyMeets file tested id (recordBytes p) (length (itemsOf p))
+  here = ap (anyMeets file tested id (recordBytes p)) (w .last) ∙ sym (skipped file tested id (recordBytes p) (w .upto)) ∙ w .left
 
-  module _ (tested : Bool) (id : List ℕ) where
-    -- not where digests differ
-    pub past-digest : (d : ℕ) → d ≡ digest id → (getD digests (first + j) 0 ≡ d → ⊥) → Left file tested id (recordBytes p) (j + 1) ≡ Left file tested id (recordBytes p) j
-    past-digest d is n =
-        met-later file tested id (recordBytes p) j noted-inside
-        (apart file tested id (getD (recordBytes p) j []) (λ e. n (k .notes j noted-at .1 ∙ e ∙ sym is)))
+  pub comes-end : j ≤ 0 → false ≡ anyMeets file tested id (recordBytes p) (length (itemsOf p))
+  unfolding anyMeets
+  comes-end h = let z : 0 ≡ j = omega arith in ap (anyMeets file tested id (recordBytes p)) z ∙ here
 
-    -- the record itself
-    module _ (q : List ℕ) (is : q ≡ part p (getD starts (first + j) 0) (getD ends (first + j) 0)) where
-      this : q ≡ getD (recordBytes p) j []
-      this = is ∙ k .notes j noted-at .0
+  module _ (h : 0 < j) {notes : List ℕ} (n : Noted file p (length (itemsOf p)) notes) where
+    pub comes-on : Searched file p notes j id
+    comes-on = from-met n id (w .upto) j (w .within) (w .last) h
 
-      pub past-record : meeting file tested id q ≡ false → Left file tested id (recordBytes p) (j + 1) ≡ Left file tested id (recordBytes p) j
-      past-record e = met-later file tested id (recordBytes p) j noted-inside (ap (meeting file tested id) (sym this) ∙ e)
+    has : (j - 1 < w .upto) × (hasId file id (getD (recordBytes p) (j - 1) []) ≡ true)
+    has = let z : j ≡ suc (j - 1) = omega arith in with-has file id (recordBytes p) (w .upto) (j - 1) (sym (w .last) ∙ z)
 
-      pub met-record : meeting file tested id q ≡ true → true ≡ Left file tested id (recordBytes p) j
-      met-record e = met-here file tested id (recordBytes p) j noted-inside (ap (meeting file tested id) (sym this) ∙ e)
+    -- by whether the record passes
+    module _ (q : List ℕ) (is : q ≡ part p (startAt notes (j - 1)) (endAt notes (j - 1))) where
+      itself : q ≡ getD (recordBytes p) (j - 1) []
+      itself = is ∙ chain-entry comes-on h ∙ kept-whole file (getD (recordBytes p) (j - 1) []) id (has .1)
+
+      pub comes-whole : Whole q (treeOf q)
+      comes-whole = subst (λ (x : List ℕ). Whole x (treeOf x)) (sym itself) (record-whole p (j - 1) (omega (arith, has .0, w .within)))
+
+      asked : {t : Bool} → t ≡ (tested ⇒ passing file q else true) → t ≡ meeting file tested id (getD (recordBytes p) (j - 1) [])
+      asked e =
+          e
+          ∙ ap (λ (x : List ℕ). tested ⇒ passing file x else true) itself
+          ∙ sym (ap (λ (b : Bool). b and (tested ⇒ passing file (getD (recordBytes p) (j - 1) []) else true)) (has .1))
+
+      pub comes-met : {t : Bool} → t ≡ (tested ⇒ passing file q else true) → t ≡ true → true ≡ anyMeets file tested id (recordBytes p) (length (itemsOf p))
+      comes-met e k =
+          let z : suc (j - 1) ≡ j = omega arith in
+          sym (meets-here file tested id (recordBytes p) (j - 1) (sym (asked e) ∙ k)) ∙ ap (anyMeets file tested id (recordBytes p)) z ∙ here
+
+      pub comes-past : {t : Bool} → t ≡ (tested ⇒ passing file q else true) → t ≡ false
+          → {x : ℕ} → x ≡ lastWith file id (recordBytes p) (linkAt notes (j - 1)) → Comes file tested id p x
+      comes-past e k i =
+          let z : suc (j - 1) ≡ j = omega arith in
+          record {
+            upto = j - 1;
+            within = omega (arith, has .0, w .within);
+            last = i ∙ chain-before comes-on h;
+            left =
+                sym (meets-before file tested id (recordBytes p) (j - 1) (sym (asked e) ∙ k)) ∙ ap (anyMeets file tested id (recordBytes p)) z ∙ here;
+          }
+
+    pub comes-less : {x : ℕ} → x ≡ lastWith file id (recordBytes p) (linkAt notes (j - 1)) → x < j
+    comes-less {x} i = go x i
+      where
+        go : (y : ℕ) → y ≡ lastWith file id (recordBytes p) (linkAt notes (j - 1)) → y < j
+        go zero k = omega arith
+        go (suc y) k = omega (arith, with-has file id (recordBytes p) (linkAt notes (j - 1)) y (sym k) .0, chain-less comes-on h)

@@ -1,10 +1,9 @@
 // The rules on a field that depend on other fields or files: what it breaks, as a kind, or 0.
-use crate::ALL;
-use crate::Set;
 use crate::search::meets;
 use fields::STRING;
 use fields::code_of;
 use fields::unquoted;
+use ids::Notes;
 use word::kind::Kind;
 ghost use mathlib.Core.Path.{_≡_};
 ghost use Rattle.fields.specs.Values.{textBy, thereBy};
@@ -26,18 +25,17 @@ pub fn demanded(needed: bool, value: &[u8]) -> u8
 }
 
 // Whether a record of file 1, 2 or 5 that a reference names is of the sort that is asked about there; none is where no reference is given.
-pub fn named(
+fn named(
     value: &[u8],
     file: u8,
-    set: Set,
     types: &[u8],
     stations: &[u8],
     plans: &[u8],
-    digests: &[u32; ALL],
-    starts: &[usize; ALL],
-    ends: &[usize; ALL],
+    type_notes: &[u32; Notes::SIZE],
+    station_notes: &[u32; Notes::SIZE],
+    plan_notes: &[u32; Notes::SIZE],
 ) -> bool
-    requires { ⌜ Known set (now types) (now stations) (now plans) (now digests) (now starts) (now ends) ⌝ }
+    requires { ⌜ Known (now types) (now stations) (now plans) (now «type_notes») (now «station_notes») (now «plan_notes») ⌝ }
     ensures { λ r. ⌜ r ≡ namedBy (testOf file) (fieldOf file) (recordsOf file (now (types .entry)) (now (stations .entry)) (now (plans .entry))) (textBy (now (value .entry))) ⌝ }
 {
     if code_of(value) != STRING {
@@ -47,14 +45,45 @@ pub fn named(
         file,
         unquoted(value),
         true,
-        set,
         types,
         stations,
         plans,
-        digests,
-        starts,
-        ends,
+        type_notes,
+        station_notes,
+        plan_notes,
     )
+}
+
+// What a field breaks that is needed where a record which a reference names is of that sort: the kind, or 0. The record is searched for only where the
+// field is not given.
+pub fn demanded_by(
+    reference: &[u8],
+    value: &[u8],
+    file: u8,
+    types: &[u8],
+    stations: &[u8],
+    plans: &[u8],
+    type_notes: &[u32; Notes::SIZE],
+    station_notes: &[u32; Notes::SIZE],
+    plan_notes: &[u32; Notes::SIZE],
+) -> u8
+    requires { ⌜ Known (now types) (now stations) (now plans) (now «type_notes») (now «station_notes») (now «plan_notes») ⌝ }
+    ensures { λ r. ⌜ listed r ≡ demandedOf (namedBy (testOf file) (fieldOf file) (recordsOf file (now (types .entry)) (now (stations .entry)) (now (plans .entry))) (textBy (now (reference .entry)))) (thereBy (now (value .entry))) ⌝ }
+{
+    if 0 < value.len() {
+        return 0;
+    }
+    let needed = named(
+        reference,
+        file,
+        types,
+        stations,
+        plans,
+        type_notes,
+        station_notes,
+        plan_notes,
+    );
+    demanded(needed, value)
 }
 
 // What a reference breaks that names no record: the kind, or 0.
@@ -62,15 +91,14 @@ pub fn named(
 pub fn refers(
     value: &[u8],
     file: u8,
-    set: Set,
     types: &[u8],
     stations: &[u8],
     plans: &[u8],
-    digests: &[u32; ALL],
-    starts: &[usize; ALL],
-    ends: &[usize; ALL],
+    type_notes: &[u32; Notes::SIZE],
+    station_notes: &[u32; Notes::SIZE],
+    plan_notes: &[u32; Notes::SIZE],
 ) -> u8
-    requires { ⌜ Known set (now types) (now stations) (now plans) (now digests) (now starts) (now ends) ⌝ }
+    requires { ⌜ Known (now types) (now stations) (now plans) (now «type_notes») (now «station_notes») (now «plan_notes») ⌝ }
     ensures { λ r. ⌜ listed r ≡ refersTo (textBy (now (value .entry))) (fieldOf file) (recordsOf file (now (types .entry)) (now (stations .entry)) (now (plans .entry))) ⌝ }
 {
     if code_of(value) != STRING {
@@ -80,13 +108,12 @@ pub fn refers(
         file,
         unquoted(value),
         false,
-        set,
         types,
         stations,
         plans,
-        digests,
-        starts,
-        ends,
+        type_notes,
+        station_notes,
+        plan_notes,
     ) {
         return 0;
     }

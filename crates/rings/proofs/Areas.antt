@@ -12,15 +12,16 @@ use borrow.Author.Tests.{leb-true, leb-false, le-leb, lt-leb}
 use Rattle.limits.specs.Ceilings.{positions}
 use Rattle.notation.specs.Choice.{_⇒_else_, _and_}
 use Rattle.word.specs.Kinds.{badRing, tooMany}
+use Rattle.walk.specs.declared.ItemStep.{ItemStep}
 use Rattle.walk.specs.declared.ItemStep.the-variants as step
-use Rattle.walk.specs.Walk.{itemAt}
+use Rattle.walk.specs.Along.{ItemPassed}
 use Rattle.geometry.specs.Ring.{sound}
 use Rattle.geometry.specs.Shifted.{InRange, points}
 use Rattle.schema.specs.Pick.{Picked}
 use Rattle.scalar.specs.Scalars.{unless}
 use Rattle.rings.specs.Rings.{Found, at, positionKinds, position, none, allSound, positionsFound, ringFound}
 use Rattle.rings.specs.Least.{lesser, leastFound}
-use Rattle.rings.specs.Parts.{positionShape, partsOf, foundIn, Charted, RingRead, Outlined, areaLeast, Tells}
+use Rattle.rings.specs.Parts.{positionShape, partsOf, foundIn, Charted, RingRead, RingRoom, Outlined, areaLeast, Tells}
 use Rattle.rings.specs.declared.LeastFound.{LeastFound}
 use Rattle.rings.specs.declared.LeastFound.the-variants.{None, At}
 use Rattle.rings.specs.declared.RingPoints.{RingPoints}
@@ -63,18 +64,16 @@ found-sound n (x ∷ l) e =
 -- where the loop over positions ends
 module _ (n : ℕ) (p : List ℕ) {at₀ count : ℕ} {least : LeastFound} {lons lats : List ℕ}
     (g : Going spotFound single positionShape n p at₀ count count least)
-    (d : Drawn lons lats count least (g .left) (partsOf positionShape p)) (f : itemAt p at₀ ≡ step.End) where
-  pub ring-read : RingRead n (partsOf positionShape p) (length p) (record { lons = lons; lats = lats; count = count; least = least })
+    (d : Drawn lons lats count least (g .left) (partsOf positionShape p)) {o : ItemStep} (f : ItemPassed p at₀ o) (h : o ≡ step.End) where
+  pub ring-read : RingRead n (partsOf positionShape p) (record { lons = lons; lats = lats; count = count; least = least })
   ring-read =
-      let t = going-end spotFound single positionShape n p g f in
+      let t = going-end spotFound single positionShape n p g f h in
       let found = t .least ∙ ap leastFound (sym (spots-found n (partsOf positionShape p))) in
       record {
         count = t .items;
-        within = t .within;
         least = found;
-        charted = d .charted;
-        points = λ s h.
-            drawn-end d (none-left spotFound single positionShape n p g f) (found ∙ sound-found n (partsOf positionShape p) s) (omega (arith, t .items));
+        points = λ s i.
+            drawn-end d (none-left spotFound single positionShape n p g f h) (found ∙ sound-found n (partsOf positionShape p) s) (omega (arith, t .items));
       }
 
 -- the part that is filled
@@ -116,7 +115,7 @@ hidden : (n : ℕ) (t : Bool) → lesser (At n tooMany) (leastFound (at n (unles
 hidden n true = ap (lesser (At n tooMany)) (least-empty n) ∙ lesser-none (At n tooMany)
 hidden n false = ap (lesser (At n tooMany)) (least-one n badRing) ∙ later-kind n tooMany badRing (omega arith)
 
-module _ {n bytes : ℕ} {l : List Picked} {r : RingPoints} (h : RingRead n l bytes r) where
+module _ {n : ℕ} {l : List Picked} {r : RingPoints} (h : RingRead n l r) where
   abbrev few : LeastFound
   few = leastFound (at n (unless (leb 4 (r .count)) badRing))
 
@@ -166,8 +165,8 @@ module _ {n bytes : ℕ} {l : List Picked} {r : RingPoints} (h : RingRead n l by
       (ap (λ k. leastFound (at n (unless (leb k positions) tooMany))) c)) (sym (h .least))))
 
   pub ring-tells : (found : LeastFound) → found ≡ lesser (lesser (lesser few many) (r .least)) (areaLeast n r)
-      → Tells (ringFound n l) (length l) bytes (record { positions = r .count; least = found })
-  ring-tells found e = record { least = e ∙ ring-found; positions = h .count; within = h .within }
+      → Tells (ringFound n l) (length l) (record { positions = r .count; least = found })
+  ring-tells found e = record { least = e ∙ ring-found; positions = h .count }
 
 -- a ring in which nothing is found
 pub record Clean (l : List Picked) : Type 0 where
@@ -195,12 +194,12 @@ clean-ring n l e =
       whole = held n badRing _ (rw s at (a .1));
     }
 
-pub outlined : {m bytes : ℕ} {l : List Picked} {r : RingPoints} → RingRead m l bytes r → (k : List Picked) → k ≡ l → Clean k → Outlined k r
-outlined {l = l} {r = r} h k e c =
+pub outlined : {m bytes : ℕ} {l : List Picked} {r : RingPoints} → RingRoom bytes r → RingRead m l r → (k : List Picked) → k ≡ l → Clean k → Outlined k r
+outlined {l = l} {r = r} o h k e c =
     let many : length l ≤ positions = rw e at (c .most) in
     rw e
     record {
       count = h .count;
-      range = filled (r .lons) (r .lats) (r .count) (h .charted) (omega (arith, h .count));
+      range = filled (r .lons) (r .lats) (r .count) (o .charted) (omega (arith, h .count));
       points = h .points (rw e at (c .each)) many;
     }

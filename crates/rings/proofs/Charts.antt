@@ -1,5 +1,5 @@
 -- The points of a ring as a loop stores them: where every position so far is sound and there was room, the points stored, with those that
--- are left, are those of all positions. What is stored is on the map whether or not a position is sound.
+-- are left, are those of all positions. What is stored is on the map in any bytes.
 use mathlib.Core.Bool.{Bool, true, false}
 use mathlib.Core.List.{List, [], _∷_, _++_, map, append-nil, append-assoc}
 use mathlib.Core.Path.{_≡_, refl, sym, ap, ap₂, _∙_}
@@ -60,8 +60,10 @@ stored-most xs i v k most n h j = go (decLt i positions)
 stored-taken : (xs : List ℕ) (i v : ℕ) → length xs ≡ positions → i < positions → take (i + 1) (stored xs i v) ≡ take i xs ++ (v ∷ [])
 stored-taken xs i v n l = let m : i < length xs = omega arith in rw (stored-here xs i v l, add-one, take-suc-set xs i v m)
 
-pub charted-stored : (lons lats : List ℕ) (i : ℕ) (p : Position) → Charted lons lats → OnMap p → Charted (stored lons i (p .lon)) (stored lats i (p .lat))
-charted-stored lons lats i p c o =
+pub charted-stored : (lons lats : List ℕ) (i : ℕ) (p : Position) (lons′ lats′ : List ℕ) → Charted lons lats → OnMap p
+    → lons′ ≡ stored lons i (p .lon) → lats′ ≡ stored lats i (p .lat) → Charted lons′ lats′
+charted-stored lons lats i p lons′ lats′ c o g h =
+    rw (g, h)
     record {
       east = stored-long lons i (p .lon) ∙ c .east;
       north = stored-long lats i (p .lat) ∙ c .north;
@@ -81,7 +83,6 @@ points-stored lons lats i p c l =
     ∙ points-append (take i lons) (take i lats) _ _ (length-take-le i lats b ∙ sym (length-take-le i lons a))
 
 pub record Drawn (lons lats : List ℕ) (count : ℕ) (least : LeastFound) (left all : List Picked) : Type 0 where
-  pub charted : Charted lons lats
   pub drawn : least ≡ None → count ≤ positions → points (take count lons) (take count lats) ++ map position left ≡ map position all
 
 zeros : (n k : ℕ) → _≡_ {A = ℕ} (getD (replicate n 0) k 0) 0
@@ -89,29 +90,27 @@ zeros zero k = refl
 zeros (suc n) zero = refl
 zeros (suc n) (suc k) = zeros n k
 
+pub charted-start : Charted (replicate 256 0) (replicate 256 0)
+charted-start = record { east = refl; north = refl; map = λ k. record { east = omega (arith, zeros 256 k); north = omega (arith, zeros 256 k) } }
+
 pub drawn-start : (all : List Picked) → Drawn (replicate 256 0) (replicate 256 0) 0 None all all
 unfolding points
-drawn-start all =
-    record {
-      charted = record { east = refl; north = refl; map = λ k. record { east = omega (arith, zeros 256 k); north = omega (arith, zeros 256 k) } };
-      drawn = λ e h. refl;
-    }
+drawn-start all = record { drawn = λ e h. refl }
 
 module _ {lons lats : List ℕ} {count : ℕ} {least : LeastFound} {left all : List Picked} (d : Drawn lons lats count least left all) where
-  pub drawn-more : (x : Picked) (rest : List Picked) (n : ℕ) (s : Spot) (next : LeastFound) (lons′ lats′ : List ℕ)
+  pub drawn-more : Charted lons lats → (x : Picked) (rest : List Picked) (n : ℕ) (s : Spot) (next : LeastFound) (lons′ lats′ : List ℕ)
       → left ≡ x ∷ rest → Spotted n (positionKinds x) (position x) s → next ≡ lesser least (s .least)
       → lons′ ≡ stored lons count (s .point .lon) → lats′ ≡ stored lats count (s .point .lat)
       → Drawn lons′ lats′ (count + 1) next rest all
-  drawn-more x rest n s next lons′ lats′ e k f g h =
+  drawn-more c x rest n s next lons′ lats′ e k f g h =
       rw (g, h)
       record {
-        charted = charted-stored lons lats count (s .point) (d .charted) (k .map);
         drawn = λ z l.
             let b = both-none least (s .least) (sym f ∙ z) in
             let i : count < positions = omega arith in
             let q : point (s .point) ≡ position x = k .point (b .1) in
             let ps = points (take count lons) (take count lats) in
-            ap (λ ts. ts ++ map position rest) (points-stored lons lats count (s .point) (d .charted) i)
+            ap (λ ts. ts ++ map position rest) (points-stored lons lats count (s .point) c i)
             ∙ append-assoc ps (point (s .point) ∷ []) (map position rest)
             ∙ ap (λ t. ps ++ (t ∷ map position rest)) q
             ∙ ap (λ (us : List Picked). ps ++ map position us) (sym e)

@@ -1,19 +1,22 @@
 -- A loop over items that are judged and numbered one after the other, for any way to judge one: what has been found so far, with what is
--- left, is what is found in all. The items' bytes lie one behind the other, so there are no more positions than bytes.
+-- left, is what is found in all. The items' bytes lie one behind the other, in any bytes, so there are no more positions than bytes.
 use mathlib.Core.List.{List, [], _∷_}
 use mathlib.Core.Path.{_≡_, refl, sym, ap, _∙_}
 use Prim.Native.Nat.{ℕ, _+_, _-_, _≤_, _<_}
 use native.Mathlib.Omega.{arith}
 use lib.ListN.{length, drop, length-take, length-drop}
 use Rattle.walk.specs.declared.Item.{Item}
+use Rattle.walk.specs.declared.ItemStep.{ItemStep}
 use Rattle.walk.specs.declared.ItemStep.the-variants as step
-use Rattle.walk.specs.Walk.{part, itemAt}
-use Rattle.walk.proofs.Places.{item-placed}
+use Rattle.walk.specs.Walk.{part}
+use Rattle.walk.specs.Part.{Whole, treeOf}
+use Rattle.walk.specs.Along.{ItemPlaced, ItemPassed}
+use Rattle.walk.proofs.Parts.{itemOf}
 use Rattle.schema.specs.Shape.{Shape}
 use Rattle.schema.specs.Pick.{Picked}
 use Rattle.rings.specs.Rings.{Found}
 use Rattle.rings.specs.Least.{lesser, leastFound}
-use Rattle.rings.specs.Parts.{picked, partsOf, Left, positionsIn, foundIn, Tallied}
+use Rattle.rings.specs.Parts.{Listing, picked, partsOf, Left, positionsIn, foundIn, Tallied}
 use Rattle.rings.specs.declared.LeastFound.{LeastFound}
 use Rattle.rings.specs.declared.LeastFound.the-variants.{None}
 use Rattle.rings.proofs.Order.{lesser-none, none-lesser, lesser-assoc, least-append}
@@ -28,6 +31,43 @@ pub record Room (p : List ℕ) (at items positions : ℕ) (m : Item) : Type 0 wh
   pub count : items < length p
   pub onward : at < m .next
   pub inside : m .next ≤ length p
+
+-- at the place `at` of any bytes, with so many items and positions passed
+pub record Passed (p : List ℕ) (at items positions : ℕ) : Type 0 where
+  pub few : items < at
+  pub room : positions < at
+  pub inside : at ≤ length p + 1
+
+pub passed-start : (p : List ℕ) → Passed p 1 0 0
+passed-start p = record { few = omega arith; room = omega arith; inside = omega arith }
+
+module _ {p : List ℕ} {at items positions : ℕ} (g : Passed p at items positions) where
+  pub passed-within : positions ≤ length p
+  passed-within = omega (arith, g .room, g .inside)
+
+  -- where an item is found: its bytes, with the positions passed, are no more than all
+  module _ {m : Item} (k : ItemPlaced p at m) where
+    pub passed-room : Room p at items positions m
+    passed-room =
+        let d = length-drop (m .value) p in
+        let t = length-take (m .«value_end» - m .value) (drop (m .value) p) in
+        record {
+          some = k .value;
+          ends = omega (arith, k .next, k .inside);
+          size = omega (arith, k .value, k .next, k .inside);
+          number = omega (arith, g .room, k .later, k .value, k .next, k .inside);
+          count = omega (arith, g .few, k .later, k .value, k .next, k .inside);
+          onward = omega (arith, k .later, k .value, k .next);
+          inside = k .inside;
+        }
+
+    pub passed-more : (q : ℕ) → q ≤ m .«value_end» - m .value → Passed p (m .next) (items + 1) (positions + q)
+    passed-more q fits =
+        record {
+          few = omega (arith, g .few, k .later, k .value, k .next);
+          room = omega (arith, g .room, k .later, k .value, k .next);
+          inside = omega (arith, k .inside);
+        }
 
 module _ (e : ℕ → Picked → List Found) (c : Picked → ℕ) where
   -- the definitions, step by step
@@ -49,74 +89,54 @@ module _ (e : ℕ → Picked → List Found) (c : Picked → ℕ) where
   found-next n x l = least-append (e n x) (foundIn e c (n + c x) l)
 
   module _ (σ : Shape) (n : ℕ) (p : List ℕ) where
-    -- at the place `at`, with so many items and positions passed
+    -- at the place `at` of an array, with so many items and positions passed
     pub record Going (at items positions : ℕ) (least : LeastFound) : Type 0 where
       pub left : List Picked
       pub here : Left σ p at left
       pub counted : items + length left ≡ length (partsOf σ p)
       pub numbered : positions + positionsIn c left ≡ positionsIn c (partsOf σ p)
       pub found : lesser least (leastFound (foundIn e c (n + positions) left)) ≡ leastFound (foundIn e c n (partsOf σ p))
-      pub few : items < at
-      pub room : positions < at
-      pub inside : at ≤ length p + 1
 
-    abbrev pub going-start : Going 1 0 0 None
-    going-start =
+    abbrev pub going-start : Listing p → Going 1 0 0 None
+    going-start w =
         let z : n + 0 ≡ n = omega arith in
         record {
           left = partsOf σ p;
-          here = left-start σ p;
+          here = left-start σ p w;
           counted = omega arith;
           numbered = omega arith;
           found = none-lesser _ ∙ ap (λ (m : ℕ). leastFound (foundIn e c m (partsOf σ p))) z;
-          few = omega arith;
-          room = omega arith;
-          inside = omega arith;
         }
 
-    module _ {at items positions : ℕ} {least : LeastFound} (g : Going at items positions least) where
+    module _ {at items positions : ℕ} {least : LeastFound} (g : Going at items positions least) {o : ItemStep} (f : ItemPassed p at o) where
       -- where none is found
-      module _ (f : itemAt p at ≡ step.End) where
+      module _ (h : o ≡ step.End) where
         pub none-left : g .left ≡ []
-        none-left = left-end σ p at (g .left) (g .here) f
+        none-left = left-end σ p at (g .left) (g .here) f h
 
-        pub end-counted : items ≡ length (partsOf σ p)
+        end-counted : items ≡ length (partsOf σ p)
         end-counted = let z = ap length none-left in omega (arith, g .counted, z)
 
-        pub end-found : least ≡ leastFound (foundIn e c n (partsOf σ p))
+        end-found : least ≡ leastFound (foundIn e c n (partsOf σ p))
         end-found =
             sym (lesser-none least) ∙ ap (lesser least) (sym (found-none (n + positions)))
             ∙ ap (λ (l : List Picked). lesser least (leastFound (foundIn e c (n + positions) l))) (sym none-left) ∙ g .found
 
-        pub going-end : Tallied e c n (partsOf σ p) (length p) (record { items = items; positions = positions; least = least })
+        pub going-end : Tallied e c n (partsOf σ p) (record { items = items; positions = positions; least = least })
         going-end =
             let z : positionsIn c (g .left) ≡ 0 = ap (positionsIn c) none-left ∙ positions-none in
-            record { items = end-counted; positions = omega (arith, g .numbered); least = end-found; within = omega (arith, g .room, g .inside) }
+            record { items = end-counted; positions = omega (arith, g .numbered); least = end-found }
 
-      -- where one is found: its bytes, with the positions passed, are no more than all
-      pub going-room : (m : Item) → itemAt p at ≡ step.Found m → Room p at items positions m
-      going-room m f =
-          let k = item-placed p at m f in
-          let d = length-drop (m .value) p in
-          let t = length-take (m .«value_end» - m .value) (drop (m .value) p) in
-          record {
-            some = k .value;
-            ends = omega (arith, k .next, k .inside);
-            size = omega (arith, k .value, k .next, k .inside);
-            number = omega (arith, g .room, k .later, k .value, k .next, k .inside);
-            count = omega (arith, g .few, k .later, k .value, k .next, k .inside);
-            onward = omega (arith, k .later, k .value, k .next);
-            inside = k .inside;
-          }
+      -- where one is found, its bytes are whole
+      pub going-whole : (m : Item) → o ≡ step.Found m → Whole (itemOf p m) (treeOf (itemOf p m))
+      going-whole m h = left-more σ p at (g .left) (g .here) f m h .whole
 
-      module _ (m : Item) (f : itemAt p at ≡ step.Found m) (first next : LeastFound) (q : ℕ)
-          (judged : first ≡ leastFound (e (n + positions) (picked σ p m))) (taken : next ≡ lesser least first)
-          (many : q ≡ c (picked σ p m)) (fits : q ≤ m .«value_end» - m .value) where
+      module _ (m : Item) (h : o ≡ step.Found m) (first next : LeastFound) (q : ℕ)
+          (judged : first ≡ leastFound (e (n + positions) (picked σ p m))) (taken : next ≡ lesser least first) (many : q ≡ c (picked σ p m)) where
         -- with the items that are left then
-        pub going-next : (h : Going (m .next) (items + 1) (positions + q) next) × (g .left ≡ picked σ p m ∷ h .left)
+        pub going-next : (k : Going (m .next) (items + 1) (positions + q) next) × (g .left ≡ picked σ p m ∷ k .left)
         going-next =
-            let o = left-more σ p at (g .left) (g .here) m f in
-            let k = item-placed p at m f in
+            let o = left-more σ p at (g .left) (g .here) f m h in
             let x = picked σ p m in
             let a : length (g .left) ≡ length (o .rest) + 1 = omega (arith, ap length (o .is)) in
             let b : positionsIn c (g .left) ≡ q + positionsIn c (o .rest) =
@@ -135,9 +155,6 @@ module _ (e : ℕ → Picked → List Found) (c : Picked → ℕ) where
                     ∙ ap (lesser least) (sym (found-next (n + positions) x (o .rest)))
                     ∙ ap (λ (l : List Picked). lesser least (leastFound (foundIn e c (n + positions) l))) (sym (o .is))
                     ∙ g .found;
-                few = omega (arith, g .few, k .later, k .value, k .next);
-                room = omega (arith, g .room, k .later, k .value, k .next);
-                inside = omega (arith, k .inside);
               },
               o .is,
             )

@@ -81,11 +81,7 @@ pub measured-broken : (most n kind : ℕ) (x : Picked) (o : Ordinate) → rangeK
     → o ≡ record { least = At n kind; value = 0 } → Measured most n x o
 measured-broken most n kind x o h e =
     rw e
-    record {
-      least = sym (ap (λ ks. leastFound (at n ks)) h ∙ least-one n kind);
-      value = λ f. not-none f;
-      upto = omega arith;
-    }
+    record { least = sym (ap (λ ks. leastFound (at n ks)) h ∙ least-one n kind); value = λ f. not-none f }
 
 -- what is no number
 other-kinds : (most : ℕ) (x : Json) → isNumber (kindOf x) ≡ false → rangeKinds most (pick numberShape x) ≡ wrongType ∷ []
@@ -124,6 +120,13 @@ up-to a h b e = go (decLe h a)
     go (yes l) = let k : natAbs (difference a h) ≡ a - h = ap natAbs (difference-up a h l) in omega arith
     go (no n) = omega (arith, n)
 
+-- so a coordinate in the range is at most twice its half
+pub inside-upto : (most v : ℕ) (d : Decimal) → within most d ≡ true → difference v (most * 1_000_000) ≡ millionths d → v ≤ most * 2_000_000
+inside-upto most v d f g =
+    let k : natAbs (difference v (most * 1_000_000)) ≤ most * 1_000_000 = rw g (millionths-within most d f) in
+    let q = up-to v (most * 1_000_000) (most * 1_000_000) k in
+    omega arith
+
 module _ (most : ℕ) {p : List ℕ} {x : Json} (w : Whole p x) (e : isNumber (kindAt p) ≡ true) where
   pub unformed-kinds : numberOf p ≡ number.Unformed → rangeKinds most (pick numberShape x) ≡ numberForm ∷ []
   unfolding formed
@@ -138,11 +141,9 @@ module _ (most : ℕ) {p : List ℕ} {x : Json} (w : Whole p x) (e : isNumber (k
         → Measured most n (pick numberShape x) (record { least = None; value = v })
     unfolding formed
     measured-inside n v f g =
-        let k : natAbs (difference v (most * 1_000_000)) ≤ most * 1_000_000 = rw g (millionths-within most d f) in
         subst (λ (y : Picked). Measured most n y (record { least = None; value = v })) (sym (number-picked w e)) (
         record {
           least = sym (ap (λ ks. leastFound (at n ks)) (ap (formed (within most)) h ∙ ap (λ t. unless t outOfRange) f) ∙ least-empty n);
           value = λ z. g ∙ sym (ap coordinate h);
-          upto = let q = up-to v (most * 1_000_000) (most * 1_000_000) k in omega arith;
         }
         )

@@ -12,19 +12,20 @@ use Rattle.notation.specs.Choice.{_and_}
 use Rattle.word.specs.Kinds.{wrongType, badRing}
 use Rattle.json.specs.Tree.{Json}
 use Rattle.walk.specs.declared.Item.{Item}
+use Rattle.walk.specs.declared.ItemStep.{ItemStep}
 use Rattle.walk.specs.declared.ItemStep.the-variants as step
-use Rattle.walk.specs.Walk.{part, itemAt}
+use Rattle.walk.specs.Walk.{part}
 use Rattle.walk.specs.Part.{Whole, kindAt}
-use Rattle.walk.proofs.Parts.{item-whole}
+use Rattle.walk.specs.Along.{ItemPassed}
 use Rattle.geometry.specs.Ring.{Point}
-use Rattle.geometry.specs.Shifted.{point, origin}
+use Rattle.geometry.specs.Shifted.{OnMap, point, origin}
 use Rattle.geometry.specs.declared.Position.{Position}
 use Rattle.schema.specs.Shape as shape
 use Rattle.schema.specs.Pick.{Picked, pick}
 use Rattle.scalar.specs.Scalars.{unless}
-use Rattle.rings.specs.Rings.{at, count, ordinate, ordinateKinds, numberKinds, positionKinds, pointOf, position}
+use Rattle.rings.specs.Rings.{at, count, ordinateKinds, numberKinds, positionKinds, pointOf, position}
 use Rattle.rings.specs.Least.{lesser, leastFound}
-use Rattle.rings.specs.Parts.{numberShape, positionShape, picked, partsOf, Left, isArray, isNumber, rangeKinds, Measured, listKinds, restKinds, Spotted}
+use Rattle.rings.specs.Parts.{numberShape, positionShape, Listing, picked, partsOf, Left, isArray, isNumber, rangeKinds, Measured, listKinds, restKinds, Spotted}
 use Rattle.rings.specs.declared.LeastFound.{LeastFound}
 use Rattle.rings.specs.declared.LeastFound.the-variants.{None, At}
 use Rattle.rings.specs.declared.Ordinate.{Ordinate}
@@ -37,28 +38,29 @@ abbrev first : ℕ → List ℕ → LeastFound
 first n ks = leastFound (at n ks)
 
 -- what follows lon and lat, at a place of p
-module _ (p : List ℕ) (at₀ n : ℕ) (l : List Picked) (h : Left numberShape p at₀ l) where
-  pub rest-none : itemAt p at₀ ≡ step.End → None ≡ first n (restKinds l)
+module _ (p : List ℕ) (at₀ n : ℕ) (l : List Picked) (h : Left numberShape p at₀ l) {o : ItemStep} (f : ItemPassed p at₀ o) where
+  pub rest-none : o ≡ step.End → None ≡ first n (restKinds l)
   unfolding restKinds
-  rest-none e = sym (ap (λ k. first n (restKinds k)) (left-end numberShape p at₀ l h e) ∙ least-empty n)
+  rest-none e = sym (ap (λ k. first n (restKinds k)) (left-end numberShape p at₀ l h f e) ∙ least-empty n)
 
-  module _ (m : Item) (e : itemAt p at₀ ≡ step.Found m) (t : Bool) (told : t ≡ isNumber (kindAt (part p (m .value) (m .«value_end»)))) where
+  module _ (m : Item) (e : o ≡ step.Found m) (t : Bool) (told : t ≡ isNumber (kindAt (part p (m .value) (m .«value_end»))))
+      {u : ItemStep} (g : ItemPassed p (m .next) u) where
     third : unless t wrongType ≡ ordinateKinds shape.ordinate (picked numberShape p m)
-    third = ap (λ s. unless s wrongType) told ∙ third-kinds (item-whole p at₀ m e)
+    third = ap (λ s. unless s wrongType) told ∙ third-kinds (left-more numberShape p at₀ l h f m e .whole)
 
-    pub rest-one : itemAt p (m .next) ≡ step.End → first n (unless t wrongType) ≡ first n (restKinds l)
+    pub rest-one : u ≡ step.End → first n (unless t wrongType) ≡ first n (restKinds l)
     unfolding restKinds
-    rest-one f =
-        let o = left-more numberShape p at₀ l h m e in
-        let z : l ≡ picked numberShape p m ∷ [] = o .is ∙ ap (λ k. picked numberShape p m ∷ k) (left-end numberShape p (m .next) (o .rest) (o .left) f) in
+    rest-one i =
+        let o = left-more numberShape p at₀ l h f m e in
+        let z : l ≡ picked numberShape p m ∷ [] = o .is ∙ ap (λ k. picked numberShape p m ∷ k) (left-end numberShape p (m .next) (o .rest) (o .left) g i) in
         ap (first n) third ∙ sym (ap (λ k. first n (restKinds k)) z)
 
-    pub rest-two : (w : Item) → itemAt p (m .next) ≡ step.Found w → lesser (At n badRing) (first n (unless t wrongType)) ≡ first n (restKinds l)
+    pub rest-two : (w : Item) → u ≡ step.Found w → lesser (At n badRing) (first n (unless t wrongType)) ≡ first n (restKinds l)
     unfolding restKinds
-    rest-two w f =
-        let o = left-more numberShape p at₀ l h m e in
-        let u = left-more numberShape p (m .next) (o .rest) (o .left) w f in
-        let z : l ≡ picked numberShape p m ∷ picked numberShape p w ∷ u .rest = o .is ∙ ap (λ k. picked numberShape p m ∷ k) (u .is) in
+    rest-two w i =
+        let o = left-more numberShape p at₀ l h f m e in
+        let v = left-more numberShape p (m .next) (o .rest) (o .left) g w i in
+        let z : l ≡ picked numberShape p m ∷ picked numberShape p w ∷ v .rest = o .is ∙ ap (λ k. picked numberShape p m ∷ k) (v .is) in
         ap (lesser (At n badRing)) (ap (first n) third)
         ∙ ap (λ k. lesser k (first n (ordinateKinds shape.ordinate (picked numberShape p m)))) (sym (least-one n badRing))
         ∙ sym (ap (λ k. first n (restKinds k)) z ∙ least-at n (badRing ∷ []) _)
@@ -113,7 +115,10 @@ spotted-as n kinds q found first {at} e s = rw e s
 pub spotted-broken : (n : ℕ) (kinds : List ℕ) (q : Point) (s : Spot) (found : LeastFound) → s ≡ record { least = found; point = origin }
     → found ≡ first n kinds → (found ≡ None → ⊥) → Spotted n kinds q s
 spotted-broken n kinds q s found e f never =
-    rw e record { least = f; point = λ z. absurd (never z); map = record { east = omega arith; north = omega arith } }
+    rw e record { least = f; point = λ z. absurd (never z) }
+
+pub broken-map : (s : Spot) (found : LeastFound) → s ≡ record { least = found; point = origin } → OnMap (s .point)
+broken-map s found e = rw e record { east = omega arith; north = omega arith }
 
 pub spotted-empty : (n : ℕ) (l : List Picked) (q : Point) (s : Spot) → l ≡ [] → s ≡ record { least = At n badRing; point = origin } → Spotted n (listKinds l) q s
 spotted-empty n l q s h e =
@@ -148,17 +153,16 @@ module _ (n : ℕ) (x : Picked) (lon : Ordinate) (east : Measured 180 n x lon) w
         point = λ z.
             let a = east .value (sound z .0) in let b = north .value (both-none (lat .least) rest (sound z .1) .0) in
             ap₂ pointAt a b;
-        map = record { east = east .upto; north = north .upto };
       }
 
 -- an item of a ring
 module _ {p : List ℕ} {x : Json} (w : Whole p x) (n : ℕ) (s : Spot) where
-  pub spotted-array : isArray (kindAt p) ≡ true → Spotted n (listKinds (partsOf numberShape p)) (pointOf (partsOf numberShape p)) s
+  pub spotted-array : isArray (kindAt p) ≡ true → (Listing p → Spotted n (listKinds (partsOf numberShape p)) (pointOf (partsOf numberShape p)) s)
       → Spotted n (positionKinds (pick positionShape x)) (position (pick positionShape x)) s
   unfolding positionKinds position count listKinds
   spotted-array e h =
       let k = array-picked shape.positions 3 numberShape x w e in
-      rw (k .picks) (rw (k .parts) h)
+      rw (k .picks) (rw (k .listed .parts) (h (k .listed .listing)))
 
   pub spotted-other : isArray (kindAt p) ≡ false → s ≡ record { least = At n wrongType; point = origin }
       → Spotted n (positionKinds (pick positionShape x)) (position (pick positionShape x)) s

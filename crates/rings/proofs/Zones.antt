@@ -3,7 +3,6 @@ use mathlib.Core.Bool.{true, false}
 use mathlib.Core.List.{List, [], _∷_, _++_}
 use mathlib.Core.Path.{_≡_, refl, sym, ap, ap₂, _∙_}
 use Prim.Native.Nat.{ℕ, _+_}
-use native.Mathlib.Omega.{arith}
 use lib.Dec.{eqb, leb}
 use lib.ListN.{length}
 use Rattle.limits.specs.Ceilings as ceiling
@@ -16,7 +15,7 @@ use Rattle.schema.specs.Pick.{Picked, PickedItems, items, pick, listOf}
 use Rattle.scalar.specs.Scalars.{unless}
 use Rattle.rings.specs.Rings.{Found, at, count, ring, ringPositions, ringFound, ringsFound, ringsPositions, polygon, polygonPositions, polygonsFound, coordinatesFound}
 use Rattle.rings.specs.Least.{lesser, leastFound}
-use Rattle.rings.specs.Parts.{positionShape, ringShape, polygonShape, partsOf, isArray, positionsIn, foundIn, Tells, Tallied}
+use Rattle.rings.specs.Parts.{positionShape, ringShape, polygonShape, Listing, partsOf, isArray, positionsIn, foundIn, Tells, Tallied}
 use Rattle.rings.specs.declared.LeastFound.{LeastFound}
 use Rattle.rings.specs.declared.LeastFound.the-variants.{At}
 use Rattle.rings.specs.declared.Judged.{Judged}
@@ -46,45 +45,46 @@ broken n = record { positions = 0; least = At n wrongType }
 
 module _ {p : List ℕ} {x : Json} (w : Whole p x) (n : ℕ) where
   -- an item of a polygon
-  pub ring-array : (r : Judged) → isArray (kindAt p) ≡ true → Tells (ringFound n (partsOf positionShape p)) (length (partsOf positionShape p)) (length p) r
-      → Tells (ring n (pick ringShape x)) (ringPositions (pick ringShape x)) (length p) r
+  pub ring-array : (r : Judged) → isArray (kindAt p) ≡ true → (Listing p → Tells (ringFound n (partsOf positionShape p)) (length (partsOf positionShape p)) r)
+      → Tells (ring n (pick ringShape x)) (ringPositions (pick ringShape x)) r
   unfolding count
-  ring-array r e h = let k = array-picked shape.positions ceiling.positions positionShape x w e in rw (k .picks) (rw (k .parts) h)
+  ring-array r e h = let k = array-picked shape.positions ceiling.positions positionShape x w e in rw (k .picks) (rw (k .listed .parts) (h (k .listed .listing)))
 
-  pub ring-other : isArray (kindAt p) ≡ false → Tells (ring n (pick ringShape x)) (ringPositions (pick ringShape x)) (length p) (broken n)
+  pub ring-other : isArray (kindAt p) ≡ false → Tells (ring n (pick ringShape x)) (ringPositions (pick ringShape x)) (broken n)
   ring-other e =
       let k = other-picked shape.positions ceiling.positions positionShape x w e in
-      rw (k .1) record { least = sym (least-one n wrongType); positions = refl; within = omega arith }
+      rw (k .1) record { least = sym (least-one n wrongType); positions = refl }
 
   -- an item of the coordinates
-  pub polygon-array : (t : Tally) (found : LeastFound) → isArray (kindAt p) ≡ true → Tallied ring ringPositions n (partsOf ringShape p) (length p) t
+  pub polygon-array : (t : Tally) (found : LeastFound) → isArray (kindAt p) ≡ true → (Listing p → Tallied ring ringPositions n (partsOf ringShape p) t)
       → found ≡ lesser (leastFound (at n (unless (eqb (t .items) 1) badRing))) (t .least)
-      → Tells (polygon n (pick polygonShape x)) (polygonPositions (pick polygonShape x)) (length p) (record { positions = t .positions; least = found })
+      → Tells (polygon n (pick polygonShape x)) (polygonPositions (pick polygonShape x)) (record { positions = t .positions; least = found })
   unfolding count
-  polygon-array t found e h f =
+  polygon-array t found e g f =
       let k = array-picked shape.positions 1 ringShape x w e in
+      let h = g (k .listed .listing) in
       let l = partsOf ringShape p in
-      rw (k .picks) (rw (k .parts)
+      rw (k .picks) (rw (k .listed .parts)
       record {
         least =
             f ∙ ap₂ lesser (ap (λ m. leastFound (at n (unless (eqb m 1) badRing))) (h .items)) (h .least ∙ ap leastFound (sym (rings-found n l)))
             ∙ sym (least-append (at n (unless (eqb (length l) 1) badRing)) (ringsFound n l));
         positions = h .positions ∙ sym (rings-positions l);
-        within = h .within;
       })
 
-  pub polygon-other : isArray (kindAt p) ≡ false → Tells (polygon n (pick polygonShape x)) (polygonPositions (pick polygonShape x)) (length p) (broken n)
+  pub polygon-other : isArray (kindAt p) ≡ false → Tells (polygon n (pick polygonShape x)) (polygonPositions (pick polygonShape x)) (broken n)
   polygon-other e =
       let k = other-picked shape.positions 1 ringShape x w e in
-      rw (k .1) record { least = sym (least-one n wrongType); positions = refl; within = omega arith }
+      rw (k .1) record { least = sym (least-one n wrongType); positions = refl }
 
 -- all of field 73
-pub coordinates-found : {p : List ℕ} (t : Tally) → Tallied polygon polygonPositions 1 (partsOf polygonShape p) (length p) t
+pub coordinates-found : {p : List ℕ} (t : Tally) → (Listing p → Tallied polygon polygonPositions 1 (partsOf polygonShape p) t)
     → (x : Json) (is : PickedItems) → Whole p x → pick coordinates x ≡ items is
     → lesser (leastFound (at 0 (unless (leb (t .items) ceiling.polygons) tooMany))) (t .least) ≡ leastFound (coordinatesFound is)
 unfolding coordinatesFound count coordinates
-coordinates-found {p} t h x is w e =
-    let l = items-parts shape.positions ceiling.polygons polygonShape x is w e in
+coordinates-found {p} t g x is w e =
+    let k = items-parts shape.positions ceiling.polygons polygonShape x is w e in
+    let h = g (k .listing) in let l = k .parts in
     ap₂ lesser (ap (λ m. leastFound (at 0 (unless (leb m ceiling.polygons) tooMany))) (h .items ∙ ap length (sym l)))
     (h .least ∙ ap leastFound (sym (polygons-found 1 (partsOf polygonShape p)) ∙ ap (polygonsFound 1) (sym l)))
     ∙ sym (least-append (at 0 (unless (leb (length (listOf is)) ceiling.polygons) tooMany)) (polygonsFound 1 (listOf is)))

@@ -2,7 +2,7 @@
 use mathlib.Core.Bool.{Bool, true, false}
 use mathlib.Core.List.{List, [], _∷_, _++_, map}
 use mathlib.Core.Path.{_≡_}
-use Prim.Native.Nat.{ℕ, _+_, _*_, _≤_}
+use Prim.Native.Nat.{ℕ, _+_, _*_, _≤_, _<_}
 use lib.Dec.{leb}
 use lib.ListN.{length, getD, take}
 use Rattle.limits.specs.Ceilings as ceiling
@@ -14,7 +14,8 @@ use Rattle.walk.specs.declared.Item.{Item}
 use Rattle.walk.specs.declared.ValueKind.{ValueKind}
 use Rattle.walk.specs.declared.ValueKind.the-variants as kind
 use Rattle.walk.specs.Walk.{part, itemsFrom, itemsOf}
-use Rattle.walk.specs.Part.{treeOf}
+use Rattle.walk.specs.Part.{Whole, treeOf}
+use Rattle.walk.specs.Along.{AlongItems}
 use Rattle.decimal.specs.Decimals.{numberOf}
 use Rattle.decimal.specs.Exact.{within}
 use Rattle.geometry.specs.Ring.{Point, sound}
@@ -46,7 +47,11 @@ ringShape = shape.array shape.positions ceiling.positions positionShape
 abbrev pub polygonShape : Shape
 polygonShape = shape.array shape.positions 1 ringShape
 
--- an item of the array p, picked; all of them; and those that are left from a place on
+-- p is an array, whole; or there is nothing
+pub record Listing (p : List ℕ) : Type 0 where
+  pub whole : 0 < length p → (is : tree.Items) × Whole p (tree.array is)
+
+-- an item of the array p, picked; all of them; and those that are left where a walk along the array has come to a place
 abbrev pub picked : Shape → List ℕ → Item → Picked
 picked σ p m = pick σ (treeOf (part p (m .value) (m .«value_end»)))
 
@@ -54,6 +59,7 @@ unfoldable pub partsOf : Shape → List ℕ → List Picked
 partsOf σ p = map (picked σ p) (itemsOf p)
 
 pub record Left (σ : Shape) (p : List ℕ) (at : ℕ) (l : List Picked) : Type 0 where
+  pub along : at < length p → AlongItems p at
   pub most : ℕ
   pub enough : length p ≤ at + most
   pub are : map (picked σ p) (itemsFrom most p at) ≡ l
@@ -90,7 +96,6 @@ rangeKinds k (slots ss) = wrongType ∷ []
 pub record Measured (k n : ℕ) (x : Picked) (o : Ordinate) : Type 0 where
   pub least : o .least ≡ leastFound (at n (rangeKinds k x))
   pub value : o .least ≡ None → difference (o .value) (k * 1_000_000) ≡ ordinate x
-  pub upto : o .value ≤ k * 2_000_000
 
 -- the items of a position; and those behind lon and lat
 unfoldable pub listKinds : List Picked → List ℕ
@@ -105,7 +110,6 @@ restKinds (z ∷ w ∷ l) = badRing ∷ ordinateKinds shape.ordinate z
 pub record Spotted (n : ℕ) (kinds : List ℕ) (q : Point) (s : Spot) : Type 0 where
   pub least : s .least ≡ leastFound (at n kinds)
   pub point : s .least ≡ None → point (s .point) ≡ q
-  pub map : OnMap (s .point)
 
 -- Several items after another, numbered: e tells what is found in one, and c how many positions it has.
 unfoldable pub positionsIn : (Picked → ℕ) → List Picked → ℕ
@@ -116,17 +120,15 @@ unfoldable pub foundIn : (ℕ → Picked → List Found) → (Picked → ℕ) �
 foundIn e c n [] = []
 foundIn e c n (x ∷ l) = e n x ++ foundIn e c (n + c x) l
 
--- a value in which that much is found, with its positions; it is of so many bytes, and has no more positions than that
-pub record Tells (found : List Found) (count bytes : ℕ) (r : Judged) : Type 0 where
+-- a value in which that much is found, with its positions
+pub record Tells (found : List Found) (count : ℕ) (r : Judged) : Type 0 where
   pub least : r .least ≡ leastFound found
   pub positions : r .positions ≡ count
-  pub within : r .positions ≤ bytes
 
-pub record Tallied (e : ℕ → Picked → List Found) (c : Picked → ℕ) (n : ℕ) (l : List Picked) (bytes : ℕ) (r : Tally) : Type 0 where
+pub record Tallied (e : ℕ → Picked → List Found) (c : Picked → ℕ) (n : ℕ) (l : List Picked) (r : Tally) : Type 0 where
   pub items : r .items ≡ length l
   pub positions : r .positions ≡ positionsIn c l
   pub least : r .least ≡ leastFound (foundIn e c n l)
-  pub within : r .positions ≤ bytes
 
 -- the points of a ring, two lists of one length of which the first are filled
 pub record Charted (lons lats : List ℕ) : Type 0 where
@@ -135,13 +137,16 @@ pub record Charted (lons lats : List ℕ) : Type 0 where
   pub map : (k : ℕ) → OnMap (record { lon = getD lons k 0; lat = getD lats k 0 })
 
 -- the positions of a ring, the first with the number n; where all are sound and not too many, their points
-pub record RingRead (n : ℕ) (l : List Picked) (bytes : ℕ) (r : RingPoints) : Type 0 where
+pub record RingRead (n : ℕ) (l : List Picked) (r : RingPoints) : Type 0 where
   pub count : r .count ≡ length l
-  pub within : r .count ≤ bytes
   pub least : r .least ≡ leastFound (positionsFound n l)
-  pub charted : Charted (r .lons) (r .lats)
   pub points : allSound l ≡ true → length l ≤ ceiling.positions
       → points (take (r .count) (r .lons)) (take (r .count) (r .lats)) ≡ map position l
+
+-- what is read of any bytes: no more positions than bytes, and each on the map
+pub record RingRoom (bytes : ℕ) (r : RingPoints) : Type 0 where
+  pub within : r .count ≤ bytes
+  pub charted : Charted (r .lons) (r .lats)
 
 -- the points of a ring as geometry takes them
 pub record Outlined (l : List Picked) (r : RingPoints) : Type 0 where

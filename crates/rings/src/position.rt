@@ -7,20 +7,20 @@ use decimal::spelling::read_decimal;
 use geometry::Position;
 use walk::ItemStep;
 use walk::ValueKind;
-use walk::next_item;
+use walk::pass_item;
 use walk::value_kind;
 use word::kind::Kind;
 ghost use mathlib.Core.Path.{_≡_};
 ghost use mathlib.Core.List.{List, _∷_};
-ghost use Prim.Native.Nat.{_≤_};
+ghost use Prim.Native.Nat.{_*_, _≤_};
 ghost use Rattle.json.specs.Tree.{Json};
 ghost use Rattle.walk.specs.Part.{Whole, kindAt};
 ghost use Rattle.schema.specs.Pick.{Picked, pick};
 ghost use Rattle.rings.specs.Rings.{at as foundAt, positionKinds, pointOf, position};
 ghost use Rattle.rings.specs.Least.{leastFound};
 ghost use Rattle.rings.specs.declared.LeastFound.the-variants.{At};
-ghost use Rattle.geometry.specs.Shifted.{origin};
-ghost use Rattle.rings.specs.Parts.{numberShape, positionShape, partsOf, Left, isArray, isNumber, Measured, listKinds, restKinds, Spotted};
+ghost use Rattle.geometry.specs.Shifted.{OnMap, origin};
+ghost use Rattle.rings.specs.Parts.{numberShape, positionShape, Listing, partsOf, Left, isArray, isNumber, Measured, listKinds, restKinds, Spotted};
 
 pub fn is_array(p: &[u8]) -> bool
     ensures { λ r. ⌜ r ≡ isArray (kindAt (now (p .entry))) ⌝ }
@@ -62,7 +62,7 @@ impl Ordinate {
 // Lon or lat, from -most to most degrees.
 fn read_ordinate(p: &[u8], most: u64, number: u32) -> Ordinate
     requires { ⌜ most ≤ 180 ⌝ }
-    ensures { λ r. ⌜ ((x : Json) → Whole (now (p .entry)) x → Measured most number (pick numberShape x) r) ⌝ }
+    ensures { λ r. ⌜ (r .value ≤ most * 2_000_000) × ((x : Json) → Whole (now (p .entry)) x → Measured most number (pick numberShape x) r) ⌝ }
 {
     if !is_number(p) {
         return Ordinate::broken(number, Kind::WRONG_TYPE);
@@ -83,13 +83,13 @@ fn read_ordinate(p: &[u8], most: u64, number: u32) -> Ordinate
 fn judge_rest(p: &[u8], at: usize, number: u32) -> LeastFound
     ensures { λ r. ⌜ ((l : List Picked) → Left numberShape (now (p .entry)) at l → r ≡ leastFound (foundAt number (restKinds l))) ⌝ }
 {
-    let ItemStep::Found(third) = next_item(p, at) else {
+    let ItemStep::Found(third) = pass_item(p, at) else {
         return LeastFound::None;
     };
     let from = third.value;
     let upto = third.value_end;
     let least = LeastFound::unless(is_number(&p[from..upto]), number, Kind::WRONG_TYPE);
-    let ItemStep::Found(fourth) = next_item(p, third.next) else {
+    let ItemStep::Found(fourth) = pass_item(p, third.next) else {
         return least;
     };
     return LeastFound::At(number, Kind::BAD_RING).lesser(least);
@@ -108,10 +108,11 @@ impl Spot {
 
 // Lat and what follows it, behind lon.
 fn judge_behind(p: &[u8], at: usize, lon: Ordinate, number: u32) -> Spot
-    ensures { λ r. ⌜ ((x : Picked) (l : List Picked) → Measured 180 number x lon → Left numberShape (now (p .entry)) at l → Spotted number (listKinds (x ∷ l)) (pointOf (x ∷ l)) r) ⌝ }
+    requires { ⌜ lon .value ≤ 180 * 2_000_000 ⌝ }
+    ensures { λ r. ⌜ OnMap (r .point) × ((x : Picked) (l : List Picked) → Measured 180 number x lon → Left numberShape (now (p .entry)) at l → Spotted number (listKinds (x ∷ l)) (pointOf (x ∷ l)) r) ⌝ }
 {
     let east = lon.least;
-    let ItemStep::Found(second) = next_item(p, at) else {
+    let ItemStep::Found(second) = pass_item(p, at) else {
         return Spot::broken(LeastFound::At(number, Kind::BAD_RING).lesser(east));
     };
     let from = second.value;
@@ -129,9 +130,9 @@ fn judge_behind(p: &[u8], at: usize, lon: Ordinate, number: u32) -> Spot
 }
 
 fn judge_numbers(p: &[u8], number: u32) -> Spot
-    ensures { λ r. ⌜ Spotted number (listKinds (partsOf numberShape (now (p .entry)))) (pointOf (partsOf numberShape (now (p .entry)))) r ⌝ }
+    ensures { λ r. ⌜ OnMap (r .point) × (Listing (now (p .entry)) → Spotted number (listKinds (partsOf numberShape (now (p .entry)))) (pointOf (partsOf numberShape (now (p .entry)))) r) ⌝ }
 {
-    let ItemStep::Found(first) = next_item(p, 1) else {
+    let ItemStep::Found(first) = pass_item(p, 1) else {
         return Spot::broken(LeastFound::At(number, Kind::BAD_RING));
     };
     let from = first.value;
@@ -142,7 +143,7 @@ fn judge_numbers(p: &[u8], number: u32) -> Spot
 
 // The least kind of a position, at its number; and its point, where it is sound.
 pub fn judge_position(p: &[u8], number: u32) -> Spot
-    ensures { λ r. ⌜ ((x : Json) → Whole (now (p .entry)) x → Spotted number (positionKinds (pick positionShape x)) (position (pick positionShape x)) r) ⌝ }
+    ensures { λ r. ⌜ OnMap (r .point) × ((x : Json) → Whole (now (p .entry)) x → Spotted number (positionKinds (pick positionShape x)) (position (pick positionShape x)) r) ⌝ }
 {
     if !is_array(p) {
         return Spot::broken(LeastFound::At(number, Kind::WRONG_TYPE));

@@ -7,7 +7,7 @@ use crate::position::judge_position;
 use geometry::ring::sound;
 use limits::Limits;
 use walk::ItemStep;
-use walk::next_item;
+use walk::pass_item;
 use word::kind::Kind;
 ghost use mathlib.Core.Path.{_≡_};
 ghost use mathlib.Core.List.{[]};
@@ -20,7 +20,7 @@ ghost use Rattle.json.specs.Tree.{Json};
 ghost use Rattle.walk.specs.Part.{Whole};
 ghost use Rattle.schema.specs.Pick.{PickedItems, items as itemsAre, pick, listOf};
 ghost use Rattle.rings.specs.Rings.{ring, ringPositions, ringFound};
-ghost use Rattle.rings.specs.Parts.{positionShape, ringShape, partsOf, RingRead, Outlined, Charted, areaLeast, Tells};
+ghost use Rattle.rings.specs.Parts.{positionShape, ringShape, Listing, partsOf, RingRead, RingRoom, Outlined, Charted, areaLeast, Tells};
 
 // Into the place of position i, where there is one for it.
 fn keep(xs: &mut [u64; 256], i: u32, v: u64)
@@ -34,7 +34,7 @@ fn keep(xs: &mut [u64; 256], i: u32, v: u64)
 // The positions of the ring p, the first with the number n.
 pub fn read_ring(p: &[u8], n: u32) -> RingPoints
     requires { ⌜ n + length (now p) < 2 ^ 32 ⌝ }
-    ensures { λ r. ⌜ RingRead n (partsOf positionShape (now (p .entry))) (length (now (p .entry))) r ⌝ }
+    ensures { λ r. ⌜ RingRoom (length (now (p .entry))) r × (Listing (now (p .entry)) → RingRead n (partsOf positionShape (now (p .entry))) r) ⌝ }
 {
     let mut lons: [u64; 256] = [0; 256];
     let mut lats: [u64; 256] = [0; 256];
@@ -42,7 +42,7 @@ pub fn read_ring(p: &[u8], n: u32) -> RingPoints
     let mut least = LeastFound::None;
     let mut at: usize = 1;
     loop {
-        let ItemStep::Found(item) = next_item(p, at) else {
+        let ItemStep::Found(item) = pass_item(p, at) else {
             return RingPoints {
                 lons,
                 lats,
@@ -92,7 +92,7 @@ fn judge_area(r: RingPoints, n: u32) -> LeastFound
 
 fn judge_positions(p: &[u8], n: u32) -> Judged
     requires { ⌜ n + length (now p) < 2 ^ 32 ⌝ }
-    ensures { λ r. ⌜ Tells (ringFound n (partsOf positionShape (now (p .entry)))) (length (partsOf positionShape (now (p .entry)))) (length (now (p .entry))) r ⌝ }
+    ensures { λ r. ⌜ (r .positions ≤ length (now (p .entry))) × (Listing (now (p .entry)) → Tells (ringFound n (partsOf positionShape (now (p .entry)))) (length (partsOf positionShape (now (p .entry)))) r) ⌝ }
 {
     let r = read_ring(p, n);
     let count = r.count;
@@ -109,7 +109,7 @@ fn judge_positions(p: &[u8], n: u32) -> Judged
 // An item of a polygon, whose first position has the number n.
 pub fn judge_ring(p: &[u8], n: u32) -> Judged
     requires { ⌜ n + length (now p) < 2 ^ 32 ⌝ }
-    ensures { λ r. ⌜ ((x : Json) → Whole (now (p .entry)) x → Tells (ring n (pick ringShape x)) (ringPositions (pick ringShape x)) (length (now (p .entry))) r) ⌝ }
+    ensures { λ r. ⌜ (r .positions ≤ length (now (p .entry))) × ((x : Json) → Whole (now (p .entry)) x → Tells (ring n (pick ringShape x)) (ringPositions (pick ringShape x)) r) ⌝ }
 {
     if !is_array(p) {
         return Judged {

@@ -6,7 +6,7 @@ use crate::position::is_array;
 use crate::ring::judge_ring;
 use limits::Limits;
 use walk::ItemStep;
-use walk::next_item;
+use walk::pass_item;
 use word::kind::Kind;
 ghost use mathlib.Core.Path.{_≡_};
 ghost use Prim.Native.Nat.{_+_, _<_, _≤_, _^_};
@@ -18,19 +18,19 @@ ghost use Rattle.schema.specs.Pick.{PickedItems, items as itemsAre, pick};
 ghost use Rattle.schema.specs.Table23.{coordinates};
 ghost use Rattle.rings.specs.Rings.{ring, ringPositions, polygon, polygonPositions, coordinatesFound};
 ghost use Rattle.rings.specs.Least.{leastFound};
-ghost use Rattle.rings.specs.Parts.{ringShape, polygonShape, partsOf, Tells, Tallied};
+ghost use Rattle.rings.specs.Parts.{ringShape, polygonShape, Listing, partsOf, Tells, Tallied};
 
 // The items of the polygon p, the first position of which has the number n.
 fn judge_rings(p: &[u8], n: u32) -> Tally
     requires { ⌜ n + length (now p) < 2 ^ 32 ⌝ }
-    ensures { λ r. ⌜ Tallied ring ringPositions n (partsOf ringShape (now (p .entry))) (length (now (p .entry))) r ⌝ }
+    ensures { λ r. ⌜ (r .positions ≤ length (now (p .entry))) × (Listing (now (p .entry)) → Tallied ring ringPositions n (partsOf ringShape (now (p .entry))) r) ⌝ }
 {
     let mut items: u32 = 0;
     let mut positions: u32 = 0;
     let mut least = LeastFound::None;
     let mut at: usize = 1;
     loop {
-        let ItemStep::Found(item) = next_item(p, at) else {
+        let ItemStep::Found(item) = pass_item(p, at) else {
             return Tally {
                 items,
                 positions,
@@ -51,7 +51,7 @@ fn judge_rings(p: &[u8], n: u32) -> Tally
 // An item of the coordinates, whose first position has the number n.
 fn judge_polygon(p: &[u8], n: u32) -> Judged
     requires { ⌜ n + length (now p) < 2 ^ 32 ⌝ }
-    ensures { λ r. ⌜ ((x : Json) → Whole (now (p .entry)) x → Tells (polygon n (pick polygonShape x)) (polygonPositions (pick polygonShape x)) (length (now (p .entry))) r) ⌝ }
+    ensures { λ r. ⌜ (r .positions ≤ length (now (p .entry))) × ((x : Json) → Whole (now (p .entry)) x → Tells (polygon n (pick polygonShape x)) (polygonPositions (pick polygonShape x)) r) ⌝ }
 {
     if !is_array(p) {
         return Judged {
@@ -70,14 +70,14 @@ fn judge_polygon(p: &[u8], n: u32) -> Judged
 // The items of the coordinates p, the first position of which has the number n.
 fn judge_polygons(p: &[u8], n: u32) -> Tally
     requires { ⌜ n + length (now p) < 2 ^ 32 ⌝ }
-    ensures { λ r. ⌜ Tallied polygon polygonPositions n (partsOf polygonShape (now (p .entry))) (length (now (p .entry))) r ⌝ }
+    ensures { λ r. ⌜ (r .positions ≤ length (now (p .entry))) × (Listing (now (p .entry)) → Tallied polygon polygonPositions n (partsOf polygonShape (now (p .entry))) r) ⌝ }
 {
     let mut items: u32 = 0;
     let mut positions: u32 = 0;
     let mut least = LeastFound::None;
     let mut at: usize = 1;
     loop {
-        let ItemStep::Found(item) = next_item(p, at) else {
+        let ItemStep::Found(item) = pass_item(p, at) else {
             return Tally {
                 items,
                 positions,

@@ -108,6 +108,20 @@ linesOf t = map lineOf (entriesOf t)
 abbrev pub lineAt : Table → ℕ → Line
 lineAt t i = getD (linesOf t) i noLine
 
+-- of each line, how many lines stand inside
+abbrev pub insidesOf : Table → List ℕ
+insidesOf t = map (λ l. l .inside) (linesOf t)
+
+-- the lines column by column
+pub record LineColumns (t : Table) (f n v i u m s : List ℕ) : Type 0 where
+  pub fields : f ≡ map (λ l. l .field) (linesOf t)
+  pub needs : n ≡ map (λ l. l .need) (linesOf t)
+  pub values : v ≡ map (λ l. l .value) (linesOf t)
+  pub items : i ≡ map (λ l. l .item) (linesOf t)
+  pub numberings : u ≡ map (λ l. l .numbering) (linesOf t)
+  pub most : m ≡ map (λ l. l .most) (linesOf t)
+  pub insides : s ≡ insidesOf t
+
 -- Where each of several lists stands once they are laid one after the other: its first place, and how many places it takes.
 unfoldable pub rangesFrom : {A : Type 0} → ℕ → List (List A) → List Range
 rangesFrom k [] = []
@@ -131,10 +145,6 @@ pub record NameColumns (t : Table) (b f n : List ℕ) : Type 0 where
   pub bytes : b ≡ flatten (namesOf t)
   pub firsts : f ≡ map (λ r. r .first) (rangesFrom 0 (namesOf t))
   pub counts : n ≡ map (λ r. r .count) (rangesFrom 0 (namesOf t))
-
--- of each line, how many lines stand inside
-abbrev pub insidesOf : Table → List ℕ
-insidesOf t = map (λ l. l .inside) (linesOf t)
 
 -- the words that a line's value is held to: all of an enum's, or the one text
 abbrev pub sortWords : Sort → List (List ℕ)

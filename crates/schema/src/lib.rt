@@ -23,6 +23,17 @@ pub struct Line {
     pub inside: u8,
 }
 
+// The same of all lines, column by column.
+pub struct LineTable {
+    pub fields: [u8; 92],
+    pub needs: [u8; 92],
+    pub values: [u8; 92],
+    pub items: [u8; 92],
+    pub numberings: [u8; 92],
+    pub most: [u16; 92],
+    pub insides: [u8; 92],
+}
+
 impl Line {
     // How many lines there are.
     pub const COUNT: usize = 92;

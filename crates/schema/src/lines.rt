@@ -1,11 +1,12 @@
 // The lines of table 2.3, column by column; in each column a row of text for each file.
 use crate::Line;
+use crate::LineTable;
 use crate::Range;
 use crate::from_u8;
 use limits::Limits;
 ghost use mathlib.Core.Path.{_≡_};
 ghost use Rattle.schema.specs.Table23.{table23};
-ghost use Rattle.schema.specs.Line.{lineAt, fileLines, insidesOf};
+ghost use Rattle.schema.specs.Line.{lineAt, LineColumns, fileLines, insidesOf};
 
 const FIELDS: [u8; 92] = *b"\
     \x01\x02\x03\x04\x05\x0a\x0b\x0c\x0d\x0e\
@@ -155,8 +156,33 @@ const FILE_FIRSTS: [u8; 7] = [0, 0, 10, 20, 35, 50, 72];
 
 const FILE_COUNTS: [u8; 7] = [0, 10, 10, 15, 15, 22, 20];
 
-// The line at a place, counted from 0; past the last one a line of zeros.
-pub fn line_at(i: usize) -> Line
+// The columns, for a walk that takes them once and lends them: a constant is laid out anew wherever it is named.
+pub fn line_columns() -> LineTable
+    ensures { λ r. ⌜ LineColumns table23 (r .fields) (r .needs) (r .values) (r .items) (r .numberings) (r .most) (r .insides) ⌝ }
+{
+    LineTable {
+        fields: FIELDS,
+        needs: NEEDS,
+        values: VALUES,
+        items: ITEMS,
+        numberings: NUMBERINGS,
+        most: MOST,
+        insides: INSIDE,
+    }
+}
+
+// The line at a place, counted from 0, by the columns that are lent; past the last one a line of zeros.
+pub fn line_at<'a>(
+    fields: &'a [u8; 92],
+    needs: &'a [u8; 92],
+    values: &'a [u8; 92],
+    items: &'a [u8; 92],
+    numberings: &'a [u8; 92],
+    most: &'a [u16; 92],
+    insides: &'a [u8; 92],
+    i: usize,
+) -> Line
+    requires { ⌜ LineColumns table23 (now fields) (now needs) (now values) (now items) (now numberings) (now most) (now insides) ⌝ }
     ensures { λ r. ⌜ r ≡ lineAt table23 i ⌝ }
 {
     if Line::COUNT <= i {
@@ -171,13 +197,13 @@ pub fn line_at(i: usize) -> Line
         };
     }
     Line {
-        field: FIELDS[i],
-        need: NEEDS[i],
-        value: VALUES[i],
-        item: ITEMS[i],
-        numbering: NUMBERINGS[i],
-        most: MOST[i],
-        inside: INSIDE[i],
+        field: fields[i],
+        need: needs[i],
+        value: values[i],
+        item: items[i],
+        numbering: numberings[i],
+        most: most[i],
+        inside: insides[i],
     }
 }
 

@@ -1,5 +1,5 @@
 -- One pass fills every slot: a member goes to the row of its name and leaves the other slots as they were, so each slot counts the members of
--- its own row's name. The places in the slots are members' places, whatever the rows.
+-- its own row's name. The places in the slots are in the text, whatever the rows.
 use mathlib.Core.Bool.{true, false}
 use mathlib.Core.List.{List, [], _∷_, foldl}
 use mathlib.Core.Path.{_≡_, refl, sym, ap, subst, _∙_}
@@ -12,17 +12,18 @@ use lib.Seq.{getD-set-same, getD-set-other}
 use borrow.Author.Tests.{lt-ltb, le-ltb, ltb-true, ltb-false}
 use Rattle.notation.specs.Choice.{_⇒_else_}
 use Rattle.lexeme.proofs.Steps.{by-test}
+use Rattle.json.specs.Tree.{Json, Members}
 use Rattle.text.specs.Text.{same}
 use Rattle.walk.specs.declared.Member.{Member}
 use Rattle.walk.specs.Walk.{membersOf}
+use Rattle.walk.specs.Part.{Whole}
 use Rattle.walk.proofs.Parts.{nameOf}
 use Rattle.slots.specs.declared.Found.{Found}
 use Rattle.slots.specs.declared.Found.the-variants.{Missing, Once, Twice}
 use Rattle.slots.specs.declared.Slots.{Slots}
 use Rattle.slots.specs.Found.{oneMore, noted, foundIn, Within}
 use Rattle.slots.specs.Rows.{mostRows, namesIn, lineNames, rowNamed}
-use Rattle.slots.specs.Slots.{empty, slotAt, putIn, absorbed, gathered, Gathered}
-use Rattle.slots.proofs.Finds.{fold-keeps, member-value}
+use Rattle.slots.specs.Slots.{slotsOf, empty, slotAt, putIn, absorbed, gathered, Gathered}
 use Rattle.slots.proofs.Named.{Apart, distinct-apart, names-laid, named-by, named-else}
 
 -- a slot by its state
@@ -47,10 +48,10 @@ module _ (s : Slots) (row : ℕ) where
 -- one value more, by the state
 module _ (s : Slots) (row from upto : ℕ) where
   abbrev pub putFirst : Slots
-  putFirst = record { state = set (s .state) row 1; from = set (s .from) row from; upto = set (s .upto) row upto }
+  putFirst = slotsOf (set (s .state) row 1) (set (s .from) row from) (set (s .upto) row upto)
 
   abbrev pub putAgain : Slots
-  putAgain = record { state = set (s .state) row 2; from = s .from; upto = s .upto }
+  putAgain = slotsOf (set (s .state) row 2) (s .from) (s .upto)
 
   pub put-past : mostRows ≤ row → putIn s row from upto ≡ s
   unfolding putIn
@@ -144,17 +145,20 @@ filled p names apart few j h =
     fold-filled names apart few j h p (membersOf p) empty empty-sized
     ∙ ap (λ (o : Found). foldl (noted p (getD names j [])) o (membersOf p)) (empty-missing j)
 
--- places
-record Kept (n : ℕ) (s : Slots) : Type 0 where
+-- places that are in n bytes, in each slot
+pub record Kept (n : ℕ) (s : Slots) : Type 0 where
   sized : Sized s
-  inside : (j : ℕ) → Within n (slotAt s j)
+  pub inside : (j : ℕ) → Within n (slotAt s j)
+
+pub empty-kept : (n : ℕ) → Kept n empty
+empty-kept n = record { sized = empty-sized; inside = λ j. subst (Within n) (sym (empty-missing j)) tt }
 
 more-within : (n from upto : ℕ) (o : Found) → from < upto → upto ≤ n → Within n (oneMore o from upto)
 more-within n from upto Missing h i = (h, i)
 more-within n from upto (Once a e) h i = tt
 more-within n from upto Twice h i = tt
 
-put-kept : (n : ℕ) (s : Slots) (row from upto : ℕ) → from < upto → upto ≤ n → Kept n s → Kept n (putIn s row from upto)
+pub put-kept : (n : ℕ) (s : Slots) (row from upto : ℕ) → from < upto → upto ≤ n → Kept n s → Kept n (putIn s row from upto)
 put-kept n s row from upto h i k =
     record {
       sized = put-sized s row from upto (k .sized);
@@ -168,17 +172,11 @@ put-kept n s row from upto h i k =
           ];
     }
 
-gathered-kept : (p : List ℕ) (names : List (List ℕ)) → Kept (length p) (gathered p names)
-unfolding gathered
-gathered-kept p names =
-    fold-keeps (Kept (length p)) (absorbed p names) (membersOf p) (λ s m i k.
-    let v = member-value p m i in put-kept (length p) s _ (m .value) (m .«value_end») (v .some) (v .inside) k)
-    empty (record { sized = empty-sized; inside = λ j. subst (Within (length p)) (sym (empty-missing j)) tt })
-
-pub gathers : (p : List ℕ) (first count : ℕ) (s : Slots) → s ≡ gathered p (lineNames first count) → Gathered p first count s
-gathers p first count s e =
+pub gathers : (p : List ℕ) (first count : ℕ) (s : Slots) → Kept (length p) s → ((ms : Members) → Whole p (Json.object ms) → s ≡ gathered p (lineNames first count))
+    → Gathered p first count s
+gathers p first count s k e =
     record {
-      slot = λ rows l c d few j h.
-          rw (e, names-laid rows first count l c few) (filled p (namesIn rows) (distinct-apart rows d) few j h);
-      inside = λ j. rw e (gathered-kept p _ .inside j);
+      slot = λ {ms} w rows l c d few j h.
+          rw (e ms w, names-laid rows first count l c few) (filled p (namesIn rows) (distinct-apart rows d) few j h);
+      inside = k .inside;
     }

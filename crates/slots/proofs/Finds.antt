@@ -84,7 +84,7 @@ fold-keeps P g [] keeps s h = h
 fold-keeps P g (m ∷ ms) keeps s h = fold-keeps P g ms (λ t n i. keeps t n (List·Memᴰ·tail i)) (g s m) (keeps s m (List·Memᴰ·head refl) h)
 
 module _ (p : List ℕ) where
-  pub member-value : (m : Member) → List·Memᴰ m (membersOf p) → Value p (m .value) (m .«value_end»)
+  member-value : (m : Member) → List·Memᴰ m (membersOf p) → Value p (m .value) (m .«value_end»)
   unfolding membersOf
   member-value =
       each (memberSteps p) (λ m. Value p (m .value) (m .«value_end»)) (λ at m e.

@@ -37,12 +37,12 @@ slotted-from p s (shape.row field need name σ rows) k h =
     let z : k ≡ k + 0 = omega arith in
     (ap (slotAt s) z ∙ h 0 (omega arith), slotted-from p s rows (k + 1) (λ j i. let n : k + 1 + j ≡ k + suc j = omega arith in ap (slotAt s) n ∙ h (suc j) (omega arith)))
 
-pub slotted : (p : List ℕ) (first count : ℕ) (s : Slots) → Gathered p first count s → (rows : Rows) → Laid table23 first rows → linesIn rows ≡ count
-    → distinctRows rows ≡ true → length (namesIn rows) ≤ mostRows → Slotted p s 0 rows
-slotted p first count s g rows l c d few =
-    slotted-from p s rows 0 (λ j h. let n : 0 + j ≡ j = omega arith in ap (slotAt s) n ∙ g .slot rows l c d few j h)
-
 module _ {p : List ℕ} {ms : Members} (w : Whole p (Json.object ms)) where
+  pub slotted : (first count : ℕ) (s : Slots) → Gathered p first count s → (rows : Rows) → Laid table23 first rows → linesIn rows ≡ count
+      → distinctRows rows ≡ true → length (namesIn rows) ≤ mostRows → Slotted p s 0 rows
+  slotted first count s g rows l c d few =
+      slotted-from p s rows 0 (λ j h. let n : 0 + j ≡ j = omega arith in ap (slotAt s) n ∙ g .slot w rows l c d few j h)
+
   pub pick-row : (field : ℕ) (need : Need) (name : List ℕ) (σ : Shape) (rows : Rows)
       → pickRows (shape.row field need name σ rows) ms ≡ put field (λ y. pick σ y) (given (treeIn p (foundIn p name))) (pickRows rows ms)
   unfolding pickRows

@@ -6,9 +6,11 @@ use Prim.Native.Nat.{ℕ, _≤_, _<_}
 use lib.Dec.{eqb, ltb}
 use lib.ListN.{length, getD, set, replicate}
 use Rattle.notation.specs.Choice.{_⇒_else_}
+use Rattle.json.specs.Tree.{Json, Members}
 use Rattle.text.specs.Text.{textOf}
 use Rattle.walk.specs.declared.Member.{Member}
 use Rattle.walk.specs.Walk.{part, membersOf}
+use Rattle.walk.specs.Part.{Whole}
 use Rattle.schema.specs.Shape.{Rows}
 use Rattle.schema.specs.Sound.{distinctRows}
 use Rattle.schema.specs.Table23.{table23}
@@ -19,9 +21,13 @@ use Rattle.slots.specs.declared.Slots.{Slots}
 use Rattle.slots.specs.Found.{foundIn, Within}
 use Rattle.slots.specs.Rows.{mostRows, namesIn, rowNamed}
 
+-- slots by their columns
+abbrev pub slotsOf : (state from upto : List ℕ) → Slots
+slotsOf state from upto = record { state = state; from = from; upto = upto }
+
 -- none filled
 abbrev pub empty : Slots
-empty = record { state = replicate mostRows 0; from = replicate mostRows 0; upto = replicate mostRows 0 }
+empty = slotsOf (replicate mostRows 0) (replicate mostRows 0) (replicate mostRows 0)
 
 -- a slot by its state: 0 missing, 1 once, else twice
 unfoldable pub slotAt : Slots → ℕ → Found
@@ -35,8 +41,8 @@ slotAt s row =
 unfoldable pub putIn : Slots → (row from upto : ℕ) → Slots
 putIn s row from upto =
     ltb row mostRows ⇒ (
-    eqb (getD (s .state) row 0) 0 ⇒ record { state = set (s .state) row 1; from = set (s .from) row from; upto = set (s .upto) row upto } else
-    record { state = set (s .state) row 2; from = s .from; upto = s .upto })
+    eqb (getD (s .state) row 0) 0 ⇒ slotsOf (set (s .state) row 1) (set (s .from) row from) (set (s .upto) row upto) else
+    slotsOf (set (s .state) row 2) (s .from) (s .upto))
     else s
 
 -- a member goes to the row of its name
@@ -48,8 +54,8 @@ gathered p names = foldl (absorbed p names) empty (membersOf p)
 
 -- `first` and `count` are lines of the table, r the slots that are filled for them from the object p
 pub record Gathered (p : List ℕ) (first count : ℕ) (r : Slots) : Type 0 where
-  -- whatever rows are laid out there, each slot is what p holds under its row's name
-  pub slot : (rows : Rows) → Laid table23 first rows → linesIn rows ≡ count → distinctRows rows ≡ true → length (namesIn rows) ≤ mostRows →
+  -- whatever rows are laid out there, each slot is what the whole object p holds under its row's name
+  pub slot : {ms : Members} → Whole p (Json.object ms) → (rows : Rows) → Laid table23 first rows → linesIn rows ≡ count → distinctRows rows ≡ true → length (namesIn rows) ≤ mostRows →
       (j : ℕ) → j < length (namesIn rows) → slotAt r j ≡ foundIn p (getD (namesIn rows) j [])
-  -- and whatever lines there are, its places are in p
+  -- and whatever lines and bytes there are, its places are in p
   pub inside : (j : ℕ) → Within (length p) (slotAt r j)

@@ -7,7 +7,7 @@ ghost use Rattle.walk.specs.Part.{Whole};
 ghost use Rattle.schema.specs.Line.{NameColumns, insidesOf};
 ghost use Rattle.schema.specs.Table23.{table23};
 ghost use Rattle.slots.specs.Rows.{lineCount, lineNames, rowNamed};
-ghost use Rattle.slots.specs.Slots.{slotAt, putIn, Gathered};
+ghost use Rattle.slots.specs.Slots.{slotsOf, slotAt, putIn, Gathered};
 ghost use Rattle.slots.specs.Blank.{blankText};
 use schema::Line;
 use schema::lines::insides;
@@ -16,7 +16,7 @@ use schema::names::name_counts;
 use schema::names::name_firsts;
 use schema::names::name_is;
 use walk::MemberStep;
-use walk::next_member;
+use walk::pass_member;
 
 // What an object holds under a name: nothing, a value from one place up to another, or more than one.
 pub enum Found {
@@ -27,9 +27,9 @@ pub enum Found {
 
 // A slot for each row of an object, in the rows' order: how often the row's name was met, and where the first value stands.
 pub struct Slots {
-    state: [u8; Slots::ROWS],
-    from: [usize; Slots::ROWS],
-    upto: [usize; Slots::ROWS],
+    pub state: [u8; Slots::ROWS],
+    pub from: [usize; Slots::ROWS],
+    pub upto: [usize; Slots::ROWS],
 }
 
 impl Slots {
@@ -46,35 +46,53 @@ impl Slots {
     pub fn slot(self, row: usize) -> Found
         ensures { λ r. ⌜ r ≡ slotAt self row ⌝ }
     {
-        if Slots::ROWS <= row {
-            return Found::Missing;
-        }
-        if self.state[row] == Slots::MISSING {
-            return Found::Missing;
-        }
-        if self.state[row] == Slots::ONCE {
-            return Found::Once(self.from[row], self.upto[row]);
-        }
-        return Found::Twice;
+        slot_in(&self.state, &self.from, &self.upto, row)
     }
+}
 
-    // The slots with one value more for a row.
-    // Shut out: a second value of one name that goes unseen.
-    fn with(self, row: usize, from: usize, upto: usize) -> Slots
-        ensures { λ r. ⌜ r ≡ putIn self row from upto ⌝ }
-    {
-        if Slots::ROWS <= row {
-            return self;
-        }
-        let mut t = self;
-        if t.state[row] == Slots::MISSING {
-            t.state[row] = Slots::ONCE;
-            t.from[row] = from;
-            t.upto[row] = upto;
-        } else {
-            t.state[row] = Slots::TWICE;
-        }
-        t
+// The same by the slots' columns, which are lent: nothing is copied.
+pub fn slot_in<'a>(
+    state: &'a [u8; Slots::ROWS],
+    from: &'a [usize; Slots::ROWS],
+    upto: &'a [usize; Slots::ROWS],
+    row: usize,
+) -> Found
+    ensures { λ r. ⌜ r ≡ slotAt (slotsOf (now (state .entry)) (now (from .entry)) (now (upto .entry))) row ⌝ }
+{
+    if Slots::ROWS <= row {
+        return Found::Missing;
+    }
+    if state[row] == Slots::MISSING {
+        return Found::Missing;
+    }
+    if state[row] == Slots::ONCE {
+        return Found::Once(from[row], upto[row]);
+    }
+    return Found::Twice;
+}
+
+// One value more for a row, from `a` up to `e`, in the slots' columns.
+// Shut out: a second value of one name that goes unseen.
+fn put(
+    state: &mut [u8; Slots::ROWS],
+    from: &mut [usize; Slots::ROWS],
+    upto: &mut [usize; Slots::ROWS],
+    row: usize,
+    a: usize,
+    e: usize,
+)
+    ensures { λ _. ⌜ slotsOf (now (state .exit)) (now (from .exit)) (now (upto .exit)) ≡
+        putIn (slotsOf (now (state .entry)) (now (from .entry)) (now (upto .entry))) row a e ⌝ }
+{
+    if Slots::ROWS <= row {
+        return;
+    }
+    if state[row] == Slots::MISSING {
+        state[row] = Slots::ONCE;
+        from[row] = a;
+        upto[row] = e;
+    } else {
+        state[row] = Slots::TWICE;
     }
 }
 
@@ -136,16 +154,14 @@ pub fn gather(p: &[u8], first: usize, count: usize) -> Slots
     let firsts = name_firsts();
     let counts = name_counts();
     let inner = insides();
-    let mut s = Slots {
-        state: [Slots::MISSING; Slots::ROWS],
-        from: [0; Slots::ROWS],
-        upto: [0; Slots::ROWS],
-    };
+    let mut state: [u8; Slots::ROWS] = [Slots::MISSING; Slots::ROWS];
+    let mut from: [usize; Slots::ROWS] = [0; Slots::ROWS];
+    let mut upto: [usize; Slots::ROWS] = [0; Slots::ROWS];
     let mut at: usize = 1;
     loop {
-        match next_member(p, at) {
+        match pass_member(p, at) {
             MemberStep::End => {
-                return s;
+                return Slots { state, from, upto };
             }
             MemberStep::Found(m) => {
                 let name = m.name;
@@ -159,7 +175,7 @@ pub fn gather(p: &[u8], first: usize, count: usize) -> Slots
                     first,
                     count,
                 );
-                s = s.with(row, m.value, m.value_end);
+                put(&mut state, &mut from, &mut upto, row, m.value, m.value_end);
                 at = m.next;
             }
         }

@@ -82,12 +82,12 @@ pub fn word_is(spelled: &[u8], plain: &[u8]) -> bool
     agrees(spelled, plain, 0, true)
 }
 
-// Two texts, both spelled, are the same.
-pub fn same_text(a: &[u8], b: &[u8]) -> bool
-    ensures { λ r. ⌜ r ≡ same (textOf (now (a .entry))) (textOf (now (b .entry))) ⌝ }
+// What two texts spell from `from` on is the same.
+fn same_from(a: &[u8], b: &[u8], from: usize) -> bool
+    ensures { λ r. ⌜ r ≡ same (textOf (drop from (now (a .entry)))) (textOf (drop from (now (b .entry)))) ⌝ }
 {
-    let mut c = cursor_at(0);
-    let mut d = cursor_at(0);
+    let mut c = cursor_at(from);
+    let mut d = cursor_at(from);
     loop {
         match next_byte(a, c) {
             Step::End => {
@@ -109,4 +109,24 @@ pub fn same_text(a: &[u8], b: &[u8]) -> bool
             }
         }
     }
+}
+
+// Two texts, both spelled, are the same. As long as their bytes are the same and stand for themselves, nothing is decoded.
+pub fn same_text(a: &[u8], b: &[u8]) -> bool
+    ensures { λ r. ⌜ r ≡ same (textOf (now (a .entry))) (textOf (now (b .entry))) ⌝ }
+{
+    let mut i: usize = 0;
+    while i < a.len() {
+        if b.len() <= i {
+            return same_from(a, b, i);
+        }
+        if a[i] != b[i] {
+            return same_from(a, b, i);
+        }
+        if !is_plain(a[i]) {
+            return same_from(a, b, i);
+        }
+        i += 1;
+    }
+    same_from(a, b, i)
 }

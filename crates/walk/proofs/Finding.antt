@@ -44,7 +44,7 @@ named-later p i j = lands-after quoted p i j (expect-eats 0x22 _ (string-eats pa
 pub valued-at : (p : List ℕ) (i j : ℕ) → scan.End j ≡ placed p (whole (drop i p)) → Lands whole p i j
 valued-at p i j = lands whole p i j (takes-leaves Ok whole (value-takes paired depth))
 
-failed : {A : Type 0} (p : List ℕ) (k n : ℕ) (o : Read A) → scan.Fault k n ≡ placed p o → (r : List ℕ) × (o ≡ bad k r)
+pub failed : {A : Type 0} (p : List ℕ) (k n : ℕ) (o : Read A) → scan.Fault k n ≡ placed p o → (r : List ℕ) × (o ≡ bad k r)
 unfolding placed
 failed p k n (done x r) e = let z : _≡_ {A = ℕ} 0 1 = cc in absurd (omega arith)
 failed p k n (bad j r) e = let w : j ≡ k = cc in (r, ap (λ (i : ℕ). bad i r) w)
@@ -79,7 +79,7 @@ module _ (p : List ℕ) (at i : ℕ) (k : Skipped p at i) where
       sym (item-here ∙ item-found p (drop i p) (v .reads) ∙ cc)
 
   -- a member
-  member-here : memberAt p at ≡ memberIn p (drop i p)
+  pub member-here : memberAt p at ≡ memberIn p (drop i p)
   unfolding memberAt
   member-here = ap (memberIn p) (sym (k .rest))
 

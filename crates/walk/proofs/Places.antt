@@ -15,44 +15,30 @@ use Rattle.lexeme.proofs.Steps.{by-test}
 use Rattle.lexeme.proofs.Shrinks.{blanks-shrinks}
 use Rattle.lexeme.proofs.Takes.{string-takes, string-eats}
 use Rattle.json.specs.Tree.{Json}
-use Rattle.json.specs.Text.{value}
-use Rattle.json.proofs.Takes.{value-eats, value-takes}
+use Rattle.json.specs.Text.{expect, value}
+use Rattle.json.proofs.Takes.{blanks-takes, expect-takes, value-eats, value-takes}
 use Rattle.walk.specs.declared.Member.{Member}
 use Rattle.walk.specs.declared.Item.{Item}
 use Rattle.walk.specs.declared.MemberStep.the-variants as members
 use Rattle.walk.specs.declared.ItemStep.the-variants as items
 use Rattle.walk.specs.Walk.{place, onward, memberAt, itemAt}
+pub use Rattle.walk.specs.Along.{Placed, ItemPlaced}
 use Rattle.walk.proofs.Rests.{Rest, rest-drop, rest-next, rest-blanks, rest-read, rest-inside, rest-there}
 use Rattle.walk.proofs.Steps.{expect-done, onward-end, onward-comma, onward-other, Reads, memberOf, itemOf, member-from, item-from}
 
--- a member in p, found at `at`
-pub record Placed (p : List ℕ) (at : ℕ) (m : Member) : Type 0 where
-  pub later : at < m .name
-  pub name : m .name ≤ m .«name_end»
-  pub apart : m .«name_end» + 1 < m .value
-  pub value : m .value < m .«value_end»
-  pub next : m .«value_end» ≤ m .next
-  pub inside : m .next ≤ length p
-
--- and what stands there
+-- what stands at the places of a member
 pub record Spelt (p : List ℕ) (at : ℕ) (m : Member) (text : List ℕ) (x : Json) : Type 0 where
   pub placed : Placed p at m
   pub spells : Strings.string paired 0 (drop (m .name) p) ≡ done text (drop (m .«name_end» + 1) p)
   pub reads : value paired depth (drop (m .value) p) ≡ done x (drop (m .«value_end») p)
 
--- an item in p, found at `at`
-pub record ItemPlaced (p : List ℕ) (at : ℕ) (m : Item) : Type 0 where
-  pub later : at ≤ m .value
-  pub value : m .value < m .«value_end»
-  pub next : m .«value_end» ≤ m .next
-  pub inside : m .next ≤ length p
-
+-- and at those of an item
 pub record ItemSpelt (p : List ℕ) (at : ℕ) (m : Item) (x : Json) : Type 0 where
   pub placed : ItemPlaced p at m
   pub reads : value paired depth (drop (m .value) p) ≡ done x (drop (m .«value_end») p)
 
 -- the next element is looked for at the end of this one or later
-onward-later : (p t : List ℕ) → length t ≤ length p → (place p t ≤ onward p (blanks t)) × (onward p (blanks t) ≤ length p)
+pub onward-later : (p t : List ℕ) → length t ≤ length p → (place p t ≤ onward p (blanks t)) × (onward p (blanks t) ≤ length p)
 onward-later p t h = go (blanks t) refl
   where
     go : (l : List ℕ) → blanks t ≡ l → (place p t ≤ onward p (blanks t)) × (onward p (blanks t) ≤ length p)
@@ -143,3 +129,13 @@ module _ (p : List ℕ) (at : ℕ) where
 
   pub item-placed : (m : Item) → itemAt p at ≡ items.Found m → ItemPlaced p at m
   item-placed m e = found-item m e .spelt .placed
+
+  -- the next member is looked for behind the value
+  pub next-found : (m : Member) → memberAt p at ≡ members.Found m → m .next ≡ onward p (blanks (drop (m .«value_end») p))
+  unfolding memberAt
+  next-found m e =
+      let f = member-from p (blanks (drop at p)) m e in
+      let sq = rest-read (expect 0x22 (Strings.string paired 0)) (expect-takes 0x22 _ (string-takes paired 0)) _ _ _ (f .reads .named) (rest-blanks (drop at p) (rest-drop at)) in
+      let after = expect-takes 0x3a (λ r. value paired depth (blanks r)) (blanks-takes (value paired depth) (value-eats paired depth) (value-takes paired depth)) in
+      let st : Rest p (f .afterValue) = rest-read (expect 0x3a (λ r. value paired depth (blanks r))) after _ _ _ (f .reads .valued) (rest-blanks (f .afterName) sq) in
+      ap (λ (z : Member). z .next) (f .is) ∙ ap (λ (l : List ℕ). onward p (blanks l)) (sym (ap (λ (z : Member). drop (z .«value_end») p) (f .is) ∙ rest-there st))

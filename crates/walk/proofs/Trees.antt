@@ -20,7 +20,7 @@ use Rattle.lexeme.proofs.Steps.{by-test, bad-done, done-what, made-done, then-d
 use Rattle.lexeme.proofs.Takes.{solid-first}
 use Rattle.json.specs.Tree as Tree
 use Rattle.json.specs.Tree.{Json}
-use Rattle.json.specs.Text.{expect, after, contents, bracketed, member, value}
+use Rattle.json.specs.Text.{expect, contents, bracketed, member, value}
 use Rattle.json.specs.Text.After.{closed, more}
 use Rattle.json.proofs.Steps.{contents-end, contents-none, contents-some, expect-here, expect-other, member-then, named}
 use Rattle.json.proofs.Bound.{Follows, at-close, at-comma, follows-as, Run, faulty, last, next, broken, run}
@@ -46,28 +46,34 @@ pub record Meets {M A : Type 0} (p : List ℕ) (w : Steps (length p) M) (f : M �
   pub is : f what ≡ x
   pub next : w .next what ≡ onward p (blanks r)
 
+-- what is looked at next, after an element that left the rest r of p: the closing bracket, or the element past the comma
+module _ (p : List ℕ) (close : ℕ) where
+  pub next-closes : (at : ℕ) (r q : List ℕ) → Rest p r → eqb close 0x2c ≡ false → Follows close r (closed q) → at ≡ onward p (blanks r)
+      → blanks (drop at p) ≡ close ∷ q
+  next-closes at r q s apart (at-close {b} i h) n =
+      let z : b ≡ close = eqb-true b close h in
+      let other : eqb b 0x2c ≡ false = ap (λ (c : ℕ). eqb c 0x2c) z ∙ apart in
+      let there : drop at p ≡ b ∷ q =
+      ap (λ (c : ℕ). drop c p) (n ∙ onward-other p b q i other ∙ ap (place p) (sym i)) ∙ rest-there (rest-blanks r s) ∙ i in
+      ap blanks there ∙ blanks-stop b q (solid-first r b q i) ∙ ap (λ (c : ℕ). c ∷ q) z
+
+  pub next-begins : (at : ℕ) (r q : List ℕ) → Rest p r → Follows close r (more q) → at ≡ onward p (blanks r) → blanks (drop at p) ≡ q
+  next-begins at r _ s (at-comma {b} {q} i h c) n =
+      ap (λ (z : ℕ). blanks (drop z p)) (n ∙ onward-comma p b q i c) ∙ ap blanks (rest-there (rest-next b q i (rest-blanks r s)))
+
+-- what an element leaves is a rest of p
+pub leaves : {A : Type 0} (p : List ℕ) (element : List ℕ → Read A) → Takes Ok element
+    → (at : ℕ) (x : A) (r : List ℕ) → element (blanks (drop at p)) ≡ done x r → Rest p r
+leaves p element takes at x r e = rest-read element takes (blanks (drop at p)) r x e (rest-blanks (drop at p) (rest-drop at))
+
 -- the elements of one sort, read by `element` up to the bracket `close`, and found by the steps w
 module _ {M A : Type 0} (p : List ℕ) (w : Steps (length p) M) (f : M → A) (close : ℕ) (element : List ℕ → Read A)
     (eats : Eats element) (takes : Takes Ok element)
     (meets : (at : ℕ) (x : A) (r : List ℕ) → element (blanks (drop at p)) ≡ done x r → Meets p w f at x r)
     (stops : (at : ℕ) (q : List ℕ) → blanks (drop at p) ≡ close ∷ q → w .Ends at) (apart : eqb close 0x2c ≡ false) where
-  -- what an element leaves is a rest of p
-  leaves : (at : ℕ) (x : A) (r : List ℕ) → element (blanks (drop at p)) ≡ done x r → Rest p r
-  leaves at x r e = rest-read element takes (blanks (drop at p)) r x e (rest-blanks (drop at p) (rest-drop at))
-
   -- at the closing bracket nothing is found
   none-closed : (k at : ℕ) (r q : List ℕ) → Rest p r → Follows close r (closed q) → at ≡ onward p (blanks r) → w .from k at ≡ []
-  none-closed k at r q s (at-close {b} i h) n =
-      let z : b ≡ close = eqb-true b close h in
-      let other : eqb b 0x2c ≡ false = ap (λ (c : ℕ). eqb c 0x2c) z ∙ apart in
-      let there : drop at p ≡ b ∷ q =
-      ap (λ (c : ℕ). drop c p) (n ∙ onward-other p b q i other ∙ ap (place p) (sym i)) ∙ rest-there (rest-blanks r s) ∙ i in
-      w .end k at (stops at q (ap blanks there ∙ blanks-stop b q (solid-first r b q i) ∙ ap (λ (c : ℕ). c ∷ q) z))
-
-  -- after a comma the next element begins
-  next-begins : (at : ℕ) (r q : List ℕ) → Rest p r → Follows close r (more q) → at ≡ onward p (blanks r) → blanks (drop at p) ≡ q
-  next-begins at r _ s (at-comma {b} {q} i h c) n =
-      ap (λ (z : ℕ). blanks (drop z p)) (n ∙ onward-comma p b q i c) ∙ ap blanks (rest-there (rest-next b q i (rest-blanks r s)))
+  none-closed k at r q s h n = w .end k at (stops at q (next-closes p close at r q s apart h n))
 
   run-met : {l : List ℕ} {o : Read (List A)} → Run close element l o → (xs : List A) (r : List ℕ) → o ≡ done xs r
       → (k at : ℕ) → blanks (drop at p) ≡ l → length p ≤ at + k → map f (w .from k at) ≡ xs
@@ -77,14 +83,14 @@ module _ {M A : Type 0} (p : List ℕ) (w : Steps (length p) M) (f : M → A) (c
       let g = ap element h ∙ e in
       let t = meets at x m g in
       let c = one-more w k at (t .what) (t .finds) n in
-      ap (map f) (c .2 ∙ ap (λ (z : List M). t .what ∷ z) (none-closed (c .0) (w .next (t .what)) m q (leaves at x m g) (follows-as close m j) (t .next)))
+      ap (map f) (c .2 ∙ ap (λ (z : List M). t .what ∷ z) (none-closed (c .0) (w .next (t .what)) m q (leaves p element takes at x m g) (follows-as close m j) (t .next)))
       ∙ ap (λ (z : A). z ∷ []) (t .is) ∙ done-what i
   run-met (next {r = m} {q = q} {x = x} {o = o} e j u) xs r i k at h n =
       let g = ap element h ∙ e in
       let t = meets at x m g in
       let c = one-more w k at (t .what) (t .finds) n in
       let y = made-done (λ ys. x ∷ ys) o xs r i in
-      let b = next-begins (w .next (t .what)) m q (leaves at x m g) (follows-as close m j) (t .next) in
+      let b = next-begins p close (w .next (t .what)) m q (leaves p element takes at x m g) (follows-as close m j) (t .next) in
       ap (map f) (c .2)
       ∙ ap (λ (z : List A). f (t .what) ∷ z) (run-met u (y .0) r (y .1) (c .0) (w .next (t .what)) b (c .1))
       ∙ ap (λ (z : A). z ∷ y .0) (t .is) ∙ y .2
@@ -103,12 +109,12 @@ module _ {M A : Type 0} (p : List ℕ) (w : Steps (length p) M) (f : M → A) (c
           (sym (contents-some close element b q t) ∙ ap (contents close element) (sym h) ∙ e) (length p) at h (omega arith))
 
 -- within fewer levels, and within all
-deepen : (d : ℕ) → d ≤ depth → (l r : List ℕ) (x : Json) → value paired d l ≡ done x r → value paired depth l ≡ done x r
+pub deepen : (d : ℕ) → d ≤ depth → (l r : List ℕ) (x : Json) → value paired d l ≡ done x r → value paired depth l ≡ done x r
 deepen d h l r x e = ends-too (value-goes-depth paired h l) e
 
 -- items
 module _ (p : List ℕ) where
-  item-meets : (d : ℕ) → d ≤ depth → (at : ℕ) (x : Json) (r : List ℕ) → value paired d (blanks (drop at p)) ≡ done x r
+  pub item-meets : (d : ℕ) → d ≤ depth → (at : ℕ) (x : Json) (r : List ℕ) → value paired d (blanks (drop at p)) ≡ done x r
       → Meets p (itemSteps p) (λ m. treeOf (itemOf p m)) at x r
   unfolding itemAt
   item-meets d h at x r e =
@@ -116,7 +122,7 @@ module _ (p : List ℕ) where
       let g = deepen d h l r x e in
       record { what = _; finds = item-found p l g; is = item-tree (item-spelt p at g); next = refl }
 
-  item-stops : (at : ℕ) (q : List ℕ) → blanks (drop at p) ≡ 0x5d ∷ q → itemAt p at ≡ items.End
+  pub item-stops : (at : ℕ) (q : List ℕ) → blanks (drop at p) ≡ 0x5d ∷ q → itemAt p at ≡ items.End
   unfolding itemAt start digit within
   item-stops at q e = item-none p (blanks (drop at p)) (ap (value paired depth) e ∙ value-none depth (0x5d ∷ q) refl)
 
@@ -135,7 +141,7 @@ module _ (p : List ℕ) where
   memberTree m = (nameOf p m, treeOf (valueOf p m))
 
   -- a member as reading has it, and as a step has it
-  member-reads : (d : ℕ) → d ≤ depth → (l r : List ℕ) (y : List ℕ × Json) → member paired (value paired d) l ≡ done y r → (q : List ℕ) × Reads l (y .0) (y .1) q r
+  pub member-reads : (d : ℕ) → d ≤ depth → (l r : List ℕ) (y : List ℕ × Json) → member paired (value paired d) l ≡ done y r → (q : List ℕ) × Reads l (y .0) (y .1) q r
   member-reads d h l r y e =
       let a = then-done (expect 0x22 (Strings.string paired 0) l) (named (value paired d)) y r (sym (member-then paired (value paired d) l) ∙ e) in
       let q = a .1 in
@@ -149,7 +155,7 @@ module _ (p : List ℕ) where
         },
       )
 
-  member-meets : (d : ℕ) → d ≤ depth → (at : ℕ) (y : List ℕ × Json) (r : List ℕ) → member paired (value paired d) (blanks (drop at p)) ≡ done y r
+  pub member-meets : (d : ℕ) → d ≤ depth → (at : ℕ) (y : List ℕ × Json) (r : List ℕ) → member paired (value paired d) (blanks (drop at p)) ≡ done y r
       → Meets p (memberSteps p) memberTree at y r
   unfolding memberAt
   member-meets d h at y r e =
@@ -164,7 +170,7 @@ module _ (p : List ℕ) where
         next = refl;
       }
 
-  member-stops : (at : ℕ) (q : List ℕ) → blanks (drop at p) ≡ 0x7d ∷ q → memberAt p at ≡ members.End
+  pub member-stops : (at : ℕ) (q : List ℕ) → blanks (drop at p) ≡ 0x7d ∷ q → memberAt p at ≡ members.End
   unfolding memberAt
   member-stops at q e = member-unnamed p (blanks (drop at p)) (ap (expect 0x22 (Strings.string paired 0)) e ∙ expect-other 0x22 _ 0x7d q refl)
 

@@ -1,14 +1,13 @@
 -- The laws of one whole value that every judge cites: its tree is the only one, its first byte tells its kind, and a scalar is read off
 -- its bytes. For arrays and objects, what stands between the brackets is read with a level less.
 use mathlib.Core.Bool.{Bool, true, false}
-use mathlib.Core.List.{List, [], _∷_, append-nil}
+use mathlib.Core.List.{List, [], _∷_, _++_, append-nil}
 use mathlib.Core.Path.{_≡_, refl, sym, ap, subst, _∙_}
 use Prim.Native.Nat.{ℕ, zero, suc, _-_, _≤_, _<_}
 use native.Mathlib.Omega.{arith}
 use lib.ListN.{length, drop, take, getD, length-append, length-drop}
 use lib.Seq.{take-at}
 use lib.Dec.{eqb}
-use borrow.Author.Tests.{eqb-true}
 use Rattle.limits.specs.Ceilings.{depth}
 use Rattle.notation.specs.Ascii.{bytes}
 use Rattle.lexeme.specs.Read.{Read, made}
@@ -16,8 +15,8 @@ use Rattle.lexeme.specs.Read.Read.{done, bad}
 use Rattle.lexeme.specs.Character.{paired, byte}
 use Rattle.lexeme.specs.Strings as Strings
 use Rattle.lexeme.specs.Numbers as Numbers
-use Rattle.lexeme.specs.Tokens.{literal, Start, start}
-use Rattle.lexeme.proofs.Steps.{by-test, bad-done, made-done, literal-differs}
+use Rattle.lexeme.specs.Tokens.{Start, start}
+use Rattle.lexeme.proofs.Steps.{bad-done, made-done}
 use Rattle.lexeme.proofs.Takes.{string-spelled, string-eats}
 use Rattle.lexeme.proofs.Spells.{number-spells, literal-spells}
 use Rattle.json.specs.Tree as Tree
@@ -40,10 +39,15 @@ OpenedArray d p r is = Opened d 0x5d (value paired) Tree.itemsOf p r is
 abbrev pub OpenedObject : ℕ → List ℕ → List ℕ → Tree.Members → Type 0
 OpenedObject d p r ms = Opened d 0x7d (λ e. member paired (value paired e)) Tree.membersOf p r ms
 
+-- the words of the two truths
+abbrev pub wordOf : Bool → List ℕ
+wordOf true = bytes "true"
+wordOf false = bytes "false"
+
 -- what reading a value of the tree x from the front of p, up to the rest r, has read
 abbrev Content : ℕ → List ℕ → List ℕ → Json → Type 0
-Content d p r Json.null = Unit {0}
-Content d p r (Json.boolean b) = eqb (byte p 0) 0x74 ≡ b
+Content d p r Json.null = p ≡ bytes "null" ++ r
+Content d p r (Json.boolean b) = p ≡ wordOf b ++ r
 Content d p r (Json.number s) = Numbers.number p ≡ done s r
 Content d p r (Json.string y) = Strings.string paired 0 (drop 1 p) ≡ done y r
 Content d p r (Json.array is) = OpenedArray d p r is
@@ -77,9 +81,6 @@ brackets (suc d) =
           (Tree.membersOf (k .0), record { levels = d; less = refl; elements = k .0; reads = k .1; is = refl }, k .2);
     }
 
-literal-first : {A : Type 0} (c : ℕ) (w : List ℕ) (x : A) (b : ℕ) (l r : List ℕ) (y : A) → literal (c ∷ w) x (b ∷ l) ≡ done y r → b ≡ c
-literal-first c w x b l r y e = by-test (eqb b c) (λ h. eqb-true b c h) (λ h. bad-done (sym (literal-differs b x c w l h) ∙ e))
-
 origin : (d : ℕ) (p r : List ℕ) (x : Json) → value paired d p ≡ done x r → Origin d p r x
 unfolding valueBy valueAt
 origin d [] r x e = bad-done (sym (brackets d .by []) ∙ e)
@@ -100,14 +101,14 @@ origin d (b ∷ l) r x e = go (start b) refl
     go Start.array h = let m = k .array (b ∷ l) r x (rw (valueBy, valueAt, h) at reads) in told h refl (m .1) (m .2)
     go Start.object h = let m = k .object (b ∷ l) r x (rw (valueBy, valueAt, h) at reads) in told h refl (m .1) (m .2)
     go Start.letterT h =
-        let f : literal (bytes "true") (Json.boolean true) (b ∷ l) ≡ done x r = rw (valueBy, valueAt, h) at reads in
-        told {y = Json.boolean true} h refl (ap (λ (z : ℕ). eqb z 0x74) (literal-first 0x74 _ _ b l r x f)) (literal-spells _ _ (b ∷ l) r x f .1)
+        let f = literal-spells (bytes "true") (Json.boolean true) (b ∷ l) r x (rw (valueBy, valueAt, h) at reads) in
+        told {y = Json.boolean true} h refl (f .0) (f .1)
     go Start.letterF h =
-        let f : literal (bytes "false") (Json.boolean false) (b ∷ l) ≡ done x r = rw (valueBy, valueAt, h) at reads in
-        told {y = Json.boolean false} h refl (ap (λ (z : ℕ). eqb z 0x74) (literal-first 0x66 _ _ b l r x f)) (literal-spells _ _ (b ∷ l) r x f .1)
+        let f = literal-spells (bytes "false") (Json.boolean false) (b ∷ l) r x (rw (valueBy, valueAt, h) at reads) in
+        told {y = Json.boolean false} h refl (f .0) (f .1)
     go Start.letterN h =
-        let f : literal (bytes "null") Json.null (b ∷ l) ≡ done x r = rw (valueBy, valueAt, h) at reads in
-        told {y = Json.null} h refl tt (literal-spells _ _ (b ∷ l) r x f .1)
+        let f = literal-spells (bytes "null") Json.null (b ∷ l) r x (rw (valueBy, valueAt, h) at reads) in
+        told {y = Json.null} h refl (f .0) (f .1)
     go Start.other h = bad-done (rw (valueBy, valueAt, h) at reads)
 
 -- the laws
@@ -124,20 +125,33 @@ module _ {p : List ℕ} {x : Json} (w : Whole p x) where
   whole-kind = origin depth p [] x (w .reads) .kind
 
 module _ {p : List ℕ} where
+  pub whole-null : Whole p Json.null → p ≡ bytes "null"
+  whole-null w = origin depth p [] _ (w .reads) .content
+
+  pub whole-word : {b : Bool} → Whole p (Json.boolean b) → p ≡ wordOf b
+  whole-word {b} w = origin depth p [] _ (w .reads) .content ∙ append-nil (wordOf b)
+
   pub whole-boolean : {b : Bool} → Whole p (Json.boolean b) → eqb (getD p 0 0) 0x74 ≡ b
-  whole-boolean w = origin depth p [] _ (w .reads) .content
+  whole-boolean {b = true} w = ap (λ (q : List ℕ). eqb (getD q 0 0) 0x74) (whole-word w)
+  whole-boolean {b = false} w = ap (λ (q : List ℕ). eqb (getD q 0 0) 0x74) (whole-word w)
+
+  pub number-read : {s : List ℕ} → Whole p (Json.number s) → Numbers.number p ≡ done s []
+  number-read w = origin depth p [] _ (w .reads) .content
 
   pub whole-number : {s : List ℕ} → Whole p (Json.number s) → s ≡ p
-  whole-number {s} w = sym (number-spells p [] s (origin depth p [] _ (w .reads) .content) ∙ append-nil s)
+  whole-number {s} w = sym (number-spells p [] s (number-read w) ∙ append-nil s)
+
+  pub string-read : {y : List ℕ} → Whole p (Json.string y) → Strings.string paired 0 (drop 1 p) ≡ done y []
+  string-read w = origin depth p [] _ (w .reads) .content
 
   pub whole-string : {y : List ℕ} → Whole p (Json.string y) → y ≡ Strings.decoded paired 0 (inside p)
   whole-string {y} w =
-      let s = string-spelled paired 0 (drop 1 p) y [] (origin depth p [] _ (w .reads) .content) in
+      let s = string-spelled paired 0 (drop 1 p) y [] (string-read w) in
       let n : length (s .part) ≡ length p - 2 = omega (arith, ap length (s .splits), length-append (s .part) (0x22 ∷ []), length-drop 1 p) in
       sym (s .decodes) ∙ ap (Strings.decoded paired 0) (sym (ap (take (length p - 2)) (s .splits) ∙ take-at (s .part) (0x22 ∷ []) (length p - 2) n))
 
   pub whole-quotes : {y : List ℕ} → Whole p (Json.string y) → 2 ≤ length p
-  whole-quotes {y} w = omega (arith, string-eats paired 0 (drop 1 p) [] y (origin depth p [] _ (w .reads) .content), length-drop 1 p)
+  whole-quotes {y} w = omega (arith, string-eats paired 0 (drop 1 p) [] y (string-read w), length-drop 1 p)
 
   pub whole-array : {is : Tree.Items} → Whole p (Json.array is) → OpenedArray depth p [] is
   whole-array w = origin depth p [] _ (w .reads) .content

@@ -11,10 +11,11 @@ use Rattle.walk.specs.declared.Item.{Item}
 use Rattle.walk.specs.declared.ValueKind.the-variants as kind
 use Rattle.walk.specs.Walk.{part, onward, memberIn, memberAt, membersFrom, membersOf, itemIn, itemAt, itemsFrom, itemsOf}
 use Rattle.walk.specs.Part.{treeOf, kindAt, inside}
+use Rattle.walk.specs.Skip.{quoted, enclosed, numbered, skipped}
 
 -- opens every definition of this layer
 unfoldable pub walking : Unit {0}
-unfolding reading onward memberIn memberAt membersFrom membersOf itemIn itemAt itemsFrom itemsOf treeOf kindAt
+unfolding reading onward memberIn memberAt membersFrom membersOf itemIn itemAt itemsFrom itemsOf treeOf kindAt quoted enclosed numbered skipped
 walking = tt
 
 abbrev at : ℕ → ℕ → ℕ → ℕ → ℕ → Member
@@ -75,3 +76,20 @@ kinds : kindAt (bytes "-1") ∷ kindAt (bytes "\"\"") ∷ kindAt (bytes "true") 
     ≡ kind.Number ∷ kind.String ∷ kind.Boolean ∷ kind.Null ∷ kind.Array ∷ kind.Object ∷ kind.Null ∷ []
 unfolding walking
 kinds = refl
+
+string-skipped : skipped (bytes "\"a\\\"]\\\\\",1") ≡ bytes ",1"
+unfolding walking
+string-skipped = refl
+
+brackets-in-strings-are-passed : skipped (bytes "[\"]\",{\"}\":[]}, 2]}") ≡ bytes "}"
+unfolding walking
+brackets-in-strings-are-passed = refl
+
+others-skipped : skipped (bytes "-1.5e3]") ∷ skipped (bytes "true,") ∷ skipped (bytes "false}") ∷ skipped (bytes "null ") ∷ []
+    ≡ bytes "]" ∷ bytes "," ∷ bytes "}" ∷ bytes " " ∷ []
+unfolding walking
+others-skipped = refl
+
+nothing-skipped : skipped (bytes "]") ∷ skipped (bytes "-,") ∷ skipped [] ∷ [] ≡ bytes "]" ∷ bytes "-," ∷ [] ∷ []
+unfolding walking
+nothing-skipped = refl

@@ -1,3 +1,6 @@
 pub mod Walk
 pub mod Part
+pub mod Skip
+pub mod Along
+pub mod Tail
 pub mod Cases

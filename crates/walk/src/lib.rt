@@ -1,9 +1,14 @@
 // One level of a JSON value's bytes at a time: the members of an object, the items of an array, the kind of a value.
 ghost use mathlib.Core.Path.{_≡_};
+ghost use Prim.Native.Nat.{ℕ};
 ghost use lib.ListN.{drop};
 ghost use Rattle.lexeme.specs.Tokens.{blanks};
 ghost use Rattle.walk.specs.Walk.{onward, memberAt, itemAt};
 ghost use Rattle.walk.specs.Part.{kindAt};
+ghost use Rattle.walk.specs.Along.{ItemPassed, MemberPassed, NamePassed};
+ghost use Rattle.walk.specs.declared.NameStep.the-variants as names;
+use crate::skip::skip_value;
+use crate::skip::string_end;
 use json::reader::name_by;
 use json::reader::read_value;
 use json::reader::value_by;
@@ -15,6 +20,9 @@ use lexeme::class::class_table;
 use lexeme::front::first;
 use limits::Limits;
 
+pub mod skip;
+pub mod tail;
+
 // A member of an object: where the text of its name stands, without the quotation marks; where its value stands; where the next member is looked for.
 pub struct Member {
     pub name: usize,
@@ -22,6 +30,18 @@ pub struct Member {
     pub value: usize,
     pub value_end: usize,
     pub next: usize,
+}
+
+// Its front: where the text of its name stands, and where its value begins.
+pub struct Named {
+    pub name: usize,
+    pub name_end: usize,
+    pub value: usize,
+}
+
+pub enum NameStep {
+    End,
+    Found(Named),
 }
 
 pub enum MemberStep {
@@ -51,7 +71,7 @@ pub enum ValueKind {
     Object,
 }
 
-// The member of the object `p` that is looked for at `at`.
+// The member of the object `p` that is looked for at `at`, read whole: for any bytes.
 pub fn next_member(p: &[u8], at: usize) -> MemberStep
     ensures { λ r. ⌜ r ≡ memberAt (now (p .entry)) at ⌝ }
 {
@@ -77,7 +97,7 @@ pub fn next_member(p: &[u8], at: usize) -> MemberStep
     })
 }
 
-// The item of the array `p` that is looked for at `at`.
+// The item of the array `p` that is looked for at `at`, read whole: for any bytes.
 pub fn next_item(p: &[u8], at: usize) -> ItemStep
     ensures { λ r. ⌜ r ≡ itemAt (now (p .entry)) at ⌝ }
 {
@@ -85,6 +105,73 @@ pub fn next_item(p: &[u8], at: usize) -> ItemStep
     let Scan::End(value_end) = read_value(p, value, Limits::DEPTH) else {
         return ItemStep::End;
     };
+    ItemStep::Found(Item {
+        value: value,
+        value_end: value_end,
+        next: next_place(p, value_end),
+    })
+}
+
+// As `next_member`, with name and value passed over and not read: the same for an object that stage A passed, and in order in any bytes.
+pub fn pass_member(p: &[u8], at: usize) -> MemberStep
+    ensures { λ r. ⌜ MemberPassed (now (p .entry)) at r ⌝ }
+{
+    match pass_name(p, at) {
+        NameStep::End => {
+            return MemberStep::End;
+        }
+        NameStep::Found(n) => {
+            return pass_value(p, n);
+        }
+    }
+}
+
+// The front of a member alone.
+pub fn pass_name(p: &[u8], at: usize) -> NameStep
+    ensures { λ r. ⌜ NamePassed (now (p .entry)) at r ⌝ }
+{
+    let quote = skip_blanks(p, at);
+    if first(p, quote) != b'"' {
+        return NameStep::End;
+    }
+    let closed = string_end(p, quote + 1);
+    let colon = skip_blanks(p, closed);
+    if first(p, colon) != b':' {
+        return NameStep::End;
+    }
+    NameStep::Found(Named {
+        name: quote + 1,
+        name_end: closed - 1,
+        value: skip_blanks(p, colon + 1),
+    })
+}
+
+// And the whole member, its value passed over.
+pub fn pass_value(p: &[u8], n: Named) -> MemberStep
+    ensures { λ r. ⌜ ((at : ℕ) → NamePassed (now (p .entry)) at (names.Found n) → MemberPassed (now (p .entry)) at r) ⌝ }
+{
+    let value_end = skip_value(p, n.value);
+    if value_end <= n.value {
+        return MemberStep::End;
+    }
+    MemberStep::Found(Member {
+        name: n.name,
+        name_end: n.name_end,
+        value: n.value,
+        value_end: value_end,
+        next: next_place(p, value_end),
+    })
+}
+
+// As `next_item`, with the value passed over and not read: the same for an array that stage A passed, and in order in any bytes.
+pub fn pass_item(p: &[u8], at: usize) -> ItemStep
+    ensures { λ r. ⌜ ItemPassed (now (p .entry)) at r ⌝ }
+{
+    let value = skip_blanks(p, at);
+    let value_end = skip_value(p, value);
+    if value_end <= value {
+        return ItemStep::End;
+    }
     ItemStep::Found(Item {
         value: value,
         value_end: value_end,

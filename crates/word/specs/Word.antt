@@ -14,6 +14,10 @@ use Rattle.word.specs.declared.Reading.{Reading}
 use Rattle.word.specs.declared.Reading.the-variants.{NoWord, Word}
 use Rattle.word.specs.Form.{Form, form1}
 
+-- the parts of an answer that has none
+abbrev pub noParts : Parts
+noParts = record { file = 0; kind = 0; field = 0; «record» = 0; sub = 0; offset = 0 }
+
 -- the fields' values, in the layout's order
 abbrev pub valuesOf : Form → Parts → List ℕ
 valuesOf φ p = φ .number ∷ p .file ∷ p .kind ∷ p .field ∷ p .«record» ∷ p .sub ∷ p .offset ∷ []
@@ -70,7 +74,7 @@ pub record Answer : Type 0 where
 
 abbrev pub answer : Reading → Answer
 answer NoWord =
-    record { number = 3; parts = record { file = 0; kind = 0; field = 0; «record» = 0; sub = 0; offset = 0 } }
+    record { number = 3; parts = noParts }
 answer (Word p) = record { number = 0; parts = p }
 
 -- the question "read a word" of form 1

@@ -1,72 +1,43 @@
--- In a zone without a fault nothing is found in its coordinates, so nothing in any polygon or ring of it; and no part is longer than the whole.
-use mathlib.Core.Bool.{Bool, true, false}
+-- In a zone without a fault nothing is found in its coordinates, so nothing in any polygon or ring of it; its geometry and its properties are there,
+-- whole.
 use mathlib.Core.List.{List, [], _∷_, map, append-eq-nil-iff}
-use mathlib.Core.Path.{_≡_, refl, sym, ap, _∙_}
-use Prim.Native.Nat.{ℕ, _-_, _≤_}
+use mathlib.Core.Path.{_≡_, refl, sym, ap, subst, _∙_}
+use Prim.Native.Nat.{ℕ, _≤_}
 use native.Mathlib.Omega.{arith}
 use lib.Dec.{eqb, leb}
-use lib.ListN.{length, take, drop, length-take, length-drop, length-map}
+use lib.ListN.{length, take, length-take, length-map}
 use Rattle.limits.specs.Ceilings as ceiling
 use Rattle.notation.specs.Ascii.{bytes}
-use Rattle.notation.specs.Choice.{_⇒_else_}
 use Rattle.json.specs.Tree.{Json}
 use Rattle.walk.specs.declared.Item.{Item}
-use Rattle.walk.specs.Walk.{part}
-use Rattle.walk.specs.Part.{Whole, treeOf, kindAt}
+use Rattle.walk.specs.Part.{Whole, treeOf}
+use Rattle.walk.proofs.Wholes.{whole-tree}
 use Rattle.walk.proofs.Parts.{itemOf}
 use Rattle.schema.specs.Shape as shape
+use Rattle.schema.specs.Shape.{Shape, Rows}
 use Rattle.schema.specs.Table23.{zone, coordinates}
 use Rattle.schema.specs.Pick.{Picked, PickedItems, bare, items, slots, pick, listOf}
-use Rattle.slots.specs.declared.Found as found
-use Rattle.slots.specs.declared.Found.the-variants.{Missing, Once, Twice}
-use Rattle.slots.specs.Found.{foundIn}
-use Rattle.slots.specs.Blank.{blankText}
 use Rattle.word.specs.Kinds.{tooMany, badRing}
 use Rattle.scalar.specs.Scalars.{unless}
 use Rattle.rings.specs.Rings.{Found, at, count, ring, ringFound, ringsFound, position, polygon, polygonsFound, coordinatesFound}
 use Rattle.rings.specs.Parts.{ringShape, polygonShape, picked, partsOf, Outlined}
 use Rattle.rings.specs.declared.RingPoints.{RingPoints}
 use Rattle.geometry.specs.Shifted.{InRange, points}
-use Rattle.rings.proofs.Picked.{items-parts}
+use Rattle.rings.proofs.Picked.{Listed, items-parts}
 use Rattle.judge.specs.declared.Place.{Place}
 use Rattle.judge.specs.Faults.{faulty, numbered, faults}
-use Rattle.document.specs.Document.{elements, elementsOf}
-use Rattle.fields.specs.Values.{code, foundBytes, memberOf, arrayBy}
-use Rattle.clean.proofs.Faultless.{here, below, Demands, arrived, into, demands-there}
+use Rattle.document.specs.Document.{Maybe, none, some, elements, elementsOf, field, along}
+use Rattle.document.proofs.Fields.{none-some}
+use Rattle.fields.specs.Values.{memberOf}
+use Rattle.fields.proofs.Sizes.{part-short, member-short, array-short}
+use Rattle.fields.proofs.Values.{Holds, member-holds}
+use Rattle.clean.proofs.Faultless.{Requires, here, below, lists, Demands, arrived, into, demands-there}
 use Rattle.zone.specs.Clean.{CleanRing, CleanItems, CleanZone}
-use Rattle.zone.proofs.Zoned.{polygonBytes, zone-polygons}
+use Rattle.zone.proofs.Fields.{member-listing}
+use Rattle.zone.proofs.Zoned.{polygonBytes, propertyBytes, zone-polygons}
 
 cons-nil : {A B : Type 0} {x : A} {l : List A} → x ∷ l ≡ [] → B
 cons-nil e = let z : _≡_ {A = ℕ} 0 1 = cc in absurd (omega arith)
-
--- sizes
-pub part-short : (p : List ℕ) (from upto : ℕ) → length (part p from upto) ≤ length p
-part-short p from upto = omega (arith, length-take (upto - from) (drop from p), length-drop from p)
-
-member-short : (p name : List ℕ) → length (memberOf p name) ≤ length p
-unfolding memberOf
-member-short p name = go (eqb (code (kindAt p)) 5)
-  where
-    unless-blank : (t : Bool) (from upto : ℕ) → length (t ⇒ [] else part p from upto) ≤ length p
-    unless-blank true from upto = omega arith
-    unless-blank false from upto = part-short p from upto
-
-    in-found : (o : found.Found) → length (foundBytes p o) ≤ length p
-    in-found Missing = omega arith
-    in-found (Once from upto) = unless-blank (blankText (treeOf (part p from upto))) from upto
-    in-found Twice = omega arith
-
-    go : (t : Bool) → length (t ⇒ foundBytes p (foundIn p name) else []) ≤ length p
-    go true = in-found (foundIn p name)
-    go false = omega arith
-
-array-short : (q : List ℕ) → length (arrayBy q) ≤ length q
-unfolding arrayBy
-array-short q = go (eqb (code (kindAt q)) 4)
-  where
-    go : (t : Bool) → length (t ⇒ q else []) ≤ length q
-    go true = omega arith
-    go false = omega arith
 
 -- what is no array is of a wrong type
 ring-items : (n : ℕ) (x : Picked) → ring n x ≡ [] → (is : PickedItems) × (x ≡ items is) × (ringFound n (listOf is) ≡ [])
@@ -144,14 +115,40 @@ module _ (p : List ℕ) (m : Item) (short : length p ≤ ceiling.fileBytes) (w :
     unfolding polygonsFound
     polygon-is = polygon-items (f .0) (picked polygonShape p m) (append-eq-nil-iff {p = polygon (f .0) (picked polygonShape p m)} .0 (f .1) .0)
 
-    rings-are : listOf (polygon-is .0) ≡ partsOf ringShape (itemOf p m)
+    rings-are : Listed ringShape (itemOf p m) (listOf (polygon-is .0))
     rings-are = items-parts shape.positions 1 ringShape (treeOf (itemOf p m)) (polygon-is .0) w (polygon-is .1)
 
     pub polygon-rings : partsOf ringShape (itemOf p m) ≡ elements (picked polygonShape p m)
-    polygon-rings = sym (ap elements (polygon-is .1) ∙ rings-are)
+    polygon-rings = sym (ap elements (polygon-is .1) ∙ rings-are .parts)
 
     pub polygon-clean : CleanItems ringShape ringsFound (itemOf p m)
-    polygon-clean = record { short = item-short p m short; first = f .0; clear = ap (ringsFound (f .0)) (sym rings-are) ∙ polygon-is .2 }
+    polygon-clean =
+        record {
+          short = item-short p m short;
+          listing = rings-are .listing;
+          first = f .0;
+          clear = ap (ringsFound (f .0)) (sym (rings-are .parts)) ∙ polygon-is .2;
+        }
+
+-- a member that the zone must have is there
+given-whole : (σ : Shape) {q : List ℕ} {y : Picked} (o : Maybe Picked) → Holds σ q o → elim o [ none ↦ none | some z ↦ some z ] ≡ some y → Whole q (treeOf q)
+given-whole σ none h e = none-some e
+given-whole σ {q} (some z) h e = subst (Whole q) (sym (whole-tree (h .1))) (h .1)
+
+required-whole : {f : ℕ} {name : List ℕ} {σ : Shape} {rows : Rows} → Requires f name σ rows → {p : List ℕ} → Whole p (treeOf p) → (q : Place) (φ : ℕ)
+    → faults (shape.object rows) q φ (pick (shape.object rows) (treeOf p)) ≡ [] → Whole (memberOf p name) (treeOf (memberOf p name))
+unfolding along
+required-whole {f} {σ = σ} {rows = rows} r {p} w q φ e =
+    given-whole σ (field f (pick (shape.object rows) (treeOf p))) (member-holds (lists r) p (treeOf p) w) (demands-there (into r arrived) q φ (treeOf p) e .2)
+
+module _ {p : List ℕ} (c : CleanZone p) where
+  pub geometry-whole : Whole (memberOf p (bytes "geometry")) (treeOf (memberOf p (bytes "geometry")))
+  unfolding zone
+  geometry-whole = required-whole {f = 71} (below refl here) (c .whole) (c .clear .place) (c .clear .field) (c .clear .clear)
+
+  pub properties-whole : Whole (propertyBytes p) (treeOf (propertyBytes p))
+  unfolding zone
+  properties-whole = required-whole {f = 74} (below refl (below refl here)) (c .whole) (c .clear .place) (c .clear .field) (c .clear .clear)
 
 -- the coordinates of a zone
 coordinates-demanded : Demands zone (71 ∷ 73 ∷ []) coordinates
@@ -165,6 +162,7 @@ zone-clean p c =
     let d = demands-there coordinates-demanded (c .clear .place) (c .clear .field) (treeOf p) (c .clear .clear) in
     record {
       short = omega (arith, array-short deep, member-short inner (bytes "coordinates"), member-short p (bytes "geometry"), c .short);
+      listing = member-listing inner (bytes "coordinates");
       first = 1;
       clear =
           ap (polygonsFound 1) (zone-polygons (c .whole) ∙ ap elementsOf (d .2))

@@ -1,22 +1,21 @@
--- Of a clean file of zones: its zones are the items of the span, nothing is found in any of them, and so the first rule among them is the file's. An
--- absent file has none.
+-- Of a clean file of zones: its zones are the items at the front of the rest, nothing is found in any of them, and so the first rule among them is
+-- the file's. An absent file has none.
 use mathlib.Core.List.{List, [], _∷_, List·Memᴰ}
 use mathlib.Core.Path.{_≡_, refl, sym, ap, subst, _∙_}
 use Prim.Native.Nat.{ℕ}
 use native.Mathlib.Omega.{arith}
 use lib.ListN.{length}
 use Rattle.json.specs.Cases.{reading}
-use Rattle.walk.specs.Walk.{part}
 use Rattle.walk.proofs.Files.{passed}
 use Rattle.schema.specs.Shape.{fileShape}
 use Rattle.schema.specs.Table23.{table23, file, zones, zone}
 use Rattle.schema.specs.Pick.{pick}
 use Rattle.geometry.specs.Ring.{Point}
 use Rattle.rings.specs.Parts.{partsOf}
-use Rattle.document.specs.declared.Span.the-variants as span
 use Rattle.document.specs.Document.{along, field}
-use Rattle.document.specs.Spans.{recordsSpan}
-use Rattle.document.proofs.Records.{recordShape, pickedItems}
+use Rattle.document.specs.Spans.{RecordsFrom}
+use Rattle.document.proofs.Records.{recordShape}
+use Rattle.document.proofs.Rests.{rest-along, rest-picked}
 use Rattle.clean.specs.Clean.{treeOf, recordsOf}
 use Rattle.clean.proofs.Cleans.{Sound, clean-held}
 use Rattle.clean.proofs.Repeated.{Held}
@@ -24,7 +23,6 @@ use Rattle.zone.specs.declared.Ruling.the-variants.{NoRule}
 use Rattle.zone.specs.Zone.{rules, firstFor, ruleAt}
 use Rattle.zone.specs.Answer.{ruling}
 use Rattle.zone.specs.Clean.{CleanZones}
-use Rattle.zone.proofs.Cleared.{part-short}
 
 module _ (q : Point) (type : List ℕ) (moment : ℕ) where
   pub none-absent : (s : List ℕ) → length s ≡ 0 → NoRule ≡ ruling (ruleAt (pick (fileShape table23 6) (treeOf s)) q type moment)
@@ -32,34 +30,27 @@ module _ (q : Point) (type : List ℕ) (moment : ℕ) where
   none-absent [] e = refl
   none-absent (b ∷ s) e = absurd (omega arith)
 
-module _ {s : List ℕ} (k : Sound 6 s) where
+-- the file, and its rest p from the zones on
+module _ {s p : List ℕ} (k : Sound 6 s) (f : RecordsFrom 6 s p) where
   abbrev held : Held 6 s (treeOf s)
   held = clean-held 6 (omega arith) (omega arith) s k
 
-  pub spanned : {A : Type 0} → recordsSpan 6 s ≡ span.None → A
-  spanned e = let h = held .there .is in let z : _≡_ {A = ℕ} 0 1 = cc in absurd (omega arith)
+  zones-are : held .list ≡ partsOf zone p
+  unfolding recordShape partsOf
+  zones-are = rest-picked f (k .reads) (held .there)
 
-  module _ (from upto : ℕ) (at : recordsSpan 6 s ≡ span.Is from upto) where
-    zones-are : held .list ≡ partsOf zone (part s from upto)
-    unfolding recordShape partsOf
-    zones-are =
-        let t = held .there in
-        let h = t .is in
-        let a : t .start ≡ from = cc in
-        let b : t .end ≡ upto = cc in
-        t .picked ∙ ap (λ (n : ℕ). pickedItems zone (part s n (t .end))) a ∙ ap (λ (n : ℕ). pickedItems zone (part s from n)) b
+  pub zones-clean : CleanZones p
+  unfolding recordShape
+  zones-clean =
+      record {
+        short = omega (arith, f .inside, passed s (k .reads) .short);
+        along = rest-along f (k .reads) (held .there);
+        clear = λ x i.
+            let h = held .sound x (subst (List·Memᴰ x) (sym zones-are) i) in
+            record { place = h .0; field = held .field; clear = h .1 };
+      }
 
-    pub zones-clean : CleanZones (part s from upto)
-    unfolding recordShape
-    zones-clean =
-        record {
-          short = omega (arith, part-short s from upto, passed s (k .reads) .short);
-          clear = λ x i.
-              let f = held .sound x (subst (List·Memᴰ x) (sym zones-are) i) in
-              record { place = f .0; field = held .field; clear = f .1 };
-        }
-
-    pub file-rule : (q : Point) (type : List ℕ) (moment : ℕ)
-        → ruling (firstFor (rules (partsOf zone (part s from upto)) q moment) type) ≡ ruling (ruleAt (pick (fileShape table23 6) (treeOf s)) q type moment)
-    unfolding recordsOf ruleAt
-    file-rule q type moment = ap (λ l. ruling (firstFor (rules l q moment) type)) (sym (held .are ∙ zones-are))
+  pub file-rule : (q : Point) (type : List ℕ) (moment : ℕ)
+      → ruling (firstFor (rules (partsOf zone p) q moment) type) ≡ ruling (ruleAt (pick (fileShape table23 6) (treeOf s)) q type moment)
+  unfolding recordsOf ruleAt
+  file-rule q type moment = ap (λ l. ruling (firstFor (rules l q moment) type)) (sym (held .are ∙ zones-are))

@@ -7,6 +7,7 @@ use lib.IntN.{pos, negℤ}
 use lib.Signed.{leZ}
 use Rattle.notation.specs.Choice.{_⇒_else_, _and_}
 use Rattle.word.specs.declared.Parts.{Parts}
+use Rattle.word.specs.Word.{noParts}
 use Rattle.schema.specs.Shape.{fileShape}
 use Rattle.schema.specs.Table23.{table23}
 use Rattle.schema.specs.Pick.{Picked, pick}
@@ -21,10 +22,7 @@ use Rattle.zone.specs.declared.Ruling.{Ruling}
 use Rattle.zone.specs.declared.Ruling.the-variants.{OffMap, NotClean, NoRule, Is}
 use Rattle.zone.specs.Zone.{ruleAt}
 
--- no parts and no rule
-abbrev pub noParts : Parts
-noParts = record { file = 0; kind = 0; field = 0; «record» = 0; sub = 0; offset = 0 }
-
+-- no rule
 abbrev pub noRule : Rule
 noRule = record { ride = false; through = false; limited = false; speed = 0; parks = false; parking = false }
 

@@ -17,7 +17,8 @@ use Rattle.clean.specs.Clean as clean
 use Rattle.zone.specs.declared.Ruling.{Ruling}
 use Rattle.zone.specs.declared.Ruling.the-variants.{OffMap, NotClean, NoRule, Is}
 use Rattle.zone.specs.Zone.{counts, ringsHold, polygonsHold, anyText, applies, zoneRules, rules, firstFor, ruleAt}
-use Rattle.zone.specs.Answer.{noParts, answer, values, onMap, rulingOf}
+use Rattle.word.specs.Word.{noParts}
+use Rattle.zone.specs.Answer.{answer, values, onMap, rulingOf}
 
 -- opens every definition of this layer
 unfoldable pub ruled : Unit {0}

@@ -5,7 +5,7 @@ use geometry::Position;
 use geometry::held::holds;
 use rings::ring::ring_points;
 use walk::ItemStep;
-use walk::next_item;
+use walk::pass_item;
 ghost use mathlib.Core.List.{[], _∷_, map};
 ghost use mathlib.Core.Path.{_≡_};
 ghost use Rattle.walk.specs.Part.{treeOf};
@@ -38,7 +38,7 @@ fn rings_hold(p: &[u8], q: Position) -> bool
 {
     let mut at: usize = 1;
     loop {
-        match next_item(p, at) {
+        match pass_item(p, at) {
             ItemStep::End => {
                 return false;
             }
@@ -61,7 +61,7 @@ fn polygons_hold(p: &[u8], q: Position) -> bool
 {
     let mut at: usize = 1;
     loop {
-        match next_item(p, at) {
+        match pass_item(p, at) {
             ItemStep::End => {
                 return false;
             }

@@ -8,13 +8,12 @@ use fields::integer_in;
 use fields::is_id;
 use fields::member;
 use walk::ItemStep;
-use walk::next_item;
+use walk::pass_item;
 ghost use mathlib.Core.Path.{_≡_};
-ghost use Rattle.json.specs.Tree.{Json};
-ghost use Rattle.walk.specs.Part.{Whole};
+ghost use Rattle.walk.specs.Part.{Whole, treeOf};
 ghost use Rattle.schema.specs.Pick.{pick};
 ghost use Rattle.schema.specs.Table23.{rule};
-ghost use Rattle.rings.specs.Parts.{partsOf};
+ghost use Rattle.rings.specs.Parts.{Listing, partsOf};
 ghost use Rattle.document.specs.Document.{given};
 ghost use Rattle.fields.specs.Values.{truthBy, spelledBy};
 ghost use Rattle.zone.specs.Zone.{anyText, applies as appliesTo, firstFor};
@@ -52,6 +51,7 @@ fn is_number(q: &[u8]) -> bool
 
 // The values of the rule `p`.
 fn values_in(p: &[u8]) -> Rule
+    requires { ⌜ Whole (now p) (treeOf (now p)) ⌝ }
     ensures { λ r. ⌜ r ≡ valuesBy (now (p .entry)) ⌝ }
 {
     let speed = member(p, b"maximum_speed_kph");
@@ -68,11 +68,12 @@ fn values_in(p: &[u8]) -> Rule
 
 // Whether a type stands among the ids of the array `p`.
 fn names_type(p: &[u8], type_id: &[u8]) -> bool
+    requires { ⌜ Listing (now p) ⌝ }
     ensures { λ r. ⌜ r ≡ anyText (partsOf idShape (now (p .entry))) (now («type_id» .entry)) ⌝ }
 {
     let mut at: usize = 1;
     loop {
-        match next_item(p, at) {
+        match pass_item(p, at) {
             ItemStep::End => {
                 return false;
             }
@@ -90,7 +91,8 @@ fn names_type(p: &[u8], type_id: &[u8]) -> bool
 
 // Whether the rule `p` is for a type: it names the type, or has no ids. An empty array names nobody.
 fn applies(p: &[u8], type_id: &[u8]) -> bool
-    ensures { λ r. ⌜ ((x : Json) → Whole (now (p .entry)) x → r ≡ appliesTo (pick rule x) (now («type_id» .entry))) ⌝ }
+    requires { ⌜ Whole (now p) (treeOf (now p)) ⌝ }
+    ensures { λ r. ⌜ r ≡ appliesTo (pick rule (treeOf (now (p .entry)))) (now («type_id» .entry)) ⌝ }
 {
     let ids = member(p, b"vehicle_type_id");
     if ids.len() == 0 {
@@ -101,11 +103,12 @@ fn applies(p: &[u8], type_id: &[u8]) -> bool
 
 // The first rule for a type among those of the array `p`.
 pub fn first_for(p: &[u8], type_id: &[u8]) -> Ruling
+    requires { ⌜ Listing (now p) ⌝ }
     ensures { λ r. ⌜ r ≡ ruling (firstFor (partsOf rule (now (p .entry))) (now («type_id» .entry))) ⌝ }
 {
     let mut at: usize = 1;
     loop {
-        match next_item(p, at) {
+        match pass_item(p, at) {
             ItemStep::End => {
                 return Ruling::NoRule;
             }

@@ -4,6 +4,7 @@ use fields::code_of;
 use fields::integer_in;
 use fields::member;
 ghost use mathlib.Core.Path.{_≡_};
+ghost use Rattle.walk.specs.Part.{Whole, treeOf};
 ghost use Rattle.fields.specs.Values.{spelledBy};
 ghost use Rattle.zone.specs.Zone.{integer, begun as begunAt, unended as unendedAt};
 ghost use Rattle.zone.specs.Values.{countsBy};
@@ -30,6 +31,7 @@ fn unended(q: &[u8], moment: u64) -> bool
 
 // Whether a zone of the properties `p` counts at a moment.
 pub fn counts(p: &[u8], moment: u64) -> bool
+    requires { ⌜ Whole (now p) (treeOf (now p)) ⌝ }
     ensures { λ r. ⌜ r ≡ countsBy (now (p .entry)) moment ⌝ }
 {
     if !begun(member(p, b"start"), moment) {

@@ -3,14 +3,12 @@ use crate::Ruling;
 use crate::area::zone_holds;
 use crate::rules::first_for;
 use crate::window::counts;
-use document::Span;
-use document::cut;
-use document::records_span;
+use document::records_from;
 use fields::array_in;
 use fields::member;
 use geometry::Position;
 use walk::ItemStep;
-use walk::next_item;
+use walk::pass_item;
 ghost use mathlib.Core.Path.{_≡_};
 ghost use Rattle.walk.specs.Part.{treeOf};
 ghost use Rattle.schema.specs.Shape.{fileShape};
@@ -52,14 +50,14 @@ fn rule_of_zone(p: &[u8], q: Position, type_id: &[u8], moment: u64) -> Ruling
     first_for(array_in(member(properties, b"rules")), type_id)
 }
 
-// The first rule among the zones of the array `p`.
+// The first rule among the zones of the array at the front of `p`.
 fn rule_of_zones(p: &[u8], q: Position, type_id: &[u8], moment: u64) -> Ruling
     requires { ⌜ CleanZones (now p) × OnMap q ⌝ }
     ensures { λ r. ⌜ r ≡ ruling (firstFor (rules (partsOf zone (now (p .entry))) (point q) moment) (now («type_id» .entry))) ⌝ }
 {
     let mut at: usize = 1;
     loop {
-        match next_item(p, at) {
+        match pass_item(p, at) {
             ItemStep::End => {
                 return Ruling::NoRule;
             }
@@ -84,8 +82,5 @@ pub fn rule_in(s: &[u8], q: Position, type_id: &[u8], moment: u64) -> Ruling
     if s.len() == 0 {
         return Ruling::NoRule;
     }
-    let Span::Is(from, upto) = records_span(Ruling::FILE, s) else {
-        return Ruling::NoRule;
-    };
-    rule_of_zones(cut(s, from, upto), q, type_id, moment)
+    rule_of_zones(records_from(Ruling::FILE, s), q, type_id, moment)
 }

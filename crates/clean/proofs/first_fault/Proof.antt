@@ -6,24 +6,25 @@ use Prim.Native.Nat.{ℕ, _≤_}
 use lib.ListN.{length}
 use Rattle.limits.specs.Ceilings.{fileBytes}
 use Rattle.walk.specs.Part.{Whole}
+use Rattle.document.specs.Spans.{Readable}
 use Rattle.clean.specs.Clean.{treeOf}
 use Rattle.clean.proofs.Judged.{top-there, top-short, top-whole}
 use Rattle.clean.proofs.first_fault.Statement.{statement}
 use Rattle.clean.proofs.first_fault.Tie as tie
 
 returns : tie.Need-returns
-returns c = let t = c .before .before in absurd (top-there _ (t .before .before .pre) (sym (t .top-span .ensures) ∙ c .enum-told .given .1))
+returns c = let t = c .before .before in absurd (top-there _ (t .before .before .pre) (sym (t .top-span .ensures (Readable.sound (t .before .before .pre))) ∙ c .enum-told .given .1))
 
 judge-file-requires : tie.Need-judge-file-requires
 judge-file-requires c κs =
     let f = c .before .before in let t = f .before .before in
-    subst (λ (p : List ℕ). length p ≤ fileBytes) (sym (c .cut .ensures)) (top-short _ (t .before .before .pre) _ _ (sym (t .top-span .ensures) ∙ f .from .given .1))
+    subst (λ (p : List ℕ). length p ≤ fileBytes) (sym (c .cut .ensures)) (top-short _ (t .before .before .pre) _ _ (sym (t .top-span .ensures (Readable.sound (t .before .before .pre))) ∙ f .from .given .1))
 
 returns-2 : tie.Need-returns-2
 returns-2 c =
     let u = c .before in let f = u .before .before in let t = f .before .before in let s = t .before .before .args .s .now in
     c .judge-file .ensures (treeOf s)
-    (subst (λ (p : List ℕ). Whole p (treeOf s)) (sym (u .cut .ensures)) (top-whole s (t .before .before .pre) _ _ (sym (t .top-span .ensures) ∙ f .from .given .1)))
+    (subst (λ (p : List ℕ). Whole p (treeOf s)) (sym (u .cut .ensures)) (top-whole s (t .before .before .pre) _ _ (sym (t .top-span .ensures (Readable.sound (t .before .before .pre))) ∙ f .from .given .1)))
 
 pub first-fault-spec : {M : Type 1} → statement M
 first-fault-spec =

@@ -5,6 +5,7 @@ use native.Mathlib.Omega.{arith}
 use Rattle.clean.specs.declared.Cleanness.the-variants.{Clean, Broken}
 use Rattle.clean.specs.Show.{recordShown, shownOf}
 use Rattle.clean.proofs.Judged.{shown-none, shown-of}
+use Rattle.clean.proofs.Shows.{listed}
 use Rattle.clean.proofs.show_record.Statement.{statement}
 use Rattle.clean.proofs.show_record.Tie as tie
 
@@ -24,8 +25,9 @@ cleanly : (c : tie.After-record-span) → let k = c .before .before .before in l
     recordShown (c .record-span .result) ≡ shownOf (a .f) (a .n) (a .s .now)
 cleanly c =
     let t = c .before in let k = t .before .before in let a = k .before .before .before .before .args in
-    ap recordShown (c .record-span .ensures)
-    ∙ shown-of (a .f) (a .n) (a .s .now) (omega arith) (omega arith) Clean (sym (t .enum-told .given .1) ∙ k .check-clean .ensures)
+    let e = sym (t .enum-told .given .1) ∙ k .check-clean .ensures in
+    ap recordShown (c .record-span .ensures (listed (a .f) (a .s .now) (omega arith) (omega arith) (sym e)))
+    ∙ shown-of (a .f) (a .n) (a .s .now) (omega arith) (omega arith) Clean e
 
 returns-4 : tie.Need-returns-4
 returns-4 c = let r = c .before .before in ap recordShown (sym (c .enum-told2 .given .1)) ∙ cleanly r

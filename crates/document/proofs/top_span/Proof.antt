@@ -1,20 +1,15 @@
--- `top_span` reads the value behind the blanks.
+-- The value stands behind the blanks, and ends where nothing but blanks follows; without a byte there is none.
 use borrow.Author.Needs.{needs}
-use mathlib.Core.Path.{sym, _∙_}
+use native.Mathlib.Omega.{arith}
 use Rattle.document.proofs.Along.{top-there, top-absent}
 use Rattle.document.proofs.top_span.Statement.{statement}
 use Rattle.document.proofs.top_span.Tie as tie
 
 returns : tie.Need-returns
-returns c =
-    let r = c .before .before .before in let k = r .before in
-    top-there _ _ (k .skip-blanks .ensures) _ (sym (c .before .upto .given .1) ∙ r .read-value .ensures)
+returns c h = let k = c .before in top-absent _ _ (k .skip-blanks .ensures) h (c .if1 .taken)
 
 returns-2 : tie.Need-returns-2
-returns-2 c =
-    let r = c .before .before in let k = r .before in
-    top-absent _ _ (k .skip-blanks .ensures) _ _ (sym (c .enum-told .given .1) ∙ r .read-value .ensures)
+returns-2 c h = let k = c .before .before in top-there _ _ (k .skip-blanks .ensures) _ h (omega arith) (c .last-end .ensures)
 
 pub top-span-spec : {M : Type 1} → statement M
-top-span-spec =
-    tie.close (tie.spec (λ c κs. search needs) (λ c κs. search needs) (λ c. search needs) (λ c. search needs) returns returns-2)
+top-span-spec = tie.close (tie.spec (λ c κs. search needs) returns (λ c κs. search needs) returns-2)

@@ -6,13 +6,12 @@ use Rattle.fields.proofs.member.Statement.{statement}
 use Rattle.fields.proofs.member.Tie as tie
 
 returns : tie.Need-returns
-returns c = c .no-bytes .ensures ∙ member-none _ _ _ (c .before .before .code-of .ensures) (c .before .if1 .taken)
+returns c x w = c .no-bytes .ensures ∙ member-none _ _ _ (c .before .before .code-of .ensures) (c .before .if1 .taken)
 
 returns-2 : tie.Need-returns-2
-returns-2 c =
-    let f = c .before in let i = f .before in
-    c .value-at .ensures (found-standing _ _ _ (f .find .ensures))
-    ∙ member-found _ _ _ (i .before .code-of .ensures) (i .if1 .left) _ (f .find .ensures)
+returns-2 c x w =
+    let f = c .before in let i = f .before in let e = f .find .ensures x w in
+    c .value-at .ensures .0 (found-standing _ _ _ e) ∙ member-found _ _ _ (i .before .code-of .ensures) (i .if1 .left) _ e
 
 pub member-spec : {M : Type 1} → statement M
 member-spec =

@@ -38,9 +38,9 @@ returns c ms w =
     ∙ ap least
     (bike-is (a .set .«types_here») (recordsOf 1 types stations plans) (recordsOf 2 types stations plans) (recordsOf 5 types stations plans) (a .n)
     (g .gather .ensures)
-    (s₂ .slot2 .result, s₂ .slot2 .ensures, v₂ .value-at2 .ensures) (s₃ .slot3 .result, s₃ .slot3 .ensures, v₃ .value-at3 .ensures)
-    (s₄ .slot4 .result, s₄ .slot4 .ensures, v₄ .value-at4 .ensures) (s₅ .slot5 .result, s₅ .slot5 .ensures, v₅ .value-at5 .ensures)
-    (s .slot .result, s .slot .ensures, v .value-at .ensures) (s₆ .slot6 .result, s₆ .slot6 .ensures, v₆ .value-at6 .ensures) w)
+    (s₂ .slot2 .result, s₂ .slot2 .ensures, v₂ .value-at2 .ensures .0) (s₃ .slot3 .result, s₃ .slot3 .ensures, v₃ .value-at3 .ensures .0)
+    (s₄ .slot4 .result, s₄ .slot4 .ensures, v₄ .value-at4 .ensures .0) (s₅ .slot5 .result, s₅ .slot5 .ensures, v₅ .value-at5 .ensures .0)
+    (s .slot .result, s .slot .ensures, v .value-at .ensures .0) (s₆ .slot6 .result, s₆ .slot6 .ensures, v₆ .value-at6 .ensures .0) w)
 
 pub judge-bike-spec : {M : Type 1} → statement M
 judge-bike-spec =

@@ -6,16 +6,16 @@ use Rattle.cross.proofs.bikes.judge_vehicle.Tie as tie
 
 returns : tie.Need-returns
 returns c =
-    let l = c .before in let b₃ = l .before in let d₂ = b₃ .before in let n = d₂ .before in let b₂ = n .before in let f = b₂ .before in
+    let l = c .before in let b₃ = l .before in let n = b₃ .before in let b₂ = n .before in let f = b₂ .before in
     let b = f .before in let d = b .before in let place = d .before .before .before .before .before .before .args .place in
     both _ _ (c .lesser2 .ensures)
     (joined place 45 _ _ (l .lesser .ensures)
     (breaks place 45 (d .demanded .result) (b .broken .ensures) (d .demanded .ensures))
     (breaks place 45 (f .refers .result) (b₂ .broken2 .ensures) (f .refers .ensures)))
-    (rw (← n .named .ensures) (breaks place 46 (d₂ .demanded2 .result) (b₃ .broken3 .ensures) (d₂ .demanded2 .ensures)))
+    (breaks place 46 (n .demanded-by .result) (b₃ .broken3 .ensures) (n .demanded-by .ensures))
 
 pub judge-vehicle-spec : {M : Type 1} → statement M
 judge-vehicle-spec =
     tie.close
     (tie.spec (λ c κs. search needs) (λ c κs. search needs) (λ c κs. search needs) (λ c κs. search needs) (λ c κs. search needs) (λ c κs. search needs)
-    (λ c κs. search needs) (λ c κs. search needs) (λ c κs. search needs) returns)
+    (λ c κs. search needs) (λ c κs. search needs) returns)

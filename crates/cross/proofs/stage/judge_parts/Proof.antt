@@ -1,18 +1,26 @@
--- `judge_parts` notes the three files one behind another, so that all is known when the files are judged.
+-- `judge_parts` notes the three files in blank arrays, so that all is known when the files are judged.
 use borrow.Author.Needs.{needs}
-use mathlib.Core.Path.{_∙_}
-use Rattle.cross.proofs.Keeping.{all-known}
-use Rattle.cross.proofs.Staging.{counted-same}
+use Rattle.ids.proofs.Entering.{blank}
+use Rattle.cross.specs.Staged.{repeatOf}
 use Rattle.cross.proofs.stage.judge_parts.Statement.{statement}
 use Rattle.cross.proofs.stage.judge_parts.Tie as tie
 
+note-requires : tie.Need-note-requires
+note-requires c κs = let x = c .before .before .before .before .before .before .before .pre .0 in (x .short, x .few, blank, x .along)
+
+note-requires-2 : tie.Need-note-requires-2
+note-requires-2 c κs = let x = c .before .before .before .before .before .before .before .before .before .pre .1 in (x .short, x .few, blank, x .along)
+
+note-requires-3 : tie.Need-note-requires-3
+note-requires-3 c κs = let x = c .before .before .before .before .before .before .before .before .before .before .before .pre .4 in (x .short, x .few, blank, x .along)
+
 judge-noted-requires : tie.Need-judge-noted-requires
+unfolding repeatOf
 judge-noted-requires c κs =
-    let i = c .before .before .before in let n₃ = i .before in let n₂ = n₃ .before .before .before .before in let n₁ = n₂ .before .before .before .before in
-    let g = n₁ .before .before .before .before .before .before .before .before .before .before in
-    let v₁ = n₁ .note .last .1 .1 .1 in let v₂ = n₂ .note2 .last .1 .1 .1 in let x = g .pre in (
-      all-known (g .args .here) _ _ _ _ _ _ (v₁ .0) (v₁ .1 .0) (v₁ .1 .1 .0) (v₂ .0) (v₂ .1 .0) (v₂ .1 .1 .0) _ _ _ (i .counting .ensures)
-          (n₁ .note .ensures .0) (n₁ .note .ensures .1) (n₂ .note2 .ensures) (n₃ .note3 .ensures) (x .0) (x .1) (x .4),
+    let n₃ = c .before .before .before in let n₂ = n₃ .before .before in let n₁ = n₂ .before .before in
+    let x = n₁ .before .before .before .before .before .before .before .before .pre in (
+      record { vehicleTypes = n₁ .note .ensures .1; docks = n₂ .note2 .ensures .1; prices = n₃ .note3 .ensures .1 },
+      record { ofTypes = n₁ .note .ensures .0; ofStations = n₂ .note2 .ensures .0; ofPlans = n₃ .note3 .ensures .0 },
       x .0,
       x .1,
       x .2,
@@ -21,13 +29,5 @@ judge-noted-requires c κs =
       x .5,
     )
 
-returns : tie.Need-returns
-returns c =
-    let i = c .before .before .before .before in
-    let g = i .before .before .before .before .before .before .before .before .before .before .before .before .before .before .before .before .before .before .before in
-    c .judge-noted .ensures ∙ counted-same (g .args .here) _ _ _ (i .counting .ensures) _ _ _ _ _ _
-
 pub judge-parts-spec : {M : Type 1} → statement M
-judge-parts-spec =
-    tie.close
-    (tie.spec (λ c κs. search needs) (λ c κs. search needs) (λ c. search needs) (λ c κs. search needs) (λ c κs. search needs) judge-noted-requires returns)
+judge-parts-spec = tie.close (tie.spec note-requires note-requires-2 note-requires-3 judge-noted-requires (λ c. search needs))

@@ -1,53 +1,61 @@
--- `judge_set` cuts out the records of each file; the first file that breaks a rule is stage C's, and its rule fits the word.
+-- `judge_set` finds the records of each file; the first file that breaks a rule is stage C's, and its rule fits the word.
 use borrow.Author.Needs.{needs}
 use mathlib.Core.Path.{_≡_, sym, ap, _∙_}
 use native.Mathlib.Omega.{arith}
 use Rattle.clean.specs.declared.Cleanness.the-variants.{Broken}
-use Rattle.cross.specs.Staged.{firstFrom}
-use Rattle.cross.proofs.Files.{part-recorded}
-use Rattle.cross.proofs.Sets.{AllThrough, numbered, crossed-is, cleanness, stage-is, first-small}
+use Rattle.cross.specs.Staged.{numberedLeast, firstFrom}
+use Rattle.cross.proofs.Files.{file-bytes}
+use Rattle.cross.proofs.Sets.{AllInBytes, leasts, cleanness, stage-is, first-small}
 use Rattle.cross.proofs.stage.judge_set.Statement.{statement}
 use Rattle.cross.proofs.stage.judge_set.Tie as tie
 
+-- where the records of all files were found
+abbrev Read : Type 0
+Read = tie.After-records-from6
+
+abbrev start : Read → tie.Start
+start c = c .before .before .before .before .before .before .before .before .before .before .before .before
+
+held : (c : Read) →
+    let p₅ = c .before in let p₄ = p₅ .before in let p₃ = p₄ .before in let p₂ = p₃ .before in let p₁ = p₂ .before in let a = start c .args in
+    AllInBytes (a .types .now) (a .stations .now) (a .statuses .now) (a .bikes .now) (a .plans .now) (a .zones .now)
+    (p₁ .records-from .result .now) (p₂ .records-from2 .result .now) (p₃ .records-from3 .result .now) (p₄ .records-from4 .result .now)
+    (p₅ .records-from5 .result .now) (c .records-from6 .result .now)
+held c =
+    let p₅ = c .before in let p₄ = p₅ .before in let p₃ = p₄ .before in let p₂ = p₃ .before in let p₁ = p₂ .before in let x = start c .pre in
+    record {
+      first = file-bytes 1 (omega arith) (omega arith) _ (x .0) (p₁ .records-from .ensures);
+      second = file-bytes 2 (omega arith) (omega arith) _ (x .1) (p₂ .records-from2 .ensures);
+      third = file-bytes 3 (omega arith) (omega arith) _ (x .2) (p₃ .records-from3 .ensures);
+      fourth = file-bytes 4 (omega arith) (omega arith) _ (x .3) (p₄ .records-from4 .ensures);
+      fifth = file-bytes 5 (omega arith) (omega arith) _ (x .4) (p₅ .records-from5 .ensures);
+      sixth = file-bytes 6 (omega arith) (omega arith) _ (x .5) (c .records-from6 .ensures);
+    }
+
 judge-parts-requires : tie.Need-judge-parts-requires
 judge-parts-requires c κs =
-    let p₆ = c .before in let p₅ = p₆ .before in let p₄ = p₅ .before in let p₃ = p₄ .before in let p₂ = p₃ .before in let p₁ = p₂ .before in
-    let x = p₁ .before .before .before .before .before .before .before .pre in (
-      part-recorded 1 (omega arith) (omega arith) _ (x .0) (p₁ .records-part .ensures),
-      part-recorded 2 (omega arith) (omega arith) _ (x .1) (p₂ .records-part2 .ensures),
-      part-recorded 3 (omega arith) (omega arith) _ (x .2) (p₃ .records-part3 .ensures),
-      part-recorded 4 (omega arith) (omega arith) _ (x .3) (p₄ .records-part4 .ensures),
-      part-recorded 5 (omega arith) (omega arith) _ (x .4) (p₅ .records-part5 .ensures),
-      part-recorded 6 (omega arith) (omega arith) _ (x .5) (p₆ .records-part6 .ensures),
-    )
+    let h = held (c .before) in
+    (h .first .recorded, h .second .recorded, h .third .recorded, h .fourth .recorded, h .fifth .recorded, h .sixth .recorded)
 
--- where the function began
-abbrev start : tie.After-judge-parts → tie.Start
-start c = c .before .before .before .before .before .before .before .before .before .before .before .before .before .before
-
-abbrev through : (c : tie.Start) → let a = c .args in AllThrough (a .types .now) (a .stations .now) (a .statuses .now) (a .bikes .now) (a .plans .now) (a .zones .now)
-through c = let x = c .pre in record { first = x .0; second = x .1; third = x .2; fourth = x .3; fifth = x .4; sixth = x .5 }
-
-crossed : (c : tie.After-judge-parts) → let a = start c .args in
-    c .judge-parts .result ≡ firstFrom (numbered (a .types .now) (a .stations .now) (a .statuses .now) (a .bikes .now) (a .plans .now) (a .zones .now)) 1 6
+crossed : (c : tie.After-judge-parts) → c .judge-parts .result ≡ firstFrom (leasts (held (c .before .before))) 1 6
 crossed c =
     let o = c .before in let p₆ = o .before in let p₅ = p₆ .before in let p₄ = p₅ .before in let p₃ = p₄ .before in let p₂ = p₃ .before in let p₁ = p₂ .before in
     c .judge-parts .ensures
-    ∙ crossed-is _ _ _ _ _ _ (o .of .ensures) (p₁ .records-part .ensures) (p₂ .records-part2 .ensures) (p₃ .records-part3 .ensures) (p₄ .records-part4 .ensures)
-    (p₅ .records-part5 .ensures) (p₆ .records-part6 .ensures)
+    ∙ ap (λ set. firstFrom (numberedLeast set (p₁ .records-from .result .now) (p₂ .records-from2 .result .now) (p₅ .records-from5 .result .now)
+    (p₃ .records-from3 .result .now) (p₄ .records-from4 .result .now) (p₆ .records-from6 .result .now)) 1 6) (o .of .ensures)
 
 parts-of-requires : tie.Need-parts-of-requires
 parts-of-requires c κs =
-    let d = c .before in let j = d .before .before in first-small _ _ _ _ _ _ (through (start j)) _ _ (sym (crossed j) ∙ d .crossed .given .1)
+    let d = c .before in let j = d .before .before in first-small (held (j .before .before)) _ _ (sym (crossed j) ∙ d .crossed .given .1)
 
 returns : tie.Need-returns
 returns c =
-    let j = c .before .before in ap cleanness (sym (c .enum-told .given .1) ∙ crossed j) ∙ stage-is _ _ _ _ _ _ (through (start j))
+    let j = c .before .before in ap cleanness (sym (c .enum-told .given .1) ∙ crossed j) ∙ stage-is (held (j .before .before))
 
 returns-2 : tie.Need-returns-2
 returns-2 c =
     let d = c .before .before in let j = d .before .before in
-    ap Broken (c .parts-of .ensures) ∙ ap cleanness (sym (d .crossed .given .1) ∙ crossed j) ∙ stage-is _ _ _ _ _ _ (through (start j))
+    ap Broken (c .parts-of .ensures) ∙ ap cleanness (sym (d .crossed .given .1) ∙ crossed j) ∙ stage-is (held (j .before .before))
 
 pub judge-set-spec : {M : Type 1} → statement M
 judge-set-spec =

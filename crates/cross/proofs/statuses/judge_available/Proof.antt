@@ -20,11 +20,11 @@ use Rattle.cross.proofs.statuses.judge_available.Statement.{statement}
 use Rattle.cross.proofs.statuses.judge_available.Tie as tie
 
 abbrev Inv-loop : tie.InvT-loop
-Inv-loop p n set types stations plans digests starts ends least₀ sub₀ at₀ t18 least sub at =
+Inv-loop p n types stations plans typeNotes stationNotes planNotes least₀ sub₀ at₀ t18 least sub at =
     (sub < at) × Goes (availableItem (recordsOf 1 types stations plans) n) available p sub at least
 
 abbrev μ-loop : tie.MeasureT-loop
-μ-loop p n set types stations plans digests starts ends least₀ sub₀ at₀ t18 least sub at = length p - at
+μ-loop p n types stations plans typeNotes stationNotes planNotes least₀ sub₀ at₀ t18 least sub at = length p - at
 
 loop-holds : tie.Need-loop-holds Inv-loop μ-loop
 loop-holds c = (omega arith, goes-start _ _ _)
@@ -50,12 +50,12 @@ loop-again : tie.Need-loop-again Inv-loop μ-loop
 loop-again c =
     let b = c .before in let r = b .before in let q = r .before in let d = q .before .before .before .before in let t = d .before .before in let k = t .before in
     let a = k .before .before .before .before .before .args in let m = d .item .given .0 .0 in
-    let f = sym (t .next-item .ensures) ∙ d .item .given .1 in let i = item-placed _ _ _ f in
+    let f = sym (t .next-item .ensures) ∙ d .item .given .1 in let i = item-placed _ _ _ f in let whole = item-whole (a .p .now) (k .loop .at) m f in
     let types = recordsOf 1 (a .types .now) (a .stations .now) (a .plans .now) in (
       omega (arith, k .loop .inv .0),
       goes-more (availableItem types (a .n)) available (a .p .now) (k .loop .sub) (k .loop .at) (k .loop .least) (k .loop .inv .1) m f
           (breaks (placeAt (a .n) (k .loop .sub + 1)) 38 (r .refers .result) (b .broken .ensures)
-          (r .refers .ensures ∙ ap (λ z. refersTo z 10 types) (ap textBy (q .member .ensures) ∙ available-text (item-whole (a .p .now) (k .loop .at) m f))))
+          (r .refers .ensures ∙ ap (λ z. refersTo z 10 types) (ap textBy (q .member .ensures _ whole) ∙ available-text whole)))
           (c .lesser .ensures),
     )
 

@@ -9,7 +9,7 @@ use Rattle.document.proofs.Records.{pickedItems}
 use Rattle.references.specs.Known.{recordsOf}
 use Rattle.cross.specs.Cross.{at, availableFaults}
 use Rattle.cross.proofs.Joined.{both, breaks, joined}
-use Rattle.cross.proofs.Sizes.{array-short}
+use Rattle.fields.proofs.Sizes.{array-short}
 use Rattle.cross.proofs.statuses.judge_counts.Statement.{statement}
 use Rattle.cross.proofs.statuses.judge_counts.Tie as tie
 

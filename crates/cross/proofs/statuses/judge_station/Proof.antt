@@ -6,12 +6,12 @@ use Rattle.cross.proofs.statuses.judge_station.Tie as tie
 
 returns : tie.Need-returns
 returns c =
-    let b = c .before in let d = b .before in let n = d .before in let a = n .before in let f = a .before in
+    let b = c .before in let n = b .before in let a = n .before in let f = a .before in
     let place = f .before .before .before .before .before .before .args .place in
     both _ _ (c .lesser .ensures) (breaks place 30 (f .refers .result) (a .broken .ensures) (f .refers .ensures))
-    (rw (← n .named .ensures) (breaks place 32 (d .demanded .result) (b .broken2 .ensures) (d .demanded .ensures)))
+    (breaks place 32 (n .demanded-by .result) (b .broken2 .ensures) (n .demanded-by .ensures))
 
 pub judge-station-spec : {M : Type 1} → statement M
 judge-station-spec =
     tie.close
-    (tie.spec (λ c κs. search needs) (λ c κs. search needs) (λ c κs. search needs) (λ c κs. search needs) (λ c κs. search needs) (λ c κs. search needs) returns)
+    (tie.spec (λ c κs. search needs) (λ c κs. search needs) (λ c κs. search needs) (λ c κs. search needs) (λ c κs. search needs) returns)

@@ -7,15 +7,15 @@ use Rattle.document.proofs.Records.{recordShape}
 use Rattle.references.specs.Known.{recordsOf}
 use Rattle.cross.specs.Cross.{faultsOf}
 use Rattle.cross.proofs.Joined.{both}
-use Rattle.cross.proofs.Gathering.{status-is, counts-short}
+use Rattle.cross.proofs.Gathering.{status-is}
 use Rattle.cross.proofs.statuses.judge_status.Statement.{statement}
 use Rattle.cross.proofs.statuses.judge_status.Tie as tie
 
 judge-counts-requires : tie.Need-judge-counts-requires
 judge-counts-requires c κs =
-    let v = c .before .before in let s = v .before in let g = s .before .before .before .before .before .before in
-    let k = g .before .before .before .before .before in
-    (k .pre .0, omega (arith, k .pre .1, counts-short (g .gather .ensures) (s .slot3 .result, s .slot3 .ensures, v .value-at3 .ensures)))
+    let v = c .before .before in
+    let k = v .before .before .before .before .before .before .before .before .before .before .before .before in
+    (k .pre .0, omega (arith, k .pre .1, v .value-at3 .ensures .1))
 
 returns : tie.Need-returns
 unfolding faultsOf recordShape
@@ -27,8 +27,8 @@ returns c ms w =
     both _ _ (c .lesser .ensures) (i .judge-station .ensures) (j .judge-counts .ensures)
     ∙ ap least
     (status-is (a .set .«types_here») (recordsOf 1 types stations plans) (recordsOf 2 types stations plans) (a .n) (g .gather .ensures)
-    (s .slot .result, s .slot .ensures, v .value-at .ensures) (s₂ .slot2 .result, s₂ .slot2 .ensures, v₂ .value-at2 .ensures)
-    (s₃ .slot3 .result, s₃ .slot3 .ensures, v₃ .value-at3 .ensures) (s₄ .slot4 .result, s₄ .slot4 .ensures, v₄ .value-at4 .ensures) w)
+    (s .slot .result, s .slot .ensures, v .value-at .ensures .0) (s₂ .slot2 .result, s₂ .slot2 .ensures, v₂ .value-at2 .ensures .0)
+    (s₃ .slot3 .result, s₃ .slot3 .ensures, v₃ .value-at3 .ensures .0) (s₄ .slot4 .result, s₄ .slot4 .ensures, v₄ .value-at4 .ensures .0) w)
 
 pub judge-status-spec : {M : Type 1} → statement M
 judge-status-spec =

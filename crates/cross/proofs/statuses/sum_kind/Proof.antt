@@ -8,7 +8,7 @@ use Rattle.schema.specs.Table23.{available}
 use Rattle.document.proofs.Records.{pickedItems}
 use Rattle.fields.specs.Values.{arrayBy, thereBy}
 use Rattle.cross.specs.Cross.{sumOf}
-use Rattle.cross.proofs.Sizes.{array-short}
+use Rattle.fields.proofs.Sizes.{array-short}
 use Rattle.cross.proofs.Fielded.{sum-none, sum-same, sum-apart}
 use Rattle.cross.proofs.statuses.sum_kind.Statement.{statement}
 use Rattle.cross.proofs.statuses.sum_kind.Tie as tie

@@ -45,10 +45,10 @@ loop-again : tie.Need-loop-again Inv-loop μ-loop
 loop-again c =
     let q = c .before in let d = q .before .before .before .before in let t = d .before .before in let k = t .before in
     let p = k .before .before .args .p .now in let m = d .item .given .0 .0 in
-    let f = sym (t .next-item .ensures) ∙ d .item .given .1 in let i = item-placed _ _ _ f in (
+    let f = sym (t .next-item .ensures) ∙ d .item .given .1 in let i = item-placed _ _ _ f in let whole = item-whole p (k .loop .at) m f in (
       omega (arith, k .loop .inv .0, c .integer-in .ensures, count-small (q .member .result .now)),
       sums-more p (k .loop .sum) (k .loop .at) (k .loop .inv .1) m f
-          (c .integer-in .ensures ∙ ap integerIn (ap spelledBy (q .member .ensures) ∙ available-count (item-whole p (k .loop .at) m f))),
+          (c .integer-in .ensures ∙ ap integerIn (ap spelledBy (q .member .ensures _ whole) ∙ available-count whole)),
     )
 
 pub sum-of-spec : {M : Type 1} → statement M

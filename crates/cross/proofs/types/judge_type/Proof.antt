@@ -25,8 +25,8 @@ returns c ms w =
     (breaks place 14 (f .refers .result) (b₃ .broken3 .ensures) (f .refers .ensures)))
     ∙ ap least
     (type-is (a .set .«plans_here») (recordsOf 5 (a .types .now) (a .stations .now) (a .plans .now)) (a .n) (g .gather .ensures)
-    (s .slot .result, s .slot .ensures, v .value-at .ensures) (s₃ .slot3 .result, s₃ .slot3 .ensures, v₃ .value-at3 .ensures)
-    (s₂ .slot2 .result, s₂ .slot2 .ensures, v₂ .value-at2 .ensures) w)
+    (s .slot .result, s .slot .ensures, v .value-at .ensures .0) (s₃ .slot3 .result, s₃ .slot3 .ensures, v₃ .value-at3 .ensures .0)
+    (s₂ .slot2 .result, s₂ .slot2 .ensures, v₂ .value-at2 .ensures .0) w)
 
 pub judge-type-spec : {M : Type 1} → statement M
 judge-type-spec =

@@ -18,11 +18,11 @@ use Rattle.cross.proofs.zones.judge_named.Statement.{statement}
 use Rattle.cross.proofs.zones.judge_named.Tie as tie
 
 abbrev Inv-loop : tie.InvT-loop
-Inv-loop p place set types stations plans digests starts ends least₀ at₀ least at =
+Inv-loop p place types stations plans typeNotes stationNotes planNotes least₀ at₀ least at =
     (k : ℕ) × Goes (idItem (recordsOf 1 types stations plans) (place .«record») (place .sub)) (scalar Sort.id) p k at least
 
 abbrev μ-loop : tie.MeasureT-loop
-μ-loop p place set types stations plans digests starts ends least₀ at₀ least at = length p - at
+μ-loop p place types stations plans typeNotes stationNotes planNotes least₀ at₀ least at = length p - at
 
 loop-holds : tie.Need-loop-holds Inv-loop μ-loop
 loop-holds c = (0, goes-start _ _ _)

@@ -20,11 +20,11 @@ use Rattle.cross.proofs.zones.judge_rules.Statement.{statement}
 use Rattle.cross.proofs.zones.judge_rules.Tie as tie
 
 abbrev Inv-loop : tie.InvT-loop
-Inv-loop p n set types stations plans digests starts ends least₀ sub₀ at₀ t18 least sub at =
+Inv-loop p n types stations plans typeNotes stationNotes planNotes least₀ sub₀ at₀ t18 least sub at =
     (sub < at) × Goes (ruleItem (recordsOf 1 types stations plans) n) rule p sub at least
 
 abbrev μ-loop : tie.MeasureT-loop
-μ-loop p n set types stations plans digests starts ends least₀ sub₀ at₀ t18 least sub at = length p - at
+μ-loop p n types stations plans typeNotes stationNotes planNotes least₀ sub₀ at₀ t18 least sub at = length p - at
 
 loop-holds : tie.Need-loop-holds Inv-loop μ-loop
 loop-holds c = (omega arith, goes-start _ _ _)
@@ -50,12 +50,12 @@ loop-again : tie.Need-loop-again Inv-loop μ-loop
 loop-again c =
     let j = c .before in let i = j .before in let q = i .before in let d = q .before .before .before .before in let t = d .before .before in let k = t .before in
     let a = k .before .before .before .before .before .args in let m = d .item .given .0 .0 in
-    let f = sym (t .next-item .ensures) ∙ d .item .given .1 in let s = item-placed _ _ _ f in
+    let f = sym (t .next-item .ensures) ∙ d .item .given .1 in let s = item-placed _ _ _ f in let whole = item-whole (a .p .now) (k .loop .at) m f in
     let types = recordsOf 1 (a .types .now) (a .stations .now) (a .plans .now) in (
       omega (arith, k .loop .inv .0),
       goes-more (ruleItem types (a .n)) rule (a .p .now) (k .loop .sub) (k .loop .at) (k .loop .least) (k .loop .inv .1) m f
           (j .judge-named .ensures ∙ ap (λ l. leastOf (idFaults types (a .n) (k .loop .sub + 1) l))
-          (ap (pickedItems (scalar Sort.id)) (i .array-in .ensures ∙ ap arrayBy (q .member .ensures)) ∙ rule-ids (item-whole (a .p .now) (k .loop .at) m f)))
+          (ap (pickedItems (scalar Sort.id)) (i .array-in .ensures ∙ ap arrayBy (q .member .ensures _ whole)) ∙ rule-ids whole))
           (c .lesser .ensures),
     )
 

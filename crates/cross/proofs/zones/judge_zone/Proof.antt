@@ -1,45 +1,66 @@
--- `judge_zone` judges the rules that stand in the properties of a zone.
+-- `judge_zone` judges the rules that stand in the properties of a zone; without properties there is none.
 use borrow.Author.Needs.{needs}
-use mathlib.Core.Path.{_≡_, ap, _∙_}
+use mathlib.Core.List.{List}
+use mathlib.Core.Path.{_≡_, sym, ap, subst, _∙_}
+use Prim.Native.Nat.{ℕ}
 use native.Mathlib.Omega.{arith}
 use lib.ListN.{length}
 use Rattle.notation.specs.Ascii.{bytes}
+use Rattle.walk.specs.Part.{Whole}
 use Rattle.schema.specs.Table23.{rule}
 use Rattle.fault.specs.Fault.{least}
+use Rattle.fault.proofs.Leasts.{none-least}
 use Rattle.document.proofs.Records.{recordShape, pickedItems}
 use Rattle.fields.specs.Values.{memberOf, arrayBy}
 use Rattle.references.specs.Known.{recordsOf}
 use Rattle.cross.specs.Cross.{ruleFaults, faultsOf}
-use Rattle.cross.proofs.Sizes.{member-short, array-short}
-use Rattle.cross.proofs.Fielded.{zone-rules}
+use Rattle.fields.proofs.Sizes.{member-short, array-short}
+use Rattle.cross.proofs.Fielded.{no-bytes, properties-whole, zone-rules, zone-bare}
 use Rattle.cross.proofs.zones.judge_zone.Statement.{statement}
 use Rattle.cross.proofs.zones.judge_zone.Tie as tie
 
--- where the rules were looked for
+-- where the properties were looked for
+abbrev Looked : Type 0
+Looked = tie.After-member
+
+abbrev start : Looked → tie.Start
+start c = c .before .before .before .before .before .before
+
+properties-are : (c : Looked) → c .member .result .now ≡ memberOf (start c .args .p .now) (bytes "properties")
+properties-are c = c .member .ensures _ (start c .pre .2)
+
+-- where the rules were
 abbrev Read : Type 0
 Read = tie.After-array-in
 
-rules-are : (c : Read) →
-    let p = c .before .before .before .before .before .before .before .before .before .args .p .now in
-    c .array-in .result .now ≡ arrayBy (memberOf (memberOf p (bytes "properties")) (bytes "rules"))
+abbrev looked : Read → Looked
+looked c = c .before .before .before .before
+
+rules-are : (c : Read) → c .array-in .result .now ≡ arrayBy (memberOf (memberOf (start (looked c) .args .p .now) (bytes "properties")) (bytes "rules"))
 rules-are c =
-    let m = c .before in let k = m .before .before in
-    c .array-in .ensures ∙ ap arrayBy (m .member2 .ensures ∙ ap (λ q. memberOf q (bytes "rules")) (k .member .ensures))
+    let m = c .before in let i = m .before .before in let k = looked c in let e = properties-are k in
+    let (y, w) = properties-whole (start k .pre .2) (λ z. i .if1 .left (ap length e ∙ z)) in
+    c .array-in .ensures
+    ∙ ap arrayBy (m .member2 .ensures y (subst (λ (q : List ℕ). Whole q y) (sym e) w) ∙ ap (λ q. memberOf q (bytes "rules")) e)
 
 judge-rules-requires : tie.Need-judge-rules-requires
 judge-rules-requires c κs =
-    let s = c .before .before .before .before .before .before .before .before .before in let p = s .args .p .now in
+    let s = start (looked c) in let p = s .args .p .now in
     let inner = memberOf p (bytes "properties") in let deep = memberOf inner (bytes "rules") in
     (s .pre .0, omega (arith, ap length (rules-are c), s .pre .1, array-short deep, member-short inner (bytes "rules"), member-short p (bytes "properties")))
 
 returns : tie.Need-returns
 unfolding faultsOf recordShape
 returns c ms w =
-    let r = c .before in let a = r .before .before .before .before .before .before .before .before .before .args in
-    let types = recordsOf 1 (a .types .now) (a .stations .now) (a .plans .now) in
+    let k = c .before in sym (none-least _ (zone-bare _ _ w (sym (properties-are k) ∙ no-bytes _ (c .if1 .taken))))
+
+returns-2 : tie.Need-returns-2
+unfolding faultsOf recordShape
+returns-2 c ms w =
+    let r = c .before in let a = start (looked r) .args in let types = recordsOf 1 (a .types .now) (a .stations .now) (a .plans .now) in
     c .judge-rules .ensures ∙ ap (λ q. least (ruleFaults types (a .n) 1 (pickedItems rule q))) (rules-are r) ∙ ap least (zone-rules types (a .n) w)
 
 pub judge-zone-spec : {M : Type 1} → statement M
 judge-zone-spec =
     tie.close
-    (tie.spec (λ c. search needs) (λ c κs. search needs) (λ c. search needs) (λ c κs. search needs) (λ c κs. search needs) judge-rules-requires returns)
+    (tie.spec (λ c. search needs) (λ c κs. search needs) returns (λ c. search needs) (λ c κs. search needs) (λ c κs. search needs) judge-rules-requires returns-2)

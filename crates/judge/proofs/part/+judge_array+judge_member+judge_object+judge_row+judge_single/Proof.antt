@@ -5,9 +5,10 @@ use mathlib.Core.Path.{sym, ap, subst, _∙_}
 use Prim.Native.Nat.{ℕ, _+_, _*_, _-_, _<_, _≤_}
 use native.Mathlib.Omega.{arith}
 use lib.ListN.{length}
-use Rattle.walk.proofs.Places.{ItemPlaced, item-placed}
+use Rattle.walk.specs.Along.{ItemPlaced}
 use Rattle.slots.specs.declared.Found.the-variants.{Once}
 use Rattle.slots.specs.Found.{Within}
+use Rattle.slots.specs.Rows.{lineCount}
 use Rattle.fault.specs.declared.Least.{Least}
 use Rattle.fault.specs.Fault.{lesser}
 use Rattle.judge.proofs.Values.{single-past, single-object, single-scalar, member-blank, member-array, member-single, row-missing, row-once, row-twice, object-shut, object-past, object-other}
@@ -40,10 +41,11 @@ use Rattle.judge.proofs.part.judge_positions.Reads as judge-positions-r
 use Rattle.judge.proofs.part.wide.Reads as wide-reads
 use Rattle.scalar.proofs.judge_scalar.Reads as judge-scalar-reads
 use Rattle.schema.proofs.lines.line_at.Reads as line-at-reads
-use Rattle.slots.proofs.Slots.slot.Reads as slot-reads
+use Rattle.schema.proofs.lines.line_columns.Reads as line-columns-reads
 use Rattle.slots.proofs.gather.Reads as gather-reads
 use Rattle.slots.proofs.is_blank_text.Reads as is-blank-text-reads
-use Rattle.walk.proofs.next_item.Reads as next-item-reads
+use Rattle.slots.proofs.slot_in.Reads as slot-in-reads
+use Rattle.walk.proofs.pass_item.Reads as pass-item-reads
 use Rattle.judge.proofs.part.+judge_array+judge_member+judge_object+judge_row+judge_single.{
   statement,
 }
@@ -118,13 +120,13 @@ judge-single-below t =
     judge-single.Pre
 
 abbrev judge-array-calls : ℕ → judge-array-lts.Claims
-judge-array-calls t = (judge-positions-reads.Asked, judge-positions-reads.Learnt, brackets-reads.Asked, brackets-reads.Learnt, broken-reads.Asked, broken-reads.Learnt, next-item-reads.Asked, next-item-reads.Learnt, excess-reads.Asked, excess-reads.Learnt, lesser-reads.Asked, lesser-reads.Learnt, item-reads.Asked, item-reads.Learnt, judge-single-below t, judge-single.Post)
+judge-array-calls t = (judge-positions-reads.Asked, judge-positions-reads.Learnt, brackets-reads.Asked, brackets-reads.Learnt, broken-reads.Asked, broken-reads.Learnt, pass-item-reads.Asked, pass-item-reads.Learnt, excess-reads.Asked, excess-reads.Learnt, lesser-reads.Asked, lesser-reads.Learnt, item-reads.Asked, item-reads.Learnt, judge-single-below t, judge-single.Post)
 
 abbrev judge-member-calls : ℕ → judge-member-lts.Claims
 judge-member-calls t = (is-blank-text-reads.Asked, is-blank-text-reads.Learnt, absent-reads.Asked, absent-reads.Learnt, judge-array-below t, judge-array.Post, judge-single-below t, judge-single.Post)
 
 abbrev judge-object-calls : ℕ → judge-object-lts.Claims
-judge-object-calls t = (brackets-reads.Asked, brackets-reads.Learnt, broken-reads.Asked, broken-reads.Learnt, gather-reads.Asked, gather-reads.Learnt, line-at-reads.Asked, line-at-reads.Learnt, slot-reads.Asked, slot-reads.Learnt, judge-row-below t, judge-row.Post, lesser-reads.Asked, lesser-reads.Learnt, wide-reads.Asked, wide-reads.Learnt)
+judge-object-calls t = (brackets-reads.Asked, brackets-reads.Learnt, broken-reads.Asked, broken-reads.Learnt, gather-reads.Asked, gather-reads.Learnt, line-columns-reads.Asked, line-columns-reads.Learnt, line-at-reads.Asked, line-at-reads.Learnt, slot-in-reads.Asked, slot-in-reads.Learnt, judge-row-below t, judge-row.Post, lesser-reads.Asked, lesser-reads.Learnt, wide-reads.Asked, wide-reads.Learnt)
 
 abbrev judge-row-calls : ℕ → judge-row-lts.Claims
 judge-row-calls t = (absent-reads.Asked, absent-reads.Learnt, judge-member-below t, judge-member.Post, broken-reads.Asked, broken-reads.Learnt)
@@ -160,13 +162,13 @@ judge-array-returns-3 t c =
     let s = k .before .before .before .before in
     let a = s .args in
     items-end (a .p .now) (a .i) (a .place) (a .level) (s .pre .1 .1) (k .before .if1 .left) (l .loop .at) (l .loop .least) (l .loop .n)
-    (sym (c .before .before .before .before .next-item .ensures) ∙ c .before .before .enum-told .given .1) (k .brackets .ensures) (l .before .if2 .left)
+    (c .before .before .before .before .pass-item .ensures) (c .before .before .enum-told .given .1) (k .brackets .ensures) (l .before .if2 .left)
     (c .lesser .ensures ∙ ap (λ (z : Least). lesser z (l .loop .least)) (c .before .excess .ensures)) (l .loop .inv .1)
 
 -- where the item that was met stands
 judge-array-placed : (t : ℕ) (c : judge-array-lts.After-known-told (judge-array-calls t) (judge-array-at t) judge-array.Post judge-array-Inv-loop judge-array-μ-loop) →
     ItemPlaced (c .before .before .before .before .before .before .before .before .before .before .args .p .now) (c .before .before .before .before .loop .at) (c .before .item .given .0 .0)
-judge-array-placed t c = item-placed _ _ _ (sym (c .before .before .before .next-item .ensures) ∙ c .before .item .given .1)
+judge-array-placed t c = c .before .before .before .pass-item .ensures .placed _ (c .before .item .given .1)
 
 judge-array-loop-again : (t : ℕ) → judge-array-lts.Need-loop-again (judge-array-calls t) (judge-array-at t) judge-array.Post judge-array-Inv-loop judge-array-μ-loop
 judge-array-loop-again t c =
@@ -178,7 +180,7 @@ judge-array-loop-again t c =
       omega arith,
       rw (c .lesser2 .ensures)
           (items-next (a .p .now) (a .i) (a .place) (a .level) (s .pre .1 .1) (l .before .before .before .if1 .left) (l .loop .at) (l .loop .least) (l .loop .n)
-          (d .before .item .given .0 .0) (sym (d .before .before .before .next-item .ensures) ∙ d .before .item .given .1)
+          (d .before .item .given .0 .0) (d .before .before .before .pass-item .ensures) (d .before .item .given .1)
           (rw (c .before .before .before .item2 .ensures) at (c .before .judge-single .ensures)) (l .loop .inv .1)),
     )
 
@@ -200,45 +202,54 @@ judge-member-returns-3 t c =
 
 -- objects
 abbrev judge-object-Inv-loop : judge-object-lts.InvT-loop
-judge-object-Inv-loop p first count field place level slots least₀ i₀ row₀ least i row = (row ≤ i) × RowsGo p first count place level slots i row least
+judge-object-Inv-loop p first count field place level slots table least₀ i₀ row₀ least i row = (row ≤ i) × RowsGo p first count place level slots i row least
 
 abbrev judge-object-μ-loop : judge-object-lts.MeasureT-loop
-judge-object-μ-loop p first count field place level slots least₀ i₀ row₀ least i row = first + count - i
+judge-object-μ-loop p first count field place level slots table least₀ i₀ row₀ least i row = first + count - i
 
 judge-object-returns-4 : (t : ℕ) → judge-object-lts.Need-returns-4 (judge-object-calls t) (judge-object-at t) judge-object.Post judge-object-Inv-loop judge-object-μ-loop
 judge-object-returns-4 t c = object-other (c .before .before .brackets .ensures) (c .before .if4 .taken) (c .broken .ensures)
 
 judge-object-loop-holds : (t : ℕ) → judge-object-lts.Need-loop-holds (judge-object-calls t) (judge-object-at t) judge-object.Post judge-object-Inv-loop judge-object-μ-loop
 judge-object-loop-holds t c =
-    let k = c .before .before .before in
+    let g = c .before in
+    let k = g .before .before .before in
     let a = k .before .before .before .before .args in
-    (omega arith, rows-start (a .p .now) (a .first) (a .count) (a .place) (a .level) (c .gather .result) (c .gather .ensures) (k .before .before .if1 .left))
+    (omega arith, rows-start (a .p .now) (a .first) (a .count) (a .place) (a .level) (g .gather .result) (g .gather .ensures) (k .before .before .if1 .left))
+
+-- in a turn, line i is one of the object's, and those are lines of the table
+judge-object-there : (t : ℕ) (c : judge-object-lts.In-loop (judge-object-calls t) (judge-object-at t) judge-object.Post judge-object-Inv-loop judge-object-μ-loop) →
+    let l = c .before in let a = l .before .before .before .before .before .before .before .before .before .args in (l .loop .i < a .first + a .count) × (a .first + a .count ≤ lineCount) × (l .loop .row ≤ l .loop .i)
+judge-object-there t c = (c .loop-test .taken, omega arith, c .before .loop .inv .0)
 
 judge-object-judge-row-requires : (t : ℕ) → judge-object-lts.Need-judge-row-requires (judge-object-calls t) (judge-object-at t) judge-object.Post judge-object-Inv-loop judge-object-μ-loop
 judge-object-judge-row-requires t c κs =
-    let l = c .before .before .before in
-    let g = l .before in
+    let e = c .before .before .before .before .before in
+    let l = e .before .before .before .before .before .before .before .before .before .before in
+    let g = l .before .before in
     let s = g .before .before .before .before .before .before .before in (
       omega (arith, s .pre .0, g .before .before .before .before .before .if1 .left),
-      (s .pre .1, subst (Within (length (s .args .p .now))) (sym (c .slot .ensures)) (g .gather .ensures .inside (l .loop .row)), c .before .line-at .ensures),
+      (s .pre .1, subst (Within (length (s .args .p .now))) (sym (c .slot-in .ensures)) (g .gather .ensures .inside (l .loop .row)), e .line-at .ensures),
     )
 
 judge-object-loop-again : (t : ℕ) → judge-object-lts.Need-loop-again (judge-object-calls t) (judge-object-at t) judge-object.Post judge-object-Inv-loop judge-object-μ-loop
 judge-object-loop-again t c =
-    let l = c .before .before .before .before .before .before in
-    let g = l .before in
+    let k = c .before .before .before in
+    let e = k .before .before .before .before .before in
+    let l = e .before .before .before .before .before .before .before .before .before .before in
+    let g = l .before .before in
     let a = g .before .before .before .before .before .before .before .args in (
       omega arith,
       rw (c .before .lesser .ensures, c .wide .ensures)
           (rows-next (a .p .now) (a .first) (a .count) (a .place) (a .level) (g .gather .result) (l .loop .i) (l .loop .row) (l .loop .least)
-          (c .before .before .before .before .line-at .ensures) (c .before .before .before .before .before .loop-test .taken)
-          (rw (c .before .before .before .slot .ensures) at (c .before .before .judge-row .ensures)) (l .loop .inv .1)),
+          (e .line-at .ensures) (e .before .before .before .before .before .before .before .before .before .loop-test .taken)
+          (rw (k .slot-in .ensures) at (c .before .before .judge-row .ensures)) (l .loop .inv .1)),
     )
 
 judge-object-returns-5 : (t : ℕ) → judge-object-lts.Need-returns-5 (judge-object-calls t) (judge-object-at t) judge-object.Post judge-object-Inv-loop judge-object-μ-loop
 judge-object-returns-5 t c =
     let l = c .before in
-    let g = l .before in
+    let g = l .before .before in
     let a = g .before .before .before .before .before .before .before .args in
     rows-end (a .p .now) (a .first) (a .count) (a .place) (a .level) (g .gather .result) (l .loop .i) (l .loop .row) (a .field) (l .loop .least)
     (g .before .before .brackets .ensures) (g .before .if4 .left) (omega (arith, c .loop-test .left)) (l .loop .inv .1)
@@ -326,18 +337,19 @@ pub +judge-array+judge-member+judge-object+judge-row+judge-single-spec : {M : Ty
     (λ c κs. search needs)
     (judge-object-returns-4 t)
     (λ c κs. search needs)
+    (λ c κs. search needs)
     (judge-object-loop-holds t)
     (λ c. omega arith)
+    (λ c κs. c .before .before .before .before .before .before .before .before .before .before .line-columns .ensures)
     (λ c κs. search needs)
-    (λ c κs. search needs)
-    (λ c. omega arith)
+    (λ c. omega (arith, c .before .before .before .before .before .before .before .before .before .before .before .before .before .before .before .before .before .before .before .before .before .before .if1 .left))
     (judge-object-judge-row-requires t)
     (λ c κs. search needs)
-    (λ c. omega arith)
+    (λ c. let h = judge-object-there t (c .before .before .before .before .before .before .before .before .before .before .before .before .before .before .before .before) in omega arith)
     (λ c κs. search needs)
-    (λ c. omega arith)
-    (λ c. omega arith)
-    (λ c. omega arith)
+    (λ c. let h = judge-object-there t (c .before .before .before .before .before .before .before .before .before .before .before .before .before .before .before .before .before) in omega arith)
+    (λ c. let h = judge-object-there t (c .before .before .before .before .before .before .before .before .before .before .before .before .before .before .before .before .before) in omega arith)
+    (λ c. let h = judge-object-there t (c .before .before .before .before .before .before .before .before .before .before .before .before .before .before .before .before .before) in omega arith)
     (judge-object-loop-again t)
     (judge-object-returns-5 t))
     (λ t. judge-row-lts.spec (judge-row-calls t)

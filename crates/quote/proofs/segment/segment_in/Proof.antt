@@ -8,7 +8,8 @@ returns : tie.Need-returns
 unfolding segmentBy
 returns c =
     let g = c .before .before in let m = g .before .before in let r = m .before in let i = r .before .before in let s = i .before in let e = s .before .before in
-    rw (c .integer-in3 .ensures, c .before .integer-in2 .ensures, g .member4 .ensures, m .money-in .ensures, r .member3 .ensures, i .integer-in .ensures, s .member2 .ensures, e .member .ensures)
+    let w = e .before .before .before .pre in
+    rw (c .integer-in3 .ensures, c .before .integer-in2 .ensures, g .member4 .ensures _ w, m .money-in .ensures, r .member3 .ensures _ w, i .integer-in .ensures, s .member2 .ensures _ w, e .member .ensures _ w)
 
 pub segment-in-spec : {M : Type 1} → statement M
 segment-in-spec =

@@ -6,7 +6,7 @@ use native.Mathlib.Omega.{arith}
 use lib.ListN.{length}
 use Rattle.limits.specs.Ceilings.{segments}
 use Rattle.walk.proofs.Places.{ItemPlaced, item-placed}
-use Rattle.walk.proofs.Parts.{itemOf}
+use Rattle.walk.proofs.Parts.{itemOf, item-whole}
 use Rattle.fare.specs.Bounds.{Room}
 use Rattle.quote.specs.Tally.{lengthOf, tally as tallyOf}
 use Rattle.quote.proofs.Tallying.{Tallies, tallies-start, tallies-end, tallies-crowded, tallies-more, segment-payable, segment-room}
@@ -50,6 +50,11 @@ part-segment-in-start c = let m = placed (c .before) in omega arith
 part-segment-in-end : tie.Need-part-segment-in-end Inv-loop μ-loop
 part-segment-in-end c = let m = placed (c .before) in omega arith
 
+segment-in-requires : tie.Need-segment-in-requires Inv-loop μ-loop
+segment-in-requires c κs =
+    let d = c .before .before .before in let n = d .before .before in
+    item-whole _ _ _ (sym (n .next-item .ensures) ∙ d .m .given .1)
+
 charge-requires : tie.Need-charge-requires Inv-loop μ-loop
 charge-requires c κs =
     let i = c .before .before in let d = i .before .before in let k = d .before .before .before in let a = k .before .before .before in
@@ -85,7 +90,7 @@ tally-spec =
     sub-segment-in
     part-segment-in-start
     part-segment-in-end
-    (λ c κs. search needs)
+    segment-in-requires
     charge-requires
     (λ c κs. search needs)
     (λ c. omega arith)

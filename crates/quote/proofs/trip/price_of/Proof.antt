@@ -7,7 +7,9 @@ use Rattle.quote.proofs.trip.price_of.Statement.{statement}
 use Rattle.quote.proofs.trip.price_of.Tie as tie
 
 returns : tie.Need-returns
-returns c = c .of-price .ensures ∙ ap ofPrice (c .before .price-in .ensures ∙ ap priceBy (c .before .before .member .ensures))
+returns c =
+    let m = c .before .before in
+    c .of-price .ensures ∙ ap ofPrice (c .before .price-in .ensures ∙ ap priceBy (m .member .ensures _ (m .before .before .before .pre)))
 
 pub price-of-spec : {M : Type 1} → statement M
 price-of-spec =

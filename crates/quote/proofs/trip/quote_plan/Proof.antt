@@ -1,4 +1,4 @@
--- The two tallies one after the other: each has room, whatever the bytes are, and of a plan with no more segments than it may have both come to its quote.
+-- The two tallies one after the other: each has room, and of a plan with no more segments than it may have both come to its quote.
 use borrow.Author.Needs.{needs}
 use mathlib.Core.Path.{_≡_, sym, ap, ap₂, _∙_}
 use native.Mathlib.Omega.{arith}
@@ -35,10 +35,13 @@ tally-of-requires c κs =
     let k = c .before .before .before .before .before in (
       rw (c .before .price-of .ensures) (room-less segments (omega arith) (price-room (priceBytes (k .args .p .now)))),
       rw (c .before .before .before .of-seconds .ensures) (minutes-short (k .args .seconds) (k .pre .0)),
+      k .pre .2 .whole,
     )
 
 returns : tie.Need-returns
-returns c x w few = let t = c .before .before in no-tally (sym (c .enum-told .given .1) ∙ first t ∙ tally-minutes w few _ _)
+returns c =
+    let t = c .before .before in let fit = t .before .before .before .before .before .before .pre .2 in
+    no-tally (sym (c .enum-told .given .1) ∙ first t ∙ tally-minutes (fit .whole) (fit .few) _ _)
 
 tally-of-requires-2 : tie.Need-tally-of-requires-2
 tally-of-requires-2 c κs =
@@ -46,18 +49,21 @@ tally-of-requires-2 c κs =
       tally-room (minuteBytes (k .args .p .now)) (minutesOf (k .args .seconds) .count) segments (minutes-short (k .args .seconds) (k .pre .0))
           (d .timed .given .0 .0) (d .timed .given .0 .1 .0) (ofPrice (priceBy (priceBytes (k .args .p .now)))) (price-room (priceBytes (k .args .p .now))) (sym (first t) ∙ d .timed .given .1),
       rw (t .before .before .before .of-metres .ensures) (kilometres-short (k .args .metres) (k .pre .1)),
+      k .pre .2 .whole,
     )
 
 returns-2 : tie.Need-returns-2
-returns-2 c x w few = let t = c .before .before in no-tally (sym (c .enum-told2 .given .1) ∙ second t ∙ tally-kilometres w few _ _)
+returns-2 c =
+    let t = c .before .before in let fit = t .before .before .before .before .before .before .before .before .before .before .before .pre .2 in
+    no-tally (sym (c .enum-told2 .given .1) ∙ second t ∙ tally-kilometres (fit .whole) (fit .few) _ _)
 
 returns-3 : tie.Need-returns-3
-returns-3 c x w few =
+returns-3 c =
     let g = c .before .before .before in let d = g .before .before in let t = d .before .before in let e = t .before .before .before in let u = e .before .before in
     let l = u .before .before .before in let k = l .before .before .before in
     c .fare-of .ensures
     ∙ rw (g .total .ensures, c .before .before .past-minutes .ensures, c .before .past-kilometres .ensures, l .before .of-seconds .ensures, l .of-metres .ensures)
-    (plan-quoted w few (k .args .seconds) (k .args .metres) (e .timed .given .0 .0) (d .all .given .0 .0) (e .timed .given .0 .1 .0) (d .all .given .0 .1 .0)
+    (plan-quoted (k .pre .2 .whole) (k .pre .2 .few) (k .args .seconds) (k .args .metres) (e .timed .given .0 .0) (d .all .given .0 .0) (e .timed .given .0 .1 .0) (d .all .given .0 .1 .0)
     (sym (first u) ∙ e .timed .given .1) (sym (second t) ∙ d .all .given .1))
 
 pub quote-plan-spec : {M : Type 1} → statement M

@@ -8,8 +8,8 @@ use Rattle.quote.proofs.trip.tally_of.Tie as tie
 
 returns : tie.Need-returns
 returns c =
-    let a = c .before .before .before .before .before .args in
-    c .tally .ensures ∙ ap (λ q. tallyOf q (a .sum) (lengthOf (a .ride))) (c .before .array-in .ensures ∙ ap arrayBy (c .before .before .member .ensures))
+    let m = c .before .before in let s = m .before .before .before in
+    c .tally .ensures ∙ ap (λ q. tallyOf q (s .args .sum) (lengthOf (s .args .ride))) (c .before .array-in .ensures ∙ ap arrayBy (m .member .ensures _ (s .pre .2)))
 
 pub tally-of-spec : {M : Type 1} → statement M
 tally-of-spec = tie.close (tie.spec (λ c κs. search needs) (λ c κs. search needs) (λ c κs. search needs) returns)

@@ -11,13 +11,13 @@ use Rattle.references.proofs.search.passes.Tie as tie
 
 returns : tie.Need-returns
 returns c =
-    let m = c .before .before .before in let a = m .before .before .args in
-    c .is-driven .ensures ∙ ap (λ q. notHuman (textBy q)) (c .before .member .ensures) ∙ ap (λ (f : ℕ). passing f (a .q .now)) (sym (m .match .keys1))
+    let m = c .before .before .before in let g = m .before .before in
+    c .is-driven .ensures ∙ ap (λ q. notHuman (textBy q)) (c .before .member .ensures _ (g .pre)) ∙ ap (λ (f : ℕ). passing f (g .args .q .now)) (sym (m .match .keys1))
 
 returns-2 : tie.Need-returns-2
 returns-2 c =
-    let m = c .before .before in let a = m .before .before .args in
-    ap thereBy (c .member2 .ensures) ∙ ap (λ (f : ℕ). passing f (a .q .now)) (sym (m .match .keys2))
+    let m = c .before .before in let g = m .before .before in
+    ap thereBy (c .member2 .ensures _ (g .pre)) ∙ ap (λ (f : ℕ). passing f (g .args .q .now)) (sym (m .match .keys2))
 
 returns-3 : tie.Need-returns-3
 returns-3 c = let r = c .match .rest in rw (ne-eqb _ 1 (r .0 .1), ne-eqb _ 2 (r .1))

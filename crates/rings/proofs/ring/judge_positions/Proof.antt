@@ -8,14 +8,18 @@ use Rattle.rings.proofs.ring.judge_positions.Statement.{statement}
 use Rattle.rings.proofs.ring.judge_positions.Tie as tie
 
 judge-area-requires : tie.Need-judge-area-requires
-judge-area-requires c κs = c .before .before .before .before .read-ring .ensures .charted
+judge-area-requires c κs = c .before .before .before .before .read-ring .ensures .0 .charted
 
 returns : tie.Need-returns
 returns c =
-    ring-tells (c .before .before .before .before .before .before .read-ring .ensures) _
-    (c .lesser3 .ensures
-    ∙ ap₂ lesser (c .before .before .lesser2 .ensures ∙ ap (λ (z : LeastFound). lesser z (c .before .before .before .before .before .before .read-ring .result .least)) (c .before .before .before .lesser .ensures ∙ ap₂ lesser (c .before .before .before .before .before .unless .ensures) (c .before .before .before .before .unless2 .ensures)))
-    (c .before .judge-area .ensures))
+    let r = c .before .before .before .before .before .before .read-ring in (
+      r .ensures .0 .within,
+      λ w.
+          ring-tells (r .ensures .1 w) _
+          (c .lesser3 .ensures
+          ∙ ap₂ lesser (c .before .before .lesser2 .ensures ∙ ap (λ (z : LeastFound). lesser z (r .result .least)) (c .before .before .before .lesser .ensures ∙ ap₂ lesser (c .before .before .before .before .before .unless .ensures) (c .before .before .before .before .unless2 .ensures)))
+          (c .before .judge-area .ensures)),
+    )
 
 pub judge-positions-spec : {M : Type 1} → statement M
 judge-positions-spec = tie.close (tie.spec (λ c κs. search needs) (λ c κs. search needs) (λ c. search needs) (λ c κs. search needs) (λ c κs. search needs) (λ c κs. search needs) judge-area-requires (λ c κs. search needs) returns)

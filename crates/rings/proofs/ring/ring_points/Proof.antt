@@ -10,7 +10,8 @@ use Rattle.rings.proofs.ring.ring_points.Tie as tie
 
 returns : tie.Need-returns
 returns c x is n w e f =
-    outlined (c .read-ring .ensures) _ (items-parts shape.positions positions positionShape x is w e) (clean-ring n _ f)
+    let k = items-parts shape.positions positions positionShape x is w e in
+    outlined (c .read-ring .ensures .0) (c .read-ring .ensures .1 (k .listing)) _ (k .parts) (clean-ring n _ f)
 
 pub ring-points-spec : {M : Type 1} → statement M
 ring-points-spec = tie.close (tie.spec (λ c κs. search needs) returns)

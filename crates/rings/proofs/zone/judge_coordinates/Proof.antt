@@ -10,7 +10,7 @@ use Rattle.rings.proofs.zone.judge_coordinates.Tie as tie
 returns : tie.Need-returns
 returns c x is w e =
     let r = c .before .before .before .judge-polygons in
-    c .lesser .ensures ∙ ap (λ (z : LeastFound). lesser z (r .result .least)) (c .before .unless .ensures) ∙ coordinates-found (r .result) (r .ensures) x is w e
+    c .lesser .ensures ∙ ap (λ (z : LeastFound). lesser z (r .result .least)) (c .before .unless .ensures) ∙ coordinates-found (r .result) (r .ensures .1) x is w e
 
 pub judge-coordinates-spec : {M : Type 1} → statement M
 judge-coordinates-spec = tie.close (tie.spec (λ c κs. search needs) (λ c. search needs) (λ c κs. search needs) (λ c κs. search needs) returns)

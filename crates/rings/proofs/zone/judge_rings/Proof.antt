@@ -1,72 +1,74 @@
 -- Each turn judges one ring more: what is found so far, with what is left, is what is found in all.
-use mathlib.Core.Path.{sym, _∙_}
 use Prim.Native.Nat.{_+_, _-_}
 use native.Mathlib.Omega.{arith}
 use lib.ListN.{length}
 use borrow.Author.Needs.{needs}
-use Rattle.walk.proofs.Parts.{item-whole}
+use Rattle.walk.specs.Along.{ItemPlaced}
 use Rattle.rings.specs.Rings.{ring, ringPositions}
-use Rattle.rings.specs.Parts.{ringShape}
-use Rattle.rings.proofs.Going.{Going, going-start, going-end, going-room, going-more}
+use Rattle.rings.specs.Parts.{ringShape, Listing}
+use Rattle.rings.proofs.Going.{Room, Passed, passed-start, passed-within, passed-room, passed-more, Going, going-start, going-end, going-whole, going-more}
 use Rattle.rings.proofs.zone.judge_rings.Statement.{statement}
 use Rattle.rings.proofs.zone.judge_rings.Tie as tie
 
 abbrev Inv-loop : tie.InvT-loop
-Inv-loop p n items₀ positions₀ least₀ at₀ items positions least at = Going ring ringPositions ringShape n p at items positions least
+Inv-loop p n items₀ positions₀ least₀ at₀ items positions least at =
+    Passed p at items positions × (Listing p → Going ring ringPositions ringShape n p at items positions least)
 
 abbrev μ-loop : tie.MeasureT-loop
 μ-loop p n items₀ positions₀ least₀ at₀ items positions least at = length p + 1 - at
 
 loop-holds : tie.Need-loop-holds Inv-loop μ-loop
-loop-holds c = going-start ring ringPositions ringShape _ _
+loop-holds c = (passed-start _, λ w. going-start ring ringPositions ringShape _ _ w)
 
 returns : tie.Need-returns Inv-loop μ-loop
-returns c = going-end ring ringPositions ringShape _ _ (c .before .before .before .loop .inv) (sym (c .before .before .next-item .ensures) ∙ c .enum-told .given .1)
+returns c =
+    let l = c .before .before .before .loop in
+    (passed-within (l .inv .0), λ w. going-end ring ringPositions ringShape _ _ (l .inv .1 w) (c .before .before .pass-item .ensures) (c .enum-told .given .1))
 
-sub-judge-ring : tie.Need-sub-judge-ring Inv-loop μ-loop
-sub-judge-ring c = let k = going-room ring ringPositions ringShape _ _ (c .before .before .before .before .loop .inv) _ (sym (c .before .before .before .next-item .ensures) ∙ c .before .item .given .1) in omega (arith, k .some)
+-- where an item was found
+abbrev Met : Type 0
+Met = tie.After-known-told Inv-loop μ-loop
 
-part-judge-ring-start : tie.Need-part-judge-ring-start Inv-loop μ-loop
-part-judge-ring-start c = let k = going-room ring ringPositions ringShape _ _ (c .before .before .before .before .loop .inv) _ (sym (c .before .before .before .next-item .ensures) ∙ c .before .item .given .1) in omega (arith, k .some)
+placed : (c : Met) →
+    ItemPlaced (c .before .before .before .before .before .before .args .p .now) (c .before .before .before .before .loop .at) (c .before .item .given .0 .0)
+placed c = c .before .before .before .pass-item .ensures .placed _ (c .before .item .given .1)
 
-part-judge-ring-end : tie.Need-part-judge-ring-end Inv-loop μ-loop
-part-judge-ring-end c = let k = going-room ring ringPositions ringShape _ _ (c .before .before .before .before .loop .inv) _ (sym (c .before .before .before .next-item .ensures) ∙ c .before .item .given .1) in k .ends
+room : (c : Met) → let l = c .before .before .before .before .loop in
+    Room (c .before .before .before .before .before .before .args .p .now) (l .at) (l .items) (l .positions) (c .before .item .given .0 .0)
+room c = passed-room (c .before .before .before .before .loop .inv .0) (placed c)
 
 add-judge-ring : tie.Need-add-judge-ring Inv-loop μ-loop
-add-judge-ring c =
-    let k = going-room ring ringPositions ringShape _ _ (c .before .before .before .before .before .loop .inv) _ (sym (c .before .before .before .before .next-item .ensures) ∙ c .before .before .item .given .1) in
-    omega (arith, c .before .before .before .before .before .before .before .pre, k .number)
+add-judge-ring c = let k = room (c .before) in omega (arith, c .before .before .before .before .before .before .before .pre, k .number)
 
 judge-ring-requires : tie.Need-judge-ring-requires Inv-loop μ-loop
 judge-ring-requires c κs =
-    let k = going-room ring ringPositions ringShape _ _ (c .before .before .before .before .before .loop .inv) _ (sym (c .before .before .before .before .next-item .ensures) ∙ c .before .before .item .given .1) in
-    omega (arith, c .before .before .before .before .before .before .before .pre, k .number, k .size)
+    let k = room (c .before) in omega (arith, c .before .before .before .before .before .before .before .pre, k .number, k .size)
 
 add-items : tie.Need-add-items Inv-loop μ-loop
 add-items c =
-    let k = going-room ring ringPositions ringShape _ _ (c .before .before .before .before .before .before .before .loop .inv) _ (sym (c .before .before .before .before .before .before .next-item .ensures) ∙ c .before .before .before .before .item .given .1) in
-    omega (arith, c .before .before .before .before .before .before .before .before .before .pre, k .count)
+    let d = c .before .before .before in let k = room d in omega (arith, d .before .before .before .before .before .before .pre, k .count)
 
 add-positions : tie.Need-add-positions Inv-loop μ-loop
 add-positions c =
-    let k = going-room ring ringPositions ringShape _ _ (c .before .before .before .before .before .before .before .before .loop .inv) _ (sym (c .before .before .before .before .before .before .before .next-item .ensures) ∙ c .before .before .before .before .before .item .given .1) in
-    let j = c .before .before .judge-ring .ensures _ (item-whole _ _ _ (sym (c .before .before .before .before .before .before .before .next-item .ensures) ∙ c .before .before .before .before .before .item .given .1)) in
-    omega (arith, c .before .before .before .before .before .before .before .before .before .before .pre, k .number, k .size, j .within)
+    let d = c .before .before .before .before in let k = room d in
+    omega (arith, d .before .before .before .before .before .before .pre, k .number, k .size, c .before .before .judge-ring .ensures .0)
 
 loop-less : tie.Need-loop-less Inv-loop μ-loop
-loop-less c =
-    let k = going-room ring ringPositions ringShape _ _ (c .before .before .before .before .before .before .before .before .loop .inv) _ (sym (c .before .before .before .before .before .before .before .next-item .ensures) ∙ c .before .before .before .before .before .item .given .1) in
-    omega (arith, k .onward, k .inside)
+loop-less c = let k = room (c .before .before .before .before) in omega (arith, k .onward, k .inside)
 
 loop-again : tie.Need-loop-again Inv-loop μ-loop
 loop-again c =
-    let k = going-room ring ringPositions ringShape _ _ (c .before .before .before .before .before .before .before .before .loop .inv) _ (sym (c .before .before .before .before .before .before .before .next-item .ensures) ∙ c .before .before .before .before .before .item .given .1) in
-    let j = c .before .before .judge-ring .ensures _ (item-whole _ _ _ (sym (c .before .before .before .before .before .before .before .next-item .ensures) ∙ c .before .before .before .before .before .item .given .1)) in
-    going-more ring ringPositions ringShape _ _ (c .before .before .before .before .before .before .before .before .loop .inv) _ (sym (c .before .before .before .before .before .before .before .next-item .ensures) ∙ c .before .before .before .before .before .item .given .1) _ _ _
-    (j .least) (c .before .lesser .ensures) (j .positions) (omega (arith, k .size, j .within))
+    let d = c .before .before .before .before in let k = room d in let l = d .before .before .before .before .loop in
+    let f = d .before .before .before .pass-item .ensures in let h = d .before .item .given .1 in let r = c .before .before .judge-ring .ensures in (
+      passed-more (l .inv .0) (placed d) _ (omega (arith, k .size, r .0)),
+      λ w.
+          let g = l .inv .1 w in
+          let j = r .1 _ (going-whole ring ringPositions ringShape _ _ g f _ h) in
+          going-more ring ringPositions ringShape _ _ g f _ h _ _ _ (j .least) (c .before .lesser .ensures) (j .positions),
+    )
 
 pub judge-rings-spec : {M : Type 1} → statement M
 judge-rings-spec =
     tie.close
-    (tie.spec Inv-loop μ-loop loop-holds (λ c κs. search needs) (λ c. search needs) (λ c. search needs) returns sub-judge-ring part-judge-ring-start part-judge-ring-end
+    (tie.spec Inv-loop μ-loop loop-holds (λ c κs. search needs) (λ c. search needs) (λ c. search needs) returns (λ c. let k = room c in omega (arith, k .some)) (λ c. let k = room c in omega (arith, k .some)) (λ c. room c .ends)
     add-judge-ring judge-ring-requires (λ c κs. search needs) add-items add-positions loop-less loop-again)

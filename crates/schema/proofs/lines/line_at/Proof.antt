@@ -1,4 +1,4 @@
--- Each column of the code is the column that the table's lines have, by computation; past the last line both sides are zeros.
+-- The columns are those of the table's lines; past the last line both sides are zeros.
 use mathlib.Core.Path.{_≡_, refl, sym}
 use native.Mathlib.Omega.{arith}
 use lib.ListN.{length, List·getD-eq-default}
@@ -17,8 +17,7 @@ returns : tie.Need-returns
 returns c = sym (List·getD-eq-default (linesOf table23) noLine {n = c .before .args .i} (omega (arith, how-many)))
 
 returns-2 : tie.Need-returns-2
-unfolding laidOut written23
-returns-2 c = line-columns table23 (c .before .args .i)
+returns-2 c = let s = c .before .before .before .before .before .before .before .before in line-columns table23 (s .args .i) (s .pre)
 
 pub line-at-spec : {M : Type 1} → statement M
 line-at-spec =

@@ -4,14 +4,13 @@ use mathlib.Core.Path.{_≡_, sym, ap, _∙_}
 use Prim.Native.Nat.{_-_}
 use native.Mathlib.Omega.{arith}
 use lib.ListN.{length}
-use Rattle.walk.proofs.Places.{ItemPlaced, item-placed}
-use Rattle.walk.proofs.Parts.{item-whole}
+use Rattle.walk.specs.Along.{ItemPlaced}
 use Rattle.geometry.specs.Shifted.{point}
 use Rattle.rings.specs.Parts.{polygonShape, picked, partsOf}
 use Rattle.document.specs.Document.{elements}
 use Rattle.zone.specs.Zone.{ringsHold, polygonsHold}
 use Rattle.zone.proofs.Cleared.{polygon-rings, polygon-clean}
-use Rattle.zone.proofs.Searching.{Searches, searches-start, searches-end, searches-fit, searches-here, searches-later}
+use Rattle.zone.proofs.Searching.{Searches, searches-start, searches-end, searches-whole, searches-fit, searches-here, searches-later}
 use Rattle.zone.proofs.Searched.{polygons}
 use Rattle.zone.proofs.area.polygons_hold.Statement.{statement}
 use Rattle.zone.proofs.area.polygons_hold.Tie as tie
@@ -25,12 +24,12 @@ abbrev μ-loop : tie.MeasureT-loop
 loop-holds : tie.Need-loop-holds Inv-loop μ-loop
 loop-holds c =
     let k = c .before in
-    searches-start (polygons (point (k .args .q))) polygonShape (k .args .p .now) (k .pre .0 .first, k .pre .0 .clear)
+    searches-start (polygons (point (k .args .q))) polygonShape (k .args .p .now) (k .pre .0 .listing) (k .pre .0 .first, k .pre .0 .clear)
 
 returns : tie.Need-returns Inv-loop μ-loop
 returns c =
     let n = c .before .before in let k = n .before in let a = k .before .before .args in
-    searches-end (polygons (point (a .q))) polygonShape (a .p .now) (k .loop .inv) (sym (n .next-item .ensures) ∙ c .enum-told .given .1)
+    searches-end (polygons (point (a .q))) polygonShape (a .p .now) (k .loop .inv) (n .pass-item .ensures) (c .enum-told .given .1)
 
 -- where an item was found
 abbrev Met : Type 0
@@ -38,14 +37,15 @@ Met = tie.After-known-told Inv-loop μ-loop
 
 placed : (c : Met) →
     ItemPlaced (c .before .before .before .before .before .before .args .p .now) (c .before .before .before .before .loop .at) (c .before .m .given .0 .0)
-placed c = let n = c .before .before .before in item-placed _ _ _ (sym (n .next-item .ensures) ∙ c .before .m .given .1)
+placed c = let n = c .before .before .before in n .pass-item .ensures .placed _ (c .before .m .given .1)
 
 rings-hold-requires : tie.Need-rings-hold-requires Inv-loop μ-loop
 rings-hold-requires c κs =
     let d = c .before .before in let n = d .before .before in let k = n .before in let s = k .before .before in let m = d .m .given .0 .0 in
-    let at = sym (n .next-item .ensures) ∙ d .m .given .1 in
-    let f = searches-fit (polygons (point (s .args .q))) polygonShape (s .args .p .now) (k .loop .inv) m at in
-    (polygon-clean (s .args .p .now) m (s .pre .0 .short) (item-whole (s .args .p .now) (k .loop .at) m at) (f .0) (f .1), s .pre .1)
+    let at = d .m .given .1 in
+    let w = searches-whole (polygons (point (s .args .q))) polygonShape (s .args .p .now) (k .loop .inv) (n .pass-item .ensures) m at in
+    let f = searches-fit (polygons (point (s .args .q))) polygonShape (s .args .p .now) (k .loop .inv) (n .pass-item .ensures) m at in
+    (polygon-clean (s .args .p .now) m (s .pre .0 .short) w (f .0) (f .1), s .pre .1)
 
 -- what was asked of it
 asked : (c : tie.After-rings-hold Inv-loop μ-loop) →
@@ -53,22 +53,23 @@ asked : (c : tie.After-rings-hold Inv-loop μ-loop) →
     c .rings-hold .result ≡ ringsHold (elements (picked polygonShape (a .p .now) (d .m .given .0 .0))) (point (a .q))
 asked c =
     let d = c .before .before .before in let n = d .before .before in let k = n .before in let s = k .before .before in let m = d .m .given .0 .0 in
-    let at = sym (n .next-item .ensures) ∙ d .m .given .1 in
-    let f = searches-fit (polygons (point (s .args .q))) polygonShape (s .args .p .now) (k .loop .inv) m at in
+    let at = d .m .given .1 in
+    let w = searches-whole (polygons (point (s .args .q))) polygonShape (s .args .p .now) (k .loop .inv) (n .pass-item .ensures) m at in
+    let f = searches-fit (polygons (point (s .args .q))) polygonShape (s .args .p .now) (k .loop .inv) (n .pass-item .ensures) m at in
     c .rings-hold .ensures
     ∙ ap (λ l. ringsHold l (point (s .args .q)))
-    (polygon-rings (s .args .p .now) m (s .pre .0 .short) (item-whole (s .args .p .now) (k .loop .at) m at) (f .0) (f .1))
+    (polygon-rings (s .args .p .now) m (s .pre .0 .short) w (f .0) (f .1))
 
 returns-2 : tie.Need-returns-2 Inv-loop μ-loop
 returns-2 c =
     let i = c .before in let d = i .before .before .before in let n = d .before .before in let k = n .before in let a = k .before .before .args in
-    searches-here (polygons (point (a .q))) polygonShape (a .p .now) (k .loop .inv) (d .m .given .0 .0) (sym (n .next-item .ensures) ∙ d .m .given .1)
+    searches-here (polygons (point (a .q))) polygonShape (a .p .now) (k .loop .inv) (n .pass-item .ensures) (d .m .given .0 .0) (d .m .given .1)
     (sym (asked i) ∙ c .if1 .taken)
 
 loop-again : tie.Need-loop-again Inv-loop μ-loop
 loop-again c =
     let i = c .before in let d = i .before .before .before in let n = d .before .before in let k = n .before in let a = k .before .before .args in
-    searches-later (polygons (point (a .q))) polygonShape (a .p .now) (k .loop .inv) (d .m .given .0 .0) (sym (n .next-item .ensures) ∙ d .m .given .1)
+    searches-later (polygons (point (a .q))) polygonShape (a .p .now) (k .loop .inv) (n .pass-item .ensures) (d .m .given .0 .0) (d .m .given .1)
     (sym (asked i) ∙ c .if1 .left)
 
 pub polygons-hold-spec : {M : Type 1} → statement M

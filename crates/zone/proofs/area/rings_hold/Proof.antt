@@ -5,13 +5,12 @@ use mathlib.Core.Path.{sym, _∙_}
 use Prim.Native.Nat.{_-_}
 use native.Mathlib.Omega.{arith}
 use lib.ListN.{length}
-use Rattle.walk.proofs.Places.{ItemPlaced, item-placed}
-use Rattle.walk.proofs.Parts.{item-whole}
+use Rattle.walk.specs.Along.{ItemPlaced}
 use Rattle.geometry.specs.Shifted.{point}
 use Rattle.rings.specs.Parts.{ringShape, partsOf}
 use Rattle.zone.specs.Zone.{ringsHold}
 use Rattle.zone.proofs.Cleared.{ring-clean}
-use Rattle.zone.proofs.Searching.{Searches, searches-start, searches-end, searches-fit, searches-here, searches-later}
+use Rattle.zone.proofs.Searching.{Searches, searches-start, searches-end, searches-whole, searches-fit, searches-here, searches-later}
 use Rattle.zone.proofs.Searched.{rings}
 use Rattle.zone.proofs.area.rings_hold.Statement.{statement}
 use Rattle.zone.proofs.area.rings_hold.Tie as tie
@@ -25,12 +24,12 @@ abbrev μ-loop : tie.MeasureT-loop
 loop-holds : tie.Need-loop-holds Inv-loop μ-loop
 loop-holds c =
     let k = c .before in
-    searches-start (rings (point (k .args .q))) ringShape (k .args .p .now) (k .pre .0 .first, k .pre .0 .clear)
+    searches-start (rings (point (k .args .q))) ringShape (k .args .p .now) (k .pre .0 .listing) (k .pre .0 .first, k .pre .0 .clear)
 
 returns : tie.Need-returns Inv-loop μ-loop
 returns c =
     let n = c .before .before in let k = n .before in let a = k .before .before .args in
-    searches-end (rings (point (a .q))) ringShape (a .p .now) (k .loop .inv) (sym (n .next-item .ensures) ∙ c .enum-told .given .1)
+    searches-end (rings (point (a .q))) ringShape (a .p .now) (k .loop .inv) (n .pass-item .ensures) (c .enum-told .given .1)
 
 -- where an item was found
 abbrev Met : Type 0
@@ -38,25 +37,26 @@ Met = tie.After-known-told Inv-loop μ-loop
 
 placed : (c : Met) →
     ItemPlaced (c .before .before .before .before .before .before .args .p .now) (c .before .before .before .before .loop .at) (c .before .m .given .0 .0)
-placed c = let n = c .before .before .before in item-placed _ _ _ (sym (n .next-item .ensures) ∙ c .before .m .given .1)
+placed c = let n = c .before .before .before in n .pass-item .ensures .placed _ (c .before .m .given .1)
 
 ring-holds-requires : tie.Need-ring-holds-requires Inv-loop μ-loop
 ring-holds-requires c κs =
     let d = c .before .before in let n = d .before .before in let k = n .before in let s = k .before .before in let m = d .m .given .0 .0 in
-    let at = sym (n .next-item .ensures) ∙ d .m .given .1 in
-    let f = searches-fit (rings (point (s .args .q))) ringShape (s .args .p .now) (k .loop .inv) m at in
-    (ring-clean (s .args .p .now) m (s .pre .0 .short) (item-whole (s .args .p .now) (k .loop .at) m at) (f .0) (f .1), s .pre .1)
+    let at = d .m .given .1 in
+    let w = searches-whole (rings (point (s .args .q))) ringShape (s .args .p .now) (k .loop .inv) (n .pass-item .ensures) m at in
+    let f = searches-fit (rings (point (s .args .q))) ringShape (s .args .p .now) (k .loop .inv) (n .pass-item .ensures) m at in
+    (ring-clean (s .args .p .now) m (s .pre .0 .short) w (f .0) (f .1), s .pre .1)
 
 returns-2 : tie.Need-returns-2 Inv-loop μ-loop
 returns-2 c =
     let i = c .before in let d = i .before .before .before in let n = d .before .before in let k = n .before in let a = k .before .before .args in
-    searches-here (rings (point (a .q))) ringShape (a .p .now) (k .loop .inv) (d .m .given .0 .0) (sym (n .next-item .ensures) ∙ d .m .given .1)
+    searches-here (rings (point (a .q))) ringShape (a .p .now) (k .loop .inv) (n .pass-item .ensures) (d .m .given .0 .0) (d .m .given .1)
     (sym (i .ring-holds .ensures) ∙ c .if1 .taken)
 
 loop-again : tie.Need-loop-again Inv-loop μ-loop
 loop-again c =
     let i = c .before in let d = i .before .before .before in let n = d .before .before in let k = n .before in let a = k .before .before .args in
-    searches-later (rings (point (a .q))) ringShape (a .p .now) (k .loop .inv) (d .m .given .0 .0) (sym (n .next-item .ensures) ∙ d .m .given .1)
+    searches-later (rings (point (a .q))) ringShape (a .p .now) (k .loop .inv) (n .pass-item .ensures) (d .m .given .0 .0) (d .m .given .1)
     (sym (i .ring-holds .ensures) ∙ c .if1 .left)
 
 pub rings-hold-spec : {M : Type 1} → statement M

@@ -2,6 +2,7 @@
 use borrow.Author.Needs.{needs}
 use mathlib.Core.Path.{_≡_, sym, ap, subst, _∙_}
 use Rattle.notation.specs.Ascii.{bytes}
+use Rattle.walk.specs.Part.{Whole, treeOf}
 use Rattle.geometry.specs.Shifted.{point}
 use Rattle.rings.specs.Rings.{polygonsFound}
 use Rattle.rings.specs.Parts.{polygonShape, partsOf}
@@ -9,15 +10,17 @@ use Rattle.fields.specs.Values.{memberOf, arrayBy}
 use Rattle.zone.specs.Zone.{polygonsHold}
 use Rattle.zone.specs.Clean.{CleanItems}
 use Rattle.zone.proofs.Zoned.{polygonBytes, zone-polygons}
-use Rattle.zone.proofs.Cleared.{zone-clean}
+use Rattle.zone.proofs.Cleared.{geometry-whole, zone-clean}
 use Rattle.zone.proofs.area.zone_holds.Statement.{statement}
 use Rattle.zone.proofs.area.zone_holds.Tie as tie
 
 -- the bytes of the coordinates
 found : (c : tie.After-array-in) → c .array-in .result .now ≡ polygonBytes (c .before .before .before .before .before .before .args .p .now)
 found c =
+    let m = c .before .before .before in let s = m .before .before .before in
+    let e = m .member .ensures _ (s .pre .0 .whole) in
     c .array-in .ensures
-    ∙ ap arrayBy (c .before .member2 .ensures ∙ ap (λ q. memberOf q (bytes "coordinates")) (c .before .before .before .member .ensures))
+    ∙ ap arrayBy (c .before .member2 .ensures _ (subst (λ q. Whole q (treeOf q)) (sym e) (geometry-whole (s .pre .0))) ∙ ap (λ q. memberOf q (bytes "coordinates")) e)
 
 polygons-hold-requires : tie.Need-polygons-hold-requires
 polygons-hold-requires c κs =

@@ -4,15 +4,16 @@ use mathlib.Core.Path.{_≡_, sym, ap, _∙_}
 use Prim.Native.Nat.{_-_}
 use native.Mathlib.Omega.{arith}
 use lib.ListN.{length}
-use Rattle.walk.proofs.Places.{ItemPlaced, item-placed}
-use Rattle.walk.proofs.Parts.{item-whole}
+use Rattle.walk.specs.Part.{Whole, treeOf}
+use Rattle.walk.specs.Along.{ItemPlaced}
+use Rattle.walk.proofs.Parts.{itemOf}
 use Rattle.schema.specs.Table23.{rule}
 use Rattle.rings.specs.Parts.{picked, partsOf}
 use Rattle.zone.specs.declared.Ruling.the-variants.{Is}
 use Rattle.zone.specs.Zone.{applies, firstFor}
 use Rattle.zone.specs.Answer.{ruling}
 use Rattle.zone.proofs.Fields.{rule-values}
-use Rattle.zone.proofs.Searching.{Searches, searches-start, searches-end, searches-here, searches-later}
+use Rattle.zone.proofs.Searching.{Searches, searches-start, searches-end, searches-whole, searches-here, searches-later}
 use Rattle.zone.proofs.Searched.{rulesFor}
 use Rattle.zone.proofs.rules.first_for.Statement.{statement}
 use Rattle.zone.proofs.rules.first_for.Tie as tie
@@ -24,12 +25,12 @@ abbrev μ-loop : tie.MeasureT-loop
 μ-loop p type-id at₀ at = length p - at
 
 loop-holds : tie.Need-loop-holds Inv-loop μ-loop
-loop-holds c = let a = c .before .before .args in searches-start (rulesFor (a .type-id .now)) rule (a .p .now) tt
+loop-holds c = let s = c .before .before in let a = s .args in searches-start (rulesFor (a .type-id .now)) rule (a .p .now) (s .pre) tt
 
 returns : tie.Need-returns Inv-loop μ-loop
 returns c =
     let n = c .before .before in let k = n .before in let a = k .before .before .before .args in
-    searches-end (rulesFor (a .type-id .now)) rule (a .p .now) (k .loop .inv) (sym (n .next-item .ensures) ∙ c .enum-told .given .1)
+    searches-end (rulesFor (a .type-id .now)) rule (a .p .now) (k .loop .inv) (n .pass-item .ensures) (c .enum-told .given .1)
 
 -- where an item was found
 abbrev Met : Type 0
@@ -37,27 +38,32 @@ Met = tie.After-known-told Inv-loop μ-loop
 
 placed : (c : Met) →
     ItemPlaced (c .before .before .before .before .before .before .before .args .p .now) (c .before .before .before .before .loop .at) (c .before .m .given .0 .0)
-placed c = let n = c .before .before .before in item-placed _ _ _ (sym (n .next-item .ensures) ∙ c .before .m .given .1)
+placed c = let n = c .before .before .before in n .pass-item .ensures .placed _ (c .before .m .given .1)
+
+-- it is whole
+whole : (c : Met) →
+    let q = itemOf (c .before .before .before .before .before .before .before .args .p .now) (c .before .m .given .0 .0) in Whole q (treeOf q)
+whole c =
+    let d = c .before in let n = d .before .before in let k = n .before in let a = k .before .before .before .args in
+    searches-whole (rulesFor (a .type-id .now)) rule (a .p .now) (k .loop .inv) (n .pass-item .ensures) (d .m .given .0 .0) (d .m .given .1)
 
 -- what was asked of it
 asked : (c : tie.After-applies Inv-loop μ-loop) →
     let d = c .before .before .before in let a = d .before .before .before .before .before .before .args in
     c .applies .result ≡ applies (picked rule (a .p .now) (d .m .given .0 .0)) (a .type-id .now)
-asked c =
-    let d = c .before .before .before in let n = d .before .before in let k = n .before in let a = k .before .before .before .args in
-    c .applies .ensures _ (item-whole (a .p .now) (k .loop .at) (d .m .given .0 .0) (sym (n .next-item .ensures) ∙ d .m .given .1))
+asked c = c .applies .ensures
 
 returns-2 : tie.Need-returns-2 Inv-loop μ-loop
 returns-2 c =
     let t = c .before .before in let i = t .before in let d = i .before .before .before in let n = d .before .before in let k = n .before in
-    let a = k .before .before .before .args in let m = d .m .given .0 .0 in let at = sym (n .next-item .ensures) ∙ d .m .given .1 in
-    ap Is (c .values-in .ensures ∙ rule-values (item-whole (a .p .now) (k .loop .at) m at))
-    ∙ searches-here (rulesFor (a .type-id .now)) rule (a .p .now) (k .loop .inv) m at (sym (asked i) ∙ t .if1 .taken)
+    let a = k .before .before .before .args in let m = d .m .given .0 .0 in let at = d .m .given .1 in
+    ap Is (c .values-in .ensures ∙ rule-values (whole (i .before .before)))
+    ∙ searches-here (rulesFor (a .type-id .now)) rule (a .p .now) (k .loop .inv) (n .pass-item .ensures) m at (sym (asked i) ∙ t .if1 .taken)
 
 loop-again : tie.Need-loop-again Inv-loop μ-loop
 loop-again c =
     let i = c .before in let d = i .before .before .before in let n = d .before .before in let k = n .before in let a = k .before .before .before .args in
-    searches-later (rulesFor (a .type-id .now)) rule (a .p .now) (k .loop .inv) (d .m .given .0 .0) (sym (n .next-item .ensures) ∙ d .m .given .1)
+    searches-later (rulesFor (a .type-id .now)) rule (a .p .now) (k .loop .inv) (n .pass-item .ensures) (d .m .given .0 .0) (d .m .given .1)
     (sym (asked i) ∙ c .if1 .left)
 
 pub first-for-spec : {M : Type 1} → statement M
@@ -74,11 +80,11 @@ first-for-spec =
     (λ c. let m = placed c in omega arith)
     (λ c. let m = placed c in omega arith)
     (λ c. let m = placed c in omega arith)
-    (λ c κs. search needs)
+    (λ c κs. whole (c .before))
     (λ c. let m = placed (c .before .before .before) in omega arith)
     (λ c. let m = placed (c .before .before .before) in omega arith)
     (λ c. let m = placed (c .before .before .before) in omega arith)
-    (λ c κs. search needs)
+    (λ c κs. whole (c .before .before .before .before))
     returns-2
     (λ c. let m = placed (c .before .before .before) in omega arith)
     loop-again)

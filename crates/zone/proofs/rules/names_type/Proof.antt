@@ -4,15 +4,14 @@ use mathlib.Core.Path.{_≡_, sym, _∙_}
 use Prim.Native.Nat.{_-_}
 use native.Mathlib.Omega.{arith}
 use lib.ListN.{length}
-use Rattle.walk.proofs.Places.{ItemPlaced, item-placed}
-use Rattle.walk.proofs.Parts.{item-whole}
+use Rattle.walk.specs.Along.{ItemPlaced}
 use Rattle.rings.specs.Parts.{picked, partsOf}
 use Rattle.document.specs.Document.{textIn}
 use Rattle.fields.specs.Values.{isId}
 use Rattle.zone.specs.Zone.{anyText}
 use Rattle.zone.specs.Values.{idShape}
 use Rattle.zone.proofs.Fields.{id-text}
-use Rattle.zone.proofs.Searching.{Searches, searches-start, searches-end, searches-here, searches-later}
+use Rattle.zone.proofs.Searching.{Searches, searches-start, searches-end, searches-whole, searches-here, searches-later}
 use Rattle.zone.proofs.Searched.{ids}
 use Rattle.zone.proofs.rules.names_type.Statement.{statement}
 use Rattle.zone.proofs.rules.names_type.Tie as tie
@@ -24,12 +23,12 @@ abbrev μ-loop : tie.MeasureT-loop
 μ-loop p type-id at₀ at = length p - at
 
 loop-holds : tie.Need-loop-holds Inv-loop μ-loop
-loop-holds c = let a = c .before .before .args in searches-start (ids (a .type-id .now)) idShape (a .p .now) tt
+loop-holds c = let s = c .before .before in let a = s .args in searches-start (ids (a .type-id .now)) idShape (a .p .now) (s .pre) tt
 
 returns : tie.Need-returns Inv-loop μ-loop
 returns c =
     let n = c .before .before in let k = n .before in let a = k .before .before .before .args in
-    searches-end (ids (a .type-id .now)) idShape (a .p .now) (k .loop .inv) (sym (n .next-item .ensures) ∙ c .enum-told .given .1)
+    searches-end (ids (a .type-id .now)) idShape (a .p .now) (k .loop .inv) (n .pass-item .ensures) (c .enum-told .given .1)
 
 -- where an item was found
 abbrev Met : Type 0
@@ -37,7 +36,7 @@ Met = tie.After-known-told Inv-loop μ-loop
 
 placed : (c : Met) →
     ItemPlaced (c .before .before .before .before .before .before .before .args .p .now) (c .before .before .before .before .loop .at) (c .before .m .given .0 .0)
-placed c = let n = c .before .before .before in item-placed _ _ _ (sym (n .next-item .ensures) ∙ c .before .m .given .1)
+placed c = let n = c .before .before .before in n .pass-item .ensures .placed _ (c .before .m .given .1)
 
 -- what was asked of it
 asked : (c : tie.After-is-id Inv-loop μ-loop) →
@@ -45,18 +44,18 @@ asked : (c : tie.After-is-id Inv-loop μ-loop) →
     c .is-id .result ≡ isId (a .type-id .now) (textIn (picked idShape (a .p .now) (d .m .given .0 .0)))
 asked c =
     let d = c .before .before .before in let n = d .before .before in let k = n .before in let a = k .before .before .before .args in
-    c .is-id .ensures ∙ id-text (item-whole (a .p .now) (k .loop .at) (d .m .given .0 .0) (sym (n .next-item .ensures) ∙ d .m .given .1)) (a .type-id .now)
+    c .is-id .ensures ∙ id-text (searches-whole (ids (a .type-id .now)) idShape (a .p .now) (k .loop .inv) (n .pass-item .ensures) (d .m .given .0 .0) (d .m .given .1)) (a .type-id .now)
 
 returns-2 : tie.Need-returns-2 Inv-loop μ-loop
 returns-2 c =
     let i = c .before in let d = i .before .before .before in let n = d .before .before in let k = n .before in let a = k .before .before .before .args in
-    searches-here (ids (a .type-id .now)) idShape (a .p .now) (k .loop .inv) (d .m .given .0 .0) (sym (n .next-item .ensures) ∙ d .m .given .1)
+    searches-here (ids (a .type-id .now)) idShape (a .p .now) (k .loop .inv) (n .pass-item .ensures) (d .m .given .0 .0) (d .m .given .1)
     (sym (asked i) ∙ c .if1 .taken)
 
 loop-again : tie.Need-loop-again Inv-loop μ-loop
 loop-again c =
     let i = c .before in let d = i .before .before .before in let n = d .before .before in let k = n .before in let a = k .before .before .before .args in
-    searches-later (ids (a .type-id .now)) idShape (a .p .now) (k .loop .inv) (d .m .given .0 .0) (sym (n .next-item .ensures) ∙ d .m .given .1)
+    searches-later (ids (a .type-id .now)) idShape (a .p .now) (k .loop .inv) (n .pass-item .ensures) (d .m .given .0 .0) (d .m .given .1)
     (sym (asked i) ∙ c .if1 .left)
 
 pub names-type-spec : {M : Type 1} → statement M

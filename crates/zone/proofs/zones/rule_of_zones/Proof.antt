@@ -5,8 +5,7 @@ use mathlib.Core.Path.{_≡_, refl, sym, ap, _∙_}
 use Prim.Native.Nat.{_-_}
 use native.Mathlib.Omega.{arith}
 use lib.ListN.{length}
-use Rattle.walk.proofs.Places.{ItemPlaced, item-placed}
-use Rattle.walk.proofs.Parts.{item-whole}
+use Rattle.walk.specs.Along.{ItemPlaced}
 use Rattle.schema.specs.Table23.{zone}
 use Rattle.geometry.specs.Shifted.{point}
 use Rattle.rings.specs.Parts.{picked, partsOf}
@@ -14,7 +13,7 @@ use Rattle.zone.specs.Zone.{zoneRules, rules, firstFor}
 use Rattle.zone.specs.Answer.{ruling}
 use Rattle.zone.specs.Values.{isRule}
 use Rattle.zone.proofs.Cleared.{item-short}
-use Rattle.zone.proofs.Searching.{Searches, searches-start, searches-end, searches-fit, searches-here, searches-later}
+use Rattle.zone.proofs.Searching.{Searches, searches-along, searches-end, searches-whole, searches-fit, searches-here, searches-later}
 use Rattle.zone.proofs.Searched.{zones}
 use Rattle.zone.proofs.zones.rule_of_zones.Statement.{statement}
 use Rattle.zone.proofs.zones.rule_of_zones.Tie as tie
@@ -29,12 +28,12 @@ abbrev μ-loop : tie.MeasureT-loop
 loop-holds : tie.Need-loop-holds Inv-loop μ-loop
 loop-holds c =
     let s = c .before .before in let a = s .args in
-    searches-start (zones (a .type-id .now) (point (a .q)) (a .moment)) zone (a .p .now) (s .pre .0 .clear)
+    searches-along (zones (a .type-id .now) (point (a .q)) (a .moment)) zone (a .p .now) (s .pre .0 .along) (s .pre .0 .clear)
 
 returns : tie.Need-returns Inv-loop μ-loop
 returns c =
     let n = c .before .before in let k = n .before in let a = k .before .before .before .args in
-    searches-end (zones (a .type-id .now) (point (a .q)) (a .moment)) zone (a .p .now) (k .loop .inv) (sym (n .next-item .ensures) ∙ c .enum-told .given .1)
+    searches-end (zones (a .type-id .now) (point (a .q)) (a .moment)) zone (a .p .now) (k .loop .inv) (n .pass-item .ensures) (c .enum-told .given .1)
 
 -- where an item was found
 abbrev Met : Type 0
@@ -42,17 +41,17 @@ Met = tie.After-known-told Inv-loop μ-loop
 
 placed : (c : Met) →
     ItemPlaced (c .before .before .before .before .before .before .before .args .p .now) (c .before .before .before .before .loop .at) (c .before .m .given .0 .0)
-placed c = let n = c .before .before .before in item-placed _ _ _ (sym (n .next-item .ensures) ∙ c .before .m .given .1)
+placed c = let n = c .before .before .before in n .pass-item .ensures .placed _ (c .before .m .given .1)
 
 rule-of-zone-requires : tie.Need-rule-of-zone-requires Inv-loop μ-loop
 rule-of-zone-requires c κs =
     let d = c .before .before in let n = d .before .before in let k = n .before in let s = k .before .before .before in let a = s .args in
     let m = d .m .given .0 .0 in
-    let at = sym (n .next-item .ensures) ∙ d .m .given .1 in
-    let f = searches-fit (zones (a .type-id .now) (point (a .q)) (a .moment)) zone (a .p .now) (k .loop .inv) m at in (
+    let at = d .m .given .1 in
+    let f = searches-fit (zones (a .type-id .now) (point (a .q)) (a .moment)) zone (a .p .now) (k .loop .inv) (n .pass-item .ensures) m at in (
       record {
         short = item-short (a .p .now) m (s .pre .0 .short);
-        whole = item-whole (a .p .now) (k .loop .at) m at;
+        whole = searches-whole (zones (a .type-id .now) (point (a .q)) (a .moment)) zone (a .p .now) (k .loop .inv) (n .pass-item .ensures) m at;
         clear = f .1 (picked zone (a .p .now) m) (List·Memᴰ·head refl);
       },
       s .pre .1,
@@ -68,14 +67,14 @@ returns-2 : tie.Need-returns-2 Inv-loop μ-loop
 returns-2 c =
     let i = c .before in let d = i .before .before .before .before in let n = d .before .before in let k = n .before in let a = k .before .before .before .args in
     i .before .rule-of-zone .ensures
-    ∙ searches-here (zones (a .type-id .now) (point (a .q)) (a .moment)) zone (a .p .now) (k .loop .inv) (d .m .given .0 .0)
-    (sym (n .next-item .ensures) ∙ d .m .given .1) (sym (asked i) ∙ c .if1 .taken)
+    ∙ searches-here (zones (a .type-id .now) (point (a .q)) (a .moment)) zone (a .p .now) (k .loop .inv) (n .pass-item .ensures) (d .m .given .0 .0)
+    (d .m .given .1) (sym (asked i) ∙ c .if1 .taken)
 
 loop-again : tie.Need-loop-again Inv-loop μ-loop
 loop-again c =
     let i = c .before in let d = i .before .before .before .before in let n = d .before .before in let k = n .before in let a = k .before .before .before .args in
-    searches-later (zones (a .type-id .now) (point (a .q)) (a .moment)) zone (a .p .now) (k .loop .inv) (d .m .given .0 .0)
-    (sym (n .next-item .ensures) ∙ d .m .given .1) (sym (asked i) ∙ c .if1 .left)
+    searches-later (zones (a .type-id .now) (point (a .q)) (a .moment)) zone (a .p .now) (k .loop .inv) (n .pass-item .ensures) (d .m .given .0 .0)
+    (d .m .given .1) (sym (asked i) ∙ c .if1 .left)
 
 pub rule-of-zones-spec : {M : Type 1} → statement M
 rule-of-zones-spec =

@@ -1,0 +1,21 @@
+-- `repeat_of` finds the array of records, which a file without a stage B fault has.
+use borrow.Author.Needs.{needs}
+use mathlib.Core.Path.{sym, ap, _∙_}
+use Rattle.clean.specs.Clean.{idField, blamed}
+use Rattle.clean.proofs.Repeated.{Repeats, repeats-are}
+use Rattle.clean.proofs.repeats.repeat_of.Statement.{statement}
+use Rattle.clean.proofs.repeats.repeat_of.Tie as tie
+
+-- by the records that were found
+by-records : (c : tie.After-records-from) → let a = c .before .before .args in Repeats (a .file) (a .s .now) (c .records-from .result .now)
+by-records c = let x = c .before .before .pre in repeats-are _ _ (x .2) (x .3) (x .0) (x .1) (c .records-from .ensures)
+
+first-repeat-requires : tie.Need-first-repeat-requires
+first-repeat-requires c κs = let w = by-records c in (w .short, w .few, λ h. w .along)
+
+returns : tie.Need-returns
+returns c =
+    let r = c .before in by-records r .names ∙ ap (blamed (idField (r .before .before .args .file))) (sym (c .first-repeat .ensures))
+
+pub repeat-of-spec : {M : Type 1} → statement M
+repeat-of-spec = tie.close (tie.spec (λ c κs. search needs) first-repeat-requires returns)

@@ -1,0 +1,38 @@
+// Kind 12 in one file: no two of its records have one id.
+use document::records_from;
+use ids::Notes;
+use ids::note::note;
+ghost use mathlib.Core.Path.{_≡_};
+ghost use Prim.Native.Nat.{_≤_, _<_};
+ghost use lib.ListN.{length};
+ghost use Rattle.limits.specs.Ceilings.{fileBytes, records};
+ghost use Rattle.json.specs.declared.Syntax.the-variants.{Sound};
+ghost use Rattle.json.specs.Text.{syntaxOf};
+ghost use Rattle.walk.specs.Walk.{itemsOf};
+ghost use Rattle.walk.specs.Along.{AlongItems};
+ghost use Rattle.schema.specs.Shape.{fileShape};
+ghost use Rattle.schema.specs.Table23.{table23};
+ghost use Rattle.schema.specs.Pick.{pick};
+ghost use Rattle.fault.specs.declared.Least.the-variants.{None};
+ghost use Rattle.fault.specs.Fault.{least};
+ghost use Rattle.judge.specs.Faults.{fileFaults};
+ghost use Rattle.ids.specs.Ids.{recordBytes, firstRepeat};
+ghost use Rattle.clean.specs.Clean.{treeOf, idField, repeats, blamed};
+
+// The number of the first record of the array `p` whose id one before it has; 0 where there is none.
+// Shut out: the earlier of two records blamed.
+pub fn first_repeat(file: u8, p: &[u8]) -> u16
+    requires { ⌜ (length (now p) ≤ fileBytes) × (length (itemsOf (now p)) ≤ records) × ((0 < length (now p)) → AlongItems (now p) 1) ⌝ }
+    ensures { λ r. ⌜ r ≡ firstRepeat file (recordBytes (now (p .entry))) ⌝ }
+{
+    let mut notes: [u32; Notes::SIZE] = [0; Notes::SIZE];
+    note(file, p, &mut notes)
+}
+
+// The same of one of the files 1 to 5, which stages A and B pass: the record that is blamed for the least repeat.
+pub fn repeat_of(file: u8, s: &[u8]) -> u16
+    requires { ⌜ (1 ≤ file) × (file ≤ 5) × (syntaxOf (now s) ≡ Sound) × (least (fileFaults (fileShape table23 file) (treeOf (now s))) ≡ None) ⌝ }
+    ensures { λ r. ⌜ least (repeats file (pick (fileShape table23 file) (treeOf (now (s .entry))))) ≡ blamed (idField file) r ⌝ }
+{
+    first_repeat(file, records_from(file, s))
+}

@@ -1,0 +1,60 @@
+-- `records_from` goes from rest to rest along the names of the file's number.
+use borrow.Author.Needs.{needs}
+use mathlib.Core.Path.{ap}
+use Rattle.notation.specs.Ascii.{bytes}
+use Rattle.document.specs.Spans.{memberAt, topSpan, namesTo}
+use Rattle.document.proofs.Along.{along-two, along-three, names-else}
+use Rattle.document.proofs.Rests.{Begins, begins-top, begins-member, records-begin}
+use Rattle.document.proofs.records_from.Statement.{statement}
+use Rattle.document.proofs.records_from.Tie as tie
+
+-- what `data` holds
+in-data : (c : tie.After-value-from) → let s = c .before .before .before .before .before .args .s .now in
+    Begins s (memberAt s (bytes "data") (topSpan s)) (c .value-from .result .now)
+in-data c =
+    let k = c .before .before .before in let s = k .before .before .args .s .now in
+    begins-member s (bytes "data") (topSpan s) _ _ (begins-top s (k .skip-blanks .result) (k .skip-blanks .ensures)) (c .value-from .ensures)
+
+returns : tie.Need-returns
+unfolding namesTo
+returns c =
+    let m = c .before .before in
+    records-begin _ _ _ _ (along-two _ _ _ _ (ap namesTo (m .match .keys1))) (begins-member _ _ _ _ _ (in-data (m .before)) (c .value-from2 .ensures))
+
+returns-2 : tie.Need-returns-2
+unfolding namesTo
+returns-2 c =
+    let m = c .before .before in
+    records-begin _ _ _ _ (along-two _ _ _ _ (ap namesTo (m .match .keys2))) (begins-member _ _ _ _ _ (in-data (m .before)) (c .value-from3 .ensures))
+
+returns-3 : tie.Need-returns-3
+unfolding namesTo
+returns-3 c =
+    let m = c .before .before in
+    records-begin _ _ _ _ (along-two _ _ _ _ (ap namesTo (m .match .keys3))) (begins-member _ _ _ _ _ (in-data (m .before)) (c .value-from4 .ensures))
+
+returns-4 : tie.Need-returns-4
+unfolding namesTo
+returns-4 c =
+    let m = c .before .before in
+    records-begin _ _ _ _ (along-two _ _ _ _ (ap namesTo (m .match .keys4))) (begins-member _ _ _ _ _ (in-data (m .before)) (c .value-from5 .ensures))
+
+returns-5 : tie.Need-returns-5
+unfolding namesTo
+returns-5 c =
+    let m = c .before .before in
+    records-begin _ _ _ _ (along-two _ _ _ _ (ap namesTo (m .match .keys5))) (begins-member _ _ _ _ _ (in-data (m .before)) (c .value-from6 .ensures))
+
+returns-6 : tie.Need-returns-6
+returns-6 c =
+    let z = c .before .before in let m = z .before .before in let r = m .match .rest in
+    records-begin _ _ _ _ (along-three _ _ _ _ _ (names-else _ (r .0 .0 .0 .0 .1) (r .0 .0 .0 .1) (r .0 .0 .1) (r .0 .1) (r .1)))
+    (begins-member _ (bytes "features") _ _ _ (begins-member _ (bytes "geofencing_zones") _ _ _ (in-data (m .before)) (z .value-from7 .ensures)) (c .value-from8 .ensures))
+
+pub records-from-spec : {M : Type 1} → statement M
+records-from-spec =
+    tie.close
+    (tie.spec (λ c κs. search needs) (λ c. search needs) (λ c. search needs) (λ c. search needs) (λ c. search needs) (λ c κs. search needs) (λ c. search needs)
+    (λ c κs. search needs) returns (λ c. search needs) (λ c κs. search needs) returns-2 (λ c. search needs) (λ c κs. search needs) returns-3 (λ c. search needs)
+    (λ c κs. search needs) returns-4 (λ c. search needs) (λ c κs. search needs) returns-5 (λ c. search needs) (λ c κs. search needs) (λ c. search needs)
+    (λ c κs. search needs) returns-6)

@@ -1,0 +1,5 @@
+pub mod Single
+pub mod Chains
+pub mod Entering
+pub mod Passing
+pub mod Picked

@@ -1,0 +1,103 @@
+-- The pass over the records of an array: each is the next one that is left, and the number of the first repeat so far and what is left come to that of all.
+use mathlib.Core.Bool.{false}
+use mathlib.Core.List.{List, [], _∷_, map}
+use mathlib.Core.Path.{_≡_, refl, sym, ap, _∙_}
+use Prim.Native.Nat.{ℕ, zero, suc, _+_, _≤_, _<_}
+use native.Mathlib.Numerals.{add-one}
+use native.Mathlib.Omega.{arith}
+use lib.Dec.{eqb, ltb}
+use lib.ListN.{length, getD, drop, length-map}
+use lib.Seq.{drop-cons}
+use borrow.Author.Tests.{lt-ltb, eqb-true, ne-eqb}
+use Rattle.notation.specs.Choice.{_⇒_else_, _and_}
+use Rattle.lexeme.proofs.Steps.{by-test}
+use Rattle.walk.specs.declared.Item.{Item}
+use Rattle.walk.specs.Walk.{itemsFrom, itemsOf}
+use Rattle.walk.proofs.Folds.{itemSteps, one-more}
+use Rattle.walk.proofs.Parts.{itemOf}
+use Rattle.document.specs.Document.{Maybe, none, some}
+use Rattle.ids.specs.Ids.{idOf, hasId, recordBytes, lastWith, anyHas, repeated, repeatFrom, firstRepeat, earlier}
+
+-- one of the first n records has the id just where there is a last one
+pub any-last : (file : ℕ) (id : List ℕ) (rs : List (List ℕ)) (n : ℕ) → ltb 0 (lastWith file id rs n) ≡ anyHas file id (earlier rs n)
+unfolding lastWith anyHas earlier
+any-last file id rs zero = refl
+any-last file id rs (suc n) =
+    let ih = any-last file id rs n in
+    by-test (hasId file id (getD rs n [])) (λ t. rw (lastWith, earlier, anyHas, t) (lt-ltb 0 (suc n) (omega arith))) (λ t. rw (lastWith, earlier, anyHas, t) ih)
+
+-- by the id of a record
+module _ (file : ℕ) (passed : List (List ℕ)) (q : List ℕ) where
+  by-id : (o : Maybe (List ℕ)) → idOf file q ≡ o → (elim o [ none ↦ false | some id ↦ anyHas file id passed ]) ≡ repeated file passed q
+  by-id o e = ap (λ (x : Maybe (List ℕ)). elim x [ none ↦ false | some id ↦ anyHas file id passed ]) (sym e)
+
+  pub repeated-none : idOf file q ≡ none → false ≡ repeated file passed q
+  repeated-none e = by-id none e
+
+  pub repeated-some : (id : List ℕ) → idOf file q ≡ some id → anyHas file id passed ≡ repeated file passed q
+  repeated-some id e = by-id (some id) e
+
+-- the first repeat, of which `first` is what the first n records come to
+module _ (file : ℕ) (rs : List (List ℕ)) where
+  abbrev pub toCome : ℕ → ℕ → ℕ
+  toCome n first = eqb first 0 ⇒ repeatFrom file (n + 1) (earlier rs n) (drop n rs) else first
+
+  pub come-start : toCome 0 0 ≡ firstRepeat file rs
+  unfolding firstRepeat earlier
+  come-start = refl
+
+  pub come-end : (n first : ℕ) → drop n rs ≡ [] → first ≡ toCome n first
+  unfolding repeatFrom
+  come-end n first e = by-test (eqb first 0) (λ t. rw (t, e, repeatFrom) (eqb-true first 0 t)) (λ t. rw t)
+
+  pub come-more : (n first : ℕ) → n < length rs
+      → toCome (n + 1) (eqb first 0 and repeated file (earlier rs n) (getD rs n []) ⇒ n + 1 else first) ≡ toCome n first
+  unfolding repeatFrom earlier
+  come-more n first h =
+      by-test (eqb first 0)
+      (λ z.
+      by-test (repeated file (earlier rs n) (getD rs n []))
+      (λ t. rw (drop-cons rs n [] h, z, t, repeatFrom, ne-eqb (n + 1) 0 (λ e. omega arith)))
+      (λ t. rw (drop-cons rs n [] h, z, t, z, add-one n, earlier)))
+      (λ z. rw (z, z))
+
+-- n records of the array are passed; those from `at` on are left
+pub record Passes (p : List ℕ) (n at : ℕ) : Type 0 where
+  fuel : ℕ
+  enough : length p ≤ at + fuel
+  count : n + length (itemsFrom fuel p at) ≡ length (itemsOf p)
+  rest : drop n (recordBytes p) ≡ map (itemOf p) (itemsFrom fuel p at)
+
+module _ (p : List ℕ) where
+  pub pass-start : Passes p 0 1
+  unfolding itemsOf recordBytes
+  pass-start = record { fuel = length p; enough = omega arith; count = omega arith; rest = refl }
+
+  module _ {n at : ℕ} (w : Passes p n at) where
+    pub pass-end : itemSteps p .Ends at → (n ≡ length (itemsOf p)) × (drop n (recordBytes p) ≡ [])
+    pass-end f =
+        let e = itemSteps p .end (w .fuel) at f in
+        (omega (arith, w .count, ap length e), w .rest ∙ ap (map (itemOf p)) e)
+
+    module _ (m : Item) (f : itemSteps p .Finds at m) where
+      pub pass-inside : n < length (recordBytes p)
+      unfolding recordBytes
+      pass-inside =
+          let j = one-more (itemSteps p) (w .fuel) at m f (w .enough) in omega (arith, w .count, ap length (j .2), length-map (itemsOf p) (itemOf p))
+
+      split : getD (recordBytes p) n [] ∷ drop (suc n) (recordBytes p) ≡ itemOf p m ∷ map (itemOf p) (itemsFrom (one-more (itemSteps p) (w .fuel) at m f (w .enough) .0) p (m .next))
+      split =
+          sym (drop-cons (recordBytes p) n [] pass-inside) ∙ w .rest ∙ ap (map (itemOf p)) (one-more (itemSteps p) (w .fuel) at m f (w .enough) .2)
+
+      pub pass-record : itemOf p m ≡ getD (recordBytes p) n []
+      pass-record = cc split
+
+      pub pass-more : Passes p (n + 1) (m .next)
+      pass-more =
+          let j = one-more (itemSteps p) (w .fuel) at m f (w .enough) in
+          record {
+            fuel = j .0;
+            enough = j .1;
+            count = omega (arith, w .count, ap length (j .2));
+            rest = ap (λ (k : ℕ). drop k (recordBytes p)) (add-one n) ∙ cc split;
+          }

@@ -1,0 +1,23 @@
+-- A text is compared; nothing else is the id.
+use borrow.Author.Needs.{needs}
+use mathlib.Core.Path.{sym, ap, _∙_}
+use Rattle.text.specs.Text.{textOf, same}
+use Rattle.fields.specs.Values.{isId}
+use Rattle.fields.proofs.Ways.{text-none, text-some}
+use Rattle.ids.proofs.id.is_this.Statement.{statement}
+use Rattle.ids.proofs.id.is_this.Tie as tie
+
+returns : tie.Need-returns
+returns c =
+    let a = c .before .before .before .before .args in
+    sym (ap (isId (textOf (a .id .now))) (text-none (a .value .now) _ (c .before .code-of .ensures) (c .if1 .taken)))
+
+returns-2 : tie.Need-returns-2
+returns-2 c =
+    let i = c .before .before in let a = i .before .before .before .before .args in
+    c .same-text .ensures ∙ ap (λ z. same (textOf z) (textOf (a .id .now))) (c .before .unquoted .ensures)
+    ∙ sym (ap (isId (textOf (a .id .now))) (text-some (a .value .now) _ (i .before .code-of .ensures) (i .if1 .left)))
+
+pub is-this-spec : {M : Type 1} → statement M
+is-this-spec =
+    tie.close (tie.spec (λ c κs. search needs) returns (λ c κs. search needs) (λ c κs. search needs) returns-2)

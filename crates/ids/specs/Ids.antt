@@ -1,0 +1,64 @@
+-- The ids of a file's own records: what a record has as its id, which records have a given id, and the first record whose id one before it has.
+use mathlib.Core.Bool.{Bool, true, false}
+use mathlib.Core.List.{List, [], _∷_, map}
+use Prim.Native.Nat.{ℕ, zero, suc, _+_}
+use lib.Dec.{eqb}
+use lib.ListN.{getD}
+use Rattle.notation.specs.Ascii.{bytes}
+use Rattle.notation.specs.Choice.{_⇒_else_}
+use Rattle.walk.specs.Walk.{itemsOf}
+use Rattle.walk.proofs.Parts.{itemOf}
+use Rattle.document.specs.Document.{Maybe, none, some}
+use Rattle.fields.specs.Values.{memberOf, textBy, isId}
+
+-- the name of the ids of a file's own records
+unfoldable pub idName : ℕ → List ℕ
+idName file =
+    eqb file 1 ⇒ bytes "vehicle_type_id" else
+    eqb file 2 ⇒ bytes "station_id" else
+    eqb file 3 ⇒ bytes "station_id" else
+    eqb file 4 ⇒ bytes "bike_id" else
+    bytes "plan_id"
+
+-- what a record holds as its id
+unfoldable pub idValue : ℕ → List ℕ → List ℕ
+idValue file q = memberOf q (idName file)
+
+-- the text of it
+abbrev pub idOf : ℕ → List ℕ → Maybe (List ℕ)
+idOf file q = textBy (idValue file q)
+
+-- a record has this id
+abbrev pub hasId : ℕ → List ℕ → List ℕ → Bool
+hasId file id q = isId id (idOf file q)
+
+-- the records of an array, as bytes
+unfoldable pub recordBytes : List ℕ → List (List ℕ)
+recordBytes p = map (itemOf p) (itemsOf p)
+
+-- one more than the index of the last of the first n records that has the id; 0 where none has it
+unfoldable pub lastWith : ℕ → List ℕ → List (List ℕ) → ℕ → ℕ
+lastWith file id rs zero = 0
+lastWith file id rs (suc n) = hasId file id (getD rs n []) ⇒ suc n else lastWith file id rs n
+
+-- one of the records has the id
+unfoldable pub anyHas : ℕ → List ℕ → List (List ℕ) → Bool
+anyHas file id [] = false
+anyHas file id (q ∷ l) = hasId file id q ⇒ true else anyHas file id l
+
+-- a record that is passed has the id of q
+abbrev pub repeated : ℕ → List (List ℕ) → List ℕ → Bool
+repeated file passed q = elim (idOf file q) [ none ↦ false | some id ↦ anyHas file id passed ]
+
+-- the number of the first record whose id one before it has, where the first has the number n and `passed` are those before; 0 where there is none
+unfoldable pub repeatFrom : ℕ → ℕ → List (List ℕ) → List (List ℕ) → ℕ
+repeatFrom file n passed [] = 0
+repeatFrom file n passed (q ∷ l) = repeated file passed q ⇒ n else repeatFrom file (n + 1) (q ∷ passed) l
+
+unfoldable pub firstRepeat : ℕ → List (List ℕ) → ℕ
+firstRepeat file rs = repeatFrom file 1 [] rs
+
+-- the first n records, the latest first
+unfoldable pub earlier : List (List ℕ) → ℕ → List (List ℕ)
+earlier rs zero = []
+earlier rs (suc n) = getD rs n [] ∷ earlier rs n

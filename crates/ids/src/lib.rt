@@ -1,0 +1,31 @@
+// The ids of a file's own records: noted once, in chains by their digests, so that the record of an id is found by looking at a handful of them.
+use limits::Limits;
+
+pub mod columns;
+pub mod id;
+pub mod note;
+pub mod search;
+
+// The notes of a file are an array of `SIZE` numbers: four columns with an entry for each record, and one with a head for each bucket.
+pub struct Notes {
+    pub entries: u16,
+}
+
+impl Notes {
+    // As many entries as a file has records. The first column has the digests.
+    pub const ENTRIES: usize = Limits::RECORDS as usize;
+
+    // As many chains.
+    pub const BUCKETS: usize = 4_096;
+
+    // Where the other columns begin: where records start, where they end, links and heads of chains.
+    pub const STARTS: usize = Notes::ENTRIES;
+
+    pub const ENDS: usize = 2 * Notes::ENTRIES;
+
+    pub const LINKS: usize = 3 * Notes::ENTRIES;
+
+    pub const HEADS: usize = 4 * Notes::ENTRIES;
+
+    pub const SIZE: usize = 4 * Notes::ENTRIES + Notes::BUCKETS;
+}

@@ -1,0 +1,90 @@
+// Noting the records of an array.
+use crate::Notes;
+use crate::columns::enter;
+use crate::columns::last;
+use crate::id::id_value;
+use crate::search::search;
+use document::cut;
+use fields::STRING;
+use fields::code_of;
+use fields::unquoted;
+use text::digest::digest_of;
+use walk::ItemStep;
+use walk::pass_item;
+ghost use mathlib.Core.Path.{_≡_};
+ghost use mathlib.Core.List.{[]};
+ghost use Prim.Native.Nat.{_+_, _≤_, _<_};
+ghost use lib.Dec.{eqb};
+ghost use lib.ListN.{length, getD};
+ghost use Rattle.notation.specs.Choice.{_⇒_else_, _and_};
+ghost use Rattle.limits.specs.Ceilings.{records, fileBytes};
+ghost use Rattle.walk.specs.Walk.{part, itemsOf};
+ghost use Rattle.walk.specs.Part.{Whole, treeOf};
+ghost use Rattle.walk.specs.Along.{AlongItems};
+ghost use Rattle.ids.specs.Ids.{recordBytes, repeated, earlier, firstRepeat};
+ghost use Rattle.ids.specs.Notes.{Noted, Blank};
+
+// Notes the record between two places of `p` behind the `n` that are noted; whether one of those has its id.
+fn note_record(
+    file: u8,
+    p: &[u8],
+    from: usize,
+    upto: usize,
+    n: usize,
+    notes: &mut [u32; Notes::SIZE],
+) -> bool
+    requires { ⌜ (from ≤ fileBytes) × (upto ≤ fileBytes) × (n < records) × (part (now p) from upto ≡ getD (recordBytes (now p)) n []) × Noted file (now p) n (now notes) × Whole (part (now p) from upto) (treeOf (part (now p) from upto)) ⌝ }
+    ensures { λ r. ⌜ (r ≡ repeated file (earlier (recordBytes (now (p .entry))) n) (part (now (p .entry)) from upto)) × Noted file (now (p .entry)) (n + 1) (now (notes .exit)) ⌝ }
+{
+    let value = id_value(file, cut(p, from, upto));
+    if code_of(value) != STRING {
+        enter(notes, n, 0, 0, 0);
+        return false;
+    }
+    let id = unquoted(value);
+    let digest = digest_of(id);
+    let met = search(file, p, notes, last(notes, digest), id);
+    enter(notes, n, digest, from, upto);
+    0 < met
+}
+
+// The number of the first record that repeats an id, where that of those passed is `first`, or 0, and the next one is the n-th.
+fn first_of(first: u16, repeats: bool, n: usize) -> u16
+    requires { ⌜ n < records ⌝ }
+    ensures { λ r. ⌜ r ≡ (eqb first 0 and repeats ⇒ n + 1 else first) ⌝ }
+{
+    if first != 0 {
+        return first;
+    }
+    if repeats {
+        return (n + 1) as u16;
+    }
+    0
+}
+
+// Notes the records of the array `p`; the number of the first record whose id one before it has, or 0.
+// Shut out: the earlier of two records blamed; a record left out because its id repeats.
+pub fn note(file: u8, p: &[u8], notes: &mut [u32; Notes::SIZE]) -> u16
+    requires { ⌜ (length (now p) ≤ fileBytes) × (length (itemsOf (now p)) ≤ records) × Blank (now notes) × ((0 < length (now p)) → AlongItems (now p) 1) ⌝ }
+    ensures { λ r. ⌜ (r ≡ firstRepeat file (recordBytes (now (p .entry)))) × Noted file (now (p .entry)) (length (itemsOf (now (p .entry)))) (now (notes .exit)) ⌝ }
+{
+    if p.len() == 0 {
+        return 0;
+    }
+    let mut first: u16 = 0;
+    let mut n: usize = 0;
+    let mut at: usize = 1;
+    loop {
+        match pass_item(p, at) {
+            ItemStep::End => {
+                return first;
+            }
+            ItemStep::Found(m) => {
+                let repeats = note_record(file, p, m.value, m.value_end, n, notes);
+                first = first_of(first, repeats, n);
+                n += 1;
+                at = m.next;
+            }
+        }
+    }
+}
