@@ -111,8 +111,8 @@ fn same_from(a: &[u8], b: &[u8], from: usize) -> bool
     }
 }
 
-// Two texts, both spelled, are the same. As long as their bytes are the same and stand for themselves, nothing is decoded.
-pub fn same_text(a: &[u8], b: &[u8]) -> bool
+// What two spellings stand for is the same. As long as their bytes are the same and stand for themselves, nothing is decoded.
+fn same_decoded(a: &[u8], b: &[u8]) -> bool
     ensures { λ r. ⌜ r ≡ same (textOf (now (a .entry))) (textOf (now (b .entry))) ⌝ }
 {
     let mut i: usize = 0;
@@ -129,4 +129,31 @@ pub fn same_text(a: &[u8], b: &[u8]) -> bool
         i += 1;
     }
     same_from(a, b, i)
+}
+
+// The bytes of two spellings are the same.
+fn same_bytes(a: &[u8], b: &[u8]) -> bool
+    ensures { λ r. ⌜ r ≡ same (now (a .entry)) (now (b .entry)) ⌝ }
+{
+    if a.len() != b.len() {
+        return false;
+    }
+    let mut i: usize = 0;
+    while i < a.len() {
+        if a[i] != b[i] {
+            return false;
+        }
+        i += 1;
+    }
+    true
+}
+
+// Two texts, both spelled, are the same. The same spelling is the same text, whatever it holds.
+pub fn same_text(a: &[u8], b: &[u8]) -> bool
+    ensures { λ r. ⌜ r ≡ same (textOf (now (a .entry))) (textOf (now (b .entry))) ⌝ }
+{
+    if same_bytes(a, b) {
+        return true;
+    }
+    same_decoded(a, b)
 }
