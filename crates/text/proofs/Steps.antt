@@ -1,6 +1,6 @@
 -- One step of each question on a text's bytes: how it goes on from the first of them.
 use mathlib.Core.Bool.{Bool, true, false}
-use mathlib.Core.List.{List, [], _∷_, map}
+use mathlib.Core.List.{List, [], _∷_, _++_, map}
 use mathlib.Core.Path.{_≡_, refl, sym, ap, _∙_}
 use Prim.Native.Nat.{ℕ, _+_, _≤_}
 use native.Mathlib.Omega.{arith}
@@ -148,3 +148,8 @@ module _ {x : List ℕ} (h : ℕ) where
   pub digest-next : {b : ℕ} {u : List ℕ} → x ≡ b ∷ u → digestFrom (mixed h b) u ≡ digestFrom h x
   unfolding digestFrom
   digest-next e = rw e
+
+pub digest-append : (h : ℕ) (x y : List ℕ) → digestFrom (digestFrom h x) y ≡ digestFrom h (x ++ y)
+unfolding digestFrom
+digest-append h [] y = refl
+digest-append h (b ∷ x) y = digest-append (mixed h b) x y
