@@ -79,12 +79,12 @@ unfolding same
 ends-plain fold [] e = rw e
 ends-plain fold (a ∷ x) e = rw e
 
-pub ends-at : {x : List ℕ} (y : List ℕ) (i : ℕ) → x ≡ [] → leb (length y) i ≡ agreeing false x (drop i y)
-ends-at {x} y i e =
-    let m : map (cased false) x ≡ [] = ap (map (cased false)) e in
+pub ends-at : (fold : Bool) {x : List ℕ} (y : List ℕ) (i : ℕ) → x ≡ [] → leb (length y) i ≡ agreeing fold x (drop i y)
+ends-at fold y i e =
+    let f = map (cased fold) in
     by-test (leb (length y) i)
-    (λ t. t ∙ sym (same-end m (ap (map (cased false)) (drop-of-length-le y (leb-true (length y) i t)))))
-    λ t. t ∙ sym (same-short (ap (map (cased false)) (at-cons y i (leb-false (length y) i t))) m)
+    (λ t. t ∙ sym (same-end (ap f e) (ap f (drop-of-length-le y (leb-true (length y) i t)))))
+    λ t. t ∙ sym (same-short (ap f (at-cons y i (leb-false (length y) i t))) (ap f e))
 
 -- where case is not folded, bytes are compared as they are; where it is, as words are
 cased-none : (x : List ℕ) → map (cased false) x ≡ x
