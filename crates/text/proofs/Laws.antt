@@ -7,7 +7,6 @@ use Prim.Native.Nat.{ℕ}
 use lib.Dec.{eqb}
 use lib.ListN.{length}
 use borrow.Author.Tests.{eq-eqb, eqb-true}
-use Rattle.notation.specs.Choice.{_and_}
 use Rattle.lexeme.proofs.Steps.{by-test, true-false}
 use Rattle.text.specs.Text.{textOf, same, lower, sameWord, digest}
 
