@@ -27,7 +27,7 @@ fn unicode(s: &[u8], at: usize) -> Next
 }
 
 // What the byte after a backslash stands for, or 0.
-fn short(b: u8) -> u8
+pub fn short(b: u8) -> u8
     ensures { λ r. ⌜ r ≡ spec.short b ⌝ }
 {
     match b {

@@ -2,6 +2,7 @@
 // Past the end every byte reads as 0, which no place of a string admits, so every function is total.
 pub mod escape;
 pub mod hex;
+pub mod length;
 pub mod range;
 pub mod surrogate;
 pub mod utf8;

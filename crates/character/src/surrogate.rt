@@ -31,7 +31,7 @@ fn low_of(q: Quad) -> Trail
 }
 
 // What stands where a high surrogate escape wants a low one.
-fn trail(s: &[u8], at: usize) -> Trail
+pub fn trail(s: &[u8], at: usize) -> Trail
     ensures { λ r. ⌜ r ≡ spec.trail (drop at (now (s .entry))) ⌝ }
 {
     if byte_at(s, at, 0) != 0x5c {

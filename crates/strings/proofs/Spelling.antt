@@ -5,20 +5,24 @@ use Prim.Native.Nat.{ℕ, _+_, _≤_, _<_}
 use native.Mathlib.Omega.{arith}
 use lib.ListN.{length, drop, drop-of-length-le}
 use lib.Seq.{drop-drop}
+use lib.Dec.{eqb}
+use borrow.Author.Tests.{eqb-true}
+use Rattle.notation.specs.Choice.{_⇒_else_}
 use Rattle.word.specs.Kinds.{notJson}
 use Rattle.lexeme.specs.declared.Char.{Char}
 use Rattle.lexeme.specs.declared.Next.{Next}
 use Rattle.lexeme.specs.declared.Next.the-variants.{Quote, Character, Fault}
 use Rattle.lexeme.specs.declared.Scan.{Scan}
 use Rattle.lexeme.specs.declared.Scan.the-variants as scan
-use Rattle.lexeme.specs.Character.{Surrogates, Lead, byte, lead, char1, nextBy, next, bytesOf}
+use Rattle.lexeme.specs.Character.{Surrogates, Lead, byte, lead, char1, escape, nextBy, next, bytesOf}
 use Rattle.lexeme.specs.Class.{leadOf}
 use Rattle.lexeme.specs.Read.{placed}
 use Rattle.lexeme.specs.Read.Read.{bad}
 use Rattle.lexeme.specs.Strings.{string}
-use Rattle.lexeme.proofs.Steps.{string-quote, string-fault, string-character, string-skip}
+use Rattle.lexeme.proofs.Steps.{by-test, string-quote, string-fault, string-character, string-skip}
 use Rattle.lexeme.proofs.Placed.{ends-at, faults-at, placed-made}
 use Rattle.lexeme.proofs.Rests.{at-cons, first-byte}
+use Rattle.character.specs.Length.{taken}
 use Rattle.character.proofs.Inside.{character-inside, fault-inside}
 use Rattle.character.proofs.Leads.{class-plain}
 
@@ -35,6 +39,11 @@ module _ (ρ : Surrogates) where
   pub record AtCharacter (s : List ℕ) (i : ℕ) (x : Char) : Type 0 where
     pub inside : i + x .more < length s
     pub ends : end-from s (i + 1 + x .more) ≡ end-from s i
+
+  -- an escape of n bytes
+  pub record AtEscape (s : List ℕ) (i n : ℕ) : Type 0 where
+    pub inside : i + n ≤ length s
+    pub ends : end-from s (i + n) ≡ end-from s i
 
   pub at-end : (s : List ℕ) (i : ℕ) → length s ≤ i → scan.Fault notJson (length s) ≡ end-from s i
   unfolding placed string
@@ -76,6 +85,21 @@ module _ (ρ : Surrogates) where
               ∙ placed-made s (λ y. bytesOf x ++ y) _
               ∙ ap (placed s) (string-skip ρ (x .more) (drop (i + 1) s) ∙ ap (string ρ 0) (drop-drop (x .more) (i + 1) s)));
         }
+
+    -- an escape with no fault, by its length and its class
+    pub at-escape : (c n : ℕ) → leadOf c ≡ lead (byte s i) → n ≡ (eqb c 9 ⇒ taken (escape ρ (drop i s)) else 0) → 0 < n → AtEscape s i n
+    unfolding next nextBy leadOf
+    at-escape c n e f h =
+        by-test (eqb c 9)
+        (λ t. go _ (ap (nextBy ρ (drop i s)) (ap lead (sym (first-byte s i)) ∙ sym e ∙ ap leadOf (eqb-true c 9 t))) (rw t at f)) λ t. absurd (let g : n ≡ 0 = rw t at f in omega arith)
+      where
+        go : (o : Next) → next ρ (drop i s) ≡ o → n ≡ taken o → AtEscape s i n
+        go Quote t u = absurd (omega arith)
+        go (Fault k m) t u = absurd (omega arith)
+        go (Character x) t u =
+            let a = at-character x t in
+            let v : i + n ≡ i + 1 + x .more = omega arith in
+            record { inside = omega (arith, a .inside); ends = ap (end-from s) v ∙ a .ends }
 
     pub at-plain : (c : ℕ) → leadOf c ≡ lead (byte s i) → c < 8 → end-from s (i + 1) ≡ end-from s i
     unfolding next nextBy

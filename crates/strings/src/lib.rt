@@ -1,4 +1,5 @@
 // Strings of a JSON text.
+use character::length::escape_length;
 use character::next_by;
 use lexeme::Next;
 use lexeme::Scan;
@@ -6,14 +7,27 @@ use lexeme::class::Class;
 use lexeme::class::class_by;
 use word::kind::Kind;
 ghost use mathlib.Core.Path.{_≡_};
+ghost use lib.Dec.{eqb};
 ghost use lib.ListN.{drop};
-ghost use Rattle.lexeme.specs.Character.{paired};
+ghost use Rattle.notation.specs.Choice.{_⇒_else_};
+ghost use Rattle.lexeme.specs.Character.{paired, escape};
 ghost use Rattle.lexeme.specs.Class.{Classifies};
 ghost use Rattle.lexeme.specs.Read.{placed};
 ghost use Rattle.lexeme.specs.Strings.{string};
+ghost use Rattle.character.specs.Length.{taken};
+
+// How many bytes the escape at `at` takes, where the first has the class; 0 where it has a fault, or none stands there.
+fn escape_by(s: &[u8], at: usize, class: u8) -> usize
+    ensures { λ r. ⌜ r ≡ (eqb class 9 ⇒ taken (escape paired (drop at (now (s .entry)))) else 0) ⌝ }
+{
+    if class == Class::BACKSLASH {
+        return escape_length(s, at);
+    }
+    0
+}
 
 // The string whose opening quote stands just before `at`. Plain bytes are passed one by one, with no character made of them, nor of the closing
-// quote. The table of classes is the caller's, who takes it once for many strings.
+// quote, nor of an escape. The table of classes is the caller's, who takes it once for many strings.
 // Shut out: an escaped quote taken for the closing one; a fault named where its character begins, and not at the wrong byte.
 pub fn read_string(table: &[u8; 256], s: &[u8], at: usize) -> Scan
     requires { ⌜ Classifies (now table) ⌝ }
@@ -28,6 +42,11 @@ pub fn read_string(table: &[u8; 256], s: &[u8], at: usize) -> Scan
         }
         if class == Class::QUOTE {
             return Scan::End(i + 1);
+        }
+        let taken = escape_by(s, i, class);
+        if 0 < taken {
+            i += taken;
+            continue;
         }
         match next_by(s, i, class) {
             Next::Quote => {
