@@ -43,7 +43,7 @@ fn note_record(
     }
     let id = unquoted(value);
     let digest = digest_of(id);
-    let met = search(file, p, notes, last(notes, digest), id);
+    let met = search(file, p, notes, last(notes, digest), id, digest);
     enter(notes, n, digest, from, upto);
     0 < met
 }

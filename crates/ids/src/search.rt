@@ -8,22 +8,27 @@ use crate::id::names_id;
 use document::cut;
 use fields::value_at;
 use slots::Found;
-use text::digest::digest_of;
 use walk::MemberStep;
 use walk::pass_member;
 ghost use mathlib.Core.Path.{_≡_};
-ghost use Rattle.text.specs.Text.{textOf};
+ghost use Rattle.text.specs.Text.{textOf, digest as digestOf};
 ghost use Rattle.ids.specs.Ids.{lastWith, recordBytes};
 ghost use Rattle.ids.specs.Notes.{Searched};
 
-// One more than the index of the last record of the array `p` that has the id, among those before `from` and in its chain; 0 where none has it. The
+// One more than the index of the last record of the array `p` that has the id of this digest, among those before `from` and in its chain; 0 where none has it. The
 // search goes along the chain and over a record's members, and is left where the id is met. A record that is noted has its id once.
 // Shut out: two ids taken for one because their digests agree; an id passed over because it is spelled in another way.
-pub fn search(file: u8, p: &[u8], notes: &[u32; Notes::SIZE], from: usize, id: &[u8]) -> usize
-    requires { ⌜ Searched file (now p) (now notes) from (textOf (now id)) ⌝ }
+pub fn search(
+    file: u8,
+    p: &[u8],
+    notes: &[u32; Notes::SIZE],
+    from: usize,
+    id: &[u8],
+    digest: u32,
+) -> usize
+    requires { ⌜ (digest ≡ digestOf (textOf (now id))) × Searched file (now p) (now notes) from (textOf (now id)) ⌝ }
     ensures { λ r. ⌜ r ≡ lastWith file (textOf (now (id .entry))) (recordBytes (now (p .entry))) from ⌝ }
 {
-    let digest = digest_of(id);
     let mut met: usize = 0;
     let mut j = from;
     'search: while 0 < j {

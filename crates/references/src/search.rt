@@ -62,12 +62,13 @@ fn meets_in(file: u8, p: &[u8], notes: &[u32; Notes::SIZE], id: &[u8], tested: b
     requires { ⌜ Noted file (now p) (length (itemsOf (now p))) (now notes) ⌝ }
     ensures { λ r. ⌜ r ≡ anyMeets file tested (textOf (now (id .entry))) (recordBytes (now (p .entry))) (length (itemsOf (now (p .entry)))) ⌝ }
 {
-    let mut j = search(file, p, notes, last(notes, digest_of(id)), id);
+    let digest = digest_of(id);
+    let mut j = search(file, p, notes, last(notes, digest), id, digest);
     while 0 < j {
         if passes_test(file, record_at(p, notes, j - 1), tested) {
             return true;
         }
-        j = search(file, p, notes, link_at(notes, j - 1), id);
+        j = search(file, p, notes, link_at(notes, j - 1), id, digest);
     }
     false
 }

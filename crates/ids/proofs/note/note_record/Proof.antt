@@ -42,7 +42,7 @@ text-is c =
 search-requires : tie.Need-search-requires
 search-requires c κs =
     let d = c .before .before in let g = d .before .before .before .before .before .before .before in
-    from-head (g .pre .4) _ _ _ (d .digest-of .ensures) (c .last .ensures)
+    (d .digest-of .ensures, from-head (g .pre .4) _ _ _ (d .digest-of .ensures) (c .last .ensures))
 
 returns-2 : tie.Need-returns-2
 returns-2 c =

@@ -43,7 +43,7 @@ room c = chain-room (c .before .search .inv .1) (c .search-test .taken)
 
 -- what is kept of the record there
 keeps : (c : tie.After-record-at Inv-loop μ-loop Inv-search μ-search) →
-    let s = c .before .before .before in let l = s .before in let a = l .before .before .before .before .args in
+    let s = c .before .before .before in let l = s .before in let a = l .before .before .before .args in
     c .record-at .result .now ≡ kept (a .file) (getD (recordBytes (a .p .now)) (l .search .j - 1) [])
 keeps c = let s = c .before .before .before in c .record-at .ensures ∙ chain-entry (s .before .search .inv .1) (s .search-test .taken)
 
@@ -58,7 +58,7 @@ loop-less c =
 loop-again : tie.Need-loop-again Inv-loop μ-loop Inv-search μ-search
 loop-again c =
     let n = c .before in let u = n .before in let d = u .before .before in let t = d .before .before in let l = t .before in let r = l .before in
-    let a = r .before .before .before .before .before .before .before .before .args in
+    let a = r .before .before .before .before .before .before .before .args in
     let f = passed-found _ _ (t .pass-member .ensures) (d .m .given .1) (l .loop .inv .2) in (
       l .loop .inv .0,
       member-other (a .file) (textOf (a .id .now)) _ _ (keeps r) (l .loop .at) (l .loop .inv .1) _ f _ (u .cut .ensures) (sym (n .names-id .ensures) ∙ c .if2 .left),
@@ -67,11 +67,11 @@ loop-again c =
 
 -- past a record that has another id, or none
 past : (c : tie.After-link-at Inv-loop μ-loop Inv-search μ-search) →
-    let l = c .before .before .before .before in let a = l .before .before .before .before .args in let id = textOf (a .id .now) in let rs = recordBytes (a .p .now) in
+    let l = c .before .before .before .before in let a = l .before .before .before .args in let id = textOf (a .id .now) in let rs = recordBytes (a .p .now) in
     c .before .if1 .met ≡ 0 → hasId (a .file) id (getD rs (l .search .j - 1) []) ≡ false
     → (c .before .if1 .met ≡ 0) × Searched (a .file) (a .p .now) (a .notes .now) (c .link-at .result) id × (lastWith (a .file) id rs (c .link-at .result) ≡ lastWith (a .file) id rs (a .from))
 past c none e =
-    let s = c .before .before .before in let l = s .before in let a = l .before .before .before .before .args in let id = textOf (a .id .now) in
+    let s = c .before .before .before in let l = s .before in let a = l .before .before .before .args in let id = textOf (a .id .now) in
     let v = l .search .inv .1 in let h = s .search-test .taken in let is = c .link-at .ensures in (
       none,
       subst (λ (x : ℕ). Searched (a .file) (a .p .now) (a .notes .now) x id) (sym is) (chain-next v h),
@@ -83,7 +83,7 @@ search-less c = let s = c .before .before .before in omega (arith, c .link-at .e
 
 search-again : tie.Need-search-again Inv-loop μ-loop Inv-search μ-search
 search-again c =
-    let o = c .before .before in let s = o .before in let l = s .before in let a = l .before .before .before .before .args in let id = textOf (a .id .now) in
+    let o = c .before .before in let s = o .before in let l = s .before in let a = l .before .before .before .args in let id = textOf (a .id .now) in
     ⊎-elim
     (λ w.
     let k = keeps (record { before = record { before = o; if1 = w .0 }; record-at = w .1 }) in
@@ -96,12 +96,12 @@ search-again c =
     (sym (w .8 .ensures) ∙ w .9 .taken) (w .10 .ensures .0)) ∙ w .12 .left))
     (λ w.
     past c (w .1 ∙ l .search .inv .0)
-    (chain-apart (l .search .inv .1) (s .search-test .taken) (λ e. w .0 .left (o .digest-at .ensures ∙ e ∙ sym (l .before .digest-of .ensures))))))
+    (chain-apart (l .search .inv .1) (s .search-test .taken) (λ e. w .0 .left (o .digest-at .ensures ∙ e ∙ sym (l .before .before .before .pre .0))))))
     (c .before .if1 .came)
 
 returns : tie.Need-returns Inv-loop μ-loop Inv-search μ-search
 returns c =
-    let l = c .before in let a = l .before .before .before .before .args in let id = textOf (a .id .now) in
+    let l = c .before in let a = l .before .before .before .args in let id = textOf (a .id .now) in
     let z : 0 ≡ l .search .j = omega arith in
     l .search .inv .0 ∙ sym (with-none (a .file) id (recordBytes (a .p .now))) ∙ ap (lastWith (a .file) id (recordBytes (a .p .now))) z ∙ l .search .inv .2
 
@@ -110,7 +110,7 @@ returns-2 : tie.Need-returns-2 Inv-loop μ-loop Inv-search μ-search
 returns-2 c =
     let u = c .before in let v = u .before in let i = v .before in let n = i .before in let x = n .before in let d = x .before .before in
     let t = d .before .before in let l = t .before in let r = l .before in let s = r .before .before .before in let o = s .before in
-    let a = o .before .before .before .before .args in let id = textOf (a .id .now) in
+    let a = o .before .before .before .args in let id = textOf (a .id .now) in
     chain-met (o .search .inv .1) (s .search-test .taken)
     (sym (u .is-this .ensures ∙ member-decides (a .file) id _ _ (keeps r) (l .loop .at) (l .loop .inv .1) _ (passed-found _ _ (t .pass-member .ensures) (d .m .given .1) (l .loop .inv .2)) _ (x .cut .ensures)
     (sym (n .names-id .ensures) ∙ i .if2 .taken) (v .value-at .ensures .0)) ∙ c .if3 .taken)
@@ -119,7 +119,7 @@ returns-2 c =
 pub search-spec : {M : Type 1} → statement M
 search-spec =
     tie.close
-    (tie.spec Inv-loop μ-loop Inv-search μ-search (λ c κs. search needs) (λ c. (refl, c .before .before .before .pre, refl)) (λ c. search needs) (λ c κs. room c)
+    (tie.spec Inv-loop μ-loop Inv-search μ-search (λ c. (refl, c .before .before .pre .1, refl)) (λ c. search needs) (λ c κs. room c)
     (λ c κs. room (c .before .before)) loop-holds (λ c κs. search needs) (λ c. search needs) (λ c. search needs) (λ c κs. search needs)
     (λ c κs. search needs) (λ c κs. search needs) (λ c κs. search needs) loop-less loop-again (λ c κs. room (c .before .before)) search-less search-again
     returns returns-2)

@@ -14,13 +14,13 @@ use Rattle.references.proofs.search.meets_in.Statement.{statement}
 use Rattle.references.proofs.search.meets_in.Tie as tie
 
 abbrev Inv-loop : tie.InvT-loop
-Inv-loop file p notes id tested j₀ j = Comes file tested (textOf id) p j
+Inv-loop file p notes id tested digest j₀ j = Comes file tested (textOf id) p j
 
 abbrev μ-loop : tie.MeasureT-loop
-μ-loop file p notes id tested j₀ j = j
+μ-loop file p notes id tested digest j₀ j = j
 
 search-requires : tie.Need-search-requires Inv-loop μ-loop
-search-requires c κs = from-head (c .before .before .before .before .pre) _ _ _ (c .before .digest-of .ensures) (c .last .ensures)
+search-requires c κs = let d = c .before in (d .digest-of .ensures, from-head (d .before .before .before .pre) _ _ _ (d .digest-of .ensures) (c .last .ensures))
 
 loop-holds : tie.Need-loop-holds Inv-loop μ-loop
 loop-holds c =
@@ -49,8 +49,10 @@ returns c =
 -- the search goes on from the link
 search-requires-2 : tie.Need-search-requires-2 Inv-loop μ-loop
 search-requires-2 c κs =
-    let i = c .before .before .before .before in let a = i .before .before .before .before .before .before .before .args in
-    subst (λ (x : ℕ). Searched (a .file) (a .p .now) (a .notes .now) x (textOf (a .id .now))) (sym (c .link-at .ensures)) (chain-next (on i) (i .loop-test .taken))
+    let i = c .before .before .before .before in let a = i .before .before .before .before .before .before .before .args in (
+      i .before .before .before .before .digest-of .ensures,
+      subst (λ (x : ℕ). Searched (a .file) (a .p .now) (a .notes .now) x (textOf (a .id .now))) (sym (c .link-at .ensures)) (chain-next (on i) (i .loop-test .taken)),
+    )
 
 found : (c : tie.After-search2 Inv-loop μ-loop) →
     let l = c .before .before .before .before .before .before in let a = l .before .before .before .before .before .before .args in
