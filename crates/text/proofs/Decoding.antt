@@ -7,7 +7,7 @@ use Prim.Native.Nat.{ℕ, zero, suc, _+_, _-_, _≤_, _<_}
 use native.Mathlib.Omega.{arith}
 use lib.Dec.{eqb, ltb}
 use lib.ListN.{length, take, drop, drop-of-length-le}
-use lib.Seq.{drop-drop}
+use lib.Seq.{take-all, drop-drop}
 use Rattle.lexeme.specs.declared.Char.{Char}
 use Rattle.lexeme.specs.declared.Next.the-variants.{Quote, Character, Fault}
 use Rattle.lexeme.specs.Character.{Lead, byte, bytesOf, char1, lead, nextBy, next}
@@ -61,20 +61,15 @@ module _ (a b c d : ℕ) where
   others (suc (suc (suc (suc zero)))) m h e = rw e
   others (suc (suc (suc (suc (suc n))))) m h e = absurd (omega arith)
 
-  all-others : (n : ℕ) → 4 ≤ n → take 3 (b ∷ c ∷ d ∷ 0 ∷ []) ≡ drop 1 (take n (a ∷ b ∷ c ∷ d ∷ []))
-  all-others zero h = absurd (omega arith)
-  all-others (suc zero) h = absurd (omega arith)
-  all-others (suc (suc zero)) h = absurd (omega arith)
-  all-others (suc (suc (suc zero))) h = absurd (omega arith)
-  all-others (suc (suc (suc (suc zero)))) h = refl
-  all-others (suc (suc (suc (suc (suc n))))) h = refl
-
 module _ (x : Char) where
   pub tail-some : (m : ℕ) → x .len ≤ 4 → m ≡ x .len - 1 → take m (x .b1 ∷ x .b2 ∷ x .b3 ∷ 0 ∷ []) ≡ drop 1 (bytesOf x)
   tail-some m = others (x .b0) (x .b1) (x .b2) (x .b3) (x .len) m
 
+  pub bytes-four : 4 ≤ x .len → bytesOf x ≡ x .b0 ∷ x .b1 ∷ x .b2 ∷ x .b3 ∷ []
+  bytes-four h = take-all (x .len) (x .b0 ∷ x .b1 ∷ x .b2 ∷ x .b3 ∷ []) h
+
   pub tail-most : 4 ≤ x .len → take 3 (x .b1 ∷ x .b2 ∷ x .b3 ∷ 0 ∷ []) ≡ drop 1 (bytesOf x)
-  tail-most = all-others (x .b0) (x .b1) (x .b2) (x .b3) (x .len)
+  tail-most h = ap (drop 1) (sym (bytes-four h))
 
 -- a byte that stands for itself
 alone-plain : (b : ℕ) → alone b ≡ true → lead b ≡ Lead.plain

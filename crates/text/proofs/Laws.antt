@@ -1,13 +1,14 @@
--- Comparing texts: `same` is equality, so equal texts have equal digests; and words are alike to themselves, either way round.
+-- Comparing texts: `same` is equality, so equal texts have equal digests and equal spellings are equal texts; and words are alike to themselves,
+-- either way round.
 use mathlib.Core.Bool.{true, false}
 use mathlib.Core.List.{List, [], _∷_, map}
 use mathlib.Core.Path.{_≡_, refl, sym, ap, _∙_}
 use Prim.Native.Nat.{ℕ}
 use lib.Dec.{eqb}
+use lib.ListN.{length}
 use borrow.Author.Tests.{eq-eqb, eqb-true}
-use Rattle.notation.specs.Choice.{_and_}
 use Rattle.lexeme.proofs.Steps.{by-test, true-false}
-use Rattle.text.specs.Text.{same, lower, sameWord, digest}
+use Rattle.text.specs.Text.{textOf, same, lower, sameWord, digest}
 
 pub same-refl : (x : List ℕ) → same x x ≡ true
 unfolding same
@@ -32,6 +33,12 @@ pub same-sym : (x y : List ℕ) → same x y ≡ same y x
 same-sym x y =
     by-test (same x y) (λ t. t ∙ sym (ap (λ z. same y z) (same-true x y t) ∙ same-refl y)) λ f.
     by-test (same y x) (λ t. absurd (same-false x y f (sym (same-true y x t)))) λ t. f ∙ sym t
+
+pub same-lengths : (x y : List ℕ) → (length x ≡ length y → ⊥) → same x y ≡ false
+same-lengths x y h = by-test (same x y) (λ t. absurd (h (ap length (same-true x y t)))) λ f. f
+
+pub text-same : (x y : List ℕ) → same x y ≡ true → same (textOf x) (textOf y) ≡ true
+text-same x y e = ap (λ z. same (textOf x) (textOf z)) (sym (same-true x y e)) ∙ same-refl (textOf x)
 
 pub digest-same : (x y : List ℕ) → same x y ≡ true → digest x ≡ digest y
 digest-same x y e = ap digest (same-true x y e)

@@ -1,4 +1,5 @@
 pub mod Whole
 pub mod Decoding
+pub mod Lengths
 pub mod Steps
 pub mod Laws

@@ -1,6 +1,6 @@
 -- One step of each question on a text's bytes: how it goes on from the first of them.
 use mathlib.Core.Bool.{Bool, true, false}
-use mathlib.Core.List.{List, [], _∷_, map}
+use mathlib.Core.List.{List, [], _∷_, _++_, map}
 use mathlib.Core.Path.{_≡_, refl, sym, ap, _∙_}
 use Prim.Native.Nat.{ℕ, _+_, _≤_}
 use native.Mathlib.Omega.{arith}
@@ -79,12 +79,12 @@ unfolding same
 ends-plain fold [] e = rw e
 ends-plain fold (a ∷ x) e = rw e
 
-pub ends-at : {x : List ℕ} (y : List ℕ) (i : ℕ) → x ≡ [] → leb (length y) i ≡ agreeing false x (drop i y)
-ends-at {x} y i e =
-    let m : map (cased false) x ≡ [] = ap (map (cased false)) e in
+pub ends-at : (fold : Bool) {x : List ℕ} (y : List ℕ) (i : ℕ) → x ≡ [] → leb (length y) i ≡ agreeing fold x (drop i y)
+ends-at fold y i e =
+    let f = map (cased fold) in
     by-test (leb (length y) i)
-    (λ t. t ∙ sym (same-end m (ap (map (cased false)) (drop-of-length-le y (leb-true (length y) i t)))))
-    λ t. t ∙ sym (same-short (ap (map (cased false)) (at-cons y i (leb-false (length y) i t))) m)
+    (λ t. t ∙ sym (same-end (ap f e) (ap f (drop-of-length-le y (leb-true (length y) i t)))))
+    λ t. t ∙ sym (same-short (ap f (at-cons y i (leb-false (length y) i t))) (ap f e))
 
 -- where case is not folded, bytes are compared as they are; where it is, as words are
 cased-none : (x : List ℕ) → map (cased false) x ≡ x
@@ -148,3 +148,8 @@ module _ {x : List ℕ} (h : ℕ) where
   pub digest-next : {b : ℕ} {u : List ℕ} → x ≡ b ∷ u → digestFrom (mixed h b) u ≡ digestFrom h x
   unfolding digestFrom
   digest-next e = rw e
+
+pub digest-append : (h : ℕ) (x y : List ℕ) → digestFrom (digestFrom h x) y ≡ digestFrom h (x ++ y)
+unfolding digestFrom
+digest-append h [] y = refl
+digest-append h (b ∷ x) y = digest-append (mixed h b) x y

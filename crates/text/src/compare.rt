@@ -55,19 +55,19 @@ fn agrees(spelled: &[u8], plain: &[u8], from: usize, fold: bool) -> bool
     ended(spelled, c)
 }
 
-// The text is the plain bytes. As long as its bytes stand for themselves they are compared as they are.
-pub fn text_is(spelled: &[u8], plain: &[u8]) -> bool
-    ensures { λ r. ⌜ r ≡ same (textOf (now (spelled .entry))) (now (plain .entry)) ⌝ }
+// The text is the plain bytes, with case folded or not. As long as its bytes stand for themselves they are compared as they are.
+fn reads_as(spelled: &[u8], plain: &[u8], fold: bool) -> bool
+    ensures { λ r. ⌜ r ≡ agreeing fold (textOf (now (spelled .entry))) (now (plain .entry)) ⌝ }
 {
     let mut i: usize = 0;
     while i < spelled.len() {
         if !is_plain(spelled[i]) {
-            return agrees(spelled, plain, i, false);
+            return agrees(spelled, plain, i, fold);
         }
         if plain.len() <= i {
             return false;
         }
-        if spelled[i] != plain[i] {
+        if !alike(fold, spelled[i], plain[i]) {
             return false;
         }
         i += 1;
@@ -75,11 +75,18 @@ pub fn text_is(spelled: &[u8], plain: &[u8]) -> bool
     plain.len() <= i
 }
 
+// The text is the plain bytes.
+pub fn text_is(spelled: &[u8], plain: &[u8]) -> bool
+    ensures { λ r. ⌜ r ≡ same (textOf (now (spelled .entry))) (now (plain .entry)) ⌝ }
+{
+    reads_as(spelled, plain, false)
+}
+
 // The text is the plain bytes, whatever the case of ASCII letters.
 pub fn word_is(spelled: &[u8], plain: &[u8]) -> bool
     ensures { λ r. ⌜ r ≡ sameWord (textOf (now (spelled .entry))) (now (plain .entry)) ⌝ }
 {
-    agrees(spelled, plain, 0, true)
+    reads_as(spelled, plain, true)
 }
 
 // What two texts spell from `from` on is the same.
@@ -111,8 +118,8 @@ fn same_from(a: &[u8], b: &[u8], from: usize) -> bool
     }
 }
 
-// Two texts, both spelled, are the same. As long as their bytes are the same and stand for themselves, nothing is decoded.
-pub fn same_text(a: &[u8], b: &[u8]) -> bool
+// What two spellings stand for is the same. As long as their bytes are the same and stand for themselves, nothing is decoded.
+fn same_decoded(a: &[u8], b: &[u8]) -> bool
     ensures { λ r. ⌜ r ≡ same (textOf (now (a .entry))) (textOf (now (b .entry))) ⌝ }
 {
     let mut i: usize = 0;
@@ -129,4 +136,31 @@ pub fn same_text(a: &[u8], b: &[u8]) -> bool
         i += 1;
     }
     same_from(a, b, i)
+}
+
+// The bytes of two spellings are the same.
+fn same_bytes(a: &[u8], b: &[u8]) -> bool
+    ensures { λ r. ⌜ r ≡ same (now (a .entry)) (now (b .entry)) ⌝ }
+{
+    if a.len() != b.len() {
+        return false;
+    }
+    let mut i: usize = 0;
+    while i < a.len() {
+        if a[i] != b[i] {
+            return false;
+        }
+        i += 1;
+    }
+    true
+}
+
+// Two texts, both spelled, are the same. The same spelling is the same text, whatever it holds.
+pub fn same_text(a: &[u8], b: &[u8]) -> bool
+    ensures { λ r. ⌜ r ≡ same (textOf (now (a .entry))) (textOf (now (b .entry))) ⌝ }
+{
+    if same_bytes(a, b) {
+        return true;
+    }
+    same_decoded(a, b)
 }

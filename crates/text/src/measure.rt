@@ -8,10 +8,13 @@ ghost use lib.Dec.{ltb};
 ghost use lib.ListN.{length};
 ghost use Rattle.text.specs.Text.{textOf, currency};
 
-// The text has more bytes than `most`. No more than one byte past `most` is looked at.
+// The text has more bytes than `most`. It is never longer than its spelling; no more than one byte past `most` is looked at.
 pub fn longer_than(spelled: &[u8], most: usize) -> bool
     ensures { λ r. ⌜ r ≡ ltb most (length (textOf (now (spelled .entry)))) ⌝ }
 {
+    if spelled.len() <= most {
+        return false;
+    }
     let mut c = cursor_at(0);
     let mut n: usize = 0;
     loop {

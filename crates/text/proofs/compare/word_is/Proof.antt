@@ -6,4 +6,4 @@ use Rattle.text.proofs.compare.word_is.Statement.{statement}
 use Rattle.text.proofs.compare.word_is.Tie as tie
 
 pub word-is-spec : {M : Type 1} → statement M
-word-is-spec = tie.close (tie.spec (λ c κs. search needs) (λ c. c .agrees .ensures ∙ agreeing-all _ _))
+word-is-spec = tie.close (tie.spec (λ c κs. search needs) (λ c. c .reads-as .ensures ∙ agreeing-all _ _))
