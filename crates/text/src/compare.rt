@@ -55,10 +55,13 @@ fn agrees(spelled: &[u8], plain: &[u8], from: usize, fold: bool) -> bool
     ended(spelled, c)
 }
 
-// The text is the plain bytes, with case folded or not. As long as its bytes stand for themselves they are compared as they are.
+// The text is the plain bytes, with case folded or not. It is not where they are more than its spelling has; and as long as its bytes stand for themselves they are compared as they are.
 fn reads_as(spelled: &[u8], plain: &[u8], fold: bool) -> bool
     ensures { λ r. ⌜ r ≡ agreeing fold (textOf (now (spelled .entry))) (now (plain .entry)) ⌝ }
 {
+    if spelled.len() < plain.len() {
+        return false;
+    }
     let mut i: usize = 0;
     while i < spelled.len() {
         if !is_plain(spelled[i]) {
