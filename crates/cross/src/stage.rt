@@ -21,7 +21,7 @@ ghost use Rattle.fault.specs.Fault.{least};
 ghost use Rattle.judge.specs.Faults.{top, faulty};
 ghost use Rattle.clean.specs.Clean.{blamed};
 ghost use Rattle.references.specs.References.{when};
-ghost use Rattle.references.specs.Known.{Known};
+ghost use Rattle.cross.specs.Judged.{Known};
 ghost use Rattle.cross.specs.Stage.{Through, filesOf, stageC};
 ghost use Rattle.cross.specs.Staged.{Recorded, calledFor, repeatOf, Repeating, fileLeast, numberedLeast, firstFrom};
 
