@@ -27,10 +27,8 @@ judge-noted-requires c κs =
       },
       record { ofTypes = n₁ .note .ensures .0; ofStations = n₂ .note2 .ensures .0; ofPlans = n₃ .note3 .ensures .0 },
       x .0,
-      x .1,
       x .2,
       x .3,
-      x .4,
       x .5,
     )
 
