@@ -23,7 +23,6 @@ use Rattle.references.specs.Known.{setOf}
 use Rattle.cross.specs.declared.stage.Crossed.{Crossed}
 use Rattle.cross.specs.declared.stage.Crossed.the-variants.{Nothing, At}
 use Rattle.cross.specs.Cross.{Files, here, absentees, fileIn, crossFaults}
-use Rattle.references.specs.Known as known
 use Rattle.cross.specs.Stage.{fileOf, filesOf, stageC}
 use Rattle.cross.specs.Staged.{calledFor, fileLeast, numberedLeast, crossing, firstFrom}
 use Rattle.cross.proofs.Files.{InBytes}
@@ -78,7 +77,7 @@ module _ {types stations statuses bikes plans zones a b c d e g : List ℕ} (all
   presence file = rw (calledFor, absentees, there-is 2 stations, there-is 3 statuses, there-is 4 bikes)
 
   file-least : (file : ℕ) (s p : List ℕ) → fileIn files file ≡ fileOf file s → InBytes file s p → fileLeast set a b e file p ≡ least (crossFaults files file)
-  unfolding fileLeast crossFaults known.recordsOf
+  unfolding fileLeast crossFaults
   file-least file s p e h =
       rw (fileLeast, crossFaults, e, presence file, all .first .picked, all .second .picked, all .fifth .picked, h .picked, there-is 1 types, there-is 5 plans, ← h .repeated)
       (least-three _ _ _)

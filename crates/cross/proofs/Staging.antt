@@ -1,18 +1,28 @@
 -- The steps of stage C in bytes: what one file is asked, by its number, and the first file that breaks a rule.
 use mathlib.Core.Bool.{false}
-use mathlib.Core.List.{List}
+use mathlib.Core.List.{List, [], _∷_}
 use mathlib.Core.Path.{_≡_, refl, sym, ap, _∙_}
-use Prim.Native.Nat.{ℕ, zero, suc, _+_, _-_, _≤_, _<_}
+use Prim.Native.Nat.{ℕ, zero, suc, _+_, _*_, _-_, _≤_, _<_}
 use native.Mathlib.Omega.{arith}
 use borrow.Author.Tests.{ne-eqb}
+use Rattle.word.specs.Kinds.{condition}
+use Rattle.schema.specs.Pick.{Picked}
 use Rattle.fault.specs.declared.Fault.{Fault}
 use Rattle.fault.specs.declared.Least.{Least}
 use Rattle.fault.specs.declared.Least.the-variants.{None, Is}
-use Rattle.fault.specs.Fault.{lesser}
+use Rattle.fault.specs.Fault.{least, lesser}
+use Rattle.fault.proofs.Leasts.{none-least}
+use Rattle.judge.specs.Faults.{top, faulty}
+use Rattle.document.proofs.Records.{recordShape, pickedItems}
+use Rattle.clean.specs.Clean.{blamed}
 use Rattle.references.specs.declared.Set.{Set}
+use Rattle.references.specs.References.{when}
 use Rattle.cross.specs.declared.stage.Crossed.{Crossed}
 use Rattle.cross.specs.declared.stage.Crossed.the-variants.{Nothing, At}
-use Rattle.cross.specs.Staged.{calledFor, fileLeast, numberedLeast, crossing, firstFrom}
+use Rattle.cross.specs.Cross.{each}
+use Rattle.cross.specs.Judged.{broken}
+use Rattle.cross.specs.Staged.{calledFor, repeatOf, idsLeast, fileLeast, numberedLeast, crossing, firstFrom}
+use Rattle.cross.proofs.Fielded.{breaks-nothing}
 
 -- What one file is asked.
 
@@ -24,6 +34,25 @@ called-else file set h i j = rw (calledFor, ne-eqb file 2 h, ne-eqb file 3 i, ne
 -- the parts of a file's judgement
 pub lesser-both : {a b c d : Least} → a ≡ c → b ≡ d → lesser a b ≡ lesser c d
 lesser-both {b = b} {c = c} e k = ap (λ (x : Least). lesser x b) e ∙ ap (lesser c) k
+
+-- a file by its first repeat and by what its records break
+module _ (set : Set) (types stations plans : List ℕ) where
+  pub file-is : (file : ℕ) (p : List ℕ) {repeat : ℕ} {records : Least} → repeat ≡ repeatOf file p
+      → records ≡ least (each (broken set types stations plans file) 1 (pickedItems (recordShape file) p))
+      → lesser (least (faulty top 0 (when (calledFor file set) condition))) (lesser (blamed (file * 10) repeat) records) ≡ fileLeast set types stations plans file p
+  unfolding fileLeast idsLeast
+  file-is file p e k = lesser-both refl (lesser-both (ap (blamed (file * 10)) e) k)
+
+  -- records of other files than 1, 3, 4 and 6 break nothing
+  each-nothing : (file : ℕ) → (file ≡ 1 → ⊥) → (file ≡ 3 → ⊥) → (file ≡ 4 → ⊥) → (file ≡ 6 → ⊥)
+      → (n : ℕ) (l : List Picked) → each (broken set types stations plans file) n l ≡ []
+  unfolding each
+  each-nothing file a b c d n [] = refl
+  each-nothing file a b c d n (x ∷ l) = rw (each, breaks-nothing _ _ _ _ _ file n a b c d x) (each-nothing file a b c d (n + 1) l)
+
+  pub records-none : (file : ℕ) → (file ≡ 1 → ⊥) → (file ≡ 3 → ⊥) → (file ≡ 4 → ⊥) → (file ≡ 6 → ⊥)
+      → (l : List Picked) → None ≡ least (each (broken set types stations plans file) 1 l)
+  records-none file a b c d l = sym (none-least _ (each-nothing file a b c d 1 l))
 
 -- the last file has every number that no other has
 pub numbered-else : (set : Set) (types stations plans statuses bikes zones : List ℕ) (file : ℕ)

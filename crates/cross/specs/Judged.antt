@@ -12,21 +12,26 @@ use Rattle.schema.specs.Pick.{Picked, pick}
 use Rattle.fault.specs.declared.Fault.{Fault}
 use Rattle.fault.specs.declared.Least.{Least}
 use Rattle.fault.specs.Fault.{least}
-use Rattle.document.proofs.Records.{recordShape}
+use Rattle.document.proofs.Records.{recordShape, pickedItems}
 use Rattle.references.specs.declared.Set.{Set}
-use Rattle.references.specs.Known.{recordsOf}
+use Rattle.references.specs.Known.{Searchable}
 use Rattle.cross.specs.Cross.{faultsOf}
 
 -- every record of the array is an object
 abbrev pub Objects : List ℕ → Type 0
 Objects p = (m : Item) → List·Memᴰ m (itemsOf p) → (ms : Members) × (treeOf (itemOf p m) ≡ tree.object ms)
 
-module _ (set : Set) (types stations plans : List ℕ) where
-  -- the rules that the n-th record of a file breaks
-  abbrev pub broken : (file n : ℕ) → Picked → List Fault
-  broken file n x =
-      faultsOf (set .«types_here») (set .«plans_here») (recordsOf 1 types stations plans) (recordsOf 2 types stations plans) (recordsOf 5 types stations plans) file n x
+-- all that is known of a set when its records are judged: the records that references name are noted
+pub record Known (types stations plans typeNotes stationNotes planNotes : List ℕ) : Type 0 where
+  pub vehicleTypes : Searchable 1 types typeNotes
+  pub docks : Searchable 2 stations stationNotes
+  pub prices : Searchable 5 plans planNotes
 
-  -- p is an object, and r the least of what it breaks as the n-th record of a file
-  abbrev pub Judges : (file n : ℕ) (p : List ℕ) (r : Least) → Type 0
-  Judges file n p r = (ms : Members) → Whole p (tree.object ms) → r ≡ least (broken file n (pick (recordShape file) (tree.object ms)))
+-- the rules that the n-th record of a file breaks
+abbrev pub broken : (set : Set) (types stations plans : List ℕ) (file n : ℕ) → Picked → List Fault
+broken set types stations plans file n x =
+    faultsOf (set .«types_here») (set .«plans_here») (pickedItems (recordShape 1) types) (pickedItems (recordShape 2) stations) (pickedItems (recordShape 5) plans) file n x
+
+-- p is an object, and r the least of the rules that it breaks as a record of a file
+abbrev pub Judges : (file : ℕ) (breaks : Picked → List Fault) (p : List ℕ) (r : Least) → Type 0
+Judges file breaks p r = (ms : Members) → Whole p (tree.object ms) → r ≡ least (breaks (pick (recordShape file) (tree.object ms)))

@@ -4,7 +4,6 @@ use fault::lesser;
 use fields::value_at;
 use ids::Notes;
 use judge::Place;
-use references::Set;
 use references::rules::demanded;
 use references::rules::demanded_by;
 use references::rules::refers;
@@ -14,9 +13,11 @@ ghost use mathlib.Core.List.{_++_};
 ghost use mathlib.Core.Path.{_≡_};
 ghost use Rattle.fault.specs.Fault.{least};
 ghost use Rattle.judge.specs.Faults.{faulty};
+ghost use Rattle.document.proofs.Records.{recordShape, pickedItems};
 ghost use Rattle.fields.specs.Values.{textBy, thereBy};
 ghost use Rattle.references.specs.References.{demanded as demandedOf, refers as refersTo, named as namedBy, driven as drivenOf};
-ghost use Rattle.references.specs.Known.{Known, recordsOf};
+ghost use Rattle.references.specs.Known.{Searchable};
+ghost use Rattle.cross.specs.Cross.{bikeFaults};
 ghost use Rattle.cross.specs.Judged.{Judges};
 
 // Fields 41 and 42, by their values and that of field 47.
@@ -34,53 +35,24 @@ fn judge_vehicle(
     reference: &[u8],
     range: &[u8],
     place: Place,
-    set: Set,
+    typed: bool,
     types: &[u8],
-    stations: &[u8],
-    plans: &[u8],
     type_notes: &[u32; Notes::SIZE],
-    station_notes: &[u32; Notes::SIZE],
-    plan_notes: &[u32; Notes::SIZE],
 ) -> Least
-    requires { ⌜ Known (now types) (now stations) (now plans) (now «type_notes») (now «station_notes») (now «plan_notes») ⌝ }
-    ensures { λ r. ⌜ r ≡ least (faulty place 45 (demandedOf (set .«types_here») (thereBy (now (reference .entry))) ++ refersTo (textBy (now (reference .entry))) 10 (recordsOf 1 (now (types .entry)) (now (stations .entry)) (now (plans .entry)))) ++ faulty place 46 (demandedOf (namedBy drivenOf 10 (recordsOf 1 (now (types .entry)) (now (stations .entry)) (now (plans .entry))) (textBy (now (reference .entry)))) (thereBy (now (range .entry))))) ⌝ }
+    requires { ⌜ Searchable 1 (now types) (now «type_notes») ⌝ }
+    ensures { λ r. ⌜ r ≡ least (faulty place 45 (demandedOf typed (thereBy (now (reference .entry))) ++ refersTo (textBy (now (reference .entry))) 10 (pickedItems (recordShape 1) (now (types .entry)))) ++ faulty place 46 (demandedOf (namedBy drivenOf 10 (pickedItems (recordShape 1) (now (types .entry))) (textBy (now (reference .entry)))) (thereBy (now (range .entry))))) ⌝ }
 {
-    let a = place.broken(45, demanded(set.types_here, reference));
-    let b = place.broken(
-        45,
-        refers(
-            reference,
-            1,
-            types,
-            stations,
-            plans,
-            type_notes,
-            station_notes,
-            plan_notes,
-        ),
-    );
-    let c = place.broken(
-        46,
-        demanded_by(
-            reference,
-            range,
-            1,
-            types,
-            stations,
-            plans,
-            type_notes,
-            station_notes,
-            plan_notes,
-        ),
-    );
+    let a = place.broken(45, demanded(typed, reference));
+    let b = place.broken(45, refers(reference, 1, types, type_notes));
+    let c = place.broken(46, demanded_by(reference, range, 1, types, type_notes));
     lesser(lesser(a, b), c)
 }
 
-// The n-th record `p`. Its rows begin at line 40 of the table.
+// The n-th record `p`, where file 1 is there or not. Its rows begin at line 40 of the table.
 pub fn judge_bike(
     p: &[u8],
     n: u32,
-    set: Set,
+    typed: bool,
     types: &[u8],
     stations: &[u8],
     plans: &[u8],
@@ -88,8 +60,8 @@ pub fn judge_bike(
     station_notes: &[u32; Notes::SIZE],
     plan_notes: &[u32; Notes::SIZE],
 ) -> Least
-    requires { ⌜ Known (now types) (now stations) (now plans) (now «type_notes») (now «station_notes») (now «plan_notes») ⌝ }
-    ensures { λ r. ⌜ Judges set (now (types .entry)) (now (stations .entry)) (now (plans .entry)) 4 n (now (p .entry)) r ⌝ }
+    requires { ⌜ Searchable 1 (now types) (now «type_notes») × Searchable 2 (now stations) (now «station_notes») × Searchable 5 (now plans) (now «plan_notes») ⌝ }
+    ensures { λ r. ⌜ Judges 4 (bikeFaults typed (pickedItems (recordShape 1) (now (types .entry))) (pickedItems (recordShape 2) (now (stations .entry))) (pickedItems (recordShape 5) (now (plans .entry))) n) (now (p .entry)) r ⌝ }
 {
     let slots = gather(p, 40, 10);
     let place = Place { record: n, sub: 0 };
@@ -104,39 +76,11 @@ pub fn judge_bike(
         value_at(p, slots.slot(5)),
         value_at(p, slots.slot(6)),
         place,
-        set,
+        typed,
         types,
-        stations,
-        plans,
         type_notes,
-        station_notes,
-        plan_notes,
     );
-    let c = place.broken(
-        47,
-        refers(
-            station,
-            2,
-            types,
-            stations,
-            plans,
-            type_notes,
-            station_notes,
-            plan_notes,
-        ),
-    );
-    let d = place.broken(
-        48,
-        refers(
-            value_at(p, slots.slot(8)),
-            5,
-            types,
-            stations,
-            plans,
-            type_notes,
-            station_notes,
-            plan_notes,
-        ),
-    );
+    let c = place.broken(47, refers(station, 2, stations, station_notes));
+    let d = place.broken(48, refers(value_at(p, slots.slot(8)), 5, plans, plan_notes));
     lesser(lesser(a, b), lesser(c, d))
 }

@@ -18,8 +18,7 @@ ghost use Rattle.walk.specs.Along.{AlongItems};
 ghost use Rattle.fault.specs.Fault.{least};
 ghost use Rattle.document.proofs.Records.{recordShape, pickedItems};
 ghost use Rattle.cross.specs.Cross.{each};
-ghost use Rattle.references.specs.Known.{Known};
-ghost use Rattle.cross.specs.Judged.{broken, Judges, Objects};
+ghost use Rattle.cross.specs.Judged.{Known, broken, Judges, Objects};
 
 // The n-th record `p` of a file. Those of files 2 and 5 refer to nothing.
 fn judge_record(
@@ -35,35 +34,23 @@ fn judge_record(
     plan_notes: &[u32; Notes::SIZE],
 ) -> Least
     requires { ⌜ Known (now types) (now stations) (now plans) (now «type_notes») (now «station_notes») (now «plan_notes») × (length (now p) ≤ fileBytes) × Whole (now p) (treeOf (now p)) ⌝ }
-    ensures { λ r. ⌜ Judges set (now (types .entry)) (now (stations .entry)) (now (plans .entry)) file n (now (p .entry)) r ⌝ }
+    ensures { λ r. ⌜ Judges file (broken set (now (types .entry)) (now (stations .entry)) (now (plans .entry)) file n) (now (p .entry)) r ⌝ }
 {
     match file {
-        1 => judge_type(
-            p,
-            n,
-            set,
-            types,
-            stations,
-            plans,
-            type_notes,
-            station_notes,
-            plan_notes,
-        ),
+        1 => judge_type(p, n, set.plans_here, plans, plan_notes),
         3 => judge_status(
             p,
             n,
-            set,
+            set.types_here,
             types,
             stations,
-            plans,
             type_notes,
             station_notes,
-            plan_notes,
         ),
         4 => judge_bike(
             p,
             n,
-            set,
+            set.types_here,
             types,
             stations,
             plans,
@@ -71,17 +58,7 @@ fn judge_record(
             station_notes,
             plan_notes,
         ),
-        6 => judge_zone(
-            p,
-            n,
-            set,
-            types,
-            stations,
-            plans,
-            type_notes,
-            station_notes,
-            plan_notes,
-        ),
+        6 => judge_zone(p, n, types, type_notes),
         _ => Least::None,
     }
 }

@@ -17,13 +17,13 @@ ghost use mathlib.Core.Path.{_≡_};
 ghost use Prim.Native.Nat.{_*_, _≤_};
 ghost use Rattle.notation.specs.Choice.{_and_};
 ghost use Rattle.word.specs.Kinds.{condition};
-ghost use Rattle.fault.specs.Fault.{least};
+ghost use Rattle.fault.specs.Fault.{least, lesser as lesserOf};
 ghost use Rattle.judge.specs.Faults.{top, faulty};
 ghost use Rattle.clean.specs.Clean.{blamed};
 ghost use Rattle.references.specs.References.{when};
-ghost use Rattle.references.specs.Known.{Known};
+ghost use Rattle.cross.specs.Judged.{Known};
 ghost use Rattle.cross.specs.Stage.{Through, filesOf, stageC};
-ghost use Rattle.cross.specs.Staged.{Recorded, calledFor, repeatOf, Repeating, fileLeast, numberedLeast, firstFrom};
+ghost use Rattle.cross.specs.Staged.{Recorded, calledFor, Repeating, numberedLeast, firstFrom};
 
 // The first broken rule of stage C, with its file; or none.
 pub enum Crossed {
@@ -87,39 +87,17 @@ fn judge_ids(file: u8, repeat: u16) -> Least
     })
 }
 
-// One file of the set, of which `p` are the records and `repeat` is the number of the first that repeats an id, or 0.
-fn judge_file(
-    file: u8,
-    p: &[u8],
-    repeat: u16,
-    set: Set,
-    types: &[u8],
-    stations: &[u8],
-    plans: &[u8],
-    type_notes: &[u32; Notes::SIZE],
-    station_notes: &[u32; Notes::SIZE],
-    plan_notes: &[u32; Notes::SIZE],
-) -> Least
-    requires { ⌜ Known (now types) (now stations) (now plans) (now «type_notes») (now «station_notes») (now «plan_notes») × Recorded (now p) × (file ≤ 6) × (repeat ≡ repeatOf file (now p)) ⌝ }
-    ensures { λ r. ⌜ r ≡ fileLeast set (now (types .entry)) (now (stations .entry)) (now (plans .entry)) file (now (p .entry)) ⌝ }
+// One file of the set, by the number of its first record that repeats an id, or 0, and the first rule that a record of it breaks otherwise.
+fn judge_file(file: u8, repeat: u16, records: Least, set: Set) -> Least
+    requires { ⌜ file ≤ 6 ⌝ }
+    ensures { λ r. ⌜ r ≡ lesserOf (least (faulty top 0 (when (calledFor file set) condition))) (lesserOf (blamed (file * 10) repeat) records) ⌝ }
 {
     let a = judge_presence(file, set);
     let b = judge_ids(file, repeat);
-    let c = judge_records(
-        file,
-        p,
-        set,
-        types,
-        stations,
-        plans,
-        type_notes,
-        station_notes,
-        plan_notes,
-    );
-    lesser(a, lesser(b, c))
+    lesser(a, lesser(b, records))
 }
 
-// The file with this number. Files 3 and 4 are noted for their repeats alone.
+// The file with this number. Files 3 and 4 are noted for their repeats alone; records of files 2 and 5 break no other rule.
 fn judge_numbered(
     file: u8,
     statuses: &[u8],
@@ -134,81 +112,75 @@ fn judge_numbered(
     station_notes: &[u32; Notes::SIZE],
     plan_notes: &[u32; Notes::SIZE],
 ) -> Least
-    requires { ⌜ Known (now types) (now stations) (now plans) (now «type_notes») (now «station_notes») (now «plan_notes») × Repeating repeats (now types) (now stations) (now plans) × Recorded (now types) × Recorded (now stations) × Recorded (now statuses) × Recorded (now bikes) × Recorded (now plans) × Recorded (now zones) ⌝ }
+    requires { ⌜ Known (now types) (now stations) (now plans) (now «type_notes») (now «station_notes») (now «plan_notes») × Repeating repeats (now types) (now stations) (now plans) × Recorded (now types) × Recorded (now statuses) × Recorded (now bikes) × Recorded (now zones) ⌝ }
     ensures { λ r. ⌜ r ≡ numberedLeast set (now (types .entry)) (now (stations .entry)) (now (plans .entry)) (now (statuses .entry)) (now (bikes .entry)) (now (zones .entry)) file ⌝ }
 {
     match file {
         1 => judge_file(
             1,
-            types,
             repeats.types,
+            judge_records(
+                1,
+                types,
+                set,
+                types,
+                stations,
+                plans,
+                type_notes,
+                station_notes,
+                plan_notes,
+            ),
             set,
-            types,
-            stations,
-            plans,
-            type_notes,
-            station_notes,
-            plan_notes,
         ),
-        2 => judge_file(
-            2,
-            stations,
-            repeats.stations,
-            set,
-            types,
-            stations,
-            plans,
-            type_notes,
-            station_notes,
-            plan_notes,
-        ),
+        2 => judge_file(2, repeats.stations, Least::None, set),
         3 => judge_file(
             3,
-            statuses,
             first_repeat(3, statuses),
+            judge_records(
+                3,
+                statuses,
+                set,
+                types,
+                stations,
+                plans,
+                type_notes,
+                station_notes,
+                plan_notes,
+            ),
             set,
-            types,
-            stations,
-            plans,
-            type_notes,
-            station_notes,
-            plan_notes,
         ),
         4 => judge_file(
             4,
-            bikes,
             first_repeat(4, bikes),
+            judge_records(
+                4,
+                bikes,
+                set,
+                types,
+                stations,
+                plans,
+                type_notes,
+                station_notes,
+                plan_notes,
+            ),
             set,
-            types,
-            stations,
-            plans,
-            type_notes,
-            station_notes,
-            plan_notes,
         ),
-        5 => judge_file(
-            5,
-            plans,
-            repeats.plans,
-            set,
-            types,
-            stations,
-            plans,
-            type_notes,
-            station_notes,
-            plan_notes,
-        ),
+        5 => judge_file(5, repeats.plans, Least::None, set),
         _ => judge_file(
             6,
-            zones,
             0,
+            judge_records(
+                6,
+                zones,
+                set,
+                types,
+                stations,
+                plans,
+                type_notes,
+                station_notes,
+                plan_notes,
+            ),
             set,
-            types,
-            stations,
-            plans,
-            type_notes,
-            station_notes,
-            plan_notes,
         ),
     }
 }
@@ -227,7 +199,7 @@ fn judge_noted(
     station_notes: &[u32; Notes::SIZE],
     plan_notes: &[u32; Notes::SIZE],
 ) -> Crossed
-    requires { ⌜ Known (now types) (now stations) (now plans) (now «type_notes») (now «station_notes») (now «plan_notes») × Repeating repeats (now types) (now stations) (now plans) × Recorded (now types) × Recorded (now stations) × Recorded (now statuses) × Recorded (now bikes) × Recorded (now plans) × Recorded (now zones) ⌝ }
+    requires { ⌜ Known (now types) (now stations) (now plans) (now «type_notes») (now «station_notes») (now «plan_notes») × Repeating repeats (now types) (now stations) (now plans) × Recorded (now types) × Recorded (now statuses) × Recorded (now bikes) × Recorded (now zones) ⌝ }
     ensures { λ r. ⌜ r ≡ firstFrom (numberedLeast set (now (types .entry)) (now (stations .entry)) (now (plans .entry)) (now (statuses .entry)) (now (bikes .entry)) (now (zones .entry))) 1 6 ⌝ }
 {
     let mut file: u8 = 1;

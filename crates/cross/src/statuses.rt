@@ -7,7 +7,6 @@ use fields::member;
 use fields::value_at;
 use ids::Notes;
 use judge::Place;
-use references::Set;
 use references::rules::demanded;
 use references::rules::demanded_by;
 use references::rules::refers;
@@ -29,11 +28,11 @@ ghost use Rattle.scalar.specs.Listed.{listed};
 ghost use Rattle.schema.specs.Table23.{available as availableShape};
 ghost use Rattle.fault.specs.Fault.{least};
 ghost use Rattle.judge.specs.Faults.{faulty};
-ghost use Rattle.document.proofs.Records.{pickedItems};
+ghost use Rattle.document.proofs.Records.{recordShape, pickedItems};
 ghost use Rattle.fields.specs.Values.{textBy, thereBy, arrayBy, spelledBy, integerIn};
 ghost use Rattle.references.specs.References.{when, demanded as demandedOf, refers as refersTo, named as namedBy, roomy as roomyOf};
-ghost use Rattle.cross.specs.Cross.{at, sumOf, availableFaults};
-ghost use Rattle.references.specs.Known.{Known, recordsOf};
+ghost use Rattle.cross.specs.Cross.{at, sumOf, availableFaults, statusFaults};
+ghost use Rattle.references.specs.Known.{Searchable};
 ghost use Rattle.cross.specs.Judged.{Judges};
 
 // The counts of the items of the array `p`, summed.
@@ -55,18 +54,9 @@ fn sum_of(p: &[u8]) -> u64
 }
 
 // The types that are available, in the array `p`, item by item.
-fn judge_available(
-    p: &[u8],
-    n: u32,
-    types: &[u8],
-    stations: &[u8],
-    plans: &[u8],
-    type_notes: &[u32; Notes::SIZE],
-    station_notes: &[u32; Notes::SIZE],
-    plan_notes: &[u32; Notes::SIZE],
-) -> Least
-    requires { ⌜ Known (now types) (now stations) (now plans) (now «type_notes») (now «station_notes») (now «plan_notes») × (length (now p) ≤ fileBytes) ⌝ }
-    ensures { λ r. ⌜ r ≡ least (availableFaults (recordsOf 1 (now (types .entry)) (now (stations .entry)) (now (plans .entry))) n 1 (pickedItems availableShape (now (p .entry)))) ⌝ }
+fn judge_available(p: &[u8], n: u32, types: &[u8], type_notes: &[u32; Notes::SIZE]) -> Least
+    requires { ⌜ Searchable 1 (now types) (now «type_notes») × (length (now p) ≤ fileBytes) ⌝ }
+    ensures { λ r. ⌜ r ≡ least (availableFaults (pickedItems (recordShape 1) (now (types .entry))) n 1 (pickedItems availableShape (now (p .entry)))) ⌝ }
 {
     let mut least = Least::None;
     let mut sub: u32 = 0;
@@ -85,19 +75,7 @@ fn judge_available(
         let reference = member(&p[from..upto], b"vehicle_type_id");
         least = lesser(
             least,
-            place.broken(
-                38,
-                refers(
-                    reference,
-                    1,
-                    types,
-                    stations,
-                    plans,
-                    type_notes,
-                    station_notes,
-                    plan_notes,
-                ),
-            ),
+            place.broken(38, refers(reference, 1, types, type_notes)),
         );
         at = item.next;
     }
@@ -122,42 +100,16 @@ fn judge_station(
     reference: &[u8],
     docks: &[u8],
     place: Place,
-    types: &[u8],
     stations: &[u8],
-    plans: &[u8],
-    type_notes: &[u32; Notes::SIZE],
     station_notes: &[u32; Notes::SIZE],
-    plan_notes: &[u32; Notes::SIZE],
 ) -> Least
-    requires { ⌜ Known (now types) (now stations) (now plans) (now «type_notes») (now «station_notes») (now «plan_notes») ⌝ }
-    ensures { λ r. ⌜ r ≡ least (faulty place 30 (refersTo (textBy (now (reference .entry))) 20 (recordsOf 2 (now (types .entry)) (now (stations .entry)) (now (plans .entry)))) ++ faulty place 32 (demandedOf (namedBy roomyOf 20 (recordsOf 2 (now (types .entry)) (now (stations .entry)) (now (plans .entry))) (textBy (now (reference .entry)))) (thereBy (now (docks .entry))))) ⌝ }
+    requires { ⌜ Searchable 2 (now stations) (now «station_notes») ⌝ }
+    ensures { λ r. ⌜ r ≡ least (faulty place 30 (refersTo (textBy (now (reference .entry))) 20 (pickedItems (recordShape 2) (now (stations .entry)))) ++ faulty place 32 (demandedOf (namedBy roomyOf 20 (pickedItems (recordShape 2) (now (stations .entry))) (textBy (now (reference .entry)))) (thereBy (now (docks .entry))))) ⌝ }
 {
-    let a = place.broken(
-        30,
-        refers(
-            reference,
-            2,
-            types,
-            stations,
-            plans,
-            type_notes,
-            station_notes,
-            plan_notes,
-        ),
-    );
+    let a = place.broken(30, refers(reference, 2, stations, station_notes));
     let b = place.broken(
         32,
-        demanded_by(
-            reference,
-            docks,
-            2,
-            types,
-            stations,
-            plans,
-            type_notes,
-            station_notes,
-            plan_notes,
-        ),
+        demanded_by(reference, docks, 2, stations, station_notes),
     );
     lesser(a, b)
 }
@@ -167,47 +119,32 @@ fn judge_counts(
     available: &[u8],
     bikes: &[u8],
     n: u32,
-    set: Set,
+    typed: bool,
     types: &[u8],
-    stations: &[u8],
-    plans: &[u8],
     type_notes: &[u32; Notes::SIZE],
-    station_notes: &[u32; Notes::SIZE],
-    plan_notes: &[u32; Notes::SIZE],
 ) -> Least
-    requires { ⌜ Known (now types) (now stations) (now plans) (now «type_notes») (now «station_notes») (now «plan_notes») × (length (now available) ≤ fileBytes) ⌝ }
-    ensures { λ r. ⌜ r ≡ least (faulty (at n 0) 37 (demandedOf (set .«types_here») (thereBy (now (available .entry))) ++ when (thereBy (now (available .entry)) and not (eqb (sumOf (pickedItems availableShape (arrayBy (now (available .entry))))) (integerIn (spelledBy (now (bikes .entry)))))) sumDiffers) ++ availableFaults (recordsOf 1 (now (types .entry)) (now (stations .entry)) (now (plans .entry))) n 1 (pickedItems availableShape (arrayBy (now (available .entry))))) ⌝ }
+    requires { ⌜ Searchable 1 (now types) (now «type_notes») × (length (now available) ≤ fileBytes) ⌝ }
+    ensures { λ r. ⌜ r ≡ least (faulty (at n 0) 37 (demandedOf typed (thereBy (now (available .entry))) ++ when (thereBy (now (available .entry)) and not (eqb (sumOf (pickedItems availableShape (arrayBy (now (available .entry))))) (integerIn (spelledBy (now (bikes .entry)))))) sumDiffers) ++ availableFaults (pickedItems (recordShape 1) (now (types .entry))) n 1 (pickedItems availableShape (arrayBy (now (available .entry))))) ⌝ }
 {
     let place = Place { record: n, sub: 0 };
-    let a = place.broken(37, demanded(set.types_here, available));
+    let a = place.broken(37, demanded(typed, available));
     let b = place.broken(37, sum_kind(available, bikes));
-    let c = judge_available(
-        array_in(available),
-        n,
-        types,
-        stations,
-        plans,
-        type_notes,
-        station_notes,
-        plan_notes,
-    );
+    let c = judge_available(array_in(available), n, types, type_notes);
     lesser(lesser(a, b), c)
 }
 
-// The n-th record `p`. Its rows begin at line 25 of the table.
+// The n-th record `p`, where file 1 is there or not. Its rows begin at line 25 of the table.
 pub fn judge_status(
     p: &[u8],
     n: u32,
-    set: Set,
+    typed: bool,
     types: &[u8],
     stations: &[u8],
-    plans: &[u8],
     type_notes: &[u32; Notes::SIZE],
     station_notes: &[u32; Notes::SIZE],
-    plan_notes: &[u32; Notes::SIZE],
 ) -> Least
-    requires { ⌜ Known (now types) (now stations) (now plans) (now «type_notes») (now «station_notes») (now «plan_notes») × (length (now p) ≤ fileBytes) ⌝ }
-    ensures { λ r. ⌜ Judges set (now (types .entry)) (now (stations .entry)) (now (plans .entry)) 3 n (now (p .entry)) r ⌝ }
+    requires { ⌜ Searchable 1 (now types) (now «type_notes») × Searchable 2 (now stations) (now «station_notes») × (length (now p) ≤ fileBytes) ⌝ }
+    ensures { λ r. ⌜ Judges 3 (statusFaults typed (pickedItems (recordShape 1) (now (types .entry))) (pickedItems (recordShape 2) (now (stations .entry))) n) (now (p .entry)) r ⌝ }
 {
     let slots = gather(p, 25, 10);
     let place = Place { record: n, sub: 0 };
@@ -215,24 +152,16 @@ pub fn judge_status(
         value_at(p, slots.slot(0)),
         value_at(p, slots.slot(2)),
         place,
-        types,
         stations,
-        plans,
-        type_notes,
         station_notes,
-        plan_notes,
     );
     let b = judge_counts(
         value_at(p, slots.slot(7)),
         value_at(p, slots.slot(1)),
         n,
-        set,
+        typed,
         types,
-        stations,
-        plans,
         type_notes,
-        station_notes,
-        plan_notes,
     );
     lesser(a, b)
 }

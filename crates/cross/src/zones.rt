@@ -5,7 +5,6 @@ use fields::array_in;
 use fields::member;
 use ids::Notes;
 use judge::Place;
-use references::Set;
 use references::rules::refers;
 use walk::ItemStep;
 use walk::next_item;
@@ -17,24 +16,15 @@ ghost use Rattle.walk.specs.Part.{Whole, treeOf};
 ghost use Rattle.schema.specs.Shape.{Sort, scalar};
 ghost use Rattle.schema.specs.Table23.{rule as ruleShape};
 ghost use Rattle.fault.specs.Fault.{least};
-ghost use Rattle.document.proofs.Records.{pickedItems};
-ghost use Rattle.cross.specs.Cross.{idFaults, ruleFaults};
-ghost use Rattle.references.specs.Known.{Known, recordsOf};
+ghost use Rattle.document.proofs.Records.{recordShape, pickedItems};
+ghost use Rattle.cross.specs.Cross.{idFaults, ruleFaults, zoneFaults};
+ghost use Rattle.references.specs.Known.{Searchable};
 ghost use Rattle.cross.specs.Judged.{Judges};
 
 // The items of field 78, in the array `p`.
-fn judge_named(
-    p: &[u8],
-    place: Place,
-    types: &[u8],
-    stations: &[u8],
-    plans: &[u8],
-    type_notes: &[u32; Notes::SIZE],
-    station_notes: &[u32; Notes::SIZE],
-    plan_notes: &[u32; Notes::SIZE],
-) -> Least
-    requires { ⌜ Known (now types) (now stations) (now plans) (now «type_notes») (now «station_notes») (now «plan_notes») ⌝ }
-    ensures { λ r. ⌜ r ≡ least (idFaults (recordsOf 1 (now (types .entry)) (now (stations .entry)) (now (plans .entry))) (place .«record») (place .sub) (pickedItems (scalar Sort.id) (now (p .entry)))) ⌝ }
+fn judge_named(p: &[u8], place: Place, types: &[u8], type_notes: &[u32; Notes::SIZE]) -> Least
+    requires { ⌜ Searchable 1 (now types) (now «type_notes») ⌝ }
+    ensures { λ r. ⌜ r ≡ least (idFaults (pickedItems (recordShape 1) (now (types .entry))) (place .«record») (place .sub) (pickedItems (scalar Sort.id) (now (p .entry)))) ⌝ }
 {
     let mut least = Least::None;
     let mut at: usize = 1;
@@ -46,37 +36,16 @@ fn judge_named(
         let upto = item.value_end;
         least = lesser(
             least,
-            place.broken(
-                78,
-                refers(
-                    &p[from..upto],
-                    1,
-                    types,
-                    stations,
-                    plans,
-                    type_notes,
-                    station_notes,
-                    plan_notes,
-                ),
-            ),
+            place.broken(78, refers(&p[from..upto], 1, types, type_notes)),
         );
         at = item.next;
     }
 }
 
 // The rules in the array `p`.
-fn judge_rules(
-    p: &[u8],
-    n: u32,
-    types: &[u8],
-    stations: &[u8],
-    plans: &[u8],
-    type_notes: &[u32; Notes::SIZE],
-    station_notes: &[u32; Notes::SIZE],
-    plan_notes: &[u32; Notes::SIZE],
-) -> Least
-    requires { ⌜ Known (now types) (now stations) (now plans) (now «type_notes») (now «station_notes») (now «plan_notes») × (length (now p) ≤ fileBytes) ⌝ }
-    ensures { λ r. ⌜ r ≡ least (ruleFaults (recordsOf 1 (now (types .entry)) (now (stations .entry)) (now (plans .entry))) n 1 (pickedItems ruleShape (now (p .entry)))) ⌝ }
+fn judge_rules(p: &[u8], n: u32, types: &[u8], type_notes: &[u32; Notes::SIZE]) -> Least
+    requires { ⌜ Searchable 1 (now types) (now «type_notes») × (length (now p) ≤ fileBytes) ⌝ }
+    ensures { λ r. ⌜ r ≡ least (ruleFaults (pickedItems (recordShape 1) (now (types .entry))) n 1 (pickedItems ruleShape (now (p .entry)))) ⌝ }
 {
     let mut least = Least::None;
     let mut sub: u32 = 0;
@@ -93,51 +62,20 @@ fn judge_rules(
             sub: sub,
         };
         let ids = array_in(member(&p[from..upto], b"vehicle_type_id"));
-        least = lesser(
-            least,
-            judge_named(
-                ids,
-                place,
-                types,
-                stations,
-                plans,
-                type_notes,
-                station_notes,
-                plan_notes,
-            ),
-        );
+        least = lesser(least, judge_named(ids, place, types, type_notes));
         at = item.next;
     }
 }
 
 // The n-th record `p`.
-pub fn judge_zone(
-    p: &[u8],
-    n: u32,
-    set: Set,
-    types: &[u8],
-    stations: &[u8],
-    plans: &[u8],
-    type_notes: &[u32; Notes::SIZE],
-    station_notes: &[u32; Notes::SIZE],
-    plan_notes: &[u32; Notes::SIZE],
-) -> Least
-    requires { ⌜ Known (now types) (now stations) (now plans) (now «type_notes») (now «station_notes») (now «plan_notes») × (length (now p) ≤ fileBytes) × Whole (now p) (treeOf (now p)) ⌝ }
-    ensures { λ r. ⌜ Judges set (now (types .entry)) (now (stations .entry)) (now (plans .entry)) 6 n (now (p .entry)) r ⌝ }
+pub fn judge_zone(p: &[u8], n: u32, types: &[u8], type_notes: &[u32; Notes::SIZE]) -> Least
+    requires { ⌜ Searchable 1 (now types) (now «type_notes») × (length (now p) ≤ fileBytes) × Whole (now p) (treeOf (now p)) ⌝ }
+    ensures { λ r. ⌜ Judges 6 (zoneFaults (pickedItems (recordShape 1) (now (types .entry))) n) (now (p .entry)) r ⌝ }
 {
     let properties = member(p, b"properties");
     if properties.len() == 0 {
         return Least::None;
     }
     let rules = array_in(member(properties, b"rules"));
-    judge_rules(
-        rules,
-        n,
-        types,
-        stations,
-        plans,
-        type_notes,
-        station_notes,
-        plan_notes,
-    )
+    judge_rules(rules, n, types, type_notes)
 }

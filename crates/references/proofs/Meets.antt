@@ -3,7 +3,7 @@
 use mathlib.Core.Bool.{Bool, true, false}
 use mathlib.Core.List.{List, [], _∷_, map, List·Memᴰ, List·Memᴰ·head, List·Memᴰ·tail}
 use mathlib.Core.Path.{_≡_, refl, sym, ap, ap₂, _∙_}
-use Prim.Native.Nat.{ℕ, zero, suc}
+use Prim.Native.Nat.{ℕ, zero, suc, _≤_}
 use native.Mathlib.Omega.{arith}
 use lib.ListN.{length, getD}
 use borrow.Author.Tests.{ne-eqb}
@@ -23,23 +23,22 @@ use Rattle.fields.proofs.Fields.{rowOf, listed, field-text, field-given}
 use Rattle.ids.specs.Ids.{idOf, recordBytes}
 use Rattle.ids.proofs.Picked.{id-picked}
 use Rattle.references.specs.References.{anyWith, notHuman}
-use Rattle.references.specs.Known.{passing, meeting, anyMeets, fieldOf, testOf, testedOf, recordsOf}
+use Rattle.references.specs.Known.{passing, meeting, anyMeets, fieldOf, testOf, testedOf}
 
 -- the record of a file answers alike in bytes and picked
 record Alike (file : ℕ) (q : List ℕ) (x : Picked) : Type 0 where
   id : idOf file q ≡ text (fieldOf file) x
   passed : passing file q ≡ testOf file x
 
-alike-1 : {q : List ℕ} {x : Json} → Whole q x → Alike 1 q (pick (recordShape 1) x)
-unfolding recordShape vehicleType rowOf
-alike-1 w = record { id = id-picked 1 (omega arith) (omega arith) w; passed = ap notHuman (field-text (listed refl) w) }
+passed-picked : (file : ℕ) → 1 ≤ file → {q : List ℕ} {x : Json} → Whole q x → passing file q ≡ testOf file (pick (recordShape file) x)
+unfolding recordShape vehicleType station rowOf
+passed-picked zero h w = absurd (omega arith)
+passed-picked (suc zero) h w = ap notHuman (field-text (listed refl) w)
+passed-picked (suc (suc zero)) h w = field-given (listed refl) w
+passed-picked (suc (suc (suc n))) h w = rw (ne-eqb (suc (suc (suc n))) 1 (λ e. omega arith), ne-eqb (suc (suc (suc n))) 2 (λ e. omega arith))
 
-alike-2 : {q : List ℕ} {x : Json} → Whole q x → Alike 2 q (pick (recordShape 2) x)
-unfolding recordShape station rowOf
-alike-2 w = record { id = id-picked 2 (omega arith) (omega arith) w; passed = field-given (listed refl) w }
-
-alike-5 : {q : List ℕ} {x : Json} → Whole q x → Alike 5 q (pick (recordShape 5) x)
-alike-5 w = record { id = id-picked 5 (omega arith) (omega arith) w; passed = refl }
+alike : (file : ℕ) → 1 ≤ file → file ≤ 5 → {q : List ℕ} {x : Json} → Whole q x → Alike file q (pick (recordShape file) x)
+alike file h i w = record { id = id-picked file h i w; passed = passed-picked file h w }
 
 module _ (file : ℕ) (tested : Bool) (id : List ℕ) where
   asked : (t : Bool) {q : List ℕ} {x : Picked} → Alike file q x → (t ⇒ passing file q else true) ≡ testedOf file t x
@@ -82,25 +81,8 @@ module _ (file : ℕ) (tested : Bool) (id : List ℕ) where
       ∙ sym (any-step (testedOf file tested) (fieldOf file) (g m) (map g ms))
 
 -- all records of an array
-meets-picked : (file : ℕ) → ((q : List ℕ) (x : Json) → Whole q x → Alike file q (pick (recordShape file) x)) → (tested : Bool) (id p : List ℕ)
+pub meets-picked : (file : ℕ) → 1 ≤ file → file ≤ 5 → (tested : Bool) (id p : List ℕ)
     → anyMeets file tested id (recordBytes p) (length (itemsOf p)) ≡ anyWith (testedOf file tested) (fieldOf file) (pickedItems (recordShape file) p) id
 unfolding recordBytes
-meets-picked file alike tested id p =
-    alike-all file tested id (itemOf p) (λ m. pick (recordShape file) (treeOf (itemOf p m))) (itemsOf p) (λ m i. alike (itemOf p m) (treeOf (itemOf p m)) (items-whole p m i))
-
--- of each file that references name
-module _ (tested : Bool) (id types stations plans : List ℕ) where
-  abbrev Meets : ℕ → Bool
-  Meets file = anyWith (testedOf file tested) (fieldOf file) (recordsOf file types stations plans) id
-
-  pub meets-types : (file : ℕ) → file ≡ 1 → anyMeets 1 tested id (recordBytes types) (length (itemsOf types)) ≡ Meets file
-  unfolding recordsOf
-  meets-types file e = meets-picked 1 (λ q x w. alike-1 w) tested id types ∙ ap Meets (sym e)
-
-  pub meets-stations : (file : ℕ) → file ≡ 2 → anyMeets 2 tested id (recordBytes stations) (length (itemsOf stations)) ≡ Meets file
-  unfolding recordsOf
-  meets-stations file e = meets-picked 2 (λ q x w. alike-2 w) tested id stations ∙ ap Meets (sym e)
-
-  pub meets-plans : (file : ℕ) → (file ≡ 1 → ⊥) → (file ≡ 2 → ⊥) → anyMeets 5 tested id (recordBytes plans) (length (itemsOf plans)) ≡ Meets file
-  unfolding recordsOf
-  meets-plans file a b = rw (recordsOf, ne-eqb file 1 a, ne-eqb file 2 b) (meets-picked 5 (λ q x w. alike-5 w) tested id plans)
+meets-picked file h i tested id p =
+    alike-all file tested id (itemOf p) (λ m. pick (recordShape file) (treeOf (itemOf p m))) (itemsOf p) (λ m j. alike file h i (items-whole p m j))

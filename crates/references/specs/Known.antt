@@ -1,14 +1,14 @@
--- What is searched in bytes for the record that a reference names. References name records of files 1, 2 and 5.
+-- What is searched in bytes for the record that a reference names. References name records of files 1, 2 and 5; the search is the same in any file
+-- whose records have ids.
 use mathlib.Core.Bool.{Bool, true, false}
 use mathlib.Core.List.{List, []}
-use Prim.Native.Nat.{ℕ, zero, suc}
+use Prim.Native.Nat.{ℕ, zero, suc, _*_, _≤_}
 use lib.Dec.{eqb, ltb}
 use lib.ListN.{length, getD}
 use Rattle.notation.specs.Ascii.{bytes}
 use Rattle.notation.specs.Choice.{_⇒_else_, _and_}
 use Rattle.walk.specs.Walk.{itemsOf}
 use Rattle.schema.specs.Pick.{Picked}
-use Rattle.document.proofs.Records.{recordShape, pickedItems}
 use Rattle.fields.specs.Values.{memberOf, textBy, thereBy}
 use Rattle.ids.specs.Ids.{hasId}
 use Rattle.ids.specs.Notes.{Noted}
@@ -30,20 +30,15 @@ unfoldable pub anyMeets : ℕ → Bool → List ℕ → List (List ℕ) → ℕ 
 anyMeets file tested id rs zero = false
 anyMeets file tested id rs (suc n) = meeting file tested id (getD rs n []) ⇒ true else anyMeets file tested id rs n
 
--- the same by what is picked: the field of the id, the sort that is asked about, the records
+-- the same by what is picked: the field of the id, the sort that is asked about
 abbrev pub fieldOf : ℕ → ℕ
-fieldOf file = eqb file 1 ⇒ 10 else eqb file 2 ⇒ 20 else 50
+fieldOf file = file * 10
 
 abbrev pub testOf : ℕ → Picked → Bool
 testOf file = eqb file 1 ⇒ driven else eqb file 2 ⇒ roomy else any
 
 abbrev pub testedOf : ℕ → Bool → Picked → Bool
 testedOf file tested = tested ⇒ testOf file else any
-
-unfoldable pub recordsOf : ℕ → (types stations plans : List ℕ) → List Picked
-recordsOf file types stations plans =
-    eqb file 1 ⇒ pickedItems (recordShape 1) types else
-    eqb file 2 ⇒ pickedItems (recordShape 2) stations else pickedItems (recordShape 5) plans
 
 -- the files that are there
 abbrev pub setOf : (types stations statuses bikes plans : List ℕ) → Set
@@ -56,8 +51,8 @@ setOf types stations statuses bikes plans =
       «plans_here» = ltb 0 (length plans);
     }
 
--- all that is known of a set when its records are judged: the records that references name are noted
-pub record Known (types stations plans typeNotes stationNotes planNotes : List ℕ) : Type 0 where
-  pub vehicleTypes : Noted 1 types (length (itemsOf types)) typeNotes
-  pub docks : Noted 2 stations (length (itemsOf stations)) stationNotes
-  pub prices : Noted 5 plans (length (itemsOf plans)) planNotes
+-- the records p of a file, which have ids, are noted
+pub record Searchable (file : ℕ) (p notes : List ℕ) : Type 0 where
+  pub least : 1 ≤ file
+  pub most : file ≤ 5
+  pub noted : Noted file p (length (itemsOf p)) notes

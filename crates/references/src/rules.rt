@@ -6,10 +6,11 @@ use fields::unquoted;
 use ids::Notes;
 use word::kind::Kind;
 ghost use mathlib.Core.Path.{_≡_};
+ghost use Rattle.document.proofs.Records.{recordShape, pickedItems};
 ghost use Rattle.fields.specs.Values.{textBy, thereBy};
 ghost use Rattle.scalar.specs.Listed.{listed};
 ghost use Rattle.references.specs.References.{demanded as demandedOf, refers as refersTo, named as namedBy};
-ghost use Rattle.references.specs.Known.{Known, fieldOf, recordsOf, testOf};
+ghost use Rattle.references.specs.Known.{Searchable, fieldOf, testOf};
 
 // What a field breaks that is needed: the kind, or 0 where it is given.
 pub fn demanded(needed: bool, value: &[u8]) -> u8
@@ -24,34 +25,15 @@ pub fn demanded(needed: bool, value: &[u8]) -> u8
     Kind::CONDITION
 }
 
-// Whether a record of file 1, 2 or 5 that a reference names is of the sort that is asked about there; none is where no reference is given.
-fn named(
-    value: &[u8],
-    file: u8,
-    types: &[u8],
-    stations: &[u8],
-    plans: &[u8],
-    type_notes: &[u32; Notes::SIZE],
-    station_notes: &[u32; Notes::SIZE],
-    plan_notes: &[u32; Notes::SIZE],
-) -> bool
-    requires { ⌜ Known (now types) (now stations) (now plans) (now «type_notes») (now «station_notes») (now «plan_notes») ⌝ }
-    ensures { λ r. ⌜ r ≡ namedBy (testOf file) (fieldOf file) (recordsOf file (now (types .entry)) (now (stations .entry)) (now (plans .entry))) (textBy (now (value .entry))) ⌝ }
+// Whether a record of a file that a reference names is of the sort that is asked about there; none is where no reference is given.
+fn named(value: &[u8], file: u8, p: &[u8], notes: &[u32; Notes::SIZE]) -> bool
+    requires { ⌜ Searchable file (now p) (now notes) ⌝ }
+    ensures { λ r. ⌜ r ≡ namedBy (testOf file) (fieldOf file) (pickedItems (recordShape file) (now (p .entry))) (textBy (now (value .entry))) ⌝ }
 {
     if code_of(value) != STRING {
         return false;
     }
-    meets(
-        file,
-        unquoted(value),
-        true,
-        types,
-        stations,
-        plans,
-        type_notes,
-        station_notes,
-        plan_notes,
-    )
+    meets(file, p, notes, unquoted(value), true)
 }
 
 // What a field breaks that is needed where a record which a reference names is of that sort: the kind, or 0. The record is searched for only where the
@@ -60,61 +42,29 @@ pub fn demanded_by(
     reference: &[u8],
     value: &[u8],
     file: u8,
-    types: &[u8],
-    stations: &[u8],
-    plans: &[u8],
-    type_notes: &[u32; Notes::SIZE],
-    station_notes: &[u32; Notes::SIZE],
-    plan_notes: &[u32; Notes::SIZE],
+    p: &[u8],
+    notes: &[u32; Notes::SIZE],
 ) -> u8
-    requires { ⌜ Known (now types) (now stations) (now plans) (now «type_notes») (now «station_notes») (now «plan_notes») ⌝ }
-    ensures { λ r. ⌜ listed r ≡ demandedOf (namedBy (testOf file) (fieldOf file) (recordsOf file (now (types .entry)) (now (stations .entry)) (now (plans .entry))) (textBy (now (reference .entry)))) (thereBy (now (value .entry))) ⌝ }
+    requires { ⌜ Searchable file (now p) (now notes) ⌝ }
+    ensures { λ r. ⌜ listed r ≡ demandedOf (namedBy (testOf file) (fieldOf file) (pickedItems (recordShape file) (now (p .entry))) (textBy (now (reference .entry)))) (thereBy (now (value .entry))) ⌝ }
 {
     if 0 < value.len() {
         return 0;
     }
-    let needed = named(
-        reference,
-        file,
-        types,
-        stations,
-        plans,
-        type_notes,
-        station_notes,
-        plan_notes,
-    );
+    let needed = named(reference, file, p, notes);
     demanded(needed, value)
 }
 
 // What a reference breaks that names no record: the kind, or 0.
 // Shut out: a reference taken as met because digests agree; one that is spelled in another way taken as dangling.
-pub fn refers(
-    value: &[u8],
-    file: u8,
-    types: &[u8],
-    stations: &[u8],
-    plans: &[u8],
-    type_notes: &[u32; Notes::SIZE],
-    station_notes: &[u32; Notes::SIZE],
-    plan_notes: &[u32; Notes::SIZE],
-) -> u8
-    requires { ⌜ Known (now types) (now stations) (now plans) (now «type_notes») (now «station_notes») (now «plan_notes») ⌝ }
-    ensures { λ r. ⌜ listed r ≡ refersTo (textBy (now (value .entry))) (fieldOf file) (recordsOf file (now (types .entry)) (now (stations .entry)) (now (plans .entry))) ⌝ }
+pub fn refers(value: &[u8], file: u8, p: &[u8], notes: &[u32; Notes::SIZE]) -> u8
+    requires { ⌜ Searchable file (now p) (now notes) ⌝ }
+    ensures { λ r. ⌜ listed r ≡ refersTo (textBy (now (value .entry))) (fieldOf file) (pickedItems (recordShape file) (now (p .entry))) ⌝ }
 {
     if code_of(value) != STRING {
         return 0;
     }
-    if meets(
-        file,
-        unquoted(value),
-        false,
-        types,
-        stations,
-        plans,
-        type_notes,
-        station_notes,
-        plan_notes,
-    ) {
+    if meets(file, p, notes, unquoted(value), false) {
         return 0;
     }
     Kind::DANGLING

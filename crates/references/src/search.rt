@@ -12,16 +12,13 @@ use text::compare::word_is;
 use text::digest::digest_of;
 ghost use mathlib.Core.Bool.{true};
 ghost use mathlib.Core.Path.{_≡_};
-ghost use lib.ListN.{length};
 ghost use Rattle.notation.specs.Choice.{_⇒_else_};
 ghost use Rattle.text.specs.Text.{textOf};
-ghost use Rattle.walk.specs.Walk.{itemsOf};
 ghost use Rattle.walk.specs.Part.{Whole, treeOf};
+ghost use Rattle.document.proofs.Records.{recordShape, pickedItems};
 ghost use Rattle.fields.specs.Values.{textBy};
-ghost use Rattle.ids.specs.Ids.{recordBytes};
-ghost use Rattle.ids.specs.Notes.{Noted};
 ghost use Rattle.references.specs.References.{anyWith, notHuman};
-ghost use Rattle.references.specs.Known.{Known, passing, anyMeets, fieldOf, testedOf, recordsOf};
+ghost use Rattle.references.specs.Known.{Searchable, passing, fieldOf, testedOf};
 
 // Whether no human drives, by the value of field 12.
 pub fn is_driven(value: &[u8]) -> bool
@@ -58,9 +55,9 @@ fn passes_test(file: u8, q: &[u8], tested: bool) -> bool
 
 // Whether a record of the array `p` has the id, and passes where that is asked. Those that have it are searched for from the last one back.
 // Shut out: a record passed over because a later one has its id.
-fn meets_in(file: u8, p: &[u8], notes: &[u32; Notes::SIZE], id: &[u8], tested: bool) -> bool
-    requires { ⌜ Noted file (now p) (length (itemsOf (now p))) (now notes) ⌝ }
-    ensures { λ r. ⌜ r ≡ anyMeets file tested (textOf (now (id .entry))) (recordBytes (now (p .entry))) (length (itemsOf (now (p .entry)))) ⌝ }
+pub fn meets(file: u8, p: &[u8], notes: &[u32; Notes::SIZE], id: &[u8], tested: bool) -> bool
+    requires { ⌜ Searchable file (now p) (now notes) ⌝ }
+    ensures { λ r. ⌜ r ≡ anyWith (testedOf file tested) (fieldOf file) (pickedItems (recordShape file) (now (p .entry))) (textOf (now (id .entry))) ⌝ }
 {
     let digest = digest_of(id);
     let mut j = search(file, p, notes, last(notes, digest), id, digest);
@@ -71,26 +68,4 @@ fn meets_in(file: u8, p: &[u8], notes: &[u32; Notes::SIZE], id: &[u8], tested: b
         j = search(file, p, notes, link_at(notes, j - 1), id, digest);
     }
     false
-}
-
-// The same of a file of the set.
-pub fn meets(
-    file: u8,
-    id: &[u8],
-    tested: bool,
-    types: &[u8],
-    stations: &[u8],
-    plans: &[u8],
-    type_notes: &[u32; Notes::SIZE],
-    station_notes: &[u32; Notes::SIZE],
-    plan_notes: &[u32; Notes::SIZE],
-) -> bool
-    requires { ⌜ Known (now types) (now stations) (now plans) (now «type_notes») (now «station_notes») (now «plan_notes») ⌝ }
-    ensures { λ r. ⌜ r ≡ anyWith (testedOf file tested) (fieldOf file) (recordsOf file (now (types .entry)) (now (stations .entry)) (now (plans .entry))) (textOf (now (id .entry))) ⌝ }
-{
-    match file {
-        1 => meets_in(1, types, type_notes, id, tested),
-        2 => meets_in(2, stations, station_notes, id, tested),
-        _ => meets_in(5, plans, plan_notes, id, tested),
-    }
 }

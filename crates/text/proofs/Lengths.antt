@@ -1,9 +1,10 @@
 -- A text is never longer than its spelling, since no character is longer than its own.
+use mathlib.Core.Bool.{Bool, false}
 use mathlib.Core.List.{List, [], _∷_}
 use mathlib.Core.Path.{_≡_, refl, ap, _∙_}
 use Prim.Native.Nat.{ℕ, zero, suc, _+_, _-_, _≤_, _<_}
 use native.Mathlib.Omega.{arith}
-use lib.ListN.{length, length-append, length-take}
+use lib.ListN.{length, length-append, length-map, length-take}
 use Rattle.lexeme.specs.declared.Next.{Next}
 use Rattle.lexeme.specs.declared.Next.the-variants.{Quote, Character, Fault}
 use Rattle.lexeme.specs.declared.Char.{Char}
@@ -13,6 +14,8 @@ use Rattle.lexeme.specs.Strings.{decoded}
 use Rattle.lexeme.proofs.Steps.{decoded-character}
 use Rattle.character.proofs.Inside.{character-inside}
 use Rattle.text.specs.Text.{textOf}
+use Rattle.text.specs.Walk.{agreeing, cased}
+use Rattle.text.proofs.Laws.{same-lengths}
 use Rattle.text.proofs.Whole.{next-short}
 use Rattle.text.proofs.Decoding.{text-quote, text-fault}
 
@@ -38,3 +41,9 @@ decoded-length zero (b ∷ r) = let h = front-length b r (λ k. decoded-length k
 
 pub text-length : (spelled : List ℕ) → length (textOf spelled) ≤ length spelled
 text-length spelled = let h = decoded-length 0 spelled in omega (arith, h)
+
+-- so it does not agree with more bytes than that
+pub agreeing-longer : (fold : Bool) (spelled plain : List ℕ) → length spelled < length plain → agreeing fold (textOf spelled) plain ≡ false
+agreeing-longer fold spelled plain h =
+    same-lengths _ _ λ e.
+    omega (arith, h, text-length spelled, e, length-map (textOf spelled) (cased fold), length-map plain (cased fold))

@@ -55,10 +55,13 @@ fn agrees(spelled: &[u8], plain: &[u8], from: usize, fold: bool) -> bool
     ended(spelled, c)
 }
 
-// The text is the plain bytes, with case folded or not. As long as its bytes stand for themselves they are compared as they are.
+// The text is the plain bytes, with case folded or not. It is not where they are more than its spelling has; and as long as its bytes stand for themselves they are compared as they are.
 fn reads_as(spelled: &[u8], plain: &[u8], fold: bool) -> bool
     ensures { λ r. ⌜ r ≡ agreeing fold (textOf (now (spelled .entry))) (now (plain .entry)) ⌝ }
 {
+    if spelled.len() < plain.len() {
+        return false;
+    }
     let mut i: usize = 0;
     while i < spelled.len() {
         if !is_plain(spelled[i]) {
@@ -89,12 +92,12 @@ pub fn word_is(spelled: &[u8], plain: &[u8]) -> bool
     reads_as(spelled, plain, true)
 }
 
-// What two texts spell from `from` on is the same.
-fn same_from(a: &[u8], b: &[u8], from: usize) -> bool
-    ensures { λ r. ⌜ r ≡ same (textOf (drop from (now (a .entry)))) (textOf (drop from (now (b .entry)))) ⌝ }
+// What two spellings stand for is the same, byte by byte.
+fn same_decoded(a: &[u8], b: &[u8]) -> bool
+    ensures { λ r. ⌜ r ≡ same (textOf (now (a .entry))) (textOf (now (b .entry))) ⌝ }
 {
-    let mut c = cursor_at(from);
-    let mut d = cursor_at(from);
+    let mut c = cursor_at(0);
+    let mut d = cursor_at(0);
     loop {
         match next_byte(a, c) {
             Step::End => {
@@ -116,26 +119,6 @@ fn same_from(a: &[u8], b: &[u8], from: usize) -> bool
             }
         }
     }
-}
-
-// What two spellings stand for is the same. As long as their bytes are the same and stand for themselves, nothing is decoded.
-fn same_decoded(a: &[u8], b: &[u8]) -> bool
-    ensures { λ r. ⌜ r ≡ same (textOf (now (a .entry))) (textOf (now (b .entry))) ⌝ }
-{
-    let mut i: usize = 0;
-    while i < a.len() {
-        if b.len() <= i {
-            return same_from(a, b, i);
-        }
-        if a[i] != b[i] {
-            return same_from(a, b, i);
-        }
-        if !is_plain(a[i]) {
-            return same_from(a, b, i);
-        }
-        i += 1;
-    }
-    same_from(a, b, i)
 }
 
 // The bytes of two spellings are the same.

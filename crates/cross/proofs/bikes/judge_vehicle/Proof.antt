@@ -7,7 +7,7 @@ use Rattle.cross.proofs.bikes.judge_vehicle.Tie as tie
 returns : tie.Need-returns
 returns c =
     let l = c .before in let b₃ = l .before in let n = b₃ .before in let b₂ = n .before in let f = b₂ .before in
-    let b = f .before in let d = b .before in let place = d .before .before .before .before .before .before .args .place in
+    let b = f .before in let d = b .before in let place = d .before .before .before .before .args .place in
     both _ _ (c .lesser2 .ensures)
     (joined place 45 _ _ (l .lesser .ensures)
     (breaks place 45 (d .demanded .result) (b .broken .ensures) (d .demanded .ensures))

@@ -1,5 +1,6 @@
 -- `judge_parts` notes the three files in blank arrays, so that all is known when the files are judged.
 use borrow.Author.Needs.{needs}
+use native.Mathlib.Omega.{arith}
 use Rattle.ids.proofs.Entering.{blank}
 use Rattle.cross.specs.Staged.{repeatOf}
 use Rattle.cross.proofs.stage.judge_parts.Statement.{statement}
@@ -19,13 +20,15 @@ unfolding repeatOf
 judge-noted-requires c κs =
     let n₃ = c .before .before .before in let n₂ = n₃ .before .before in let n₁ = n₂ .before .before in
     let x = n₁ .before .before .before .before .before .before .before .before .pre in (
-      record { vehicleTypes = n₁ .note .ensures .1; docks = n₂ .note2 .ensures .1; prices = n₃ .note3 .ensures .1 },
+      record {
+        vehicleTypes = record { least = omega arith; most = omega arith; noted = n₁ .note .ensures .1 };
+        docks = record { least = omega arith; most = omega arith; noted = n₂ .note2 .ensures .1 };
+        prices = record { least = omega arith; most = omega arith; noted = n₃ .note3 .ensures .1 };
+      },
       record { ofTypes = n₁ .note .ensures .0; ofStations = n₂ .note2 .ensures .0; ofPlans = n₃ .note3 .ensures .0 },
       x .0,
-      x .1,
       x .2,
       x .3,
-      x .4,
       x .5,
     )
 

@@ -9,9 +9,9 @@ use Rattle.walk.proofs.Places.{ItemPlaced, item-placed}
 use Rattle.walk.proofs.Parts.{item-whole}
 use Rattle.schema.specs.Table23.{available}
 use Rattle.fault.specs.Fault.{least as leastOf}
+use Rattle.document.proofs.Records.{recordShape, pickedItems}
 use Rattle.fields.specs.Values.{textBy}
 use Rattle.references.specs.References.{refers as refersTo}
-use Rattle.references.specs.Known.{recordsOf}
 use Rattle.cross.specs.Cross.{at as placeAt}
 use Rattle.cross.proofs.Joined.{breaks}
 use Rattle.cross.proofs.Walked.{Goes, goes-start, goes-end, goes-more}
@@ -20,11 +20,11 @@ use Rattle.cross.proofs.statuses.judge_available.Statement.{statement}
 use Rattle.cross.proofs.statuses.judge_available.Tie as tie
 
 abbrev Inv-loop : tie.InvT-loop
-Inv-loop p n types stations plans typeNotes stationNotes planNotes least₀ sub₀ at₀ t18 least sub at =
-    (sub < at) × Goes (availableItem (recordsOf 1 types stations plans) n) available p sub at least
+Inv-loop p n types typeNotes least₀ sub₀ at₀ t18 least sub at =
+    (sub < at) × Goes (availableItem (pickedItems (recordShape 1) types) n) available p sub at least
 
 abbrev μ-loop : tie.MeasureT-loop
-μ-loop p n types stations plans typeNotes stationNotes planNotes least₀ sub₀ at₀ t18 least sub at = length p - at
+μ-loop p n types typeNotes least₀ sub₀ at₀ t18 least sub at = length p - at
 
 loop-holds : tie.Need-loop-holds Inv-loop μ-loop
 loop-holds c = (omega arith, goes-start _ _ _)
@@ -40,7 +40,7 @@ abbrev Met : Type 0
 Met = tie.After-known-told Inv-loop μ-loop
 
 placed : (c : Met) →
-    let k = c .before .before .before .before in ItemPlaced (k .before .before .before .before .before .args .p .now) (k .loop .at) (c .before .item .given .0 .0)
+    let k = c .before .before .before .before in ItemPlaced (k .before .before .before .args .p .now) (k .loop .at) (c .before .item .given .0 .0)
 placed c = item-placed _ _ _ (sym (c .before .before .before .next-item .ensures) ∙ c .before .item .given .1)
 
 loop-less : tie.Need-loop-less Inv-loop μ-loop
@@ -49,9 +49,9 @@ loop-less c = let m = placed (c .before .before .before .before .before .before)
 loop-again : tie.Need-loop-again Inv-loop μ-loop
 loop-again c =
     let b = c .before in let r = b .before in let q = r .before in let d = q .before .before .before .before in let t = d .before .before in let k = t .before in
-    let a = k .before .before .before .before .before .args in let m = d .item .given .0 .0 in
+    let a = k .before .before .before .args in let m = d .item .given .0 .0 in
     let f = sym (t .next-item .ensures) ∙ d .item .given .1 in let i = item-placed _ _ _ f in let whole = item-whole (a .p .now) (k .loop .at) m f in
-    let types = recordsOf 1 (a .types .now) (a .stations .now) (a .plans .now) in (
+    let types = pickedItems (recordShape 1) (a .types .now) in (
       omega (arith, k .loop .inv .0),
       goes-more (availableItem types (a .n)) available (a .p .now) (k .loop .sub) (k .loop .at) (k .loop .least) (k .loop .inv .1) m f
           (breaks (placeAt (a .n) (k .loop .sub + 1)) 38 (r .refers .result) (b .broken .ensures)

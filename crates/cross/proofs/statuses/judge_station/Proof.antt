@@ -7,7 +7,7 @@ use Rattle.cross.proofs.statuses.judge_station.Tie as tie
 returns : tie.Need-returns
 returns c =
     let b = c .before in let n = b .before in let a = n .before in let f = a .before in
-    let place = f .before .before .before .before .before .before .args .place in
+    let place = f .before .before .before .before .args .place in
     both _ _ (c .lesser .ensures) (breaks place 30 (f .refers .result) (a .broken .ensures) (f .refers .ensures))
     (breaks place 32 (n .demanded-by .result) (b .broken2 .ensures) (n .demanded-by .ensures))
 

@@ -2,29 +2,28 @@
 use borrow.Author.Needs.{needs}
 use mathlib.Core.Path.{ap, _∙_}
 use Rattle.fault.specs.Fault.{least}
-use Rattle.document.proofs.Records.{recordShape}
+use Rattle.document.proofs.Records.{recordShape, pickedItems}
 use Rattle.fields.specs.Values.{thereBy}
 use Rattle.references.specs.References.{demanded as demandedOf}
-use Rattle.references.specs.Known.{recordsOf}
-use Rattle.cross.specs.Cross.{at, faultsOf}
+use Rattle.cross.specs.Cross.{at}
 use Rattle.cross.proofs.Joined.{both, breaks, joined}
 use Rattle.cross.proofs.Gathering.{type-is}
 use Rattle.cross.proofs.types.judge_type.Statement.{statement}
 use Rattle.cross.proofs.types.judge_type.Tie as tie
 
 returns : tie.Need-returns
-unfolding faultsOf recordShape
+unfolding recordShape
 returns c ms w =
     let l = c .before in let b₃ = l .before in let f = b₃ .before in let b₂ = f .before in let d₂ = b₂ .before in let b = d₂ .before in let d = b .before in
     let v₃ = d .before in let s₃ = v₃ .before in let v₂ = s₃ .before in let s₂ = v₂ .before in let i = s₂ .before in let v = i .before in let s = v .before in
-    let g = s .before in let a = g .before .before .before .before .before .args in let place = at (a .n) 0 in
+    let g = s .before in let a = g .before .before .before .args in let place = at (a .n) 0 in
     both _ _ (c .lesser2 .ensures)
     (breaks place 13 (d .demanded .result) (b .broken .ensures)
     (d .demanded .ensures ∙ ap (λ t. demandedOf t (thereBy (v₃ .value-at3 .result .now))) (i .is-driven .ensures)))
     (joined place 14 _ _ (l .lesser .ensures) (breaks place 14 (d₂ .demanded2 .result) (b₂ .broken2 .ensures) (d₂ .demanded2 .ensures))
     (breaks place 14 (f .refers .result) (b₃ .broken3 .ensures) (f .refers .ensures)))
     ∙ ap least
-    (type-is (a .set .«plans_here») (recordsOf 5 (a .types .now) (a .stations .now) (a .plans .now)) (a .n) (g .gather .ensures)
+    (type-is (a .planned) (pickedItems (recordShape 5) (a .plans .now)) (a .n) (g .gather .ensures)
     (s .slot .result, s .slot .ensures, v .value-at .ensures .0) (s₃ .slot3 .result, s₃ .slot3 .ensures, v₃ .value-at3 .ensures .0)
     (s₂ .slot2 .result, s₂ .slot2 .ensures, v₂ .value-at2 .ensures .0) w)
 

@@ -9,8 +9,8 @@ use Rattle.walk.proofs.Places.{ItemPlaced, item-placed}
 use Rattle.walk.proofs.Parts.{item-whole}
 use Rattle.schema.specs.Shape.{Sort, scalar}
 use Rattle.fault.specs.Fault.{least as leastOf}
+use Rattle.document.proofs.Records.{recordShape, pickedItems}
 use Rattle.references.specs.References.{refers as refersTo}
-use Rattle.references.specs.Known.{recordsOf}
 use Rattle.cross.proofs.Joined.{breaks}
 use Rattle.cross.proofs.Walked.{Goes, goes-start, goes-end, goes-more}
 use Rattle.cross.proofs.Fielded.{idItem, id-each, id-text}
@@ -18,11 +18,11 @@ use Rattle.cross.proofs.zones.judge_named.Statement.{statement}
 use Rattle.cross.proofs.zones.judge_named.Tie as tie
 
 abbrev Inv-loop : tie.InvT-loop
-Inv-loop p place types stations plans typeNotes stationNotes planNotes least₀ at₀ least at =
-    (k : ℕ) × Goes (idItem (recordsOf 1 types stations plans) (place .«record») (place .sub)) (scalar Sort.id) p k at least
+Inv-loop p place types typeNotes least₀ at₀ least at =
+    (k : ℕ) × Goes (idItem (pickedItems (recordShape 1) types) (place .«record») (place .sub)) (scalar Sort.id) p k at least
 
 abbrev μ-loop : tie.MeasureT-loop
-μ-loop p place types stations plans typeNotes stationNotes planNotes least₀ at₀ least at = length p - at
+μ-loop p place types typeNotes least₀ at₀ least at = length p - at
 
 loop-holds : tie.Need-loop-holds Inv-loop μ-loop
 loop-holds c = (0, goes-start _ _ _)
@@ -38,7 +38,7 @@ abbrev Met : Type 0
 Met = tie.After-known-told Inv-loop μ-loop
 
 placed : (c : Met) →
-    let k = c .before .before .before .before in ItemPlaced (k .before .before .before .before .before .args .p .now) (k .loop .at) (c .before .item .given .0 .0)
+    let k = c .before .before .before .before in ItemPlaced (k .before .before .before .args .p .now) (k .loop .at) (c .before .item .given .0 .0)
 placed c = item-placed _ _ _ (sym (c .before .before .before .next-item .ensures) ∙ c .before .item .given .1)
 
 loop-less : tie.Need-loop-less Inv-loop μ-loop
@@ -47,9 +47,9 @@ loop-less c = let m = placed (c .before .before .before .before) in omega arith
 loop-again : tie.Need-loop-again Inv-loop μ-loop
 loop-again c =
     let b = c .before in let r = b .before in let d = r .before .before .before in let t = d .before .before in let k = t .before in
-    let a = k .before .before .before .before .before .args in let m = d .item .given .0 .0 in
+    let a = k .before .before .before .args in let m = d .item .given .0 .0 in
     let f = sym (t .next-item .ensures) ∙ d .item .given .1 in
-    let types = recordsOf 1 (a .types .now) (a .stations .now) (a .plans .now) in (
+    let types = pickedItems (recordShape 1) (a .types .now) in (
       k .loop .inv .0 + 1,
       goes-more (idItem types (a .place .«record») (a .place .sub)) (scalar Sort.id) (a .p .now) (k .loop .inv .0)
           (k .loop .at) (k .loop .least) (k .loop .inv .1) m f

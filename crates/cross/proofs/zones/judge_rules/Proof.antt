@@ -10,9 +10,8 @@ use Rattle.walk.proofs.Parts.{item-whole}
 use Rattle.schema.specs.Shape.{Sort, scalar}
 use Rattle.schema.specs.Table23.{rule}
 use Rattle.fault.specs.Fault.{least as leastOf}
-use Rattle.document.proofs.Records.{pickedItems}
+use Rattle.document.proofs.Records.{recordShape, pickedItems}
 use Rattle.fields.specs.Values.{arrayBy}
-use Rattle.references.specs.Known.{recordsOf}
 use Rattle.cross.specs.Cross.{idFaults}
 use Rattle.cross.proofs.Walked.{Goes, goes-start, goes-end, goes-more}
 use Rattle.cross.proofs.Fielded.{ruleItem, rule-each, rule-ids}
@@ -20,11 +19,11 @@ use Rattle.cross.proofs.zones.judge_rules.Statement.{statement}
 use Rattle.cross.proofs.zones.judge_rules.Tie as tie
 
 abbrev Inv-loop : tie.InvT-loop
-Inv-loop p n types stations plans typeNotes stationNotes planNotes least₀ sub₀ at₀ t18 least sub at =
-    (sub < at) × Goes (ruleItem (recordsOf 1 types stations plans) n) rule p sub at least
+Inv-loop p n types typeNotes least₀ sub₀ at₀ t18 least sub at =
+    (sub < at) × Goes (ruleItem (pickedItems (recordShape 1) types) n) rule p sub at least
 
 abbrev μ-loop : tie.MeasureT-loop
-μ-loop p n types stations plans typeNotes stationNotes planNotes least₀ sub₀ at₀ t18 least sub at = length p - at
+μ-loop p n types typeNotes least₀ sub₀ at₀ t18 least sub at = length p - at
 
 loop-holds : tie.Need-loop-holds Inv-loop μ-loop
 loop-holds c = (omega arith, goes-start _ _ _)
@@ -40,7 +39,7 @@ abbrev Met : Type 0
 Met = tie.After-known-told Inv-loop μ-loop
 
 placed : (c : Met) →
-    let k = c .before .before .before .before in ItemPlaced (k .before .before .before .before .before .args .p .now) (k .loop .at) (c .before .item .given .0 .0)
+    let k = c .before .before .before .before in ItemPlaced (k .before .before .before .args .p .now) (k .loop .at) (c .before .item .given .0 .0)
 placed c = item-placed _ _ _ (sym (c .before .before .before .next-item .ensures) ∙ c .before .item .given .1)
 
 loop-less : tie.Need-loop-less Inv-loop μ-loop
@@ -49,9 +48,9 @@ loop-less c = let m = placed (c .before .before .before .before .before .before)
 loop-again : tie.Need-loop-again Inv-loop μ-loop
 loop-again c =
     let j = c .before in let i = j .before in let q = i .before in let d = q .before .before .before .before in let t = d .before .before in let k = t .before in
-    let a = k .before .before .before .before .before .args in let m = d .item .given .0 .0 in
+    let a = k .before .before .before .args in let m = d .item .given .0 .0 in
     let f = sym (t .next-item .ensures) ∙ d .item .given .1 in let s = item-placed _ _ _ f in let whole = item-whole (a .p .now) (k .loop .at) m f in
-    let types = recordsOf 1 (a .types .now) (a .stations .now) (a .plans .now) in (
+    let types = pickedItems (recordShape 1) (a .types .now) in (
       omega (arith, k .loop .inv .0),
       goes-more (ruleItem types (a .n)) rule (a .p .now) (k .loop .sub) (k .loop .at) (k .loop .least) (k .loop .inv .1) m f
           (j .judge-named .ensures ∙ ap (λ l. leastOf (idFaults types (a .n) (k .loop .sub + 1) l))

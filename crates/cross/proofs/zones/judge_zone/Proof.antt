@@ -12,8 +12,7 @@ use Rattle.fault.specs.Fault.{least}
 use Rattle.fault.proofs.Leasts.{none-least}
 use Rattle.document.proofs.Records.{recordShape, pickedItems}
 use Rattle.fields.specs.Values.{memberOf, arrayBy}
-use Rattle.references.specs.Known.{recordsOf}
-use Rattle.cross.specs.Cross.{ruleFaults, faultsOf}
+use Rattle.cross.specs.Cross.{ruleFaults}
 use Rattle.fields.proofs.Sizes.{member-short, array-short}
 use Rattle.cross.proofs.Fielded.{no-bytes, properties-whole, zone-rules, zone-bare}
 use Rattle.cross.proofs.zones.judge_zone.Statement.{statement}
@@ -24,7 +23,7 @@ abbrev Looked : Type 0
 Looked = tie.After-member
 
 abbrev start : Looked → tie.Start
-start c = c .before .before .before .before .before .before
+start c = c .before .before .before .before
 
 properties-are : (c : Looked) → c .member .result .now ≡ memberOf (start c .args .p .now) (bytes "properties")
 properties-are c = c .member .ensures _ (start c .pre .2)
@@ -50,14 +49,14 @@ judge-rules-requires c κs =
     (s .pre .0, omega (arith, ap length (rules-are c), s .pre .1, array-short deep, member-short inner (bytes "rules"), member-short p (bytes "properties")))
 
 returns : tie.Need-returns
-unfolding faultsOf recordShape
+unfolding recordShape
 returns c ms w =
     let k = c .before in sym (none-least _ (zone-bare _ _ w (sym (properties-are k) ∙ no-bytes _ (c .if1 .taken))))
 
 returns-2 : tie.Need-returns-2
-unfolding faultsOf recordShape
+unfolding recordShape
 returns-2 c ms w =
-    let r = c .before in let a = start (looked r) .args in let types = recordsOf 1 (a .types .now) (a .stations .now) (a .plans .now) in
+    let r = c .before in let a = start (looked r) .args in let types = pickedItems (recordShape 1) (a .types .now) in
     c .judge-rules .ensures ∙ ap (λ q. least (ruleFaults types (a .n) 1 (pickedItems rule q))) (rules-are r) ∙ ap least (zone-rules types (a .n) w)
 
 pub judge-zone-spec : {M : Type 1} → statement M

@@ -7,8 +7,9 @@ use Prim.Native.Nat.{ℕ, _<_}
 use lib.ListN.{length}
 use borrow.Author.Tests.{lt-ltb}
 use Rattle.fields.specs.Values.{textBy, thereBy}
+use Rattle.document.proofs.Records.{recordShape, pickedItems}
 use Rattle.references.specs.References.{named, demanded}
-use Rattle.references.specs.Known.{fieldOf, testOf, recordsOf}
+use Rattle.references.specs.Known.{fieldOf, testOf}
 use Rattle.references.proofs.rules.demanded_by.Statement.{statement}
 use Rattle.references.proofs.rules.demanded_by.Tie as tie
 
@@ -18,14 +19,14 @@ demanded-given false q h = refl
 
 returns : tie.Need-returns
 returns c =
-    let a = c .before .before .before .before .before .before .args in
+    let a = c .before .before .before .before .args in
     demanded-given
-    (named (testOf (a .file)) (fieldOf (a .file)) (recordsOf (a .file) (a .types .now) (a .stations .now) (a .plans .now)) (textBy (a .reference .now)))
+    (named (testOf (a .file)) (fieldOf (a .file)) (pickedItems (recordShape (a .file)) (a .p .now)) (textBy (a .reference .now)))
     (a .value .now) (c .if1 .taken)
 
 returns-2 : tie.Need-returns-2
 returns-2 c =
-    let n = c .before in let a = n .before .before .before .before .before .before .before .args in
+    let n = c .before in let a = n .before .before .before .before .before .args in
     c .demanded .ensures ∙ ap (λ (t : Bool). demanded t (thereBy (a .value .now))) (n .named .ensures)
 
 pub demanded-by-spec : {M : Type 1} → statement M

@@ -6,23 +6,24 @@ use Rattle.word.specs.Kinds.{dangling}
 use Rattle.text.specs.Text.{textOf}
 use Rattle.fields.specs.Values.{textBy}
 use Rattle.fields.proofs.Ways.{text-none, text-some}
+use Rattle.document.proofs.Records.{recordShape, pickedItems}
 use Rattle.references.specs.References.{when, any, anyWith, refers}
-use Rattle.references.specs.Known.{fieldOf, recordsOf}
+use Rattle.references.specs.Known.{fieldOf}
 use Rattle.references.proofs.rules.refers.Statement.{statement}
 use Rattle.references.proofs.rules.refers.Tie as tie
 
 returns : tie.Need-returns
 returns c =
-    let k = c .before in let a = k .before .before .before .before .before .args in let l = recordsOf (a .file) (a .types .now) (a .stations .now) (a .plans .now) in
+    let k = c .before in let a = k .before .before .before .args in let l = pickedItems (recordShape (a .file)) (a .p .now) in
     sym (ap (λ o. refers o (fieldOf (a .file)) l) (text-none (a .value .now) _ (k .code-of .ensures) (c .if1 .taken)))
 
 -- where the record was searched for
 searched : (c : tie.After-meets) →
-    let a = c .before .before .before .before .before .before .before .before .args in
-    when (not (c .meets .result)) dangling ≡ refers (textBy (a .value .now)) (fieldOf (a .file)) (recordsOf (a .file) (a .types .now) (a .stations .now) (a .plans .now))
+    let a = c .before .before .before .before .before .before .args in
+    when (not (c .meets .result)) dangling ≡ refers (textBy (a .value .now)) (fieldOf (a .file)) (pickedItems (recordShape (a .file)) (a .p .now))
 searched c =
-    let u = c .before in let i = u .before in let k = i .before in let a = k .before .before .before .before .before .args in
-    let l = recordsOf (a .file) (a .types .now) (a .stations .now) (a .plans .now) in
+    let u = c .before in let i = u .before in let k = i .before in let a = k .before .before .before .args in
+    let l = pickedItems (recordShape (a .file)) (a .p .now) in
     ap (λ (t : Bool). when (not t) dangling) (c .meets .ensures ∙ ap (λ q. anyWith any (fieldOf (a .file)) l (textOf q)) (u .unquoted .ensures))
     ∙ sym (ap (λ o. refers o (fieldOf (a .file)) l) (text-some (a .value .now) _ (k .code-of .ensures) (i .if1 .left)))
 
@@ -35,4 +36,4 @@ returns-3 c = sym (ap (λ (t : Bool). when (not t) dangling) (c .if2 .left)) ∙
 pub refers-spec : {M : Type 1} → statement M
 refers-spec =
     tie.close
-    (tie.spec (λ c κs. search needs) returns (λ c κs. search needs) (λ c κs. c .before .before .before .before .before .before .before .pre) returns-2 returns-3)
+    (tie.spec (λ c κs. search needs) returns (λ c κs. search needs) (λ c κs. c .before .before .before .before .before .pre) returns-2 returns-3)

@@ -10,6 +10,7 @@ use Rattle.lexeme.proofs.Rests.{at-cons}
 use Rattle.text.specs.Text.{textOf}
 use Rattle.text.specs.Walk.{agreeing, cased}
 use Rattle.text.proofs.Decoding.{text-end, text-plain}
+use Rattle.text.proofs.Lengths.{agreeing-longer}
 use Rattle.text.proofs.Steps.{same-long, same-differ, same-next, ends-at}
 use Rattle.text.proofs.compare.reads_as.Statement.{statement}
 use Rattle.text.proofs.compare.reads_as.Tie as tie
@@ -20,41 +21,44 @@ Inv-loop spelled plain fold i₀ i = agreeing fold (textOf (drop i spelled)) (dr
 abbrev μ-loop : tie.MeasureT-loop
 μ-loop spelled plain fold i₀ i = length spelled - i
 
-returns-2 : tie.Need-returns-2 Inv-loop μ-loop
-returns-2 c =
-    let w = c .before .before .before .before .before in
-    let q = w .before .before .before .args in let i = w .loop .i in
-    let f = map (cased (q .fold)) in
-    let e = text-plain (q .spelled .now) i (omega arith) (sym (c .before .before .is-plain .ensures) ∙ not-false _ (c .before .if1 .left)) in
-    sym (same-long (ap f e) (ap f (drop-of-length-le (q .plain .now) {i = i} (omega arith)))) ∙ w .loop .inv
+returns : tie.Need-returns Inv-loop μ-loop
+returns c = let q = c .before .before .before .args in sym (agreeing-longer (q .fold) (q .spelled .now) (q .plain .now) (c .if1 .taken))
 
 returns-3 : tie.Need-returns-3 Inv-loop μ-loop
 returns-3 c =
+    let w = c .before .before .before .before .before in
+    let q = w .before .before .before .before .args in let i = w .loop .i in
+    let f = map (cased (q .fold)) in
+    let e = text-plain (q .spelled .now) i (omega arith) (sym (c .before .before .is-plain .ensures) ∙ not-false _ (c .before .if2 .left)) in
+    sym (same-long (ap f e) (ap f (drop-of-length-le (q .plain .now) {i = i} (omega arith)))) ∙ w .loop .inv
+
+returns-4 : tie.Need-returns-4 Inv-loop μ-loop
+returns-4 c =
     let p = c .before .before .before .before .before in
     let w = p .before .before .before .before in
-    let q = w .before .before .before .args in let i = w .loop .i in
+    let q = w .before .before .before .before .args in let i = w .loop .i in
     let f = map (cased (q .fold)) in
-    let e = text-plain (q .spelled .now) i (omega arith) (sym (p .before .is-plain .ensures) ∙ not-false _ (p .if1 .left)) in
-    sym (same-differ (ap f (at-cons (q .plain .now) i (omega arith))) (ap f e) (sym (c .before .alike .ensures) ∙ not-true _ (c .if3 .taken))) ∙ w .loop .inv
+    let e = text-plain (q .spelled .now) i (omega arith) (sym (p .before .is-plain .ensures) ∙ not-false _ (p .if2 .left)) in
+    sym (same-differ (ap f (at-cons (q .plain .now) i (omega arith))) (ap f e) (sym (c .before .alike .ensures) ∙ not-true _ (c .if4 .taken))) ∙ w .loop .inv
 
 loop-again : tie.Need-loop-again Inv-loop μ-loop
 loop-again c =
     let p = c .before .before .before .before .before in
     let w = p .before .before .before .before in
-    let q = w .before .before .before .args in let i = w .loop .i in
+    let q = w .before .before .before .before .args in let i = w .loop .i in
     let f = map (cased (q .fold)) in
-    let e = text-plain (q .spelled .now) i (omega arith) (sym (p .before .is-plain .ensures) ∙ not-false _ (p .if1 .left)) in
-    sym (same-next (ap f (at-cons (q .plain .now) i (omega arith))) (ap f e) (sym (c .before .alike .ensures) ∙ not-false _ (c .if3 .left))) ∙ w .loop .inv
+    let e = text-plain (q .spelled .now) i (omega arith) (sym (p .before .is-plain .ensures) ∙ not-false _ (p .if2 .left)) in
+    sym (same-next (ap f (at-cons (q .plain .now) i (omega arith))) (ap f e) (sym (c .before .alike .ensures) ∙ not-false _ (c .if4 .left))) ∙ w .loop .inv
 
-returns-4 : tie.Need-returns-4 Inv-loop μ-loop
-returns-4 c =
+returns-5 : tie.Need-returns-5 Inv-loop μ-loop
+returns-5 c =
     let w = c .before in
-    let q = w .before .before .before .args in let i = w .loop .i in
+    let q = w .before .before .before .before .args in let i = w .loop .i in
     ends-at (q .fold) (q .plain .now) i (text-end (q .spelled .now) i (omega arith)) ∙ w .loop .inv
 
 pub reads-as-spec : {M : Type 1} → statement M
 reads-as-spec =
     tie.close
-    (tie.spec Inv-loop μ-loop (λ c. refl) (λ c. omega arith) (λ c κs. search needs) (λ c κs. search needs)
-    (λ c. c .agrees .ensures ∙ c .before .before .before .before .before .loop .inv) returns-2 (λ c. omega arith) (λ c. omega arith)
-    (λ c κs. search needs) returns-3 (λ c. omega arith) (λ c. omega arith) loop-again returns-4)
+    (tie.spec Inv-loop μ-loop returns (λ c. refl) (λ c. omega arith) (λ c κs. search needs) (λ c κs. search needs)
+    (λ c. c .agrees .ensures ∙ c .before .before .before .before .before .loop .inv) returns-3 (λ c. omega arith) (λ c. omega arith)
+    (λ c κs. search needs) returns-4 (λ c. omega arith) (λ c. omega arith) loop-again returns-5)
