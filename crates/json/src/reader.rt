@@ -18,6 +18,7 @@ use lexeme::front::first;
 use lexeme::front::place;
 use lexeme::literal::read_literal;
 use lexeme::number::read_number;
+use strings::plain_end;
 use strings::read_string;
 use word::kind::Kind;
 
@@ -121,7 +122,7 @@ fn read_member(table: &[u8; 256], s: &[u8], at: usize, levels: u8) -> Scan
     }
 }
 
-// The string at `at`, from its opening quote on.
+// The string at `at`, from its opening quote on. It is most often plain up to the closing one.
 pub fn name_by(table: &[u8; 256], s: &[u8], at: usize) -> Scan
     requires { ⌜ Classifies (now table) ⌝ }
     ensures { λ r. ⌜ r ≡ placed (now (s .entry)) (expect 0x22 (string paired 0) (drop at (now (s .entry)))) ⌝ }
@@ -129,7 +130,11 @@ pub fn name_by(table: &[u8; 256], s: &[u8], at: usize) -> Scan
     if first(s, at) != b'"' {
         return Scan::Fault(Kind::NOT_JSON, place(s, at));
     }
-    read_string(table, s, at + 1)
+    let i = plain_end(table, s, at + 1);
+    if first(s, i) == b'"' {
+        return Scan::End(i + 1);
+    }
+    read_string(table, s, i)
 }
 
 // The value at `at`, for a caller that reads no other.

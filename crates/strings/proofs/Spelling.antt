@@ -66,6 +66,11 @@ module _ (ρ : Surrogates) where
     at-closing c e p =
         at-quote (ap (nextBy ρ (drop i s)) (ap lead (sym (first-byte s i)) ∙ sym e ∙ ap leadOf p))
 
+    -- the closing quote, by itself
+    pub at-mark : byte (drop i s) 0 ≡ 0x22 → scan.End (i + 1) ≡ end-from s i
+    unfolding next nextBy lead
+    at-mark e = at-quote (ap (λ b. nextBy ρ (drop i s) (lead b)) e)
+
     pub at-fault : (k n : ℕ) → next ρ (drop i s) ≡ Fault k n → AtFault s i k n
     at-fault k n e =
         let p = fault-inside ρ s i h k n e in

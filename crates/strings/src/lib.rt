@@ -16,6 +16,21 @@ ghost use Rattle.lexeme.specs.Read.{placed};
 ghost use Rattle.lexeme.specs.Strings.{string};
 ghost use Rattle.character.specs.Length.{taken};
 
+// Where the plain bytes from `at` on end, inside a string: what is left decides where it ends.
+pub fn plain_end(table: &[u8; 256], s: &[u8], at: usize) -> usize
+    requires { ⌜ Classifies (now table) ⌝ }
+    ensures { λ r. ⌜ placed (now (s .entry)) (string paired 0 (drop r (now (s .entry)))) ≡ placed (now (s .entry)) (string paired 0 (drop at (now (s .entry)))) ⌝ }
+{
+    let mut i = at;
+    while i < s.len() {
+        if Class::QUOTE <= class_by(table, s[i]) {
+            return i;
+        }
+        i += 1;
+    }
+    i
+}
+
 // How many bytes the escape at `at` takes, where the first has the class; 0 where it has a fault, or none stands there.
 fn escape_by(s: &[u8], at: usize, class: u8) -> usize
     ensures { λ r. ⌜ r ≡ (eqb class 9 ⇒ taken (escape paired (drop at (now (s .entry)))) else 0) ⌝ }
