@@ -112,7 +112,7 @@ module _ (p : List ℕ) (at i : ℕ) (k : Skipped p at i) (e : ℕ) (v : e ≡ l
       }
 
 -- the front of a member, and back from it to what was found
-front-end : (o : MemberStep) → names.End ≡ frontOf o → members.End ≡ o
+pub front-end : (o : MemberStep) → names.End ≡ frontOf o → members.End ≡ o
 front-end members.End e = refl
 front-end (members.Found m) e = let z : _≡_ {A = ℕ} 0 1 = cc in absurd (omega arith)
 
@@ -193,7 +193,7 @@ module _ (p : List ℕ) (at : ℕ) (m : Member) (f : memberAt p at ≡ members.F
   value-read : (x : Json) × (value paired depth (drop (m .value) p) ≡ done x (drop (m .«value_end») p))
   value-read = let s = found-member p at m f in (s .tree, s .spelt .reads)
 
-member-is : (n : Named) (e next : ℕ) (m : Member) → n ≡ record { name = m .name; «name_end» = m .«name_end»; value = m .value } → e ≡ m .«value_end» → next ≡ m .next
+pub member-is : (n : Named) (e next : ℕ) (m : Member) → n ≡ record { name = m .name; «name_end» = m .«name_end»; value = m .value } → e ≡ m .«value_end» → next ≡ m .next
     → members.Found (record { name = n .name; «name_end» = n .«name_end»; value = n .value; «value_end» = e; next = next }) ≡ members.Found m
 member-is n e next m j ends on =
     let one : n .name ≡ m .name = ap (λ (k : Named). k .name) j in
