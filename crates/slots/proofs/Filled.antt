@@ -186,7 +186,7 @@ zeros zero i = refl
 zeros (suc n) zero = refl
 zeros (suc n) (suc i) = zeros n i
 
-empty-missing : (j : ℕ) → slotAt empty j ≡ Missing
+pub empty-missing : (j : ℕ) → slotAt empty j ≡ Missing
 empty-missing j =
     by-test (ltb j mostRows)
     (λ t. slot-missing empty j (ltb-true j mostRows t) (ap (λ (n : ℕ). eqb n 0) (zeros mostRows j)))

@@ -255,13 +255,17 @@ module _ (p : List ℕ) {A : Type 0} (g : A → Item → A) where
   pub items-along : {is : Items} → Whole p (Json.array is) → (s : A) → ItemsAlong s 1 (foldl g s (itemsOf p))
   items-along w s = (AlongItems.start w, Folds.items-start p g s)
 
+  pub items-along-next : (s : A) (at : ℕ) (r : A) (m : Item) → itemAt p at ≡ items.Found m → ItemsAlong s at r → ItemsAlong (g s m) (m .next) r
+  items-along-next s at r m f (a, k) = (AlongItems.next a f, walk-more (itemSteps p) g s at r m f k)
+
   pub items-along-more : (s : A) (at : ℕ) (r : A) {o : ItemStep} {m : Item} → ItemPassed p at o → o ≡ items.Found m → ItemsAlong s at r → ItemsAlong (g s m) (m .next) r
-  items-along-more s at r {o} {m} h e (a, k) =
-      let f : itemAt p at ≡ items.Found m = sym (h .same a) ∙ e in
-      (AlongItems.next a f, walk-more (itemSteps p) g s at r m f k)
+  items-along-more s at r {m = m} h e i = items-along-next s at r m (sym (h .same (i .0)) ∙ e) i
+
+  pub items-along-last : (s : A) (at : ℕ) (r : A) → itemAt p at ≡ items.End → ItemsAlong s at r → s ≡ r
+  items-along-last s at r e (a, k) = walk-end (itemSteps p) g s at r e k
 
   pub items-along-end : (s : A) (at : ℕ) (r : A) {o : ItemStep} → ItemPassed p at o → o ≡ items.End → ItemsAlong s at r → s ≡ r
-  items-along-end s at r h e (a, k) = walk-end (itemSteps p) g s at r (sym (h .same a) ∙ e) k
+  items-along-end s at r h e i = items-along-last s at r (sym (h .same (i .0)) ∙ e) i
 
 module _ (p : List ℕ) {A : Type 0} (g : A → Member → A) where
   abbrev pub MembersAlong : A → ℕ → A → Type 0
@@ -270,11 +274,15 @@ module _ (p : List ℕ) {A : Type 0} (g : A → Member → A) where
   pub members-along : {ms : Members} → Whole p (Json.object ms) → (s : A) → MembersAlong s 1 (foldl g s (membersOf p))
   members-along w s = (AlongMembers.start w, Folds.members-start p g s)
 
+  pub members-along-next : (s : A) (at : ℕ) (r : A) (m : Member) → memberAt p at ≡ members.Found m → MembersAlong s at r → MembersAlong (g s m) (m .next) r
+  members-along-next s at r m f (a, k) = (AlongMembers.next a f, walk-more (memberSteps p) g s at r m f k)
+
   pub members-along-more : (s : A) (at : ℕ) (r : A) {o : MemberStep} {m : Member} → MemberPassed p at o → o ≡ members.Found m → MembersAlong s at r
       → MembersAlong (g s m) (m .next) r
-  members-along-more s at r {o} {m} h e (a, k) =
-      let f : memberAt p at ≡ members.Found m = sym (h .same a) ∙ e in
-      (AlongMembers.next a f, walk-more (memberSteps p) g s at r m f k)
+  members-along-more s at r {m = m} h e i = members-along-next s at r m (sym (h .same (i .0)) ∙ e) i
+
+  pub members-along-last : (s : A) (at : ℕ) (r : A) → memberAt p at ≡ members.End → MembersAlong s at r → s ≡ r
+  members-along-last s at r e (a, k) = walk-end (memberSteps p) g s at r e k
 
   pub members-along-end : (s : A) (at : ℕ) (r : A) {o : MemberStep} → MemberPassed p at o → o ≡ members.End → MembersAlong s at r → s ≡ r
-  members-along-end s at r h e (a, k) = walk-end (memberSteps p) g s at r (sym (h .same a) ∙ e) k
+  members-along-end s at r h e i = members-along-last s at r (sym (h .same (i .0)) ∙ e) i

@@ -1,12 +1,12 @@
 -- A value at the front of some bytes is whole by itself, and ends where it is skipped to. An array or object that stands at the front, with anything behind
 -- it, is walked over to its closing bracket, each element judged where it stands: whatever tells where an element ends takes the walk's own step.
-use mathlib.Core.List.{List, [], _∷_, _++_}
+use mathlib.Core.List.{List, [], _∷_, _++_, append-nil}
 use mathlib.Core.Logic.{⊎-elim}
 use mathlib.Core.Path.{_≡_, sym, ap, subst, _∙_}
 use Prim.Native.Nat.{ℕ, zero, suc, _+_, _-_, _≤_, _<_}
 use native.Mathlib.Omega.{arith}
 use lib.ListN.{length, drop, take, length-drop, take-append-drop}
-use lib.Seq.{drop-drop}
+use lib.Seq.{drop-drop, take-at, length-take-le}
 use Rattle.limits.specs.Ceilings.{depth}
 use Rattle.lexeme.specs.Read.Read.{done}
 use Rattle.lexeme.specs.Character.{paired, byte, within}
@@ -36,7 +36,7 @@ use Rattle.walk.proofs.Finding.{item-there}
 use Rattle.walk.proofs.Wholes.{whole-some, whole-kind}
 use Rattle.walk.proofs.Trees.{item-stops}
 use Rattle.walk.proofs.Along.{along-item, along-member, items-closed, members-closed}
-use Rattle.walk.proofs.Passing.{front-end, front-found, member-is}
+use Rattle.walk.proofs.Passing.{placed-next, from-at, front-end, front-found, member-is}
 use Rattle.walk.proofs.Open.{front-step, front-items-along, front-closing, front-member, front-along, front-part}
 
 module _ {p : List ℕ} {x : Json} where
@@ -71,6 +71,14 @@ skip-ends p e v =
       none = λ h. v ∙ ap (place p) (skipped-none p h) ∙ omega arith;
     }
 
+-- so many bytes are cut off the front
+pub ends-cut : (p : List ℕ) (e : ℕ) → Ends p e → e ≡ length (take e p)
+ends-cut p e f = sym (length-take-le e p (f .inside))
+
+-- all bytes from v on
+pub tail-cut : (p : List ℕ) (v : ℕ) → part p v (length p) ≡ drop v p
+tail-cut p v = ap (take (length p - v)) (sym (append-nil (drop v p))) ∙ take-at (drop v p) [] (length p - v) (length-drop v p)
+
 -- a value that is read at v up to the rest t, and ends behind e bytes
 module _ (p : List ℕ) (v e : ℕ) (f : Ends (drop v p) e) (x : Json) (t : List ℕ) (r : value paired depth (drop v p) ≡ done x t) where
   ends-at : e ≡ length (drop v p) - length t
@@ -92,6 +100,15 @@ module _ (p : List ℕ) (v e : ℕ) (f : Ends (drop v p) e) (x : Json) (t : List
         from = λ k. omega arith;
         upto = omega (arith, f .inside, length-drop v p);
       }
+
+-- what comes behind a value of e bytes at v, to which blanks from `at` on lead
+pub item-later : (p : List ℕ) (at v e : ℕ) → Skipped p at v → Ends (drop v p) e → 0 < e → (next : ℕ) → next ≡ onward p (blanks (drop (v + e) p))
+    → (at < next) × (next ≤ length p)
+item-later p at v e k f h next j =
+    let upto : v + e ≤ length p = omega (arith, f .inside, length-drop v p, k .upto) in
+    let o = placed-next p (v + e) next upto j in
+    let l : at ≤ v = from-at p at v k (omega arith) in
+    (omega (arith, o .0), o .1)
 
 -- Steps over the array or object that the first n bytes of p are.
 module _ (p : List ℕ) (n at : ℕ) where

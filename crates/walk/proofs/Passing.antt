@@ -43,14 +43,14 @@ use Rattle.walk.proofs.Trees.{item-stops, member-stops}
 use Rattle.walk.proofs.Along.{along-item, along-member}
 
 -- the place after an element that ends at e
-placed-next : (p : List ℕ) (e n : ℕ) → e ≤ length p → n ≡ onward p (blanks (drop e p)) → (e ≤ n) × (n ≤ length p)
+pub placed-next : (p : List ℕ) (e n : ℕ) → e ≤ length p → n ≡ onward p (blanks (drop e p)) → (e ≤ n) × (n ≤ length p)
 placed-next p e n h k =
     let o = onward-later p (drop e p) (omega (arith, length-drop e p)) in
     let z : e ≡ place p (drop e p) = place-at p e h in
     rw k (omega (arith, o .0), o .1)
 
 -- blanks are passed forwards
-from-at : (p : List ℕ) (at i : ℕ) → Skipped p at i → i < length p → at ≤ i
+pub from-at : (p : List ℕ) (at i : ℕ) → Skipped p at i → i < length p → at ≤ i
 from-at p at i k h = omega (arith, ap length (k .rest), blanks-shrinks (drop at p), length-drop at p, length-drop i p)
 
 -- what is found is placed where it was put
