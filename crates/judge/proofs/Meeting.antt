@@ -17,14 +17,13 @@ use Rattle.walk.specs.declared.Member.{Member as Met}
 use Rattle.walk.specs.declared.MemberStep.the-variants as members
 use Rattle.walk.specs.Walk.{part, onward, memberAt}
 use Rattle.walk.specs.Part.{Whole, kindAt}
-use Rattle.walk.specs.Along.{AlongMembers, Placed, NamePassed}
+use Rattle.walk.specs.Along.{Placed, NamePassed}
 use Rattle.walk.specs.Front.{Ends}
 use Rattle.walk.proofs.Places.{member-placed}
 use Rattle.walk.proofs.Open.{front-part}
 use Rattle.walk.proofs.Along.{MembersAlong, members-along, members-along-next, members-along-last}
 use Rattle.walk.proofs.Fronts.{fronts-whole, member-ended, member-met, members-end, cut-same}
 use Rattle.schema.specs.Table23.{table23}
-use Rattle.slots.specs.declared.Found.the-variants.{Once}
 use Rattle.slots.specs.declared.Row.{Row}
 use Rattle.slots.specs.declared.Slots.{Slots}
 use Rattle.slots.specs.Rows.{mostRows, lineNames, rowNamed, rowLine, RowOf}

@@ -1,5 +1,5 @@
 -- What each function of the judge answers: the least fault of a part of the file, wherever the table's lines tell of that part.
-use mathlib.Core.Bool.{Bool, true, false}
+use mathlib.Core.Bool.{true}
 use mathlib.Core.List.{List, [], _∷_}
 use mathlib.Core.Path.{_≡_}
 use Prim.Native.Char.{code}

@@ -185,6 +185,9 @@ fn judge_member(p: &[u8], new: bool, i: usize, line: Line, place: Place, level: 
     judge_single(p, line.value, i, line, place, level)
 }
 
+// A least is kept for each row of an object, and one for the names that no row has.
+const KEPT: usize = Slots::ROWS + 1;
+
 // What a row of an object breaks first, by how often its name was met, and by what the value breaks that was met first.
 fn judge_row(met: u8, value: Least, line: Line, place: Place) -> Least
     ensures { λ r. ⌜ r ≡ rowLeast met value line place ⌝ }
@@ -201,7 +204,7 @@ fn judge_row(met: u8, value: Least, line: Line, place: Place) -> Least
 // The rows of an object, `count` lines from `first` on, by the columns that its members filled. The table's columns are lent.
 fn judge_rows<'a>(
     state: &[u8; Slots::ROWS],
-    leasts: [Least; 17],
+    leasts: [Least; KEPT],
     fields: &'a [u8; 92],
     needs: &'a [u8; 92],
     values: &'a [u8; 92],
@@ -257,7 +260,7 @@ fn judge_members<'a>(
 {
     let none = Least::None;
     let mut state: [u8; Slots::ROWS] = [Slots::MISSING; Slots::ROWS];
-    let mut leasts: [Least; 17] = [none; 17];
+    let mut leasts: [Least; KEPT] = [none; KEPT];
     let mut at: usize = 1;
     loop {
         match pass_name(p, at) {

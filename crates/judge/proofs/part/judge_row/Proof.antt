@@ -1,7 +1,6 @@
 -- `judge_row` makes the same two tests.
 use borrow.Author.Needs.{needs}
 use borrow.Author.Tests.{eq-eqb, ne-eqb}
-use mathlib.Core.Path.{_∙_}
 use Rattle.judge.proofs.part.judge_row.Statement.{statement}
 use Rattle.judge.proofs.part.judge_row.Tie as tie
 
