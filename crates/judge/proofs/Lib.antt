@@ -8,3 +8,4 @@ pub mod Going
 pub mod Nested
 pub mod Listed
 pub mod Numbered
+pub mod Meeting

@@ -3,14 +3,16 @@ use mathlib.Core.Bool.{true}
 use mathlib.Core.List.{List, [], _∷_}
 use mathlib.Core.Path.{_≡_, refl, sym, ap, _∙_}
 use Prim.Native.Char.{code}
-use Prim.Native.Nat.{ℕ, _+_, _<_}
+use Prim.Native.Nat.{ℕ, suc, _+_, _<_}
 use native.Mathlib.Omega.{arith}
-use lib.ListN.{length}
+use lib.ListN.{length, take}
 use Rattle.word.specs.Kinds.{wrongType}
 use Rattle.json.specs.Tree as tree
 use Rattle.json.specs.Tree.{Json}
-use Rattle.walk.specs.Part.{Whole, kindOf, kindAt}
-use Rattle.walk.proofs.Wholes.{whole-kind}
+use Rattle.lexeme.specs.Character.{byte}
+use Rattle.lexeme.specs.Tokens.{Start, start}
+use Rattle.walk.specs.Part.{Whole, kindOf, kindFrom, kindAt}
+use Rattle.walk.proofs.Fronts.{front-kind}
 use Rattle.schema.specs.declared.Line.{Line}
 use Rattle.schema.specs.Shape as shape
 use Rattle.schema.specs.Shape.{Shape, Rows, Need, Numbering}
@@ -137,9 +139,15 @@ object-value (tree.string s) e = absurd (omega arith)
 object-value (tree.array is) e = absurd (omega arith)
 object-value (tree.object ms) e = (ms, refl)
 
-module _ {p : List ℕ} {x : Json} (w : Whole p x) where
+-- where no value begins there are none
+pub bracketless : (p : List ℕ) {b : ℕ} → start (byte p 0) ≡ Start.other → bracketsOf (kindAt p) ≡ suc b → ⊥
+unfolding kindAt
+bracketless p o e = let z : 0 ≡ suc _ = sym (ap (λ (t : Start). bracketsOf (kindFrom t)) o) ∙ e in omega arith
+
+-- of the first n bytes of p
+module _ (p : List ℕ) (n : ℕ) {x : Json} (w : Whole (take n p) x) where
   pub whole-brackets : bracketsOf (kindAt p) ≡ bracketsOf (kindOf x)
-  whole-brackets = ap bracketsOf (whole-kind w)
+  whole-brackets = ap bracketsOf (front-kind n p w)
 
   pub whole-items : bracketsOf (kindAt p) ≡ code "[" → (is : tree.Items) × (x ≡ tree.array is)
   whole-items e = array-value x (sym whole-brackets ∙ e)
@@ -151,7 +159,7 @@ module _ {p : List ℕ} {x : Json} (w : Whole p x) where
   pub no-items : (bracketsOf (kindAt p) ≡ code "[" → ⊥) → (judge : Judge) (numbering : Numbering) (most : ℕ) (σ : Shape) (q : Place) (φ : ℕ) →
       arrayFaults judge numbering most q φ (pick (shape.array numbering most σ) x) ≡ faulty q φ (wrongType ∷ [])
   unfolding pick
-  no-items n judge numbering most σ q φ = go x (λ e. n (whole-brackets ∙ e))
+  no-items other judge numbering most σ q φ = go x (λ e. other (whole-brackets ∙ e))
     where
       go : (y : Json) → (bracketsOf (kindOf y) ≡ code "[" → ⊥) → arrayFaults judge numbering most q φ (pick (shape.array numbering most σ) y) ≡ faulty q φ (wrongType ∷ [])
       go tree.null m = refl
@@ -164,7 +172,7 @@ module _ {p : List ℕ} {x : Json} (w : Whole p x) where
   pub no-members : (bracketsOf (kindAt p) ≡ code "{" → ⊥) → (rows : Rows) (q : Place) (φ : ℕ) →
       faults (shape.object rows) q φ (pick (shape.object rows) x) ≡ faulty q φ (wrongType ∷ [])
   unfolding pick faults
-  no-members n rows q φ = go x (λ e. n (whole-brackets ∙ e))
+  no-members other rows q φ = go x (λ e. other (whole-brackets ∙ e))
     where
       go : (y : Json) → (bracketsOf (kindOf y) ≡ code "{" → ⊥) → faults (shape.object rows) q φ (pick (shape.object rows) y) ≡ faulty q φ (wrongType ∷ [])
       go tree.null m = refl

@@ -4,10 +4,12 @@ use mathlib.Core.List.{List}
 use mathlib.Core.Path.{_≡_, refl, sym, ap, subst, _∙_}
 use Prim.Native.Nat.{ℕ, zero, suc}
 use native.Mathlib.Omega.{arith}
-use lib.ListN.{length}
+use lib.ListN.{length, take}
 use Rattle.json.specs.Tree.{Json}
 use Rattle.text.specs.Text.{same}
 use Rattle.walk.specs.Part.{Whole}
+use Rattle.walk.specs.Front.{Ends}
+use Rattle.walk.proofs.Fronts.{whole-fronts, fronts-whole}
 use Rattle.schema.specs.declared.Range.{Range}
 use Rattle.schema.specs.Shape as shape
 use Rattle.schema.specs.Shape.{Shape, Rows, fileShape}
@@ -56,16 +58,19 @@ file-unlisted (suc (suc (suc (suc (suc zero))))) e x = absurd (omega arith)
 file-unlisted (suc (suc (suc (suc (suc (suc zero)))))) e x = absurd (omega arith)
 file-unlisted (suc (suc (suc (suc (suc (suc (suc file))))))) e x = refl
 
-pub file-listed : {p : List ℕ} {r : Least} {lines : Range} (file : ℕ) → lines ≡ fileLines table23 file → (lines .count ≡ 0 → ⊥) →
-    Object p (lines .first) (lines .count) 0 top levels r → (x : Json) → Whole p x → r ≡ least (fileFaults (fileShape table23 file) x)
+pub file-listed : (p : List ℕ) (e : ℕ) {r : Least} {lines : Range} (file : ℕ) → lines ≡ fileLines table23 file → (lines .count ≡ 0 → ⊥) → Ends p e →
+    Object (take e p) (lines .first) (lines .count) 0 top levels r → (x : Json) → Whole p x → r ≡ least (fileFaults (fileShape table23 file) x)
 unfolding fileFaults inside
-file-listed {p} {r} file at n o x w =
-    go (file-ready file (λ z. n (ap (λ (l : Range). l .count) at ∙ z))) (subst (λ (l : Range). Object p (l .first) (l .count) 0 top levels r) at o)
+file-listed p e {r} file at n ends o x w =
+    go (file-ready file (λ z. n (ap (λ (l : Range). l .count) at ∙ z))) (subst (λ (l : Range). Object (take e p) (l .first) (l .count) 0 top levels r) at o)
   where
-    go : Ready (fileShape table23 file) → Object p (fileLines table23 file .first) (fileLines table23 file .count) 0 top levels r →
+    whole : Whole (take e p) x
+    whole = let f = whole-fronts w in rw (ends .is x (length p) f) (fronts-whole f)
+
+    go : Ready (fileShape table23 file) → Object (take e p) (fileLines table23 file .first) (fileLines table23 file .count) 0 top levels r →
         r ≡ least (fileFaults (fileShape table23 file) x)
     go k o′ =
         let d = file-lined table23 file in
         o′ .is (k .rows) (laid-object table23 (fileLines table23 file .first) (k .rows) (subst (LaidIn table23 (fileLines table23 file .first)) (k .is) (d .laid)))
-        (sym (d .count ∙ ap (λ (σ : Shape). length (inside σ)) (k .is))) (k .readied) x w
+        (sym (d .count ∙ ap (λ (σ : Shape). length (inside σ)) (k .is))) (k .readied) x whole
         ∙ ap (λ (σ : Shape). least (faults σ top 0 (pick σ x))) (sym (k .is))

@@ -5,6 +5,7 @@ use mathlib.Core.Path.{_≡_, refl, sym, ap, subst, _∙_}
 use Prim.Native.Char.{code}
 use Prim.Native.Nat.{ℕ}
 use native.Mathlib.Omega.{arith}
+use lib.ListN.{take}
 use borrow.Author.Tests.{le-ltb}
 use Rattle.notation.specs.Choice.{_⇒_else_}
 use Rattle.word.specs.Kinds.{wrongType}
@@ -53,21 +54,21 @@ module _ (q : Place) (φ : ℕ) where
       ap (faults.lesser (least.Is (fault (q .«record») φ (x .number) (x .kind)))) (least-numbered l) ∙ lesser-at (x .number) (x .kind) (leastFound l)
 
   -- what the first of an array's is, and of what is none
-  pub positions-are : {p : List ℕ} {b : ℕ} {r : LeastFound} → b ≡ bracketsOf (kindAt p) → b ≡ code "[" →
-      ((x : Json) (is : PickedItems) → Whole p x → pick coordinates x ≡ items is → r ≡ leastFound (coordinatesFound is)) →
-      {o : LeastFound} → r ≡ o → (x : Json) → Whole p x → faultAt o ≡ faults.least (coordinateFaults q φ (pick coordinates x))
+  pub positions-are : (p : List ℕ) (n : ℕ) {b : ℕ} {r : LeastFound} → b ≡ bracketsOf (kindAt p) → b ≡ code "[" →
+      ((x : Json) (is : PickedItems) → Whole (take n p) x → pick coordinates x ≡ items is → r ≡ leastFound (coordinatesFound is)) →
+      {o : LeastFound} → r ≡ o → (x : Json) → Whole (take n p) x → faultAt o ≡ faults.least (coordinateFaults q φ (pick coordinates x))
   unfolding coordinates pick
-  positions-are {p} b c h e x w =
-      let m = whole-items w (sym b ∙ c) in
-      let v = subst (Whole p) (m .1) w in
+  positions-are p n b c h e x w =
+      let m = whole-items p n w (sym b ∙ c) in
+      let v = subst (Whole (take n p)) (m .1) w in
       ap faultAt (sym e ∙ h _ _ v refl)
       ∙ sym (least-numbered _)
       ∙ ap (λ (y : Json). faults.least (coordinateFaults q φ (pick coordinates y))) (sym (m .1))
 
-  pub no-positions : {p : List ℕ} {b : ℕ} {r : Least} → b ≡ bracketsOf (kindAt p) → (b ≡ code "[" → ⊥) → r ≡ faults.least (faulty q φ (wrongType ∷ [])) →
-      (x : Json) → Whole p x → r ≡ faults.least (coordinateFaults q φ (pick coordinates x))
+  pub no-positions : (p : List ℕ) (n : ℕ) {b : ℕ} {r : Least} → b ≡ bracketsOf (kindAt p) → (b ≡ code "[" → ⊥) → r ≡ faults.least (faulty q φ (wrongType ∷ [])) →
+      (x : Json) → Whole (take n p) x → r ≡ faults.least (coordinateFaults q φ (pick coordinates x))
   unfolding coordinates pick
-  no-positions b n h x w = h ∙ ap faults.least (go x (λ e. n (b ∙ whole-brackets w ∙ e)))
+  no-positions p n b other h x w = h ∙ ap faults.least (go x (λ e. other (b ∙ whole-brackets p n w ∙ e)))
     where
       go : (y : Json) → (bracketsOf (kindOf y) ≡ code "[" → ⊥) → faulty q φ (wrongType ∷ []) ≡ coordinateFaults q φ (pick coordinates y)
       go tree.null m = refl

@@ -3,10 +3,11 @@ use mathlib.Core.Bool.{Bool, true, false}
 use mathlib.Core.List.{List, [], _∷_}
 use mathlib.Core.Path.{_≡_, refl, sym, ap, subst, _∙_}
 use Prim.Native.Char.{code}
-use Prim.Native.Nat.{ℕ, _+_, _≤_, _<_}
+use Prim.Native.Nat.{ℕ, zero, suc, _+_, _-_, _≤_, _<_}
 use native.Mathlib.Omega.{arith}
-use lib.Dec.{leb}
-use lib.ListN.{length}
+use lib.Dec.{eqb, leb}
+use lib.ListN.{length, getD, take}
+use borrow.Author.Tests.{leb-true}
 use Rattle.notation.specs.Choice.{_⇒_else_}
 use Rattle.word.specs.Kinds.{nameTwice, wrongType}
 use Rattle.json.specs.Tree as tree
@@ -21,25 +22,28 @@ use Rattle.schema.specs.Pick.{Slot, missing, once, given, unlessEmpty, find, ou
 use Rattle.schema.specs.Sound.{distinctRows}
 use Rattle.schema.specs.Table23.{table23}
 use Rattle.schema.proofs.Letters.{IsArray, IsObject, array-letter, object-letter}
-use Rattle.schema.proofs.Tests.{and-right}
+use Rattle.schema.proofs.Tests.{and-left, and-right}
 use Rattle.schema.proofs.Walk.{Laid, laid-object}
 use Rattle.slots.specs.declared.Found.{Found}
 use Rattle.slots.specs.declared.Found.the-variants.{Missing, Once, Twice}
+use Rattle.slots.specs.declared.Slots.{Slots}
 use Rattle.slots.specs.Found.{foundIn, treeIn}
 use Rattle.slots.specs.Rows.{lineCount, mostRows, namesIn}
+use Rattle.slots.specs.Slots.{slotAt}
 use Rattle.slots.specs.Blank.{blankText}
+use Rattle.slots.proofs.Filled.{slot-missing, slot-once, slot-twice}
 use Rattle.slots.proofs.Finds.{find-found, found-value}
 use Rattle.slots.proofs.Picks.{unless-blank}
 use Rattle.fault.specs.declared.Least.{Least}
 use Rattle.fault.specs.Fault.{least}
-use Rattle.fault.proofs.Order.{true-false}
+use Rattle.fault.proofs.Order.{by-test, true-false}
 use Rattle.scalar.specs.Scalars.{kindsOf}
 use Rattle.scalar.specs.Listed.{listed}
 use Rattle.judge.specs.declared.Place.{Place}
 use Rattle.judge.specs.Faults.{faulty, absence, faults}
 use Rattle.judge.specs.Ready.{under, ready, readyRows}
-use Rattle.judge.specs.Judged.{bracketsOf, absenceOf, memberFaults, Told, Single, Array, Member, Row, Object}
-use Rattle.judge.proofs.Lines.{how-many, line-field, line-need, line-value, row-told, no-members}
+use Rattle.judge.specs.Judged.{bracketsOf, absenceOf, memberFaults, rowLeast, Told, Single, Array, Member, MembersJudged, Object}
+use Rattle.judge.proofs.Lines.{how-many, line-field, line-need, line-value, row-told, whole-members, no-members}
 
 -- a single value
 
@@ -144,14 +148,19 @@ module _ {p : List ℕ} {i : ℕ} {q : Place} {level : ℕ} {r : Least} {line : 
       s .is σ (subst (λ (m : ℕ). Told i m σ) (sym (ap (λ (m : Line). m .value) at)) (row-told i field need name σ rows l)) v e x w
       ∙ ap (λ (φ : ℕ). least (faults σ q φ (pick σ x))) (line-field i field need name σ rows l)
 
--- a row, by what is found under its name
+-- a row of the object p, with what is found under its name
+pub record Row (p : List ℕ) (found : Found) (i : ℕ) (q : Place) (level : ℕ) (r : Least) : Type 0 where
+  pub is : (field : ℕ) (need : Need) (name : List ℕ) (σ : Shape) (rows : Rows) → Laid table23 i (shape.row field need name σ rows) →
+      ready σ level ≡ true → (ms : Members) → Whole p (Json.object ms) → found ≡ foundIn p name →
+      r ≡ least (memberFaults need σ q field (given (find name ms)))
+
 given-found : {p : List ℕ} {found o : Found} (name : List ℕ) (ms : Members) → Whole p (Json.object ms) → found ≡ foundIn p name → found ≡ o →
     given (find name ms) ≡ given (treeIn p o)
 given-found {p} name ms w f e = ap given (find-found p name w ∙ ap (treeIn p) (sym f ∙ e))
 
 module _ {p : List ℕ} {found : Found} {i : ℕ} {q : Place} {level : ℕ} {r : Least} where
   module _ {line : Line} (at : line ≡ lineAt table23 i) where
-    pub row-missing : found ≡ Missing → r ≡ least (faulty q (line .field) (absenceOf (line .need))) → Row p found i q level r
+    row-missing : found ≡ Missing → r ≡ least (faulty q (line .field) (absenceOf (line .need))) → Row p found i q level r
     row-missing g h =
         record {
           is = λ field need name σ rows l e ms w f.
@@ -159,7 +168,7 @@ module _ {p : List ℕ} {found : Found} {i : ℕ} {q : Place} {level : ℕ} {r :
               ∙ sym (ap (λ (o : Slot Json). least (memberFaults need σ q field o)) (given-found name ms w f g));
         }
 
-    pub row-twice : found ≡ Twice → r ≡ least (faulty q (line .field) (nameTwice ∷ [])) → Row p found i q level r
+    row-twice : found ≡ Twice → r ≡ least (faulty q (line .field) (nameTwice ∷ [])) → Row p found i q level r
     row-twice g h =
         record {
           is = λ field need name σ rows l e ms w f.
@@ -167,13 +176,27 @@ module _ {p : List ℕ} {found : Found} {i : ℕ} {q : Place} {level : ℕ} {r :
               ∙ sym (ap (λ (o : Slot Json). least (memberFaults need σ q field o)) (given-found name ms w f g));
         }
 
-  pub row-once : {from upto : ℕ} → found ≡ Once from upto → Member (part p from upto) i q level r → Row p found i q level r
+  row-once : {from upto : ℕ} → found ≡ Once from upto → Member (part p from upto) i q level r → Row p found i q level r
   row-once {from} {upto} g m =
       record {
         is = λ field need name σ rows l e ms w f.
             m .is field need name σ rows l e (treeOf (part p from upto)) (found-value p name from upto (sym f ∙ g) .whole)
             ∙ sym (ap (λ (o : Slot Json). least (memberFaults need σ q field o)) (given-found name ms w f g));
       }
+
+-- by how often its name was met
+pub row-judged : (p : List ℕ) (s : Slots) (row i : ℕ) (q : Place) (level : ℕ) (value : Least) {line : Line} {r : Least} → line ≡ lineAt table23 i → row < mostRows →
+    r ≡ rowLeast (getD (s .state) row 0) value line q → ((from upto : ℕ) → slotAt s row ≡ Once from upto → Member (part p from upto) i q level value) →
+    Row p (slotAt s row) i q level r
+row-judged p s row i q level value {line} {r} at h e kept =
+    by-test (eqb (getD (s .state) row 0) 0) (λ t. row-missing at (slot-missing s row h t) (rw t at e))
+    (λ t. by-test (eqb (getD (s .state) row 0) 1)
+    (λ u. let k = slot-once s row h t u in let v : r ≡ value = rw (t, u) at e in row-once k (rw v (kept _ _ k)))
+    (λ u. row-twice at (slot-twice s row h t u) (rw (t, u) at e)))
+
+under-less : (level : ℕ) → (level ≡ 0 → ⊥) → (test : ℕ → Bool) → under level test ≡ true → test (level - 1) ≡ true
+under-less zero n test e = absurd (n refl)
+under-less (suc l) n test e = let z : suc l - 1 ≡ l = omega arith in rw z e
 
 -- an object: lines that are not there, and what is no object
 module _ {p : List ℕ} {first count field : ℕ} {q : Place} {level : ℕ} {r : Least} where
@@ -189,5 +212,26 @@ module _ {p : List ℕ} {first count field : ℕ} {q : Place} {level : ℕ} {r :
   pub object-past : lineCount < first + count → Object p first count field q level r
   object-past h = record { is = λ rows l c e x w. absurd (omega (arith, l .fits, how-many)) }
 
-  pub object-other : {b : ℕ} → b ≡ bracketsOf (kindAt p) → (b ≡ code "{" → ⊥) → r ≡ least (faulty q field (wrongType ∷ [])) → Object p first count field q level r
-  object-other b n h = record { is = λ rows l c e x w. h ∙ sym (ap least (no-members w (λ k. n (b ∙ k)) rows q field)) }
+module _ (p : List ℕ) (n first count field : ℕ) (q : Place) (level : ℕ) {r : Least} {b : ℕ} (by : b ≡ bracketsOf (kindAt p)) where
+  pub object-other : (b ≡ code "{" → ⊥) → r ≡ least (faulty q field (wrongType ∷ [])) → Object (take n p) first count field q level r
+  object-other other h = record { is = λ rows l c e x w. h ∙ sym (ap least (no-members p n w (λ k. other (by ∙ k)) rows q field)) }
+
+  -- and what is one
+  pub object-members : (level ≡ 0 → ⊥) → b ≡ code "{" → MembersJudged (take n p) first count q (level - 1) r → Object (take n p) first count field q level r
+  unfolding ready faults pick
+  object-members some o j =
+      record {
+        is = λ rows l c e x w.
+            let m = whole-members p n w (sym by ∙ o) in
+            let few = and-right (distinctRows rows) _ e in
+            j .is rows
+            (record {
+              laid = l;
+              lines = c;
+              distinct = and-left (distinctRows rows) _ e;
+              few = leb-true (length (namesIn rows)) mostRows (and-left (leb (length (namesIn rows)) mostRows) _ few);
+              readied = under-less level some (λ k. readyRows rows k) (and-right (leb (length (namesIn rows)) mostRows) _ few);
+            })
+            (m .0) (subst (Whole (take n p)) (m .1) w)
+            ∙ ap (λ (y : Json). least (faults (shape.object rows) q field (pick (shape.object rows) y))) (sym (m .1));
+      }

@@ -1,32 +1,37 @@
 -- What each function of the judge answers: the least fault of a part of the file, wherever the table's lines tell of that part.
-use mathlib.Core.Bool.{Bool, true, false}
+use mathlib.Core.Bool.{true}
 use mathlib.Core.List.{List, [], _∷_}
 use mathlib.Core.Path.{_≡_}
 use Prim.Native.Char.{code}
-use Prim.Native.Nat.{ℕ, _+_, _<_}
+use Prim.Native.Nat.{ℕ, _+_, _≤_, _<_}
 use lib.Dec.{eqb}
-use lib.ListN.{length}
+use lib.ListN.{length, getD}
 use Rattle.notation.specs.Choice.{_⇒_else_}
 use Rattle.word.specs.Kinds.{nameTwice, missing as absent}
 use Rattle.json.specs.Tree.{Json, Members}
 use Rattle.walk.specs.declared.ValueKind.{ValueKind}
 use Rattle.walk.specs.declared.ValueKind.the-variants as kind
+use Rattle.walk.specs.Walk.{part}
 use Rattle.walk.specs.Part.{Whole}
+use Rattle.schema.specs.declared.Line.{Line}
 use Rattle.schema.specs.Shape as shape
 use Rattle.schema.specs.Shape.{Shape, Rows, Need, Numbering}
 use Rattle.schema.specs.Line.{inside, valueLetter, shapeWords, wordsAt, lineAt}
-use Rattle.schema.specs.Pick.{Slot, missing, once, twice, find, given, unlessEmpty, pick}
+use Rattle.schema.specs.Pick.{Slot, missing, once, twice, unlessEmpty, pick, pickRows}
+use Rattle.schema.specs.Sound.{distinctRows}
 use Rattle.schema.specs.Table23.{table23}
 use Rattle.schema.proofs.Walk.{Laid, LaidIn, linesIn}
-use Rattle.slots.specs.declared.Found.{Found}
-use Rattle.slots.specs.Found.{foundIn}
-use Rattle.slots.specs.Rows.{lineCount}
+use Rattle.slots.specs.declared.Found.the-variants.{Once}
+use Rattle.slots.specs.declared.Slots.{Slots}
+use Rattle.slots.specs.Rows.{lineCount, mostRows, namesIn, lineNames, rowLine}
+use Rattle.slots.specs.Slots.{slotsOf, slotAt, gathered}
 use Rattle.fault.specs.declared.Fault.{Fault}
 use Rattle.fault.specs.declared.Least.{Least}
+use Rattle.fault.specs.declared.Least.the-variants.{None}
 use Rattle.fault.specs.Fault.{least}
 use Rattle.judge.specs.declared.Place.{Place}
-use Rattle.judge.specs.Faults.{faulty, absence, faults}
-use Rattle.judge.specs.Ready.{ready}
+use Rattle.judge.specs.Faults.{faulty, absence, faults, rowFaults}
+use Rattle.judge.specs.Ready.{ready, readyRows}
 
 -- the letter of what has brackets, by a value's kind
 abbrev pub bracketsOf : ValueKind → ℕ
@@ -76,11 +81,33 @@ pub record Member (p : List ℕ) (i : ℕ) (q : Place) (level : ℕ) (r : Least)
   pub is : (field : ℕ) (need : Need) (name : List ℕ) (σ : Shape) (rows : Rows) → Laid table23 i (shape.row field need name σ rows) →
       ready σ level ≡ true → (x : Json) → Whole p x → r ≡ least (memberFaults need σ q field (unlessEmpty x))
 
--- a row of the object p, with what is found under its name
-pub record Row (p : List ℕ) (found : Found) (i : ℕ) (q : Place) (level : ℕ) (r : Least) : Type 0 where
-  pub is : (field : ℕ) (need : Need) (name : List ℕ) (σ : Shape) (rows : Rows) → Laid table23 i (shape.row field need name σ rows) →
-      ready σ level ≡ true → (ms : Members) → Whole p (Json.object ms) → found ≡ foundIn p name →
-      r ≡ least (memberFaults need σ q field (given (find name ms)))
+-- what a row breaks first, by how often its name was met, and by what the value breaks that was met first
+abbrev pub rowLeast : ℕ → Least → Line → Place → Least
+rowLeast met value line q =
+    eqb met 0 ⇒ least (faulty q (line .field) (absenceOf (line .need))) else
+    eqb met 1 ⇒ value else least (faulty q (line .field) (nameTwice ∷ []))
+
+-- the columns of rows that begin at line `first`: each row that is met once in the object p has the least of its member
+pub record Kept (p : List ℕ) (first : ℕ) (q : Place) (level : ℕ) (s : Slots) (leasts : List Least) : Type 0 where
+  pub is : (j from upto : ℕ) → j < mostRows → slotAt s j ≡ Once from upto → Member (part p from upto) (rowLine table23 first j) q level (getD leasts j None)
+
+-- rows that the judge can go by, at these lines
+pub record Listed (first count level : ℕ) (rows : Rows) : Type 0 where
+  pub laid : Laid table23 first rows
+  pub lines : linesIn rows ≡ count
+  pub distinct : distinctRows rows ≡ true
+  pub few : length (namesIn rows) ≤ mostRows
+  pub readied : readyRows rows level ≡ true
+
+-- all rows, by the columns that an object's members filled
+pub record RowsJudged (state : List ℕ) (leasts : List Least) (first count : ℕ) (q : Place) (r : Least) : Type 0 where
+  pub is : (p from upto : List ℕ) (level : ℕ) (rows : Rows) → Listed first count level rows → (ms : Members) → Whole p (Json.object ms) →
+      slotsOf state from upto ≡ gathered p (lineNames first count) → Kept p first q level (slotsOf state from upto) leasts →
+      r ≡ least (rowFaults rows q (pickRows rows ms))
+
+-- all of an object's
+pub record MembersJudged (p : List ℕ) (first count : ℕ) (q : Place) (level : ℕ) (r : Least) : Type 0 where
+  pub is : (rows : Rows) → Listed first count level rows → (ms : Members) → Whole p (Json.object ms) → r ≡ least (rowFaults rows q (pickRows rows ms))
 
 pub record Object (p : List ℕ) (first count field : ℕ) (q : Place) (level : ℕ) (r : Least) : Type 0 where
   pub is : (rows : Rows) → Laid table23 first rows → linesIn rows ≡ count → ready (shape.object rows) level ≡ true → (x : Json) → Whole p x →

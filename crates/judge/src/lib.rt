@@ -92,6 +92,12 @@ fn wide(x: u16) -> u32
     x as u32
 }
 
+// What the value at the front of some bytes breaks first, and where it ends; 0 where none stands there.
+pub struct Judged {
+    pub least: Least,
+    pub end: usize,
+}
+
 // So many objects of the table lie in one another at most.
 const LEVELS: u8 = 8;
 
@@ -105,5 +111,6 @@ pub fn judge_file(p: &[u8], file: u8) -> Least
         return Least::None;
     }
     let top = Place { record: 0, sub: 0 };
-    judge_object(p, lines.first, lines.count, 0, top, LEVELS)
+    let judged = judge_object(p, lines.first, lines.count, 0, top, LEVELS);
+    judged.least
 }

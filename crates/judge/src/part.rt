@@ -1,37 +1,48 @@
-// The judge: a value, a member, a row of an object, each by its own bytes. `level` counts the objects that may still open, one inside
-// another, and falls with each. A row's line is looked up once and handed down.
+// The judge: a value, a member, an object, each by the bytes from it on, in one pass: what it breaks first, and where it ends. `level` counts the
+// objects that may still open, one inside another, and falls with each. A row's line is looked up once and handed down.
+use crate::Judged;
 use crate::Place;
 use fault::Fault;
 use fault::Least;
 use fault::lesser;
+use lexeme::blank::skip_blanks;
 use rings::LeastFound;
 use rings::zone::judge_coordinates;
 use scalar::judge_scalar;
 use schema::Line;
 use schema::lines::line_at;
 use schema::lines::line_columns;
-use slots::Found;
-use slots::gather;
-use slots::is_blank_text;
-use slots::slot_in;
-use walk::ItemStep;
+use schema::names::name_bytes;
+use schema::names::name_counts;
+use schema::names::name_firsts;
+use slots::Slots;
+use slots::begins_blank;
+use slots::count_name;
+use slots::is_new;
+use slots::row_of;
+use walk::NameStep;
 use walk::ValueKind;
-use walk::pass_item;
+use walk::closed_end;
+use walk::next_place;
+use walk::pass_name;
+use walk::skip::skip_value;
 use walk::value_kind;
 use word::kind::Kind;
+ghost use mathlib.Core.Bool.{true};
 ghost use mathlib.Core.Path.{_≡_};
-ghost use Prim.Native.Nat.{_≤_};
-ghost use lib.ListN.{length};
+ghost use Prim.Native.Nat.{ℕ, _+_, _≤_};
+ghost use lib.ListN.{length, take};
 ghost use Rattle.limits.specs.Ceilings.{fileBytes};
 ghost use Rattle.json.specs.Tree.{Json};
 ghost use Rattle.walk.specs.Part.{Whole, kindAt};
+ghost use Rattle.walk.specs.Front.{Ends};
 ghost use Rattle.schema.specs.Pick.{pick};
-ghost use Rattle.schema.specs.Line.{lineAt};
+ghost use Rattle.schema.specs.Line.{NameColumns, LineColumns, lineAt};
 ghost use Rattle.schema.specs.Table23.{table23, coordinates};
-ghost use Rattle.slots.specs.Found.{Within};
+ghost use Rattle.slots.specs.Rows.{lineCount};
 ghost use Rattle.fault.specs.Fault.{least};
 ghost use Rattle.judge.specs.Faults.{coordinateFaults};
-ghost use Rattle.judge.specs.Judged.{bracketsOf, Single, Array, Member, Row, Object};
+ghost use Rattle.judge.specs.Judged.{bracketsOf, rowLeast, Single, Array, Member, RowsJudged, MembersJudged, Object};
 
 // The letter of an array or an object, by the kind of the value p; 0 of any other.
 fn brackets(p: &[u8]) -> u8
@@ -53,78 +64,120 @@ fn wide(x: u8) -> usize
     x as usize
 }
 
+// A value that is passed over, with what is known to be broken.
+fn passed(p: &[u8], broken: Least) -> Judged
+    ensures { λ r. ⌜ Ends (now (p .entry)) (r .end) × (r .least ≡ broken) ⌝ }
+{
+    let end = skip_value(p, 0);
+    Judged {
+        least: broken,
+        end: end,
+    }
+}
+
 // The value of field 73: the first of its faults stands at a position's number.
-fn judge_positions(p: &[u8], field: u8, place: Place) -> Least
+fn judge_positions(p: &[u8], field: u8, place: Place) -> Judged
     requires { ⌜ length (now p) ≤ fileBytes ⌝ }
-    ensures { λ r. ⌜ ((x : Json) → Whole (now (p .entry)) x → r ≡ least (coordinateFaults place field (pick coordinates x))) ⌝ }
+    ensures { λ r. ⌜ Ends (now (p .entry)) (r .end) ×
+        ((x : Json) → Whole (take (r .end) (now (p .entry))) x → r .least ≡ least (coordinateFaults place field (pick coordinates x))) ⌝ }
 {
     if brackets(p) != Line::ARRAY {
-        return place.broken(field, Kind::WRONG_TYPE);
+        return passed(p, place.broken(field, Kind::WRONG_TYPE));
     }
-    match judge_coordinates(p) {
+    let end = skip_value(p, 0);
+    match judge_coordinates(&p[..end]) {
         LeastFound::None => {
-            return Least::None;
+            return Judged {
+                least: Least::None,
+                end: end,
+            };
         }
         LeastFound::At(number, kind) => {
-            return Least::Is(Fault {
-                record: place.record,
-                field: field,
-                sub: number,
-                kind: kind,
-            });
+            return Judged {
+                least: Least::Is(Fault {
+                    record: place.record,
+                    field: field,
+                    sub: number,
+                    kind: kind,
+                }),
+                end: end,
+            };
         }
+    }
+}
+
+// A value that is to be neither array nor object.
+fn judge_plain(p: &[u8], letter: u8, i: usize, line: Line, place: Place) -> Judged
+    requires { ⌜ line ≡ lineAt table23 i ⌝ }
+    ensures { λ r. ⌜ Ends (now (p .entry)) (r .end) ×
+        ((level : ℕ) → (letter ≡ 0x7b → ⊥) → Single (take (r .end) (now (p .entry))) letter i place level (r .least)) ⌝ }
+{
+    let end = skip_value(p, 0);
+    let kind = judge_scalar(&p[..end], letter, i);
+    Judged {
+        least: place.broken(line.field, kind),
+        end: end,
     }
 }
 
 // A value that is no array, by its letter; line i tells the rest.
-fn judge_single(p: &[u8], letter: u8, i: usize, line: Line, place: Place, level: u8) -> Least
+fn judge_single(p: &[u8], letter: u8, i: usize, line: Line, place: Place, level: u8) -> Judged
     requires { ⌜ (length (now p) ≤ fileBytes) × (line ≡ lineAt table23 i) ⌝ }
-    ensures { λ r. ⌜ Single (now (p .entry)) letter i place level r ⌝ }
+    ensures { λ r. ⌜ Ends (now (p .entry)) (r .end) × Single (take (r .end) (now (p .entry))) letter i place level (r .least) ⌝ }
 {
     if Line::COUNT <= i {
-        return Least::None;
+        return passed(p, Least::None);
     }
     if letter == Line::OBJECT {
         return judge_object(p, i + 1, wide(line.inside), line.field, place, level);
     }
-    place.broken(line.field, judge_scalar(p, letter, i))
+    judge_plain(p, letter, i, line, place)
 }
 
 // The array of line i: all of its items, and how many they are.
-fn judge_array(p: &[u8], i: usize, line: Line, place: Place, level: u8) -> Least
+fn judge_array(p: &[u8], i: usize, line: Line, place: Place, level: u8) -> Judged
     requires { ⌜ (length (now p) ≤ fileBytes) × (line ≡ lineAt table23 i) ⌝ }
-    ensures { λ r. ⌜ Array (now (p .entry)) i place level r ⌝ }
+    ensures { λ r. ⌜ Ends (now (p .entry)) (r .end) × Array (take (r .end) (now (p .entry))) i place level (r .least) ⌝ }
 {
     if line.numbering == Line::POSITIONS {
         return judge_positions(p, line.field, place);
     }
     if brackets(p) != Line::ARRAY {
-        return place.broken(line.field, Kind::WRONG_TYPE);
+        return passed(p, place.broken(line.field, Kind::WRONG_TYPE));
     }
     let mut least = Least::None;
     let mut n: u32 = 0;
     let mut at: usize = 1;
     loop {
-        let ItemStep::Found(item) = pass_item(p, at) else {
-            return lesser(place.excess(line, n), least);
-        };
+        let value = skip_blanks(p, at);
+        let there = place.item(line.numbering, n + 1);
+        let item = judge_single(&p[value..], line.item, i, line, there, level);
+        if item.end == 0 {
+            return Judged {
+                least: lesser(place.excess(line, n), least),
+                end: closed_end(p, at),
+            };
+        }
         n += 1;
-        let from = item.value;
-        let upto = item.value_end;
-        let there = place.item(line.numbering, n);
-        let r = judge_single(&p[from..upto], line.item, i, line, there, level);
+        let r = item.least;
         least = lesser(least, r);
-        at = item.next;
+        at = next_place(p, value + item.end);
     }
 }
 
-// The value of the member of line i.
-fn judge_member(p: &[u8], i: usize, line: Line, place: Place, level: u8) -> Least
+// The value of the member of line i; it is passed over where its name is not new.
+fn judge_member(p: &[u8], new: bool, i: usize, line: Line, place: Place, level: u8) -> Judged
     requires { ⌜ (length (now p) ≤ fileBytes) × (line ≡ lineAt table23 i) ⌝ }
-    ensures { λ r. ⌜ Member (now (p .entry)) i place level r ⌝ }
+    ensures { λ r. ⌜ Ends (now (p .entry)) (r .end) × (new ≡ true → Member (take (r .end) (now (p .entry))) i place level (r .least)) ⌝ }
 {
-    if is_blank_text(p) {
-        return place.absent(line);
+    if !new {
+        return passed(p, Least::None);
+    }
+    if begins_blank(p) {
+        return Judged {
+            least: place.absent(line),
+            end: 2,
+        };
     }
     if line.value == Line::ARRAY {
         return judge_array(p, i, line, place, level);
@@ -132,20 +185,127 @@ fn judge_member(p: &[u8], i: usize, line: Line, place: Place, level: u8) -> Leas
     judge_single(p, line.value, i, line, place, level)
 }
 
-// The row of line i in the object p, with what was found under its name.
-fn judge_row(p: &[u8], found: Found, i: usize, line: Line, place: Place, level: u8) -> Least
-    requires { ⌜ (length (now p) ≤ fileBytes) × Within (length (now p)) found × (line ≡ lineAt table23 i) ⌝ }
-    ensures { λ r. ⌜ Row (now (p .entry)) found i place level r ⌝ }
+// A least is kept for each row of an object, and one for the names that no row has.
+const KEPT: usize = Slots::ROWS + 1;
+
+// What a row of an object breaks first, by how often its name was met, and by what the value breaks that was met first.
+fn judge_row(met: u8, value: Least, line: Line, place: Place) -> Least
+    ensures { λ r. ⌜ r ≡ rowLeast met value line place ⌝ }
 {
-    match found {
-        Found::Missing => {
-            return place.absent(line);
+    if met == Slots::MISSING {
+        return place.absent(line);
+    }
+    if met == Slots::ONCE {
+        return value;
+    }
+    place.broken(line.field, Kind::NAME_TWICE)
+}
+
+// The rows of an object, `count` lines from `first` on, by the columns that its members filled. The table's columns are lent.
+fn judge_rows<'a>(
+    state: &[u8; Slots::ROWS],
+    leasts: [Least; KEPT],
+    fields: &'a [u8; 92],
+    needs: &'a [u8; 92],
+    values: &'a [u8; 92],
+    items: &'a [u8; 92],
+    numberings: &'a [u8; 92],
+    most: &'a [u16; 92],
+    insides: &'a [u8; 92],
+    first: usize,
+    count: usize,
+    place: Place,
+) -> Least
+    requires { ⌜ LineColumns table23 (now fields) (now needs) (now values) (now items) (now numberings) (now most) (now insides) × (first + count ≤ lineCount) ⌝ }
+    ensures { λ r. ⌜ RowsJudged (now (state .entry)) leasts first count place r ⌝ }
+{
+    let mut least = Least::None;
+    let mut i = first;
+    let mut row: usize = 0;
+    while row < Slots::ROWS {
+        if first + count <= i {
+            return least;
         }
-        Found::Once(from, upto) => {
-            return judge_member(&p[from..upto], i, line, place, level);
-        }
-        Found::Twice => {
-            return place.broken(line.field, Kind::NAME_TWICE);
+        let line = line_at(fields, needs, values, items, numberings, most, insides, i);
+        let met = state[row];
+        let value = leasts[row];
+        least = lesser(least, judge_row(met, value, line, place));
+        i = i + 1 + wide(line.inside);
+        row += 1;
+    }
+    least
+}
+
+// The members of an object, each judged where it is met, by the row that lists it; then the rows. The table's columns are lent.
+fn judge_members<'a>(
+    p: &[u8],
+    bytes: &[u8],
+    firsts: &[u16; 92],
+    counts: &[u8; 92],
+    fields: &'a [u8; 92],
+    needs: &'a [u8; 92],
+    values: &'a [u8; 92],
+    items: &'a [u8; 92],
+    numberings: &'a [u8; 92],
+    most: &'a [u16; 92],
+    insides: &'a [u8; 92],
+    first: usize,
+    count: usize,
+    place: Place,
+    level: u8,
+) -> Judged
+    requires { ⌜ (length (now p) ≤ fileBytes) × (first + count ≤ lineCount) × (bracketsOf (kindAt (now p)) ≡ 0x7b) × NameColumns table23 (now bytes) (now firsts) (now counts) ×
+        LineColumns table23 (now fields) (now needs) (now values) (now items) (now numberings) (now most) (now insides) ⌝ }
+    ensures { λ r. ⌜ Ends (now (p .entry)) (r .end) × MembersJudged (take (r .end) (now (p .entry))) first count place level (r .least) ⌝ }
+{
+    let none = Least::None;
+    let mut state: [u8; Slots::ROWS] = [Slots::MISSING; Slots::ROWS];
+    let mut leasts: [Least; KEPT] = [none; KEPT];
+    let mut at: usize = 1;
+    loop {
+        match pass_name(p, at) {
+            NameStep::End => {
+                return Judged {
+                    least: judge_rows(
+                        &state,
+                        leasts,
+                        fields,
+                        needs,
+                        values,
+                        items,
+                        numberings,
+                        most,
+                        insides,
+                        first,
+                        count,
+                        place,
+                    ),
+                    end: closed_end(p, at),
+                };
+            }
+            NameStep::Found(m) => {
+                let name = m.name;
+                let name_end = m.name_end;
+                let value = m.value;
+                let found = row_of(
+                    bytes,
+                    firsts,
+                    counts,
+                    insides,
+                    &p[name..name_end],
+                    first,
+                    count,
+                );
+                let row = found.row;
+                let i = found.line;
+                let line = line_at(fields, needs, values, items, numberings, most, insides, i);
+                let new = is_new(&state, row);
+                let judged = judge_member(&p[value..], new, i, line, place, level);
+                count_name(&mut state, row);
+                let least = judged.least;
+                leasts[row] = least;
+                at = next_place(p, value + judged.end);
+            }
         }
     }
 }
@@ -158,42 +318,41 @@ pub fn judge_object(
     field: u8,
     place: Place,
     level: u8,
-) -> Least
+) -> Judged
     requires { ⌜ length (now p) ≤ fileBytes ⌝ }
-    ensures { λ r. ⌜ Object (now (p .entry)) first count field place level r ⌝ }
+    ensures { λ r. ⌜ Ends (now (p .entry)) (r .end) × Object (take (r .end) (now (p .entry))) first count field place level (r .least) ⌝ }
 {
     if level == 0 {
-        return Least::None;
+        return passed(p, Least::None);
     }
     if Line::COUNT < first {
-        return Least::None;
+        return passed(p, Least::None);
     }
     if Line::COUNT - first < count {
-        return Least::None;
+        return passed(p, Least::None);
     }
     if brackets(p) != Line::OBJECT {
-        return place.broken(field, Kind::WRONG_TYPE);
+        return passed(p, place.broken(field, Kind::WRONG_TYPE));
     }
-    let slots = gather(p, first, count);
+    let bytes = name_bytes();
+    let firsts = name_firsts();
+    let counts = name_counts();
     let table = line_columns();
-    let mut least = Least::None;
-    let mut i = first;
-    let mut row: usize = 0;
-    while i < first + count {
-        let line = line_at(
-            &table.fields,
-            &table.needs,
-            &table.values,
-            &table.items,
-            &table.numberings,
-            &table.most,
-            &table.insides,
-            i,
-        );
-        let found = slot_in(&slots.state, &slots.from, &slots.upto, row);
-        least = lesser(least, judge_row(p, found, i, line, place, level - 1));
-        i = i + 1 + wide(line.inside);
-        row += 1;
-    }
-    least
+    judge_members(
+        p,
+        &bytes,
+        &firsts,
+        &counts,
+        &table.fields,
+        &table.needs,
+        &table.values,
+        &table.items,
+        &table.numberings,
+        &table.most,
+        &table.insides,
+        first,
+        count,
+        place,
+        level - 1,
+    )
 }

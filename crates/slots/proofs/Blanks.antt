@@ -6,27 +6,33 @@ use mathlib.Core.Path.{_≡_, refl, sym, ap, _∙_}
 use Prim.Native.Nat.{ℕ, zero, suc, _-_, _<_}
 use native.Mathlib.Omega.{arith}
 use lib.Dec.{eqb}
-use lib.ListN.{length, getD, length-append, length-take}
-use borrow.Author.Tests.{eq-eqb}
+use lib.ListN.{length, getD, drop, take, length-append, length-take}
+use borrow.Author.Tests.{eq-eqb, eqb-true}
 use Rattle.limits.specs.Ceilings.{depth}
 use Rattle.lexeme.specs.declared.Char.{Char}
 use Rattle.lexeme.specs.declared.Next.{Next}
 use Rattle.lexeme.specs.declared.Next.the-variants.{Quote, Character, Fault}
 use Rattle.lexeme.specs.Read.{made}
 use Rattle.lexeme.specs.Read.Read.{done}
-use Rattle.lexeme.specs.Character.{paired, bytesOf, next}
+use Rattle.lexeme.specs.Character.{paired, byte, bytesOf, next}
 use Rattle.lexeme.specs.Strings.{string, decoded}
 use Rattle.lexeme.specs.Tokens.{Start, start}
-use Rattle.lexeme.proofs.Steps.{by-test, bad-done, done-rest, made-done, no-cons, string-quote, string-fault, string-character, string-empty}
+use Rattle.lexeme.proofs.Rests.{first-byte}
+use Rattle.lexeme.proofs.Steps.{by-test, true-false, bad-done, done-rest, made-done, no-cons, string-quote, string-fault, string-character, string-empty}
 use Rattle.lexeme.proofs.Starts.{string-byte}
+use Rattle.lexeme.proofs.Takes.{string-spelled}
 use Rattle.text.proofs.Whole.{next-whole}
 use Rattle.json.specs.Tree as tree
 use Rattle.json.specs.Tree.{Json}
 use Rattle.json.specs.Text.{value, valueBy, valueAt}
 use Rattle.walk.specs.declared.ValueKind.the-variants as kind
 use Rattle.walk.specs.Part.{Whole, kindOf, kindFrom, kindAt}
-use Rattle.walk.proofs.Wholes.{whole-kind, whole-string, whole-some}
-use Rattle.slots.specs.Blank.{blankText}
+use Rattle.walk.specs.Skip.{skipped}
+use Rattle.walk.proofs.Quotes.{quoted-mark}
+use Rattle.walk.proofs.Skips.{skipped-string}
+use Rattle.walk.proofs.Wholes.{whole-kind, string-read, whole-string, whole-some}
+use Rattle.walk.proofs.Fronts.{skip-ends}
+use Rattle.slots.specs.Blank.{blankText, BeginsBlank}
 
 -- the first byte of a text
 string-start : (t : Start) → kindFrom t ≡ kind.String → t ≡ Start.string
@@ -106,3 +112,59 @@ module _ {p : List ℕ} where
   short-blank (tree.string (b ∷ s)) w h = no-cons (sym (two-blank h w))
   short-blank (tree.array is) w h = unquoted (λ k. let z : _≡_ {A = ℕ} 0 1 = cc in omega arith) w
   short-blank (tree.object ms) w h = unquoted (λ k. let z : _≡_ {A = ℕ} 0 1 = cc in omega arith) w
+
+-- at the front of bytes: both marks stand there
+
+closing-mark : (l : List ℕ) → length l ≡ 1 → string paired 0 l ≡ done [] [] → byte l 0 ≡ 0x22
+closing-mark l n e = let s = string-spelled paired 0 l [] [] e in ap (λ (z : List ℕ). byte z 0) (s .splits) ∙ only (s .part) (omega (arith, ap length (s .splits), length-append (s .part) (0x22 ∷ [])))
+  where
+    only : (q : List ℕ) → length q ≡ 0 → byte (q ++ (0x22 ∷ [])) 0 ≡ 0x22
+    only [] h = refl
+    only (b ∷ q) h = absurd (omega arith)
+
+record Marks (p : List ℕ) : Type 0 where
+  opening : byte p 0 ≡ 0x22
+  closing : byte p 1 ≡ 0x22
+
+marked : (n : ℕ) (p : List ℕ) → Whole (take n p) (Json.string []) → Marks p
+marked zero p w = absurd (omega (arith, whole-some w))
+marked (suc n) [] w = absurd (omega (arith, whole-some w))
+marked (suc zero) (a ∷ p) w = absurd (omega (arith, blank-two w))
+marked (suc (suc n)) (a ∷ []) w = absurd (omega (arith, blank-two w))
+marked (suc (suc n)) (a ∷ b ∷ p) w =
+    record { opening = string-byte a (text-start w); closing = closing-mark (b ∷ take n p) (omega (arith, blank-two w)) (string-read w) }
+
+-- so no value is that text where they do not
+unmarked : (p : List ℕ) → (Marks p → ⊥) → BeginsBlank p false
+unmarked p none = record { ends = λ e. true-false e refl; is = λ e. true-false e refl; not = λ e n x w. go n x w }
+  where
+    go : (n : ℕ) (x : Json) → Whole (take n p) x → false ≡ blankText x
+    go n tree.null w = refl
+    go n (tree.boolean b) w = refl
+    go n (tree.number s) w = refl
+    go n (tree.string []) w = absurd (none (marked n p w))
+    go n (tree.string (b ∷ s)) w = refl
+    go n (tree.array is) w = refl
+    go n (tree.object ms) w = refl
+
+both-marks : (p : List ℕ) → Marks p → BeginsBlank p true
+both-marks [] m = absurd (omega (arith, m .opening))
+both-marks (a ∷ []) m = absurd (omega (arith, m .closing))
+both-marks (a ∷ b ∷ p) m =
+    let e : skipped (a ∷ b ∷ p) ≡ p = skipped-string a (b ∷ p) (start-quote a (eq-eqb a 0x22 (m .opening))) ∙ quoted-mark p (m .closing) in
+    record {
+      ends = λ t. skip-ends (a ∷ b ∷ p) 2 (omega (arith, ap length e));
+      is = λ t x w. sym (eq-eqb a 0x22 (m .opening)) ∙ short-blank x w refl;
+      not = λ t. true-false refl t;
+    }
+
+-- by the two bytes, as the code reads them
+module _ (p : List ℕ) (a : ℕ) (first : a ≡ byte p 0) where
+  pub other-first : (a ≡ 0x22 → ⊥) → BeginsBlank p false
+  other-first n = unmarked p (λ m. n (first ∙ m .opening))
+
+  pub by-second : (b : ℕ) → b ≡ byte (drop 1 p) 0 → a ≡ 0x22 → BeginsBlank p (eqb b 0x22)
+  by-second b second e =
+      by-test (eqb b 0x22)
+      (λ t. rw t (both-marks p (record { opening = sym first ∙ e; closing = first-byte p 1 ∙ sym second ∙ eqb-true b 0x22 t })))
+      (λ t. rw t (unmarked p (λ m. true-false (eq-eqb b 0x22 (second ∙ sym (first-byte p 1) ∙ m .closing)) t)))

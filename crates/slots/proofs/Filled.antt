@@ -1,6 +1,6 @@
 -- One pass fills every slot: a member goes to the row of its name and leaves the other slots as they were, so each slot counts the members of
 -- its own row's name. The places in the slots are in the text, whatever the rows.
-use mathlib.Core.Bool.{true, false}
+use mathlib.Core.Bool.{Bool, true, false}
 use mathlib.Core.List.{List, [], _∷_, foldl}
 use mathlib.Core.Path.{_≡_, refl, sym, ap, subst, _∙_}
 use Prim.Native.Nat.{ℕ, zero, suc, _+_, _≤_, _<_}
@@ -18,12 +18,16 @@ use Rattle.walk.specs.declared.Member.{Member}
 use Rattle.walk.specs.Walk.{membersOf}
 use Rattle.walk.specs.Part.{Whole}
 use Rattle.walk.proofs.Parts.{nameOf}
+use Rattle.schema.specs.Shape.{Rows}
+use Rattle.schema.specs.Sound.{distinctRows}
+use Rattle.schema.specs.Table23.{table23}
+use Rattle.schema.proofs.Walk.{Laid, linesIn}
 use Rattle.slots.specs.declared.Found.{Found}
 use Rattle.slots.specs.declared.Found.the-variants.{Missing, Once, Twice}
 use Rattle.slots.specs.declared.Slots.{Slots}
 use Rattle.slots.specs.Found.{oneMore, noted, foundIn, Within}
 use Rattle.slots.specs.Rows.{mostRows, namesIn, lineNames, rowNamed}
-use Rattle.slots.specs.Slots.{slotsOf, empty, slotAt, putIn, absorbed, gathered, Gathered}
+use Rattle.slots.specs.Slots.{slotsOf, empty, slotAt, newAt, countedIn, putIn, absorbed, gathered, Gathered}
 use Rattle.slots.proofs.Named.{Apart, distinct-apart, names-laid, named-by, named-else}
 
 -- a slot by its state
@@ -65,14 +69,34 @@ module _ (s : Slots) (row from upto : ℕ) where
   unfolding putIn
   put-again h e = rw (putIn, lt-ltb row mostRows h, e)
 
+-- a name that is met once more
+module _ (state : List ℕ) (row : ℕ) where
+  pub counted-past : mostRows ≤ row → countedIn state row ≡ state
+  unfolding countedIn
+  counted-past h = rw (countedIn, le-ltb row mostRows h)
+
+  pub counted-here : row < mostRows → countedIn state row ≡ set state row (eqb (getD state row 0) 0 ⇒ 1 else 2)
+  unfolding countedIn
+  counted-here h = rw (countedIn, lt-ltb row mostRows h)
+
+-- is counted as a value more
+pub put-counts : (s : Slots) (row from upto : ℕ) → countedIn (s .state) row ≡ putIn s row from upto .state
+put-counts s row from upto =
+    by-test (ltb row mostRows) (λ t.
+    let h : row < mostRows = ltb-true row mostRows t in
+    by-test (eqb (getD (s .state) row 0) 0)
+    (λ e. rw (put-first s row from upto h e, counted-here (s .state) row h, e))
+    (λ e. rw (put-again s row from upto h e, counted-here (s .state) row h, e)))
+    (λ t. let h : mostRows ≤ row = ltb-false row mostRows t in rw (put-past s row from upto h, counted-past (s .state) row h))
+
 -- the three columns have a place for each row
-record Sized (s : Slots) : Type 0 where
+pub record Sized (s : Slots) : Type 0 where
   state : length (s .state) ≡ mostRows
   from : length (s .from) ≡ mostRows
   upto : length (s .upto) ≡ mostRows
 
 module _ (s : Slots) (row from upto : ℕ) (z : Sized s) where
-  put-sized : Sized (putIn s row from upto)
+  pub put-sized : Sized (putIn s row from upto)
   put-sized =
       by-test (ltb row mostRows) (λ t.
       let h : row < mostRows = ltb-true row mostRows t in
@@ -105,6 +129,36 @@ module _ (s : Slots) (row from upto : ℕ) (z : Sized s) where
       (λ e. rw (put-again s row from upto h e) (simp (slotAt, getD-set-other))))
       (λ t. rw (put-past s row from upto (ltb-false row mostRows t)))
 
+-- a slot that holds one value after a put: it was put there, as the first of its row, or was there before
+pub data Put (s : Slots) (row from upto j a e : ℕ) : Type 0 where
+  here : j ≡ row → newAt (s .state) row ≡ true → a ≡ from → e ≡ upto → Put s row from upto j a e
+  there : (j ≡ row → ⊥) → slotAt s j ≡ Once a e → Put s row from upto j a e
+
+module _ (s : Slots) (row from upto : ℕ) (z : Sized s) where
+  new-row : row < mostRows → slotAt s row ≡ Missing → newAt (s .state) row ≡ true
+  new-row h m =
+      by-test (eqb (getD (s .state) row 0) 0) (λ e. rw (lt-ltb row mostRows h, e))
+      (λ e. by-test (eqb (getD (s .state) row 0) 1)
+      (λ f. let k = slot-once s row h e f in let n : _≡_ {A = ℕ} 0 1 = cc (m, k) in absurd (omega arith))
+      (λ f. let k = slot-twice s row h e f in let n : _≡_ {A = ℕ} 0 1 = cc (m, k) in absurd (omega arith)))
+
+  pub put-once : (j a e : ℕ) → slotAt (putIn s row from upto) j ≡ Once a e → Put s row from upto j a e
+  put-once j a e h = elim (ℕ-discrete j row) [ yes d ↦ in-row d (ltb row mostRows) refl | no d ↦ there d (sym (put-other s row from upto z j d) ∙ h) ]
+    where
+      by-slot : j ≡ row → row < mostRows → (o : Found) → slotAt s row ≡ o → oneMore o from upto ≡ Once a e → Put s row from upto j a e
+      by-slot d k Missing m i = let b : a ≡ from = cc in let f : e ≡ upto = cc in here d (new-row k m) b f
+      by-slot d k (Once b f) m i = let n : _≡_ {A = ℕ} 0 1 = cc in absurd (omega arith)
+      by-slot d k Twice m i = let n : _≡_ {A = ℕ} 0 1 = cc in absurd (omega arith)
+
+      in-row : j ≡ row → (t : Bool) → ltb row mostRows ≡ t → Put s row from upto j a e
+      in-row d true t =
+          let k : row < mostRows = ltb-true row mostRows t in
+          by-slot d k (slotAt s row) refl (sym (put-same s row from upto z k) ∙ ap (slotAt (putIn s row from upto)) (sym d) ∙ h)
+      in-row d false t =
+          let k : mostRows ≤ row = ltb-false row mostRows t in
+          let past = slot-past (putIn s row from upto) j (omega arith) in
+          let n : _≡_ {A = ℕ} 0 1 = cc (h, past) in absurd (omega arith)
+
 -- a member of the name x, among rows of these names
 module _ (names : List (List ℕ)) (apart : Apart names) (few : length names ≤ mostRows) (j : ℕ) (h : j < length names) where
   absorb-one : (x : List ℕ) (s : Slots) (from upto : ℕ) → Sized s
@@ -124,7 +178,7 @@ module _ (names : List (List ℕ)) (apart : Apart names) (few : length names ≤
       fold-filled p ms (absorbed p names s m) (put-sized s _ (m .value) (m .«value_end») z)
       ∙ ap (λ (o : Found). foldl (noted p (getD names j [])) o ms) (absorb-one (nameOf p m) s (m .value) (m .«value_end») z)
 
-empty-sized : Sized empty
+pub empty-sized : Sized empty
 empty-sized = record { state = refl; from = refl; upto = refl }
 
 zeros : (n i : ℕ) → _≡_ {A = ℕ} (getD (replicate n 0) i 0) 0
@@ -132,7 +186,7 @@ zeros zero i = refl
 zeros (suc n) zero = refl
 zeros (suc n) (suc i) = zeros n i
 
-empty-missing : (j : ℕ) → slotAt empty j ≡ Missing
+pub empty-missing : (j : ℕ) → slotAt empty j ≡ Missing
 empty-missing j =
     by-test (ltb j mostRows)
     (λ t. slot-missing empty j (ltb-true j mostRows t) (ap (λ (n : ℕ). eqb n 0) (zeros mostRows j)))
@@ -144,6 +198,10 @@ unfolding gathered foundIn
 filled p names apart few j h =
     fold-filled names apart few j h p (membersOf p) empty empty-sized
     ∙ ap (λ (o : Found). foldl (noted p (getD names j [])) o (membersOf p)) (empty-missing j)
+
+pub gathered-slot : (p : List ℕ) (first count : ℕ) (rows : Rows) → Laid table23 first rows → linesIn rows ≡ count → distinctRows rows ≡ true
+    → length (namesIn rows) ≤ mostRows → (j : ℕ) → j < length (namesIn rows) → slotAt (gathered p (lineNames first count)) j ≡ foundIn p (getD (namesIn rows) j [])
+gathered-slot p first count rows l c d few j h = rw (names-laid rows first count l c few) (filled p (namesIn rows) (distinct-apart rows d) few j h)
 
 -- places that are in n bytes, in each slot
 pub record Kept (n : ℕ) (s : Slots) : Type 0 where
@@ -177,6 +235,6 @@ pub gathers : (p : List ℕ) (first count : ℕ) (s : Slots) → Kept (length p)
 gathers p first count s k e =
     record {
       slot = λ {ms} w rows l c d few j h.
-          rw (e ms w, names-laid rows first count l c few) (filled p (namesIn rows) (distinct-apart rows d) few j h);
+          rw (e ms w) (gathered-slot p first count rows l c d few j h);
       inside = k .inside;
     }

@@ -19,7 +19,7 @@ use Rattle.schema.specs.Line.{lineAt, nameAt, insidesOf, entries, entriesOf, la
 use Rattle.schema.specs.Table23.{table23, written23}
 use Rattle.schema.proofs.Tests.{and-left, and-right}
 use Rattle.schema.proofs.Walk.{Laid, linesIn, step}
-use Rattle.slots.specs.Rows.{lineCount, mostRows, namesIn, namesAt, lineNames, rowNamed}
+use Rattle.slots.specs.Rows.{lineCount, mostRows, namesIn, namesAt, lineNames, rowNamed, rowLine}
 
 -- Lines.
 
@@ -148,3 +148,12 @@ module _ (t : Table) (x : List ℕ) (end row i : ℕ) where
 
     pub row-next : same x (nameAt t i) ≡ false → rowFrom t x end (row + 1) (i + 1 + lineAt t i .inside) ≡ rowFrom t x end row i
     row-next e = sym (rw at-line (named-later x (nameAt t i) (namesAt t end (mostRows - (row + 1)) (i + 1 + lineAt t i .inside)) row e))
+
+-- the line of the next row
+pub row-line-next : (t : Table) (i j : ℕ) → rowLine t i (j + 1) ≡ rowLine t i j + 1 + lineAt t (rowLine t i j) .inside
+unfolding rowLine
+row-line-next t i j = let z : j + 1 ≡ suc j = omega arith in ap (rowLine t i) z
+
+pub row-line-first : (t : Table) (i : ℕ) → rowLine t i 0 ≡ i
+unfolding rowLine
+row-line-first t i = refl

@@ -19,10 +19,11 @@ use Rattle.schema.proofs.Walk.{Laid, linesIn}
 use Rattle.slots.specs.declared.Found.the-variants.{Once}
 use Rattle.slots.specs.declared.Slots.{Slots}
 use Rattle.slots.specs.Found.{foundIn, treeIn}
-use Rattle.slots.specs.Rows.{mostRows, namesIn}
-use Rattle.slots.specs.Slots.{slotAt, Gathered}
+use Rattle.slots.specs.Rows.{mostRows, namesIn, lineNames}
+use Rattle.slots.specs.Slots.{slotAt, gathered, Gathered}
 use Rattle.slots.specs.Blank.{blankText}
 use Rattle.slots.proofs.Finds.{find-found}
+use Rattle.slots.proofs.Filled.{gathered-slot}
 
 -- the slots from k on are those of these rows
 abbrev pub Slotted : List ℕ → Slots → ℕ → Rows → Type 0
@@ -36,6 +37,12 @@ slotted-from p s shape.noRow k h = tt
 slotted-from p s (shape.row field need name σ rows) k h =
     let z : k ≡ k + 0 = omega arith in
     (ap (slotAt s) z ∙ h 0 (omega arith), slotted-from p s rows (k + 1) (λ j i. let n : k + 1 + j ≡ k + suc j = omega arith in ap (slotAt s) n ∙ h (suc j) (omega arith)))
+
+-- those of the rows at these lines
+pub slotted-all : (p : List ℕ) (first count : ℕ) (s : Slots) → s ≡ gathered p (lineNames first count) → (rows : Rows) → Laid table23 first rows → linesIn rows ≡ count
+    → distinctRows rows ≡ true → length (namesIn rows) ≤ mostRows → Slotted p s 0 rows
+slotted-all p first count s e rows l c d few =
+    slotted-from p s rows 0 (λ j h. let n : 0 + j ≡ j = omega arith in rw e (ap (slotAt (gathered p (lineNames first count))) n ∙ gathered-slot p first count rows l c d few j h))
 
 module _ {p : List ℕ} {ms : Members} (w : Whole p (Json.object ms)) where
   pub slotted : (first count : ℕ) (s : Slots) → Gathered p first count s → (rows : Rows) → Laid table23 first rows → linesIn rows ≡ count

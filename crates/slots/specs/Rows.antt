@@ -1,7 +1,8 @@
 -- The rows of one object by number, from 0 on, and the number of the row that has a name.
 use mathlib.Core.Bool.{Bool, true}
 use mathlib.Core.List.{List, [], _∷_}
-use Prim.Native.Nat.{ℕ, zero, suc, _+_, min}
+use mathlib.Core.Path.{_≡_}
+use Prim.Native.Nat.{ℕ, zero, suc, _+_, _≤_, _<_, min}
 use lib.Dec.{leb, ltb}
 use lib.ListN.{length}
 use Rattle.notation.specs.Choice.{_⇒_else_, _and_}
@@ -10,6 +11,7 @@ use Rattle.schema.specs.Shape as shape
 use Rattle.schema.specs.Shape.{Shape, Rows, Table}
 use Rattle.schema.specs.Line.{lineAt, nameAt}
 use Rattle.schema.specs.Table23.{table23}
+use Rattle.slots.specs.declared.Row.{Row}
 
 -- how many lines the 2.3 table has
 abbrev pub lineCount : ℕ
@@ -37,6 +39,17 @@ lineNames first count = namesAt table23 (min lineCount (first + count)) mostRows
 unfoldable pub rowNamed : List ℕ → List (List ℕ) → ℕ → ℕ
 rowNamed x [] k = mostRows
 rowNamed x (name ∷ names) k = same x name ⇒ k else rowNamed x names (k + 1)
+
+-- the line of the j-th row, of rows that begin at line i
+unfoldable pub rowLine : Table → (i j : ℕ) → ℕ
+rowLine t i zero = i
+rowLine t i (suc j) = rowLine t i j + 1 + lineAt t (rowLine t i j) .inside
+
+-- r is the row that is named x, among those from `first` on
+pub record RowOf (x : List ℕ) (first count : ℕ) (r : Row) : Type 0 where
+  pub named : r .row ≡ rowNamed x (lineNames first count) 0
+  pub few : r .row ≤ mostRows
+  pub line : r .row < mostRows → r .line ≡ rowLine table23 first (r .row)
 
 -- every object in a shape has a slot for each of its rows
 unfoldable mutual

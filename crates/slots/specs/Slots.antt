@@ -1,5 +1,5 @@
 -- The slots of an object's rows, filled in one pass over its members.
-use mathlib.Core.Bool.{true}
+use mathlib.Core.Bool.{Bool, true, false}
 use mathlib.Core.List.{List, [], foldl}
 use mathlib.Core.Path.{_≡_}
 use Prim.Native.Nat.{ℕ, _≤_, _<_}
@@ -36,6 +36,14 @@ slotAt s row =
     eqb (getD (s .state) row 0) 0 ⇒ Missing else
     eqb (getD (s .state) row 0) 1 ⇒ Once (getD (s .from) row 0) (getD (s .upto) row 0) else Twice)
     else Missing
+
+-- a row's name was not met yet; those of no row are never new
+abbrev pub newAt : List ℕ → ℕ → Bool
+newAt state row = ltb row mostRows ⇒ eqb (getD state row 0) 0 else false
+
+-- it is met once more
+unfoldable pub countedIn : List ℕ → ℕ → List ℕ
+countedIn state row = ltb row mostRows ⇒ set state row (eqb (getD state row 0) 0 ⇒ 1 else 2) else state
 
 -- one value more for a row; for no row past the last slot
 unfoldable pub putIn : Slots → (row from upto : ℕ) → Slots

@@ -1,14 +1,17 @@
 // The members of an object that its rows list: one pass over its bytes fills a slot for each row.
 ghost use mathlib.Core.Path.{_≡_};
 ghost use Prim.Native.Nat.{_+_, min};
+ghost use lib.Dec.{eqb};
+ghost use Rattle.notation.specs.Choice.{_⇒_else_};
 ghost use Rattle.json.specs.Tree.{Json};
 ghost use Rattle.text.specs.Text.{textOf};
 ghost use Rattle.walk.specs.Part.{Whole};
 ghost use Rattle.schema.specs.Line.{NameColumns, insidesOf};
 ghost use Rattle.schema.specs.Table23.{table23};
-ghost use Rattle.slots.specs.Rows.{lineCount, lineNames, rowNamed};
-ghost use Rattle.slots.specs.Slots.{slotsOf, slotAt, putIn, Gathered};
-ghost use Rattle.slots.specs.Blank.{blankText};
+ghost use Rattle.slots.specs.Rows.{lineCount, RowOf};
+ghost use Rattle.slots.specs.Slots.{slotsOf, slotAt, newAt, countedIn, putIn, Gathered};
+ghost use Rattle.slots.specs.Blank.{blankText, BeginsBlank};
+use lexeme::front::first;
 use schema::Line;
 use schema::lines::insides;
 use schema::names::name_bytes;
@@ -36,9 +39,9 @@ impl Slots {
     // How many rows have a slot.
     pub const ROWS: usize = 16;
 
-    const MISSING: u8 = 0;
+    pub const MISSING: u8 = 0;
 
-    const ONCE: u8 = 1;
+    pub const ONCE: u8 = 1;
 
     const TWICE: u8 = 2;
 
@@ -109,9 +112,15 @@ fn lines_end(first: usize, count: usize) -> usize
     first + count
 }
 
-// The number of the row that has the name that is spelled, among the rows at these lines; `Slots::ROWS` where none has it. The table's columns
+// A row of an object: its number, and its line in the table.
+pub struct Row {
+    pub row: usize,
+    pub line: usize,
+}
+
+// The row that has the name that is spelled, among the rows at these lines; number `Slots::ROWS` where none has it. The table's columns
 // are lent.
-fn row_of(
+pub fn row_of(
     bytes: &[u8],
     firsts: &[u16; 92],
     counts: &[u8; 92],
@@ -119,24 +128,30 @@ fn row_of(
     spelled: &[u8],
     first: usize,
     count: usize,
-) -> usize
+) -> Row
     requires { ⌜ NameColumns table23 (now bytes) (now firsts) (now counts) × (now insides ≡ insidesOf table23) ⌝ }
-    ensures { λ r. ⌜ r ≡ rowNamed (textOf (now (spelled .entry))) (lineNames first count) 0 ⌝ }
+    ensures { λ r. ⌜ RowOf (textOf (now (spelled .entry))) first count r ⌝ }
 {
     let end = lines_end(first, count);
     let mut i = first;
     let mut row: usize = 0;
     while row < Slots::ROWS {
         if end <= i {
-            return Slots::ROWS;
+            return Row {
+                row: Slots::ROWS,
+                line: i,
+            };
         }
         if name_is(bytes, firsts, counts, i, spelled) {
-            return row;
+            return Row { row: row, line: i };
         }
         i = i + 1 + wide(insides[i]);
         row += 1;
     }
-    Slots::ROWS
+    Row {
+        row: Slots::ROWS,
+        line: i,
+    }
 }
 
 // A number of lines, as a place.
@@ -175,11 +190,59 @@ pub fn gather(p: &[u8], first: usize, count: usize) -> Slots
                     first,
                     count,
                 );
-                put(&mut state, &mut from, &mut upto, row, m.value, m.value_end);
+                put(
+                    &mut state,
+                    &mut from,
+                    &mut upto,
+                    row.row,
+                    m.value,
+                    m.value_end,
+                );
                 at = m.next;
             }
         }
     }
+}
+
+// The value at the front of `p` is the text with nothing in it.
+pub fn begins_blank(p: &[u8]) -> bool
+    ensures { λ r. ⌜ BeginsBlank (now (p .entry)) r ⌝ }
+{
+    if first(p, 0) != b'"' {
+        return false;
+    }
+    first(p, 1) == b'"'
+}
+
+// A row's name is met for the first time.
+pub fn is_new(state: &[u8; Slots::ROWS], row: usize) -> bool
+    ensures { λ r. ⌜ r ≡ newAt (now (state .entry)) row ⌝ }
+{
+    if Slots::ROWS <= row {
+        return false;
+    }
+    state[row] == Slots::MISSING
+}
+
+// Once more a row's name is met.
+pub fn count_name(state: &mut [u8; Slots::ROWS], row: usize)
+    ensures { λ _. ⌜ now (state .exit) ≡ countedIn (now (state .entry)) row ⌝ }
+{
+    if Slots::ROWS <= row {
+        return;
+    }
+    let met = state[row];
+    state[row] = once_more(met);
+}
+
+// How often a name was met, once more; all that is past once is twice.
+fn once_more(met: u8) -> u8
+    ensures { λ r. ⌜ r ≡ (eqb met 0 ⇒ 1 else 2) ⌝ }
+{
+    if met == Slots::MISSING {
+        return Slots::ONCE;
+    }
+    Slots::TWICE
 }
 
 // The value `p` is the text with nothing in it: two quotation marks.

@@ -16,3 +16,4 @@ pub mod Files
 pub mod Tails
 pub mod Memberless
 pub mod Open
+pub mod Fronts

@@ -193,6 +193,15 @@ module _ (p : List ℕ) (n : ℕ) where
   pub front-item : (m : Item) → List·Memᴰ m (itemsOf (take n p)) → itemOf p m ≡ itemOf (take n p) m
   front-item m i = ap (λ (l : List ℕ). itemOf l m) (sym whole-text) ∙ each-item-on (take n p) (drop n p) m i
 
+  pub front-step : {at : ℕ} → AlongItems (take n p) at → itemAt p at ≡ itemAt (take n p) at
+  front-step {at} a = ap (λ (l : List ℕ). itemAt l at) (sym whole-text) ∙ item-on (take n p) (drop n p) a
+
+  pub front-items-along : {at : ℕ} → AlongItems (take n p) at → AlongItems p at
+  front-items-along {at} a = subst (λ (l : List ℕ). AlongItems l at) whole-text (items-along-on (take n p) (drop n p) a)
+
+  pub front-closing : (at c : ℕ) (r : List ℕ) → blanks (drop at (take n p)) ≡ c ∷ r → blanks (drop at p) ≡ c ∷ (r ++ drop n p)
+  front-closing at c r e = ap (λ (l : List ℕ). blanks (drop at l)) (sym whole-text) ∙ closing-on (take n p) (drop n p) at c r e
+
   pub front-member : {at : ℕ} → AlongMembers (take n p) at → memberAt p at ≡ memberAt (take n p) at
   front-member {at} a = ap (λ (l : List ℕ). memberAt l at) (sym whole-text) ∙ member-on (take n p) (drop n p) a
 

@@ -43,14 +43,14 @@ use Rattle.walk.proofs.Trees.{item-stops, member-stops}
 use Rattle.walk.proofs.Along.{along-item, along-member}
 
 -- the place after an element that ends at e
-placed-next : (p : List ℕ) (e n : ℕ) → e ≤ length p → n ≡ onward p (blanks (drop e p)) → (e ≤ n) × (n ≤ length p)
+pub placed-next : (p : List ℕ) (e n : ℕ) → e ≤ length p → n ≡ onward p (blanks (drop e p)) → (e ≤ n) × (n ≤ length p)
 placed-next p e n h k =
     let o = onward-later p (drop e p) (omega (arith, length-drop e p)) in
     let z : e ≡ place p (drop e p) = place-at p e h in
     rw k (omega (arith, o .0), o .1)
 
 -- blanks are passed forwards
-from-at : (p : List ℕ) (at i : ℕ) → Skipped p at i → i < length p → at ≤ i
+pub from-at : (p : List ℕ) (at i : ℕ) → Skipped p at i → i < length p → at ≤ i
 from-at p at i k h = omega (arith, ap length (k .rest), blanks-shrinks (drop at p), length-drop at p, length-drop i p)
 
 -- what is found is placed where it was put
@@ -112,7 +112,7 @@ module _ (p : List ℕ) (at i : ℕ) (k : Skipped p at i) (e : ℕ) (v : e ≡ l
       }
 
 -- the front of a member, and back from it to what was found
-front-end : (o : MemberStep) → names.End ≡ frontOf o → members.End ≡ o
+pub front-end : (o : MemberStep) → names.End ≡ frontOf o → members.End ≡ o
 front-end members.End e = refl
 front-end (members.Found m) e = let z : _≡_ {A = ℕ} 0 1 = cc in absurd (omega arith)
 
@@ -193,7 +193,7 @@ module _ (p : List ℕ) (at : ℕ) (m : Member) (f : memberAt p at ≡ members.F
   value-read : (x : Json) × (value paired depth (drop (m .value) p) ≡ done x (drop (m .«value_end») p))
   value-read = let s = found-member p at m f in (s .tree, s .spelt .reads)
 
-member-is : (n : Named) (e next : ℕ) (m : Member) → n ≡ record { name = m .name; «name_end» = m .«name_end»; value = m .value } → e ≡ m .«value_end» → next ≡ m .next
+pub member-is : (n : Named) (e next : ℕ) (m : Member) → n ≡ record { name = m .name; «name_end» = m .«name_end»; value = m .value } → e ≡ m .«value_end» → next ≡ m .next
     → members.Found (record { name = n .name; «name_end» = n .«name_end»; value = n .value; «value_end» = e; next = next }) ≡ members.Found m
 member-is n e next m j ends on =
     let one : n .name ≡ m .name = ap (λ (k : Named). k .name) j in

@@ -1,7 +1,7 @@
 // One level of a JSON value's bytes at a time: the members of an object, the items of an array, the kind of a value.
 ghost use mathlib.Core.Path.{_≡_};
-ghost use Prim.Native.Nat.{ℕ};
-ghost use lib.ListN.{drop};
+ghost use Prim.Native.Nat.{ℕ, _-_};
+ghost use lib.ListN.{length, drop};
 ghost use Rattle.lexeme.specs.Tokens.{blanks};
 ghost use Rattle.walk.specs.Walk.{onward, memberAt, itemAt};
 ghost use Rattle.walk.specs.Part.{kindAt};
@@ -17,7 +17,9 @@ use lexeme::blank::skip_blanks;
 use lexeme::class::Class;
 use lexeme::class::class_of;
 use lexeme::class::class_table;
+use lexeme::front::ahead;
 use lexeme::front::first;
+use lexeme::front::place;
 use limits::Limits;
 
 pub mod skip;
@@ -180,7 +182,7 @@ pub fn pass_item(p: &[u8], at: usize) -> ItemStep
 }
 
 // Where the next element is looked for, after one that ends at `at`.
-fn next_place(p: &[u8], at: usize) -> usize
+pub fn next_place(p: &[u8], at: usize) -> usize
     ensures { λ r. ⌜ r ≡ onward (now (p .entry)) (blanks (drop at (now (p .entry)))) ⌝ }
 {
     let i = skip_blanks(p, at);
@@ -188,6 +190,14 @@ fn next_place(p: &[u8], at: usize) -> usize
         return i + 1;
     }
     i
+}
+
+// Just past the closing bracket that is looked for at `at`.
+pub fn closed_end(p: &[u8], at: usize) -> usize
+    ensures { λ r. ⌜ r ≡ length (now (p .entry)) - length (drop 1 (blanks (drop at (now (p .entry))))) ⌝ }
+{
+    let i = skip_blanks(p, at);
+    place(p, ahead(p, i, 1))
 }
 
 // The kind of the value `p`, by its first byte.

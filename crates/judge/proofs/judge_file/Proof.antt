@@ -14,7 +14,8 @@ returns c x w =
 returns-2 : tie.Need-returns-2
 returns-2 c =
     let f = c .before .before .before in
-    file-listed (f .before .before .args .file) (f .file-lines .ensures) (c .before .if1 .left) (c .judge-object .ensures)
+    let a = f .before .before .args in
+    file-listed (a .p .now) (c .judge-object .result .end) (a .file) (f .file-lines .ensures) (c .before .if1 .left) (c .judge-object .ensures .0) (c .judge-object .ensures .1)
 
 pub judge-file-spec : {M : Type 1} → statement M
 judge-file-spec = tie.close (tie.spec (λ c κs. search needs) returns (λ c κs. search needs) returns-2)

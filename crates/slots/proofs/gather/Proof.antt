@@ -54,7 +54,7 @@ loop-again c =
     let p = a .p .now in let g = absorbed p (lineNames (a .first) (a .count)) in let m = d .m .given .0 .0 in
     let i = placed (r .before .before .before .before .before .before) in (
       rw (c .put .ensures) (put-kept (length p) s _ (m .value) (m .«value_end») (i .value) (omega arith) (l .inv .0)),
-      rw (c .put .ensures, r .row-of .ensures)
+      rw (c .put .ensures, r .row-of .ensures .named)
           (λ ms w. members-along-more p g s (l .at) _ (n .pass-member .ensures) (d .m .given .1) (l .inv .1 ms w)),
     )
 
