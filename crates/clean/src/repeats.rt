@@ -21,7 +21,7 @@ ghost use Rattle.clean.specs.Clean.{treeOf, idField, repeats, blamed};
 
 // The number of the first record of the array `p` whose id one before it has; 0 where there is none.
 // Shut out: the earlier of two records blamed.
-pub fn first_repeat(file: u8, p: &[u8]) -> u16
+fn first_repeat(file: u8, p: &[u8]) -> u16
     requires { ⌜ (length (now p) ≤ fileBytes) × (length (itemsOf (now p)) ≤ records) × ((0 < length (now p)) → AlongItems (now p) 1) ⌝ }
     ensures { λ r. ⌜ r ≡ firstRepeat file (recordBytes (now (p .entry))) ⌝ }
 {

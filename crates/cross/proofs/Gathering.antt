@@ -28,7 +28,8 @@ use Rattle.fields.proofs.Values.{member-holds, holds-there}
 use Rattle.fields.proofs.Fields.{field-text, field-given, field-spelled, field-items, rowOf, listed}
 use Rattle.references.specs.References.{when, roomy, driven, notHuman, named, refers, demanded}
 use Rattle.cross.specs.Cross.{at, sumOf, availableFaults, typeFaults, statusFaults, bikeFaults}
-use Rattle.cross.proofs.Layouts.{Reads, slot-member, type-layout, status-layout, bike-layout}
+use Rattle.cross.specs.Judged.{Reads}
+use Rattle.cross.proofs.Layouts.{slot-member, type-layout, status-layout, bike-layout}
 
 -- a vehicle type
 module _ (planned : Bool) (plans : List Picked) (n : ℕ) where

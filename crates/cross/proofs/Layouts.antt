@@ -1,8 +1,8 @@
--- Where the rows of a record stand among the table's lines; and so what a slot gives is the member of its row's name.
+-- Where the rows of a record stand among the table's lines; and so what a slot gives is the member of its row's name, and the first one the id.
 use mathlib.Core.Bool.{true}
 use mathlib.Core.List.{List, []}
 use mathlib.Core.Path.{_≡_, refl, sym, ap, _∙_}
-use Prim.Native.Nat.{ℕ, _≤_, _<_}
+use Prim.Native.Nat.{ℕ, zero, suc, _≤_, _<_}
 use native.Mathlib.Omega.{arith}
 use lib.ListN.{length, getD, drop}
 use Rattle.text.specs.Text.{same}
@@ -17,13 +17,13 @@ use Rattle.schema.specs.Line.{entriesOf, laidOut}
 use Rattle.schema.specs.Sound.{distinctRows}
 use Rattle.schema.specs.Table23.{table23, written23, vehicleType, status, bike}
 use Rattle.schema.proofs.Walk.{Laid, linesIn}
-use Rattle.slots.specs.declared.Found.{Found}
 use Rattle.slots.specs.declared.Slots.{Slots}
-use Rattle.slots.specs.Found.{foundIn}
 use Rattle.slots.specs.Rows.{mostRows, namesIn}
 use Rattle.slots.specs.Slots.{slotAt, Gathered}
-use Rattle.fields.specs.Values.{code, foundBytes, Standing, memberOf}
+use Rattle.fields.specs.Values.{code, memberOf}
 use Rattle.fields.proofs.Ways.{found-standing, member-found}
+use Rattle.ids.specs.Ids.{idName, idValue}
+use Rattle.cross.specs.Judged.{Referring, firstLine, lineCount, Reads}
 
 -- rows that fill so many lines from `first` on, with a slot each
 pub record Layout (first count : ℕ) (rows : Rows) : Type 0 where
@@ -69,16 +69,20 @@ bike-layout =
       few = omega arith;
     }
 
--- q is the value that is read at a slot
-abbrev pub Reads : List ℕ → Slots → ℕ → List ℕ → Type 0
-Reads p s j q = (o : Found) × (o ≡ slotAt s j) × (Standing p o → q ≡ foundBytes p o)
-
 module _ {p : List ℕ} {first count : ℕ} {s : Slots} (g : Gathered p first count s) {rows : Rows}
     (l : Layout first count rows) (j : ℕ) (h : j < length (namesIn rows)) {q : List ℕ} (r : Reads p s j q) where
-  slot-found : {ms : Members} → Whole p (tree.object ms) → r .0 ≡ foundIn p (getD (namesIn rows) j [])
-  slot-found w = r .1 ∙ g .slot w rows (l .laid) (l .lines) (l .distinct) (l .few) j h
-
   pub slot-member : {ms : Members} → Whole p (tree.object ms) → q ≡ memberOf p (getD (namesIn rows) j [])
   slot-member w =
-      let name = getD (namesIn rows) j [] in let e = slot-found w in
-      r .2 (found-standing p name (r .0) e) ∙ member-found p name 5 (sym (ap code (whole-kind w))) refl (r .0) e
+      let name = getD (namesIn rows) j [] in let e = g .slot w rows (l .laid) (l .lines) (l .distinct) (l .few) j h in
+      r (found-standing p name (slotAt s j) e) ∙ member-found p name 5 (sym (ap code (whole-kind w))) refl (slotAt s j) e
+
+-- the first row of each file's records is their id
+module _ {p : List ℕ} {ms : Members} (w : Whole p (tree.object ms)) {q : List ℕ} where
+  pub id-slot : (file : ℕ) → Referring file → {s : Slots} → Gathered p (firstLine file) (lineCount file) s → Reads p s 0 q → q ≡ idValue file p
+  unfolding idValue idName vehicleType status bike namesIn
+  id-slot zero h g r = absurd (let l = h .least in omega arith)
+  id-slot (suc zero) h g r = slot-member g type-layout 0 (omega arith) r w
+  id-slot (suc (suc zero)) h g r = absurd (h .other refl)
+  id-slot (suc (suc (suc zero))) h g r = slot-member g status-layout 0 (omega arith) r w
+  id-slot (suc (suc (suc (suc zero)))) h g r = slot-member g bike-layout 0 (omega arith) r w
+  id-slot (suc (suc (suc (suc (suc n))))) h g r = absurd (let l = h .most in omega arith)

@@ -4,7 +4,7 @@ use mathlib.Core.List.{List, [], _∷_}
 use mathlib.Core.Path.{_≡_, refl, sym, ap, _∙_}
 use Prim.Native.Nat.{ℕ, zero, suc, _+_, _*_, _-_, _≤_, _<_}
 use native.Mathlib.Omega.{arith}
-use borrow.Author.Tests.{ne-eqb}
+use borrow.Author.Tests.{ne-eqb, le-ltb}
 use Rattle.word.specs.Kinds.{condition}
 use Rattle.schema.specs.Pick.{Picked}
 use Rattle.fault.specs.declared.Fault.{Fault}
@@ -14,14 +14,19 @@ use Rattle.fault.specs.Fault.{least, lesser}
 use Rattle.fault.proofs.Leasts.{none-least}
 use Rattle.judge.specs.Faults.{top, faulty}
 use Rattle.document.proofs.Records.{recordShape, pickedItems}
+use Rattle.ids.specs.Ids.{recordBytes, firstRepeat}
+use Rattle.ids.specs.Notes.{Blank}
+use Rattle.ids.proofs.Passing.{noting-none}
 use Rattle.clean.specs.Clean.{blamed}
 use Rattle.references.specs.declared.Set.{Set}
 use Rattle.references.specs.References.{when}
+use Rattle.references.specs.Known.{Searchable}
+use Rattle.cross.specs.declared.records.Findings.{Findings}
 use Rattle.cross.specs.declared.stage.Crossed.{Crossed}
 use Rattle.cross.specs.declared.stage.Crossed.the-variants.{Nothing, At}
-use Rattle.cross.specs.Cross.{each}
+use Rattle.cross.specs.Cross.{each, faultsOf}
 use Rattle.cross.specs.Judged.{broken}
-use Rattle.cross.specs.Staged.{calledFor, repeatOf, idsLeast, fileLeast, numberedLeast, crossing, firstFrom}
+use Rattle.cross.specs.Staged.{Finds, calledFor, repeatOf, idsLeast, fileLeast, numberedLeast, crossing, firstFrom}
 use Rattle.cross.proofs.Fielded.{breaks-nothing}
 
 -- What one file is asked.
@@ -35,13 +40,17 @@ called-else file set h i j = rw (calledFor, ne-eqb file 2 h, ne-eqb file 3 i, ne
 pub lesser-both : {a b c d : Least} → a ≡ c → b ≡ d → lesser a b ≡ lesser c d
 lesser-both {b = b} {c = c} e k = ap (λ (x : Least). lesser x b) e ∙ ap (lesser c) k
 
--- a file by its first repeat and by what its records break
+-- records of files up to 5 have ids
+pub repeat-is : (file : ℕ) → file ≤ 5 → (p : List ℕ) → firstRepeat file (recordBytes p) ≡ repeatOf file p
+unfolding repeatOf
+repeat-is file h p = rw (repeatOf, le-ltb 5 file h)
+
+-- a file by what is found of its records
 module _ (set : Set) (types stations plans : List ℕ) where
-  pub file-is : (file : ℕ) (p : List ℕ) {repeat : ℕ} {records : Least} → repeat ≡ repeatOf file p
-      → records ≡ least (each (broken set types stations plans file) 1 (pickedItems (recordShape file) p))
-      → lesser (least (faulty top 0 (when (calledFor file set) condition))) (lesser (blamed (file * 10) repeat) records) ≡ fileLeast set types stations plans file p
+  pub file-is : {file : ℕ} {p : List ℕ} {found : Findings} → Finds set types stations plans file p found
+      → lesser (least (faulty top 0 (when (calledFor file set) condition))) (lesser (blamed (file * 10) (found .repeat)) (found .least)) ≡ fileLeast set types stations plans file p
   unfolding fileLeast idsLeast
-  file-is file p e k = lesser-both refl (lesser-both (ap (blamed (file * 10)) e) k)
+  file-is {file} f = lesser-both refl (lesser-both (ap (blamed (file * 10)) (f .repeats)) (f .breaks))
 
   -- records of other files than 1, 3, 4 and 6 break nothing
   each-nothing : (file : ℕ) → (file ≡ 1 → ⊥) → (file ≡ 3 → ⊥) → (file ≡ 4 → ⊥) → (file ≡ 6 → ⊥)
@@ -53,6 +62,16 @@ module _ (set : Set) (types stations plans : List ℕ) where
   pub records-none : (file : ℕ) → (file ≡ 1 → ⊥) → (file ≡ 3 → ⊥) → (file ≡ 4 → ⊥) → (file ≡ 6 → ⊥)
       → (l : List Picked) → None ≡ least (each (broken set types stations plans file) 1 l)
   records-none file a b c d l = sym (none-least _ (each-nothing file a b c d 1 l))
+
+-- of no records all are noted
+pub none-searchable : (file : ℕ) → 1 ≤ file → file ≤ 5 → {notes : List ℕ} → Blank notes → Searchable file [] notes
+none-searchable file h i {notes} z = record { least = h; most = i; noted = noting-none file [] notes refl z .1 }
+
+-- types may name plans and nothing else
+pub types-alone : (set : Set) (types other stations plans : List ℕ) {p : List ℕ} {found : Findings}
+    → Finds set other stations plans 1 p found → Finds set types stations plans 1 p found
+unfolding faultsOf
+types-alone set types other stations plans f = record { repeats = f .repeats; breaks = f .breaks }
 
 -- the last file has every number that no other has
 pub numbered-else : (set : Set) (types stations plans statuses bikes zones : List ℕ) (file : ℕ)

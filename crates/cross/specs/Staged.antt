@@ -18,7 +18,7 @@ use Rattle.document.proofs.Records.{recordShape, pickedItems}
 use Rattle.ids.specs.Ids.{recordBytes, firstRepeat}
 use Rattle.clean.specs.Clean.{blamed}
 use Rattle.references.specs.declared.Set.{Set}
-use Rattle.cross.specs.declared.stage.Repeats.{Repeats}
+use Rattle.cross.specs.declared.records.Findings.{Findings}
 use Rattle.cross.specs.declared.stage.Crossed.{Crossed}
 use Rattle.cross.specs.declared.stage.Crossed.the-variants.{Nothing, At}
 use Rattle.references.specs.References.{when}
@@ -47,13 +47,12 @@ repeatOf file p = ltb 5 file ⇒ 0 else firstRepeat file (recordBytes p)
 unfoldable pub idsLeast : ℕ → List ℕ → Least
 idsLeast file p = blamed (file * 10) (repeatOf file p)
 
--- what is known of repeats in the files that references name
-pub record Repeating (repeats : Repeats) (types stations plans : List ℕ) : Type 0 where
-  pub ofTypes : repeats .types ≡ repeatOf 1 types
-  pub ofStations : repeats .stations ≡ repeatOf 2 stations
-  pub ofPlans : repeats .plans ≡ repeatOf 5 plans
-
 module _ (set : Set) (types stations plans : List ℕ) where
+  -- what is found of the records p of a file: the first that repeats an id, and the least of the rules that they break otherwise
+  pub record Finds (file : ℕ) (p : List ℕ) (found : Findings) : Type 0 where
+    pub repeats : found .repeat ≡ repeatOf file p
+    pub breaks : found .least ≡ least (each (judged.broken set types stations plans file) 1 (pickedItems (recordShape file) p))
+
   -- the least of a file, of which p are the records
   unfoldable pub fileLeast : ℕ → List ℕ → Least
   fileLeast file p =

@@ -1,18 +1,19 @@
 // A record of file 4: a position of its own unless it stands at a station, and what it refers to.
+use crate::slotted::value_in;
 use fault::Least;
 use fault::lesser;
-use fields::value_at;
 use ids::Notes;
 use judge::Place;
 use references::rules::demanded;
 use references::rules::demanded_by;
 use references::rules::refers;
-use slots::gather;
+use slots::Slots;
 ghost use mathlib.Core.Bool.{not};
 ghost use mathlib.Core.List.{_++_};
 ghost use mathlib.Core.Path.{_≡_};
 ghost use Rattle.fault.specs.Fault.{least};
 ghost use Rattle.judge.specs.Faults.{faulty};
+ghost use Rattle.slots.specs.Slots.{slotsOf, Gathered};
 ghost use Rattle.document.proofs.Records.{recordShape, pickedItems};
 ghost use Rattle.fields.specs.Values.{textBy, thereBy};
 ghost use Rattle.references.specs.References.{demanded as demandedOf, refers as refersTo, named as namedBy, driven as drivenOf};
@@ -48,9 +49,12 @@ fn judge_vehicle(
     lesser(lesser(a, b), c)
 }
 
-// The n-th record `p`, where file 1 is there or not. Its rows begin at line 40 of the table.
-pub fn judge_bike(
+// The n-th record `p` by its slots, where file 1 is there or not. Its rows begin at line 40 of the table.
+pub fn judge_bike<'s>(
     p: &[u8],
+    state: &'s [u8; Slots::ROWS],
+    from: &'s [usize; Slots::ROWS],
+    upto: &'s [usize; Slots::ROWS],
     n: u32,
     typed: bool,
     types: &[u8],
@@ -60,27 +64,29 @@ pub fn judge_bike(
     station_notes: &[u32; Notes::SIZE],
     plan_notes: &[u32; Notes::SIZE],
 ) -> Least
-    requires { ⌜ Searchable 1 (now types) (now «type_notes») × Searchable 2 (now stations) (now «station_notes») × Searchable 5 (now plans) (now «plan_notes») ⌝ }
+    requires { ⌜ Gathered (now p) 40 10 (slotsOf (now state) (now from) (now upto)) × Searchable 1 (now types) (now «type_notes») × Searchable 2 (now stations) (now «station_notes») × Searchable 5 (now plans) (now «plan_notes») ⌝ }
     ensures { λ r. ⌜ Judges 4 (bikeFaults typed (pickedItems (recordShape 1) (now (types .entry))) (pickedItems (recordShape 2) (now (stations .entry))) (pickedItems (recordShape 5) (now (plans .entry))) n) (now (p .entry)) r ⌝ }
 {
-    let slots = gather(p, 40, 10);
     let place = Place { record: n, sub: 0 };
-    let station = value_at(p, slots.slot(7));
+    let station = value_in(p, state, from, upto, 7);
     let a = judge_position(
         station,
-        value_at(p, slots.slot(1)),
-        value_at(p, slots.slot(2)),
+        value_in(p, state, from, upto, 1),
+        value_in(p, state, from, upto, 2),
         place,
     );
     let b = judge_vehicle(
-        value_at(p, slots.slot(5)),
-        value_at(p, slots.slot(6)),
+        value_in(p, state, from, upto, 5),
+        value_in(p, state, from, upto, 6),
         place,
         typed,
         types,
         type_notes,
     );
     let c = place.broken(47, refers(station, 2, stations, station_notes));
-    let d = place.broken(48, refers(value_at(p, slots.slot(8)), 5, plans, plan_notes));
+    let d = place.broken(
+        48,
+        refers(value_in(p, state, from, upto, 8), 5, plans, plan_notes),
+    );
     lesser(lesser(a, b), lesser(c, d))
 }

@@ -1,29 +1,52 @@
-// The records of a file, one by one.
+// The records of files 1, 3 and 4, which have ids and refer to other records: noted and judged in one walk.
 use crate::bikes::judge_bike;
+use crate::slotted::value_in;
 use crate::statuses::judge_status;
 use crate::types::judge_type;
-use crate::zones::judge_zone;
 use fault::Least;
 use fault::lesser;
 use ids::Notes;
+use ids::note::first_of;
+use ids::note::note_record;
 use references::Set;
+use slots::Slots;
+use slots::gather;
 use walk::ItemStep;
 use walk::pass_item;
 ghost use mathlib.Core.Path.{_≡_};
-ghost use Prim.Native.Nat.{_≤_, _<_};
+ghost use Prim.Native.Nat.{_≤_};
 ghost use lib.ListN.{length};
 ghost use Rattle.limits.specs.Ceilings.{fileBytes};
-ghost use Rattle.walk.specs.Part.{Whole, treeOf};
-ghost use Rattle.walk.specs.Along.{AlongItems};
-ghost use Rattle.fault.specs.Fault.{least};
-ghost use Rattle.document.proofs.Records.{recordShape, pickedItems};
-ghost use Rattle.cross.specs.Cross.{each};
-ghost use Rattle.cross.specs.Judged.{Known, broken, Judges, Objects};
+ghost use Rattle.walk.specs.Walk.{itemsOf};
+ghost use Rattle.slots.specs.Slots.{slotsOf, Gathered};
+ghost use Rattle.ids.specs.Notes.{Noted, Blank};
+ghost use Rattle.cross.specs.Judged.{Known, broken, Judges, Referring, firstLine, lineCount};
+ghost use Rattle.cross.specs.Staged.{Recorded, Finds};
 
-// The n-th record `p` of a file. Those of files 2 and 5 refer to nothing.
-fn judge_record(
+// What is found of a file's records: the number of the first whose id one before it has, or 0, and the first rule that one breaks otherwise.
+pub struct Findings {
+    pub repeat: u16,
+    pub least: Least,
+}
+
+// The slots of the record `p` of a file, for the rows of that file.
+fn gather_record(file: u8, p: &[u8]) -> Slots
+    ensures { λ r. ⌜ Gathered (now (p .entry)) (firstLine file) (lineCount file) r ⌝ }
+{
+    match file {
+        1 => gather(p, 5, 5),
+        3 => gather(p, 25, 10),
+        _ => gather(p, 40, 10),
+    }
+}
+
+// The n-th record `p` of a file by its slots.
+fn judge_record<'s>(
     file: u8,
     p: &[u8],
+    state: &'s [u8; Slots::ROWS],
+    from: &'s [usize; Slots::ROWS],
+    upto: &'s [usize; Slots::ROWS],
     n: u32,
     set: Set,
     types: &[u8],
@@ -33,13 +56,16 @@ fn judge_record(
     station_notes: &[u32; Notes::SIZE],
     plan_notes: &[u32; Notes::SIZE],
 ) -> Least
-    requires { ⌜ Known (now types) (now stations) (now plans) (now «type_notes») (now «station_notes») (now «plan_notes») × (length (now p) ≤ fileBytes) × Whole (now p) (treeOf (now p)) ⌝ }
+    requires { ⌜ Referring file × Gathered (now p) (firstLine file) (lineCount file) (slotsOf (now state) (now from) (now upto)) × Known (now types) (now stations) (now plans) (now «type_notes») (now «station_notes») (now «plan_notes») × (length (now p) ≤ fileBytes) ⌝ }
     ensures { λ r. ⌜ Judges file (broken set (now (types .entry)) (now (stations .entry)) (now (plans .entry)) file n) (now (p .entry)) r ⌝ }
 {
     match file {
-        1 => judge_type(p, n, set.plans_here, plans, plan_notes),
+        1 => judge_type(p, state, from, upto, n, set.plans_here, plans, plan_notes),
         3 => judge_status(
             p,
+            state,
+            from,
+            upto,
             n,
             set.types_here,
             types,
@@ -47,8 +73,11 @@ fn judge_record(
             type_notes,
             station_notes,
         ),
-        4 => judge_bike(
+        _ => judge_bike(
             p,
+            state,
+            from,
+            upto,
             n,
             set.types_here,
             types,
@@ -58,16 +87,16 @@ fn judge_record(
             station_notes,
             plan_notes,
         ),
-        6 => judge_zone(p, n, types, type_notes),
-        _ => Least::None,
     }
 }
 
-// All records of the array `p`, numbered from 1.
-// Shut out: the first broken rule in the order of the bytes; one that stops at a record which breaks nothing.
+// All records of the array `p`, numbered from 1. Each is gathered once, for its id and for its rules.
+// Shut out: the first broken rule in the order of the bytes; one that stops at a record which breaks nothing; a record left out of the notes because it
+// breaks a rule.
 pub fn judge_records(
     file: u8,
     p: &[u8],
+    notes: &mut [u32; Notes::SIZE],
     set: Set,
     types: &[u8],
     stations: &[u8],
@@ -75,38 +104,45 @@ pub fn judge_records(
     type_notes: &[u32; Notes::SIZE],
     station_notes: &[u32; Notes::SIZE],
     plan_notes: &[u32; Notes::SIZE],
-) -> Least
-    requires { ⌜ Known (now types) (now stations) (now plans) (now «type_notes») (now «station_notes») (now «plan_notes») × (length (now p) ≤ fileBytes) × Objects (now p) × ((0 < length (now p)) → AlongItems (now p) 1) ⌝ }
-    ensures { λ r. ⌜ r ≡ least (each (broken set (now (types .entry)) (now (stations .entry)) (now (plans .entry)) file) 1 (pickedItems (recordShape file) (now (p .entry)))) ⌝ }
+) -> Findings
+    requires { ⌜ Referring file × Recorded (now p) × Blank (now notes) × Known (now types) (now stations) (now plans) (now «type_notes») (now «station_notes») (now «plan_notes») ⌝ }
+    ensures { λ r. ⌜ Finds set (now (types .entry)) (now (stations .entry)) (now (plans .entry)) file (now (p .entry)) r × Noted file (now (p .entry)) (length (itemsOf (now (p .entry)))) (now (notes .exit)) ⌝ }
 {
-    if p.len() == 0 {
-        return Least::None;
-    }
+    let mut repeat: u16 = 0;
     let mut least = Least::None;
-    let mut n: u32 = 0;
+    if p.len() == 0 {
+        return Findings { repeat, least };
+    }
+    let mut n: usize = 0;
     let mut at: usize = 1;
     loop {
         let ItemStep::Found(item) = pass_item(p, at) else {
-            return least;
+            return Findings { repeat, least };
         };
+        let start = item.value;
+        let end = item.value_end;
+        let q = &p[start..end];
+        let slots = gather_record(file, q);
+        let id = value_in(q, &slots.state, &slots.from, &slots.upto, 0);
+        let repeats = note_record(file, p, start, end, id, n, notes);
+        repeat = first_of(repeat, repeats, n);
         n += 1;
-        let from = item.value;
-        let upto = item.value_end;
-        least = lesser(
-            least,
-            judge_record(
-                file,
-                &p[from..upto],
-                n,
-                set,
-                types,
-                stations,
-                plans,
-                type_notes,
-                station_notes,
-                plan_notes,
-            ),
+        let broken = judge_record(
+            file,
+            q,
+            &slots.state,
+            &slots.from,
+            &slots.upto,
+            n as u32,
+            set,
+            types,
+            stations,
+            plans,
+            type_notes,
+            station_notes,
+            plan_notes,
         );
+        least = lesser(least, broken);
         at = item.next;
     }
 }

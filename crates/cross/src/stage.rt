@@ -1,8 +1,9 @@
 // Stage C of a set: file by file whether it is called for, which id repeats, and what its records demand.
+use crate::records::Findings;
 use crate::records::judge_records;
+use crate::zones::judge_zones;
 use clean::Cleanness;
 use clean::parts_of;
-use clean::repeats::first_repeat;
 use document::records_from;
 use fault::Fault;
 use fault::Least;
@@ -15,15 +16,19 @@ use word::kind::Kind;
 ghost use mathlib.Core.Bool.{not};
 ghost use mathlib.Core.Path.{_≡_};
 ghost use Prim.Native.Nat.{_*_, _≤_};
+ghost use lib.ListN.{length};
 ghost use Rattle.notation.specs.Choice.{_and_};
 ghost use Rattle.word.specs.Kinds.{condition};
+ghost use Rattle.walk.specs.Walk.{itemsOf};
+ghost use Rattle.fault.specs.declared.Least.the-variants.{None};
 ghost use Rattle.fault.specs.Fault.{least, lesser as lesserOf};
 ghost use Rattle.judge.specs.Faults.{top, faulty};
+ghost use Rattle.ids.specs.Notes.{Noted, Blank};
 ghost use Rattle.clean.specs.Clean.{blamed};
 ghost use Rattle.references.specs.References.{when};
-ghost use Rattle.cross.specs.Judged.{Known};
+ghost use Rattle.cross.specs.Judged.{Known, Referring};
 ghost use Rattle.cross.specs.Stage.{Through, filesOf, stageC};
-ghost use Rattle.cross.specs.Staged.{Recorded, calledFor, Repeating, numberedLeast, firstFrom};
+ghost use Rattle.cross.specs.Staged.{Recorded, Finds, calledFor, repeatOf, numberedLeast, firstFrom};
 
 // The first broken rule of stage C, with its file; or none.
 pub enum Crossed {
@@ -31,11 +36,11 @@ pub enum Crossed {
     At(u8, Fault),
 }
 
-// The number of the first record whose id one before it has, or 0, in each file that references name.
-struct Repeats {
-    types: u16,
-    stations: u16,
-    plans: u16,
+// What is found of the records of each file that references name.
+struct Named {
+    types: Findings,
+    stations: Findings,
+    plans: Findings,
 }
 
 // Whether a file that is needed is lacking.
@@ -87,23 +92,65 @@ fn judge_ids(file: u8, repeat: u16) -> Least
     })
 }
 
-// One file of the set, by the number of its first record that repeats an id, or 0, and the first rule that a record of it breaks otherwise.
-fn judge_file(file: u8, repeat: u16, records: Least, set: Set) -> Least
+// One file of the set, by what is found of its records.
+fn judge_file(file: u8, found: Findings, set: Set) -> Least
     requires { ⌜ file ≤ 6 ⌝ }
-    ensures { λ r. ⌜ r ≡ lesserOf (least (faulty top 0 (when (calledFor file set) condition))) (lesserOf (blamed (file * 10) repeat) records) ⌝ }
+    ensures { λ r. ⌜ r ≡ lesserOf (least (faulty top 0 (when (calledFor file set) condition))) (lesserOf (blamed (file * 10) (found .repeat)) (found .least)) ⌝ }
 {
     let a = judge_presence(file, set);
-    let b = judge_ids(file, repeat);
-    lesser(a, lesser(b, records))
+    let b = judge_ids(file, found.repeat);
+    let c = found.least;
+    lesser(a, lesser(b, c))
 }
 
-// The file with this number. Files 3 and 4 are noted for their repeats alone; records of files 2 and 5 break no other rule.
+// The records of file 2 or 5, which break no rule but by their ids.
+fn note_records(file: u8, p: &[u8], notes: &mut [u32; Notes::SIZE]) -> Findings
+    requires { ⌜ (file ≤ 5) × Recorded (now p) × Blank (now notes) ⌝ }
+    ensures { λ r. ⌜ (r .repeat ≡ repeatOf file (now (p .entry))) × (r .least ≡ None) × Noted file (now (p .entry)) (length (itemsOf (now (p .entry)))) (now (notes .exit)) ⌝ }
+{
+    Findings {
+        repeat: note(file, p, notes),
+        least: Least::None,
+    }
+}
+
+// The records of file 3 or 4, which no reference names: they are noted for their repeats alone.
+fn judge_unnamed(
+    file: u8,
+    p: &[u8],
+    set: Set,
+    types: &[u8],
+    stations: &[u8],
+    plans: &[u8],
+    type_notes: &[u32; Notes::SIZE],
+    station_notes: &[u32; Notes::SIZE],
+    plan_notes: &[u32; Notes::SIZE],
+) -> Findings
+    requires { ⌜ Referring file × Recorded (now p) × Known (now types) (now stations) (now plans) (now «type_notes») (now «station_notes») (now «plan_notes») ⌝ }
+    ensures { λ r. ⌜ Finds set (now (types .entry)) (now (stations .entry)) (now (plans .entry)) file (now (p .entry)) r ⌝ }
+{
+    let mut notes: [u32; Notes::SIZE] = [0; Notes::SIZE];
+    judge_records(
+        file,
+        p,
+        &mut notes,
+        set,
+        types,
+        stations,
+        plans,
+        type_notes,
+        station_notes,
+        plan_notes,
+    )
+}
+
+// The file with this number.
 fn judge_numbered(
     file: u8,
     statuses: &[u8],
     bikes: &[u8],
     zones: &[u8],
-    repeats: Repeats,
+    named: Named,
     set: Set,
     types: &[u8],
     stations: &[u8],
@@ -112,31 +159,15 @@ fn judge_numbered(
     station_notes: &[u32; Notes::SIZE],
     plan_notes: &[u32; Notes::SIZE],
 ) -> Least
-    requires { ⌜ Known (now types) (now stations) (now plans) (now «type_notes») (now «station_notes») (now «plan_notes») × Repeating repeats (now types) (now stations) (now plans) × Recorded (now types) × Recorded (now statuses) × Recorded (now bikes) × Recorded (now zones) ⌝ }
+    requires { ⌜ Known (now types) (now stations) (now plans) (now «type_notes») (now «station_notes») (now «plan_notes») × Finds set (now types) (now stations) (now plans) 1 (now types) (named .types) × Finds set (now types) (now stations) (now plans) 2 (now stations) (named .stations) × Finds set (now types) (now stations) (now plans) 5 (now plans) (named .plans) × Recorded (now statuses) × Recorded (now bikes) × Recorded (now zones) ⌝ }
     ensures { λ r. ⌜ r ≡ numberedLeast set (now (types .entry)) (now (stations .entry)) (now (plans .entry)) (now (statuses .entry)) (now (bikes .entry)) (now (zones .entry)) file ⌝ }
 {
     match file {
-        1 => judge_file(
-            1,
-            repeats.types,
-            judge_records(
-                1,
-                types,
-                set,
-                types,
-                stations,
-                plans,
-                type_notes,
-                station_notes,
-                plan_notes,
-            ),
-            set,
-        ),
-        2 => judge_file(2, repeats.stations, Least::None, set),
+        1 => judge_file(1, named.types, set),
+        2 => judge_file(2, named.stations, set),
         3 => judge_file(
             3,
-            first_repeat(3, statuses),
-            judge_records(
+            judge_unnamed(
                 3,
                 statuses,
                 set,
@@ -151,8 +182,7 @@ fn judge_numbered(
         ),
         4 => judge_file(
             4,
-            first_repeat(4, bikes),
-            judge_records(
+            judge_unnamed(
                 4,
                 bikes,
                 set,
@@ -165,21 +195,13 @@ fn judge_numbered(
             ),
             set,
         ),
-        5 => judge_file(5, repeats.plans, Least::None, set),
+        5 => judge_file(5, named.plans, set),
         _ => judge_file(
             6,
-            0,
-            judge_records(
-                6,
-                zones,
-                set,
-                types,
-                stations,
-                plans,
-                type_notes,
-                station_notes,
-                plan_notes,
-            ),
+            Findings {
+                repeat: 0,
+                least: judge_zones(zones, types, type_notes),
+            },
             set,
         ),
     }
@@ -190,7 +212,7 @@ fn judge_noted(
     statuses: &[u8],
     bikes: &[u8],
     zones: &[u8],
-    repeats: Repeats,
+    named: Named,
     set: Set,
     types: &[u8],
     stations: &[u8],
@@ -199,7 +221,7 @@ fn judge_noted(
     station_notes: &[u32; Notes::SIZE],
     plan_notes: &[u32; Notes::SIZE],
 ) -> Crossed
-    requires { ⌜ Known (now types) (now stations) (now plans) (now «type_notes») (now «station_notes») (now «plan_notes») × Repeating repeats (now types) (now stations) (now plans) × Recorded (now types) × Recorded (now statuses) × Recorded (now bikes) × Recorded (now zones) ⌝ }
+    requires { ⌜ Known (now types) (now stations) (now plans) (now «type_notes») (now «station_notes») (now «plan_notes») × Finds set (now types) (now stations) (now plans) 1 (now types) (named .types) × Finds set (now types) (now stations) (now plans) 2 (now stations) (named .stations) × Finds set (now types) (now stations) (now plans) 5 (now plans) (named .plans) × Recorded (now statuses) × Recorded (now bikes) × Recorded (now zones) ⌝ }
     ensures { λ r. ⌜ r ≡ firstFrom (numberedLeast set (now (types .entry)) (now (stations .entry)) (now (plans .entry)) (now (statuses .entry)) (now (bikes .entry)) (now (zones .entry))) 1 6 ⌝ }
 {
     let mut file: u8 = 1;
@@ -209,7 +231,7 @@ fn judge_noted(
             statuses,
             bikes,
             zones,
-            repeats,
+            named,
             set,
             types,
             stations,
@@ -229,7 +251,7 @@ fn judge_noted(
     Crossed::Nothing
 }
 
-// The same with nothing noted yet: each file that references name is noted once, which tells its first repeat.
+// The same with nothing noted yet. A type may name a plan and nothing else, so types are judged as they are noted, with no type known.
 fn judge_parts(
     types: &[u8],
     stations: &[u8],
@@ -245,16 +267,30 @@ fn judge_parts(
     let mut type_notes: [u32; Notes::SIZE] = [0; Notes::SIZE];
     let mut station_notes: [u32; Notes::SIZE] = [0; Notes::SIZE];
     let mut plan_notes: [u32; Notes::SIZE] = [0; Notes::SIZE];
-    let repeats = Repeats {
-        types: note(1, types, &mut type_notes),
-        stations: note(2, stations, &mut station_notes),
-        plans: note(5, plans, &mut plan_notes),
-    };
+    let no_notes: [u32; Notes::SIZE] = [0; Notes::SIZE];
+    let stations_found = note_records(2, stations, &mut station_notes);
+    let plans_found = note_records(5, plans, &mut plan_notes);
+    let types_found = judge_records(
+        1,
+        types,
+        &mut type_notes,
+        set,
+        b"",
+        stations,
+        plans,
+        &no_notes,
+        &station_notes,
+        &plan_notes,
+    );
     judge_noted(
         statuses,
         bikes,
         zones,
-        repeats,
+        Named {
+            types: types_found,
+            stations: stations_found,
+            plans: plans_found,
+        },
         set,
         types,
         stations,

@@ -1,16 +1,16 @@
 // A record of file 3: its station, and the types that are available there.
+use crate::slotted::value_in;
 use fault::Least;
 use fault::lesser;
 use fields::array_in;
 use fields::integer_in;
 use fields::member;
-use fields::value_at;
 use ids::Notes;
 use judge::Place;
 use references::rules::demanded;
 use references::rules::demanded_by;
 use references::rules::refers;
-use slots::gather;
+use slots::Slots;
 use walk::ItemStep;
 use walk::next_item;
 use word::kind::Kind;
@@ -28,6 +28,7 @@ ghost use Rattle.scalar.specs.Listed.{listed};
 ghost use Rattle.schema.specs.Table23.{available as availableShape};
 ghost use Rattle.fault.specs.Fault.{least};
 ghost use Rattle.judge.specs.Faults.{faulty};
+ghost use Rattle.slots.specs.Slots.{slotsOf, Gathered};
 ghost use Rattle.document.proofs.Records.{recordShape, pickedItems};
 ghost use Rattle.fields.specs.Values.{textBy, thereBy, arrayBy, spelledBy, integerIn};
 ghost use Rattle.references.specs.References.{when, demanded as demandedOf, refers as refersTo, named as namedBy, roomy as roomyOf};
@@ -133,9 +134,12 @@ fn judge_counts(
     lesser(lesser(a, b), c)
 }
 
-// The n-th record `p`, where file 1 is there or not. Its rows begin at line 25 of the table.
-pub fn judge_status(
+// The n-th record `p` by its slots, where file 1 is there or not. Its rows begin at line 25 of the table.
+pub fn judge_status<'s>(
     p: &[u8],
+    state: &'s [u8; Slots::ROWS],
+    from: &'s [usize; Slots::ROWS],
+    upto: &'s [usize; Slots::ROWS],
     n: u32,
     typed: bool,
     types: &[u8],
@@ -143,21 +147,20 @@ pub fn judge_status(
     type_notes: &[u32; Notes::SIZE],
     station_notes: &[u32; Notes::SIZE],
 ) -> Least
-    requires { ⌜ Searchable 1 (now types) (now «type_notes») × Searchable 2 (now stations) (now «station_notes») × (length (now p) ≤ fileBytes) ⌝ }
+    requires { ⌜ Gathered (now p) 25 10 (slotsOf (now state) (now from) (now upto)) × Searchable 1 (now types) (now «type_notes») × Searchable 2 (now stations) (now «station_notes») × (length (now p) ≤ fileBytes) ⌝ }
     ensures { λ r. ⌜ Judges 3 (statusFaults typed (pickedItems (recordShape 1) (now (types .entry))) (pickedItems (recordShape 2) (now (stations .entry))) n) (now (p .entry)) r ⌝ }
 {
-    let slots = gather(p, 25, 10);
     let place = Place { record: n, sub: 0 };
     let a = judge_station(
-        value_at(p, slots.slot(0)),
-        value_at(p, slots.slot(2)),
+        value_in(p, state, from, upto, 0),
+        value_in(p, state, from, upto, 2),
         place,
         stations,
         station_notes,
     );
     let b = judge_counts(
-        value_at(p, slots.slot(7)),
-        value_at(p, slots.slot(1)),
+        value_in(p, state, from, upto, 7),
+        value_in(p, state, from, upto, 1),
         n,
         typed,
         types,

@@ -1,4 +1,4 @@
-// A record of file 6: the types that its rules name.
+// The records of file 6: the types that their rules name.
 use fault::Least;
 use fault::lesser;
 use fields::array_in;
@@ -8,6 +8,7 @@ use judge::Place;
 use references::rules::refers;
 use walk::ItemStep;
 use walk::next_item;
+use walk::pass_item;
 ghost use mathlib.Core.Path.{_≡_};
 ghost use Prim.Native.Nat.{_≤_};
 ghost use lib.ListN.{length};
@@ -17,9 +18,10 @@ ghost use Rattle.schema.specs.Shape.{Sort, scalar};
 ghost use Rattle.schema.specs.Table23.{rule as ruleShape};
 ghost use Rattle.fault.specs.Fault.{least};
 ghost use Rattle.document.proofs.Records.{recordShape, pickedItems};
-ghost use Rattle.cross.specs.Cross.{idFaults, ruleFaults, zoneFaults};
+ghost use Rattle.cross.specs.Cross.{each, idFaults, ruleFaults, zoneFaults};
 ghost use Rattle.references.specs.Known.{Searchable};
 ghost use Rattle.cross.specs.Judged.{Judges};
+ghost use Rattle.cross.specs.Staged.{Recorded};
 
 // The items of field 78, in the array `p`.
 fn judge_named(p: &[u8], place: Place, types: &[u8], type_notes: &[u32; Notes::SIZE]) -> Least
@@ -68,7 +70,7 @@ fn judge_rules(p: &[u8], n: u32, types: &[u8], type_notes: &[u32; Notes::SIZE]) 
 }
 
 // The n-th record `p`.
-pub fn judge_zone(p: &[u8], n: u32, types: &[u8], type_notes: &[u32; Notes::SIZE]) -> Least
+fn judge_zone(p: &[u8], n: u32, types: &[u8], type_notes: &[u32; Notes::SIZE]) -> Least
     requires { ⌜ Searchable 1 (now types) (now «type_notes») × (length (now p) ≤ fileBytes) × Whole (now p) (treeOf (now p)) ⌝ }
     ensures { λ r. ⌜ Judges 6 (zoneFaults (pickedItems (recordShape 1) (now (types .entry))) n) (now (p .entry)) r ⌝ }
 {
@@ -78,4 +80,28 @@ pub fn judge_zone(p: &[u8], n: u32, types: &[u8], type_notes: &[u32; Notes::SIZE
     }
     let rules = array_in(member(properties, b"rules"));
     judge_rules(rules, n, types, type_notes)
+}
+
+// All zones of the array `p`, numbered from 1.
+// Shut out: the first broken rule in the order of the bytes; one that stops at a zone which breaks nothing.
+pub fn judge_zones(p: &[u8], types: &[u8], type_notes: &[u32; Notes::SIZE]) -> Least
+    requires { ⌜ Searchable 1 (now types) (now «type_notes») × Recorded (now p) ⌝ }
+    ensures { λ r. ⌜ r ≡ least (each (zoneFaults (pickedItems (recordShape 1) (now (types .entry)))) 1 (pickedItems (recordShape 6) (now (p .entry)))) ⌝ }
+{
+    if p.len() == 0 {
+        return Least::None;
+    }
+    let mut least = Least::None;
+    let mut n: u32 = 0;
+    let mut at: usize = 1;
+    loop {
+        let ItemStep::Found(item) = pass_item(p, at) else {
+            return least;
+        };
+        n += 1;
+        let from = item.value;
+        let upto = item.value_end;
+        least = lesser(least, judge_zone(&p[from..upto], n, types, type_notes));
+        at = item.next;
+    }
 }

@@ -1,7 +1,8 @@
--- The pass over the records of an array: each is the next one that is left, and the number of the first repeat so far and what is left come to that of all.
-use mathlib.Core.Bool.{false}
+-- The pass over the records of an array that notes them: each is the next one that is left, and the number of the first repeat so far and what is left
+-- come to that of all.
+use mathlib.Core.Bool.{Bool, false}
 use mathlib.Core.List.{List, [], _∷_, map}
-use mathlib.Core.Path.{_≡_, refl, sym, ap, _∙_}
+use mathlib.Core.Path.{_≡_, refl, sym, ap, subst, _∙_}
 use Prim.Native.Nat.{ℕ, zero, suc, _+_, _≤_, _<_}
 use native.Mathlib.Numerals.{add-one}
 use native.Mathlib.Omega.{arith}
@@ -9,14 +10,18 @@ use lib.Dec.{eqb, ltb}
 use lib.ListN.{length, getD, drop, length-map}
 use lib.Seq.{drop-cons}
 use borrow.Author.Tests.{lt-ltb, eqb-true, ne-eqb}
+use Rattle.limits.specs.Ceilings.{records}
 use Rattle.notation.specs.Choice.{_⇒_else_, _and_}
 use Rattle.lexeme.proofs.Steps.{by-test}
 use Rattle.walk.specs.declared.Item.{Item}
 use Rattle.walk.specs.Walk.{itemsFrom, itemsOf}
+use Rattle.walk.specs.Along.{AlongItems}
 use Rattle.walk.proofs.Folds.{itemSteps, one-more}
 use Rattle.walk.proofs.Parts.{itemOf}
 use Rattle.document.specs.Document.{Maybe, none, some}
 use Rattle.ids.specs.Ids.{idOf, hasId, recordBytes, lastWith, anyHas, repeated, repeatFrom, firstRepeat, earlier}
+use Rattle.ids.specs.Notes.{Noted, Blank}
+use Rattle.ids.proofs.Entering.{noted-none}
 
 -- one of the first n records has the id just where there is a last one
 pub any-last : (file : ℕ) (id : List ℕ) (rs : List (List ℕ)) (n : ℕ) → ltb 0 (lastWith file id rs n) ≡ anyHas file id (earlier rs n)
@@ -39,18 +44,18 @@ module _ (file : ℕ) (passed : List (List ℕ)) (q : List ℕ) where
 
 -- the first repeat, of which `first` is what the first n records come to
 module _ (file : ℕ) (rs : List (List ℕ)) where
-  abbrev pub toCome : ℕ → ℕ → ℕ
+  abbrev toCome : ℕ → ℕ → ℕ
   toCome n first = eqb first 0 ⇒ repeatFrom file (n + 1) (earlier rs n) (drop n rs) else first
 
-  pub come-start : toCome 0 0 ≡ firstRepeat file rs
+  come-start : toCome 0 0 ≡ firstRepeat file rs
   unfolding firstRepeat earlier
   come-start = refl
 
-  pub come-end : (n first : ℕ) → drop n rs ≡ [] → first ≡ toCome n first
+  come-end : (n first : ℕ) → drop n rs ≡ [] → first ≡ toCome n first
   unfolding repeatFrom
   come-end n first e = by-test (eqb first 0) (λ t. rw (t, e, repeatFrom) (eqb-true first 0 t)) (λ t. rw t)
 
-  pub come-more : (n first : ℕ) → n < length rs
+  come-more : (n first : ℕ) → n < length rs
       → toCome (n + 1) (eqb first 0 and repeated file (earlier rs n) (getD rs n []) ⇒ n + 1 else first) ≡ toCome n first
   unfolding repeatFrom earlier
   come-more n first h =
@@ -62,25 +67,25 @@ module _ (file : ℕ) (rs : List (List ℕ)) where
       (λ z. rw (z, z))
 
 -- n records of the array are passed; those from `at` on are left
-pub record Passes (p : List ℕ) (n at : ℕ) : Type 0 where
+record Passes (p : List ℕ) (n at : ℕ) : Type 0 where
   fuel : ℕ
   enough : length p ≤ at + fuel
   count : n + length (itemsFrom fuel p at) ≡ length (itemsOf p)
   rest : drop n (recordBytes p) ≡ map (itemOf p) (itemsFrom fuel p at)
 
 module _ (p : List ℕ) where
-  pub pass-start : Passes p 0 1
+  pass-start : Passes p 0 1
   unfolding itemsOf recordBytes
   pass-start = record { fuel = length p; enough = omega arith; count = omega arith; rest = refl }
 
   module _ {n at : ℕ} (w : Passes p n at) where
-    pub pass-end : itemSteps p .Ends at → (n ≡ length (itemsOf p)) × (drop n (recordBytes p) ≡ [])
+    pass-end : itemSteps p .Ends at → (n ≡ length (itemsOf p)) × (drop n (recordBytes p) ≡ [])
     pass-end f =
         let e = itemSteps p .end (w .fuel) at f in
         (omega (arith, w .count, ap length e), w .rest ∙ ap (map (itemOf p)) e)
 
     module _ (m : Item) (f : itemSteps p .Finds at m) where
-      pub pass-inside : n < length (recordBytes p)
+      pass-inside : n < length (recordBytes p)
       unfolding recordBytes
       pass-inside =
           let j = one-more (itemSteps p) (w .fuel) at m f (w .enough) in omega (arith, w .count, ap length (j .2), length-map (itemsOf p) (itemOf p))
@@ -89,10 +94,10 @@ module _ (p : List ℕ) where
       split =
           sym (drop-cons (recordBytes p) n [] pass-inside) ∙ w .rest ∙ ap (map (itemOf p)) (one-more (itemSteps p) (w .fuel) at m f (w .enough) .2)
 
-      pub pass-record : itemOf p m ≡ getD (recordBytes p) n []
+      pass-record : itemOf p m ≡ getD (recordBytes p) n []
       pass-record = cc split
 
-      pub pass-more : Passes p (n + 1) (m .next)
+      pass-more : Passes p (n + 1) (m .next)
       pass-more =
           let j = one-more (itemSteps p) (w .fuel) at m f (w .enough) in
           record {
@@ -101,3 +106,52 @@ module _ (p : List ℕ) where
             count = omega (arith, w .count, ap length (j .2));
             rest = ap (λ (k : ℕ). drop k (recordBytes p)) (add-one n) ∙ cc split;
           }
+
+-- the first n records of the array are noted and `first` is the first repeat among them, or 0; those from `at` on are left
+pub record Noting (file : ℕ) (p notes : List ℕ) (first n at : ℕ) : Type 0 where
+  passes : Passes p n at
+  pub along : AlongItems p at
+  pub noted : Noted file p n notes
+  come : toCome file (recordBytes p) n first ≡ firstRepeat file (recordBytes p)
+
+-- what is known when all are noted
+abbrev pub NotedAll : (file : ℕ) (p notes : List ℕ) (first : ℕ) → Type 0
+NotedAll file p notes first = (first ≡ firstRepeat file (recordBytes p)) × Noted file p (length (itemsOf p)) notes
+
+-- without a byte there is no record
+pub noting-none : (file : ℕ) (p notes : List ℕ) → length p ≡ 0 → Blank notes → NotedAll file p notes 0
+unfolding firstRepeat repeatFrom recordBytes itemsOf itemsFrom
+noting-none file [] notes e z = (refl, noted-none z)
+noting-none file (b ∷ p) notes e z = absurd (omega arith)
+
+pub noting-start : {file : ℕ} {p notes : List ℕ} → Blank notes → AlongItems p 1 → Noting file p notes 0 0 1
+noting-start {file} {p} z a = record { passes = pass-start p; along = a; noted = noted-none z; come = come-start file (recordBytes p) }
+
+module _ {file : ℕ} {p notes : List ℕ} {first n at : ℕ} (w : Noting file p notes first n at) where
+  pub noting-end : itemSteps p .Ends at → NotedAll file p notes first
+  noting-end f =
+      let e = pass-end p (w .passes) f in
+      (come-end file (recordBytes p) n first (e .1) ∙ w .come, subst (λ (k : ℕ). Noted file p k notes) (e .0) (w .noted))
+
+  -- the record m stands at `at`
+  module _ (m : Item) (f : itemSteps p .Finds at m) where
+    pub noting-room : length (itemsOf p) ≤ records → n < records
+    unfolding recordBytes
+    noting-room h = omega (arith, h, pass-inside p (w .passes) m f, length-map (itemsOf p) (itemOf p))
+
+    pub noting-record : itemOf p m ≡ getD (recordBytes p) n []
+    noting-record = pass-record p (w .passes) m f
+
+    pub noting-more : {repeats : Bool} → repeats ≡ repeated file (earlier (recordBytes p) n) (itemOf p m) → {now′ : List ℕ} → Noted file p (n + 1) now′
+        → {next : ℕ} → next ≡ (eqb first 0 and repeats ⇒ n + 1 else first) → Noting file p now′ next (n + 1) (m .next)
+    noting-more e k i =
+        let rs = recordBytes p in
+        record {
+          passes = pass-more p (w .passes) m f;
+          along = AlongItems.next (w .along) f;
+          noted = k;
+          come =
+              ap (toCome file rs (n + 1)) (i ∙ ap (λ (t : Bool). eqb first 0 and t ⇒ n + 1 else first) (e ∙ ap (repeated file (earlier rs n)) noting-record))
+              ∙ come-more file rs n first (pass-inside p (w .passes) m f)
+              ∙ w .come;
+        }

@@ -19,24 +19,23 @@ ghost use lib.ListN.{length, getD};
 ghost use Rattle.notation.specs.Choice.{_⇒_else_, _and_};
 ghost use Rattle.limits.specs.Ceilings.{records, fileBytes};
 ghost use Rattle.walk.specs.Walk.{part, itemsOf};
-ghost use Rattle.walk.specs.Part.{Whole, treeOf};
 ghost use Rattle.walk.specs.Along.{AlongItems};
-ghost use Rattle.ids.specs.Ids.{recordBytes, repeated, earlier, firstRepeat};
+ghost use Rattle.ids.specs.Ids.{idValue, recordBytes, repeated, earlier, firstRepeat};
 ghost use Rattle.ids.specs.Notes.{Noted, Blank};
 
-// Notes the record between two places of `p` behind the `n` that are noted; whether one of those has its id.
-fn note_record(
+// Notes the record between two places of `p` behind the `n` that are noted, where `value` is what it holds as its id; whether one of those has its id.
+pub fn note_record(
     file: u8,
     p: &[u8],
     from: usize,
     upto: usize,
+    value: &[u8],
     n: usize,
     notes: &mut [u32; Notes::SIZE],
 ) -> bool
-    requires { ⌜ (from ≤ fileBytes) × (upto ≤ fileBytes) × (n < records) × (part (now p) from upto ≡ getD (recordBytes (now p)) n []) × Noted file (now p) n (now notes) × Whole (part (now p) from upto) (treeOf (part (now p) from upto)) ⌝ }
+    requires { ⌜ (from ≤ fileBytes) × (upto ≤ fileBytes) × (n < records) × (part (now p) from upto ≡ getD (recordBytes (now p)) n []) × Noted file (now p) n (now notes) × (now value ≡ idValue file (part (now p) from upto)) ⌝ }
     ensures { λ r. ⌜ (r ≡ repeated file (earlier (recordBytes (now (p .entry))) n) (part (now (p .entry)) from upto)) × Noted file (now (p .entry)) (n + 1) (now (notes .exit)) ⌝ }
 {
-    let value = id_value(file, cut(p, from, upto));
     if code_of(value) != STRING {
         enter(notes, n, 0, 0, 0);
         return false;
@@ -49,7 +48,7 @@ fn note_record(
 }
 
 // The number of the first record that repeats an id, where that of those passed is `first`, or 0, and the next one is the n-th.
-fn first_of(first: u16, repeats: bool, n: usize) -> u16
+pub fn first_of(first: u16, repeats: bool, n: usize) -> u16
     requires { ⌜ n < records ⌝ }
     ensures { λ r. ⌜ r ≡ (eqb first 0 and repeats ⇒ n + 1 else first) ⌝ }
 {
@@ -80,7 +79,8 @@ pub fn note(file: u8, p: &[u8], notes: &mut [u32; Notes::SIZE]) -> u16
                 return first;
             }
             ItemStep::Found(m) => {
-                let repeats = note_record(file, p, m.value, m.value_end, n, notes);
+                let value = id_value(file, cut(p, m.value, m.value_end));
+                let repeats = note_record(file, p, m.value, m.value_end, value, n, notes);
                 first = first_of(first, repeats, n);
                 n += 1;
                 at = m.next;

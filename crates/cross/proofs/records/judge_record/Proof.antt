@@ -1,34 +1,48 @@
--- `judge_record` goes by the file's number; the records of files 2 and 5 break nothing.
+-- `judge_record` goes by the file's number: past files 1 and 3 it is file 4.
 use borrow.Author.Needs.{needs}
-use mathlib.Core.Path.{sym}
-use Rattle.fault.proofs.Leasts.{none-least}
+use mathlib.Core.Path.{_≡_, subst}
+use Prim.Native.Nat.{ℕ}
+use native.Mathlib.Omega.{arith}
+use Rattle.slots.specs.Slots.{slotsOf, Gathered}
 use Rattle.cross.specs.Cross.{faultsOf}
-use Rattle.cross.proofs.Fielded.{breaks-nothing}
+use Rattle.cross.specs.Judged.{Referring, firstLine, lineCount}
 use Rattle.cross.proofs.records.judge_record.Statement.{statement}
 use Rattle.cross.proofs.records.judge_record.Tie as tie
 
+-- the slots are those of the file that it is
+gathered : (s : tie.Start) {file : ℕ} → s .args .file ≡ file →
+    let a = s .args in Gathered (a .p .now) (firstLine file) (lineCount file) (slotsOf (a .state .now) (a .from .now) (a .upto .now))
+gathered s e =
+    let a = s .args in subst (λ (f : ℕ). Gathered (a .p .now) (firstLine f) (lineCount f) (slotsOf (a .state .now) (a .from .now) (a .upto .now))) e (s .pre .1)
+
+judge-type-requires : tie.Need-judge-type-requires
+judge-type-requires c κs = let s = c .before .before .before .before .before in (gathered s (c .match .keys1), s .pre .2 .prices)
+
+judge-status-requires : tie.Need-judge-status-requires
+judge-status-requires c κs =
+    let s = c .before .before .before .before .before in let k = s .pre .2 in (gathered s (c .match .keys2), k .vehicleTypes, k .docks, s .pre .3)
+
+left : {file : ℕ} → Referring file → (file ≡ 1 → ⊥) → (file ≡ 3 → ⊥) → file ≡ 4
+left h i j = let a = h .least in let b = h .most in let c = h .other in omega arith
+
+is-bikes : (c : tie.At-match-rest) → c .before .before .before .before .before .args .file ≡ 4
+is-bikes c = let r = c .match .rest in left (c .before .before .before .before .before .pre .0) (r .0 .1) (r .1)
+
+judge-bike-requires : tie.Need-judge-bike-requires
+judge-bike-requires c κs =
+    let s = c .before .before .before .before .before in let k = s .pre .2 in (gathered s (is-bikes c), k .vehicleTypes, k .docks, k .prices)
+
 returns : tie.Need-returns
 unfolding faultsOf
-returns c = let m = c .before in rw (m .match .keys1) (c .judge-type .ensures)
+returns c = rw (c .before .match .keys1) (c .judge-type .ensures)
 
 returns-2 : tie.Need-returns-2
 unfolding faultsOf
-returns-2 c = let m = c .before in rw (m .match .keys2) (c .judge-status .ensures)
+returns-2 c = rw (c .before .match .keys2) (c .judge-status .ensures)
 
 returns-3 : tie.Need-returns-3
 unfolding faultsOf
-returns-3 c = let m = c .before in rw (m .match .keys3) (c .judge-bike .ensures)
-
-returns-4 : tie.Need-returns-4
-unfolding faultsOf
-returns-4 c = let m = c .before in rw (m .match .keys4) (c .judge-zone .ensures)
-
-returns-5 : tie.Need-returns-5
-returns-5 c ms w =
-    let r = c .match .rest in
-    sym (none-least _ (breaks-nothing _ _ _ _ _ _ _ (r .0 .0 .0 .1) (r .0 .0 .1) (r .0 .1) (r .1) _))
+returns-3 c = rw (is-bikes (c .before)) (c .judge-bike .ensures)
 
 pub judge-record-spec : {M : Type 1} → statement M
-judge-record-spec =
-    tie.close
-    (tie.spec (λ c κs. search needs) (λ c κs. search needs) (λ c κs. search needs) (λ c κs. search needs) returns returns-2 returns-3 returns-4 returns-5)
+judge-record-spec = tie.close (tie.spec judge-type-requires judge-status-requires judge-bike-requires returns returns-2 returns-3)

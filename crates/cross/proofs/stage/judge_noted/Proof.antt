@@ -9,12 +9,12 @@ use Rattle.cross.proofs.stage.judge_noted.Statement.{statement}
 use Rattle.cross.proofs.stage.judge_noted.Tie as tie
 
 abbrev Inv-loop : tie.InvT-loop
-Inv-loop statuses bikes zones repeats set types stations plans typeNotes stationNotes planNotes file₀ file =
+Inv-loop statuses bikes zones named set types stations plans typeNotes stationNotes planNotes file₀ file =
     (file ≤ 7)
     × (firstOn (numberedLeast set types stations plans statuses bikes zones) file ≡ firstFrom (numberedLeast set types stations plans statuses bikes zones) 1 6)
 
 abbrev μ-loop : tie.MeasureT-loop
-μ-loop statuses bikes zones repeats set types stations plans typeNotes stationNotes planNotes file₀ file = 7 - file
+μ-loop statuses bikes zones named set types stations plans typeNotes stationNotes planNotes file₀ file = 7 - file
 
 judge-numbered-requires : tie.Need-judge-numbered-requires Inv-loop μ-loop
 judge-numbered-requires c κs = c .before .before .before .before .before .before .before .before .pre

@@ -1,36 +1,56 @@
--- `judge_parts` notes the three files in blank arrays, so that all is known when the files are judged.
+-- `judge_parts` notes the files that references name in blank arrays, so that all is known when the others are judged. Types are judged where no type
+-- is known: what they break does not depend on types.
 use borrow.Author.Needs.{needs}
+use mathlib.Core.Path.{_∙_}
 use native.Mathlib.Omega.{arith}
 use Rattle.ids.proofs.Entering.{blank}
-use Rattle.cross.specs.Staged.{repeatOf}
+use Rattle.cross.proofs.Staging.{records-none, none-searchable, types-alone}
 use Rattle.cross.proofs.stage.judge_parts.Statement.{statement}
 use Rattle.cross.proofs.stage.judge_parts.Tie as tie
 
-note-requires : tie.Need-note-requires
-note-requires c κs = let x = c .before .before .before .before .before .before .before .pre .0 in (x .short, x .few, blank, x .along)
+note-records-requires : tie.Need-note-records-requires
+note-records-requires c κs = (omega arith, c .before .before .before .before .before .before .before .pre .1, blank)
 
-note-requires-2 : tie.Need-note-requires-2
-note-requires-2 c κs = let x = c .before .before .before .before .before .before .before .before .before .pre .1 in (x .short, x .few, blank, x .along)
+note-records-requires-2 : tie.Need-note-records-requires-2
+note-records-requires-2 c κs = (omega arith, c .before .before .before .before .before .before .before .before .before .pre .4, blank)
 
-note-requires-3 : tie.Need-note-requires-3
-note-requires-3 c κs = let x = c .before .before .before .before .before .before .before .before .before .before .before .pre .4 in (x .short, x .few, blank, x .along)
+judge-records-requires : tie.Need-judge-records-requires
+judge-records-requires c κs =
+    let n₂ = c .before .before .before .before .before in let n₁ = n₂ .before .before in let s = n₁ .before .before .before .before .before .before .before .before in (
+      record { least = omega arith; most = omega arith; other = λ e. omega arith },
+      s .pre .0,
+      blank,
+      record {
+        vehicleTypes = none-searchable 1 (omega arith) (omega arith) blank;
+        docks = record { least = omega arith; most = omega arith; noted = n₁ .note-records .ensures .2 };
+        prices = record { least = omega arith; most = omega arith; noted = n₂ .note-records2 .ensures .2 };
+      },
+    )
 
 judge-noted-requires : tie.Need-judge-noted-requires
-unfolding repeatOf
 judge-noted-requires c κs =
-    let n₃ = c .before .before .before in let n₂ = n₃ .before .before in let n₁ = n₂ .before .before in
-    let x = n₁ .before .before .before .before .before .before .before .before .pre in (
+    let j = c .before .before .before in let n₂ = j .before .before .before .before .before .before in let n₁ = n₂ .before .before in let s = n₁ .before .before .before .before .before .before .before .before in
+    let a = s .args in let none = records-none (a .set) (a .types .now) (a .stations .now) (a .plans .now) in (
       record {
-        vehicleTypes = record { least = omega arith; most = omega arith; noted = n₁ .note .ensures .1 };
-        docks = record { least = omega arith; most = omega arith; noted = n₂ .note2 .ensures .1 };
-        prices = record { least = omega arith; most = omega arith; noted = n₃ .note3 .ensures .1 };
+        vehicleTypes = record { least = omega arith; most = omega arith; noted = j .judge-records .ensures .1 };
+        docks = record { least = omega arith; most = omega arith; noted = n₁ .note-records .ensures .2 };
+        prices = record { least = omega arith; most = omega arith; noted = n₂ .note-records2 .ensures .2 };
       },
-      record { ofTypes = n₁ .note .ensures .0; ofStations = n₂ .note2 .ensures .0; ofPlans = n₃ .note3 .ensures .0 },
-      x .0,
-      x .2,
-      x .3,
-      x .5,
+      types-alone _ _ _ _ _ (j .judge-records .ensures .0),
+      record {
+        repeats = n₁ .note-records .ensures .0;
+        breaks = n₁ .note-records .ensures .1 ∙ none 2 (λ e. omega arith) (λ e. omega arith) (λ e. omega arith) (λ e. omega arith) _;
+      },
+      record {
+        repeats = n₂ .note-records2 .ensures .0;
+        breaks = n₂ .note-records2 .ensures .1 ∙ none 5 (λ e. omega arith) (λ e. omega arith) (λ e. omega arith) (λ e. omega arith) _;
+      },
+      s .pre .2,
+      s .pre .3,
+      s .pre .5,
     )
 
 pub judge-parts-spec : {M : Type 1} → statement M
-judge-parts-spec = tie.close (tie.spec note-requires note-requires-2 note-requires-3 judge-noted-requires (λ c. search needs))
+judge-parts-spec =
+    tie.close
+    (tie.spec note-records-requires note-records-requires-2 (λ c. search needs) judge-records-requires judge-noted-requires (λ c. search needs))

@@ -1,4 +1,4 @@
--- `judge_type` gathers the record's members and joins what fields 13 and 14 break.
+-- `judge_type` joins what fields 13 and 14 break by the record's slots.
 use borrow.Author.Needs.{needs}
 use mathlib.Core.Path.{ap, _∙_}
 use Rattle.fault.specs.Fault.{least}
@@ -15,22 +15,18 @@ returns : tie.Need-returns
 unfolding recordShape
 returns c ms w =
     let l = c .before in let b₃ = l .before in let f = b₃ .before in let b₂ = f .before in let d₂ = b₂ .before in let b = d₂ .before in let d = b .before in
-    let v₃ = d .before in let s₃ = v₃ .before in let v₂ = s₃ .before in let s₂ = v₂ .before in let i = s₂ .before in let v = i .before in let s = v .before in
-    let g = s .before in let a = g .before .before .before .args in let place = at (a .n) 0 in
+    let v₃ = d .before in let v₂ = v₃ .before in let i = v₂ .before in let v = i .before in
+    let s = v .before .before .before in let a = s .args in let place = at (a .n) 0 in
     both _ _ (c .lesser2 .ensures)
     (breaks place 13 (d .demanded .result) (b .broken .ensures)
-    (d .demanded .ensures ∙ ap (λ t. demandedOf t (thereBy (v₃ .value-at3 .result .now))) (i .is-driven .ensures)))
+    (d .demanded .ensures ∙ ap (λ t. demandedOf t (thereBy (v₃ .value-in3 .result .now))) (i .is-driven .ensures)))
     (joined place 14 _ _ (l .lesser .ensures) (breaks place 14 (d₂ .demanded2 .result) (b₂ .broken2 .ensures) (d₂ .demanded2 .ensures))
     (breaks place 14 (f .refers .result) (b₃ .broken3 .ensures) (f .refers .ensures)))
     ∙ ap least
-    (type-is (a .planned) (pickedItems (recordShape 5) (a .plans .now)) (a .n) (g .gather .ensures)
-    (s .slot .result, s .slot .ensures, v .value-at .ensures .0) (s₃ .slot3 .result, s₃ .slot3 .ensures, v₃ .value-at3 .ensures .0)
-    (s₂ .slot2 .result, s₂ .slot2 .ensures, v₂ .value-at2 .ensures .0) w)
+    (type-is (a .planned) (pickedItems (recordShape 5) (a .plans .now)) (a .n) (s .pre .0) (v .value-in .ensures .0) (v₃ .value-in3 .ensures .0) (v₂ .value-in2 .ensures .0) w)
 
 pub judge-type-spec : {M : Type 1} → statement M
 judge-type-spec =
     tie.close
-    (tie.spec (λ c κs. search needs) (λ c κs. search needs) (λ c κs. search needs) (λ c κs. search needs) (λ c κs. search needs)
-    (λ c κs. search needs) (λ c κs. search needs) (λ c κs. search needs) (λ c κs. search needs)
-    (λ c κs. search needs) (λ c κs. search needs) (λ c κs. search needs) (λ c κs. search needs) (λ c κs. search needs) (λ c κs. search needs)
-    (λ c κs. search needs) returns)
+    (tie.spec (λ c κs. search needs) (λ c κs. search needs) (λ c κs. search needs) (λ c κs. search needs) (λ c κs. search needs) (λ c κs. search needs)
+    (λ c κs. search needs) (λ c κs. search needs) (λ c κs. search needs) (λ c κs. search needs) (λ c κs. search needs) (λ c κs. search needs) returns)

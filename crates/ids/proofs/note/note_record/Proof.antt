@@ -6,11 +6,10 @@ use Prim.Native.Nat.{ℕ, _+_}
 use lib.Dec.{ltb}
 use Rattle.text.specs.Text.{textOf}
 use Rattle.walk.specs.Walk.{part}
-use Rattle.walk.specs.Part.{Whole, treeOf}
 use Rattle.document.specs.Document.{none, some}
 use Rattle.fields.specs.Values.{textBy}
 use Rattle.fields.proofs.Ways.{text-none, text-some}
-use Rattle.ids.specs.Ids.{idValue, idOf, recordBytes}
+use Rattle.ids.specs.Ids.{idOf, recordBytes}
 use Rattle.ids.specs.Notes.{Noted}
 use Rattle.ids.proofs.Chains.{from-head, head-all}
 use Rattle.ids.proofs.Entering.{noted-nameless, noted-named}
@@ -18,35 +17,29 @@ use Rattle.ids.proofs.Passing.{any-last, repeated-none, repeated-some}
 use Rattle.ids.proofs.note.note_record.Statement.{statement}
 use Rattle.ids.proofs.note.note_record.Tie as tie
 
--- the value of the id
-value-is : (c : tie.After-id-value) → let a = c .before .before .before .args in c .id-value .result .now ≡ idValue (a .file) (part (a .p .now) (a .from) (a .upto))
-value-is c =
-    let g = c .before .before .before in let a = g .args in
-    c .id-value .ensures _ (subst (λ q. Whole q (treeOf (part (a .p .now) (a .from) (a .upto)))) (sym (c .before .cut .ensures)) (g .pre .5)) ∙ ap (λ q. idValue (a .file) q) (c .before .cut .ensures)
-
 returns : tie.Need-returns
 returns c =
-    let i = c .before .before in let k = i .before in let v = k .before in let g = v .before .before .before in let a = g .args in
-    let e : idOf (a .file) (part (a .p .now) (a .from) (a .upto)) ≡ none = ap textBy (sym (value-is v)) ∙ text-none _ _ (k .code-of .ensures) (i .if1 .taken) in (
+    let i = c .before .before in let k = i .before in let g = k .before .before .before in let a = g .args in
+    let e : idOf (a .file) (part (a .p .now) (a .from) (a .upto)) ≡ none = ap textBy (sym (g .pre .5)) ∙ text-none _ _ (k .code-of .ensures) (i .if1 .taken) in (
       repeated-none _ _ _ e,
       subst (λ (l : List ℕ). Noted (a .file) (a .p .now) (a .n + 1) l) (sym (c .enter .ensures)) (noted-nameless (g .pre .4) (g .pre .2) _ (g .pre .3) e),
     )
 
 -- the text of the id
-text-is : (c : tie.After-unquoted) → let a = c .before .before .before .before .before .before .args in
+text-is : (c : tie.After-unquoted) → let a = c .before .before .before .before .before .args in
     idOf (a .file) (part (a .p .now) (a .from) (a .upto)) ≡ some (textOf (c .unquoted .result .now))
 text-is c =
-    let i = c .before in let k = i .before in let v = k .before in
-    ap textBy (sym (value-is v)) ∙ text-some _ _ (k .code-of .ensures) (i .if1 .left) ∙ ap (λ q. some (textOf q)) (sym (c .unquoted .ensures))
+    let i = c .before in let k = i .before in let g = k .before .before .before in
+    ap textBy (sym (g .pre .5)) ∙ text-some _ _ (k .code-of .ensures) (i .if1 .left) ∙ ap (λ q. some (textOf q)) (sym (c .unquoted .ensures))
 
 search-requires : tie.Need-search-requires
 search-requires c κs =
-    let d = c .before .before in let g = d .before .before .before .before .before .before .before in
+    let d = c .before .before in let g = d .before .before .before .before .before .before in
     (d .digest-of .ensures, from-head (g .pre .4) _ _ _ (d .digest-of .ensures) (c .last .ensures))
 
 returns-2 : tie.Need-returns-2
 returns-2 c =
-    let s = c .before .before in let l = s .before in let d = l .before .before in let u = d .before in let g = u .before .before .before .before .before .before in
+    let s = c .before .before in let l = s .before in let d = l .before .before in let u = d .before in let g = u .before .before .before .before .before in
     let a = g .args in let id = textOf (u .unquoted .result .now) in let e = text-is u in (
       ap (ltb 0) (s .search .ensures ∙ head-all (g .pre .4) id _ _ (d .digest-of .ensures) (l .last .ensures))
           ∙ any-last (a .file) id (recordBytes (a .p .now)) (a .n)
@@ -58,5 +51,5 @@ returns-2 c =
 pub note-record-spec : {M : Type 1} → statement M
 note-record-spec =
     tie.close
-    (tie.spec (λ c κs. search needs) (λ c κs. search needs) (λ c κs. search needs) (λ c κs. search needs) returns (λ c κs. search needs) (λ c κs. search needs)
+    (tie.spec (λ c κs. search needs) (λ c κs. search needs) returns (λ c κs. search needs) (λ c κs. search needs)
     (λ c κs. search needs) search-requires (λ c κs. search needs) returns-2)
