@@ -67,9 +67,6 @@ pub fn note(file: u8, p: &[u8], notes: &mut [u32; Notes::SIZE]) -> u16
     requires { ⌜ (length (now p) ≤ fileBytes) × (length (itemsOf (now p)) ≤ records) × Blank (now notes) × ((0 < length (now p)) → AlongItems (now p) 1) ⌝ }
     ensures { λ r. ⌜ (r ≡ firstRepeat file (recordBytes (now (p .entry)))) × Noted file (now (p .entry)) (length (itemsOf (now (p .entry)))) (now (notes .exit)) ⌝ }
 {
-    if p.len() == 0 {
-        return 0;
-    }
     let mut first: u16 = 0;
     let mut n: usize = 0;
     let mut at: usize = 1;
