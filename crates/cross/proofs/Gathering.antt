@@ -2,8 +2,8 @@
 -- values of its fields, in the order in which the code joins it, and `…By` the same by the bytes of the values.
 use mathlib.Core.Bool.{Bool, not}
 use mathlib.Core.List.{List, _++_, append-assoc}
-use mathlib.Core.Path.{_≡_, refl, ap, _∙_}
-use Prim.Native.Nat.{ℕ, _≤_}
+use mathlib.Core.Path.{_≡_, refl, sym, ap, subst, _∙_}
+use Prim.Native.Nat.{ℕ, _<_}
 use native.Mathlib.Omega.{arith}
 use lib.Dec.{eqb}
 use lib.ListN.{length}
@@ -13,6 +13,7 @@ use Rattle.word.specs.Kinds.{sumDiffers}
 use Rattle.json.specs.Tree as tree
 use Rattle.json.specs.Tree.{Members}
 use Rattle.walk.specs.Part.{Whole}
+use Rattle.walk.specs.Along.{AlongItems}
 use Rattle.schema.specs.Shape as shape
 use Rattle.schema.specs.Table23.{vehicleType, available, status, bike}
 use Rattle.schema.specs.Pick.{Picked, pick}
@@ -24,6 +25,7 @@ use Rattle.judge.specs.Faults.{faulty}
 use Rattle.document.specs.Document.{Maybe, field, fieldItems, text, spelling, given}
 use Rattle.document.proofs.Records.{pickedItems}
 use Rattle.fields.specs.Values.{textBy, thereBy, arrayBy, spelledBy, integerIn}
+use Rattle.fields.proofs.Arrays.{member-along}
 use Rattle.fields.proofs.Values.{member-holds, holds-there}
 use Rattle.fields.proofs.Fields.{field-text, field-given, field-spelled, field-items, rowOf, listed}
 use Rattle.references.specs.References.{when, roomy, driven, notHuman, named, refers, demanded}
@@ -80,6 +82,13 @@ module _ (typed : Bool) (types stations : List Picked) (n : ℕ) where
       (ap (λ q. pickedItems available (arrayBy q)) listing ∙ field-items (listed refl) w)
       (ap spelledBy (slot-member g status-layout 1 (omega arith) d w) ∙ field-spelled (listed refl) w) in
       e ∙ simp append-assoc
+
+-- the counts of a status are a whole array, or there is nothing
+pub counts-along : {p : List ℕ} {s : Slots} → Gathered p 25 10 s → {counts : List ℕ} → Reads p s 7 counts → {ms : Members} → Whole p (tree.object ms)
+    → 0 < length (arrayBy counts) → AlongItems (arrayBy counts) 1
+unfolding status namesIn
+counts-along g c w =
+    subst (λ (q : List ℕ). 0 < length (arrayBy q) → AlongItems (arrayBy q) 1) (sym (slot-member g status-layout 7 (omega arith) c w)) (member-along _ _)
 
 -- a bike
 module _ (typed : Bool) (types stations plans : List Picked) (n : ℕ) where

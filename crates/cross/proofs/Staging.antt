@@ -6,6 +6,7 @@ use Prim.Native.Nat.{ℕ, zero, suc, _+_, _*_, _-_, _≤_, _<_}
 use native.Mathlib.Omega.{arith}
 use borrow.Author.Tests.{ne-eqb, le-ltb}
 use Rattle.word.specs.Kinds.{condition}
+use Rattle.walk.specs.Walk.{itemsFrom, itemsOf}
 use Rattle.schema.specs.Pick.{Picked}
 use Rattle.fault.specs.declared.Fault.{Fault}
 use Rattle.fault.specs.declared.Least.{Least}
@@ -13,10 +14,9 @@ use Rattle.fault.specs.declared.Least.the-variants.{None, Is}
 use Rattle.fault.specs.Fault.{least, lesser}
 use Rattle.fault.proofs.Leasts.{none-least}
 use Rattle.judge.specs.Faults.{top, faulty}
-use Rattle.document.proofs.Records.{recordShape, pickedItems}
 use Rattle.ids.specs.Ids.{recordBytes, firstRepeat}
 use Rattle.ids.specs.Notes.{Blank}
-use Rattle.ids.proofs.Passing.{noting-none}
+use Rattle.ids.proofs.Entering.{noted-none}
 use Rattle.clean.specs.Clean.{blamed}
 use Rattle.references.specs.declared.Set.{Set}
 use Rattle.references.specs.References.{when}
@@ -65,7 +65,8 @@ module _ (set : Set) (types stations plans : List ℕ) where
 
 -- of no records all are noted
 pub none-searchable : (file : ℕ) → 1 ≤ file → file ≤ 5 → {notes : List ℕ} → Blank notes → Searchable file [] notes
-none-searchable file h i {notes} z = record { least = h; most = i; noted = noting-none file [] notes refl z .1 }
+unfolding itemsOf itemsFrom
+none-searchable file h i z = record { least = h; most = i; noted = noted-none z }
 
 -- types may name plans and nothing else
 pub types-alone : (set : Set) (types other stations plans : List ℕ) {p : List ℕ} {found : Findings}

@@ -1,15 +1,18 @@
--- A loop over the items of an array, for any list function of what is picked of them: what is left decides the whole. And the loops that ask each
+-- A loop that passes over the items of an array, for any list function of what is picked of them: what is left decides the whole. And the loops that ask each
 -- item for its faults: the least so far, with the faults of the items left, makes the least of all.
 use mathlib.Core.List.{List, [], _∷_, map, List·Memᴰ, List·Memᴰ·head, List·Memᴰ·tail}
 use mathlib.Core.Path.{_≡_, refl, sym, ap, subst, _∙_}
-use Prim.Native.Nat.{ℕ, _+_, _≤_}
+use Prim.Native.Nat.{ℕ, _+_, _≤_, _<_}
 use native.Mathlib.Omega.{arith}
 use lib.ListN.{length}
 use Rattle.walk.specs.declared.Item.{Item}
-use Rattle.walk.specs.Walk.{itemsFrom, itemsOf}
-use Rattle.walk.specs.Part.{treeOf}
+use Rattle.walk.specs.declared.ItemStep.{ItemStep}
+use Rattle.walk.specs.declared.ItemStep.the-variants as step
+use Rattle.walk.specs.Walk.{itemAt, itemsFrom, itemsOf}
+use Rattle.walk.specs.Part.{Whole, treeOf}
+use Rattle.walk.specs.Along.{AlongItems, ItemPassed}
 use Rattle.walk.proofs.Folds.{itemSteps, one-more}
-use Rattle.walk.proofs.Parts.{itemOf}
+use Rattle.walk.proofs.Parts.{itemOf, item-whole}
 use Rattle.schema.specs.Shape.{Shape}
 use Rattle.schema.specs.Table23.{available}
 use Rattle.schema.specs.Pick.{Picked, pick}
@@ -22,6 +25,7 @@ use Rattle.judge.proofs.Going.{passed}
 use Rattle.document.specs.Document.{spelling}
 use Rattle.document.proofs.Records.{pickedItems}
 use Rattle.fields.specs.Values.{integerIn}
+use Rattle.fields.proofs.Arrays.{passed-read}
 use Rattle.cross.specs.Cross.{sumOf, each}
 
 -- what is picked of an item
@@ -30,39 +34,51 @@ pickedItem σ p m = pick σ (treeOf (itemOf p m))
 
 -- of the items from `at` on `comes` makes r
 pub record Left {A : Type 0} (σ : Shape) (p : List ℕ) (comes : List Picked → A) (at : ℕ) (r : A) : Type 0 where
-  pub fuel : ℕ
-  pub enough : length p ≤ at + fuel
-  pub among : (m : Item) → List·Memᴰ m (itemsFrom fuel p at) → List·Memᴰ m (itemsOf p)
-  pub makes : comes (map (pickedItem σ p) (itemsFrom fuel p at)) ≡ r
+  fuel : ℕ
+  enough : length p ≤ at + fuel
+  along : at < length p → AlongItems p at
+  among : (m : Item) → List·Memᴰ m (itemsFrom fuel p at) → List·Memᴰ m (itemsOf p)
+  makes : comes (map (pickedItem σ p) (itemsFrom fuel p at)) ≡ r
 
 module _ {A : Type 0} (σ : Shape) (p : List ℕ) (comes : List Picked → A) where
-  pub left-start : Left σ p comes 1 (comes (pickedItems σ p))
+  pub left-start : (0 < length p → AlongItems p 1) → Left σ p comes 1 (comes (pickedItems σ p))
   unfolding itemsOf
-  left-start = record { fuel = length p; enough = omega arith; among = λ m i. i; makes = refl }
+  left-start a = record { fuel = length p; enough = omega arith; along = λ h. a (omega arith); among = λ m i. i; makes = refl }
 
-  module _ (at : ℕ) {r : A} (w : Left σ p comes at r) where
-    pub left-end : itemSteps p .Ends at → comes [] ≡ r
-    left-end f = ap (λ l. comes (map (pickedItem σ p) l)) (sym (itemSteps p .end (w .fuel) at f)) ∙ w .makes
+  -- what a step that passes over the next item finds
+  module _ {at : ℕ} {r : A} (w : Left σ p comes at r) {s : ItemStep} (passes-over : ItemPassed p at s) where
+    pub left-end : s ≡ step.End → comes [] ≡ r
+    left-end e =
+        ap (λ l. comes (map (pickedItem σ p) l)) (sym (itemSteps p .end (w .fuel) at (sym (passed-read p at passes-over (w .along)) ∙ e))) ∙ w .makes
 
-    module _ (m : Item) (f : itemSteps p .Finds at m) where
+    module _ (m : Item) (e : s ≡ step.Found m) where
+      left-found : itemAt p at ≡ step.Found m
+      left-found = sym (passed-read p at passes-over (w .along)) ∙ e
+
+      -- the items after it
+      after : (k : ℕ) × (length p ≤ m .next + k) × (itemsFrom (w .fuel) p at ≡ m ∷ itemsFrom k p (m .next))
+      after = one-more (itemSteps p) (w .fuel) at m left-found (w .enough)
+
       pub left-among : List·Memᴰ m (itemsOf p)
-      left-among =
-          let j = one-more (itemSteps p) (w .fuel) at m f (w .enough) in
-          w .among m (subst (List·Memᴰ m) (sym (j .2)) (List·Memᴰ·head refl))
+      left-among = w .among m (subst (List·Memᴰ m) (sym (after .2)) (List·Memᴰ·head refl))
+
+      pub left-whole : Whole (itemOf p m) (treeOf (itemOf p m))
+      left-whole = item-whole p at m left-found
 
       pub left-more : (next : List Picked → A) → ((l : List Picked) → next l ≡ comes (pickedItem σ p m ∷ l)) → Left σ p next (m .next) r
-      left-more next step =
-          let j = one-more (itemSteps p) (w .fuel) at m f (w .enough) in
+      left-more next onto =
+          let j = after in let o = passes-over .placed m e in
           record {
             fuel = j .0;
             enough = j .1;
+            along = λ h. AlongItems.next (w .along (omega (arith, o .later, o .value, o .next, o .inside))) left-found;
             among = λ t i. w .among t (subst (List·Memᴰ t) (sym (j .2)) (List·Memᴰ·tail i));
-            makes = step (map (pickedItem σ p) (itemsFrom (j .0) p (m .next))) ∙ ap (λ l. comes (map (pickedItem σ p) l)) (sym (j .2)) ∙ w .makes;
+            makes = onto (map (pickedItem σ p) (itemsFrom (j .0) p (m .next))) ∙ ap (λ l. comes (map (pickedItem σ p) l)) (sym (j .2)) ∙ w .makes;
           }
 
 -- n items are passed, and `acc` is the least of what they break
 module _ (faults : ℕ → Picked → List Fault) where
-  abbrev pub going : ℕ → Least → List Picked → Least
+  abbrev going : ℕ → Least → List Picked → Least
   going n acc l = lesser acc (least (each faults (n + 1) l))
 
   going-none : (n : ℕ) (acc : Least) → going n acc [] ≡ acc
@@ -78,40 +94,35 @@ module _ (faults : ℕ → Picked → List Fault) where
     abbrev pub Goes : (n at : ℕ) → Least → Type 0
     Goes n at acc = Left σ p (going n acc) at (least (each faults 1 (pickedItems σ p)))
 
-    pub goes-none : p ≡ [] → None ≡ least (each faults 1 (pickedItems σ p))
-    unfolding each least itemsOf itemsFrom
-    goes-none e = ap (λ (q : List ℕ). least (each faults 1 (pickedItems σ q))) (sym e)
+    pub goes-start : (0 < length p → AlongItems p 1) → Goes 0 1 None
+    goes-start a = subst (Left σ p (going 0 None) 1) (none-lesser (least (each faults 1 (pickedItems σ p)))) (left-start σ p (going 0 None) a)
 
-    pub goes-start : Goes 0 1 None
-    goes-start = subst (Left σ p (going 0 None) 1) (none-lesser (least (each faults 1 (pickedItems σ p)))) (left-start σ p (going 0 None))
+    module _ (n at : ℕ) (acc : Least) (w : Goes n at acc) {s : ItemStep} (passes-over : ItemPassed p at s) where
+      pub goes-end : s ≡ step.End → acc ≡ least (each faults 1 (pickedItems σ p))
+      goes-end e = sym (going-none n acc) ∙ left-end σ p (going n acc) w passes-over e
 
-    module _ (n at : ℕ) (acc : Least) (w : Goes n at acc) where
-      pub goes-end : itemSteps p .Ends at → acc ≡ least (each faults 1 (pickedItems σ p))
-      goes-end f = sym (going-none n acc) ∙ left-end σ p (going n acc) at w f
-
-      pub goes-more : (m : Item) → itemSteps p .Finds at m → {this : Least} → this ≡ least (faults (n + 1) (pickedItem σ p m))
+      pub goes-more : (m : Item) → s ≡ step.Found m → {this : Least} → this ≡ least (faults (n + 1) (pickedItem σ p m))
           → {now′ : Least} → now′ ≡ lesser acc this → Goes (n + 1) (m .next) now′
-      goes-more m f {this} e {now′} h =
-          left-more σ p (going n acc) at w m f (going (n + 1) now′)
-          (λ l. ap (λ (a : Least). going (n + 1) a l) (h ∙ ap (lesser acc) e) ∙ going-more n acc (pickedItem σ p m) l)
+      goes-more m e {this} i {now′} h =
+          left-more σ p (going n acc) w passes-over m e (going (n + 1) now′)
+          (λ l. ap (λ (a : Least). going (n + 1) a l) (h ∙ ap (lesser acc) i) ∙ going-more n acc (pickedItem σ p m) l)
 
 -- the counts of items, summed
 module _ (p : List ℕ) where
   abbrev pub Sums : (sum at : ℕ) → Type 0
   Sums sum at = Left available p (λ l. sum + sumOf l) at (sumOf (pickedItems available p))
 
-  pub sums-start : Sums 0 1
-  sums-start =
+  pub sums-start : (0 < length p → AlongItems p 1) → Sums 0 1
+  sums-start a =
       let z : 0 + sumOf (pickedItems available p) ≡ sumOf (pickedItems available p) = omega arith in
-      subst (Left available p (λ l. 0 + sumOf l) 1) z (left-start available p (λ l. 0 + sumOf l))
+      subst (Left available p (λ l. 0 + sumOf l) 1) z (left-start available p (λ l. 0 + sumOf l) a)
 
-  module _ (sum at : ℕ) (w : Sums sum at) where
-    pub sums-end : itemSteps p .Ends at → sum ≡ sumOf (pickedItems available p)
+  module _ (sum at : ℕ) (w : Sums sum at) {s : ItemStep} (passes-over : ItemPassed p at s) where
+    pub sums-end : s ≡ step.End → sum ≡ sumOf (pickedItems available p)
     unfolding sumOf
-    sums-end f = let z : sum ≡ sum + 0 = omega arith in z ∙ left-end available p (λ l. sum + sumOf l) at w f
+    sums-end e = let z : sum ≡ sum + 0 = omega arith in z ∙ left-end available p (λ l. sum + sumOf l) w passes-over e
 
-    pub sums-more : (m : Item) → itemSteps p .Finds at m
-        → {count : ℕ} → count ≡ integerIn (spelling 39 (pickedItem available p m)) → Sums (sum + count) (m .next)
+    pub sums-more : (m : Item) → s ≡ step.Found m → {count : ℕ} → count ≡ integerIn (spelling 39 (pickedItem available p m)) → Sums (sum + count) (m .next)
     unfolding sumOf
-    sums-more m f {count} e =
-        left-more available p (λ l. sum + sumOf l) at w m f (λ l. sum + count + sumOf l) (λ l. rw (sumOf, ← e) (omega arith))
+    sums-more m e {count} i =
+        left-more available p (λ l. sum + sumOf l) w passes-over m e (λ l. sum + count + sumOf l) (λ l. rw (sumOf, ← i) (omega arith))

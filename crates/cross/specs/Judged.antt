@@ -26,6 +26,10 @@ use Rattle.cross.specs.Cross.{faultsOf}
 abbrev pub Objects : List ℕ → Type 0
 Objects p = (m : Item) → List·Memᴰ m (itemsOf p) → (ms : Members) × (treeOf (itemOf p m) ≡ tree.object ms)
 
+-- the bytes are an object's
+abbrev pub Object : List ℕ → Type 0
+Object p = (ms : Members) × Whole p (tree.object ms)
+
 -- all that is known of a set when its records are judged: the records that references name are noted
 pub record Known (types stations plans typeNotes stationNotes planNotes : List ℕ) : Type 0 where
   pub vehicleTypes : Searchable 1 types typeNotes

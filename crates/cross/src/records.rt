@@ -13,14 +13,13 @@ use slots::Slots;
 use slots::gather;
 use walk::ItemStep;
 use walk::pass_item;
-ghost use mathlib.Core.Path.{_≡_};
 ghost use Prim.Native.Nat.{_≤_};
 ghost use lib.ListN.{length};
 ghost use Rattle.limits.specs.Ceilings.{fileBytes};
 ghost use Rattle.walk.specs.Walk.{itemsOf};
 ghost use Rattle.slots.specs.Slots.{slotsOf, Gathered};
 ghost use Rattle.ids.specs.Notes.{Noted, Blank};
-ghost use Rattle.cross.specs.Judged.{Known, broken, Judges, Referring, firstLine, lineCount};
+ghost use Rattle.cross.specs.Judged.{Object, Known, broken, Judges, Referring, firstLine, lineCount};
 ghost use Rattle.cross.specs.Staged.{Recorded, Finds};
 
 // What is found of a file's records: the number of the first whose id one before it has, or 0, and the first rule that one breaks otherwise.
@@ -56,7 +55,7 @@ fn judge_record<'s>(
     station_notes: &[u32; Notes::SIZE],
     plan_notes: &[u32; Notes::SIZE],
 ) -> Least
-    requires { ⌜ Referring file × Gathered (now p) (firstLine file) (lineCount file) (slotsOf (now state) (now from) (now upto)) × Known (now types) (now stations) (now plans) (now «type_notes») (now «station_notes») (now «plan_notes») × (length (now p) ≤ fileBytes) ⌝ }
+    requires { ⌜ Referring file × Gathered (now p) (firstLine file) (lineCount file) (slotsOf (now state) (now from) (now upto)) × Known (now types) (now stations) (now plans) (now «type_notes») (now «station_notes») (now «plan_notes») × (length (now p) ≤ fileBytes) × Object (now p) ⌝ }
     ensures { λ r. ⌜ Judges file (broken set (now (types .entry)) (now (stations .entry)) (now (plans .entry)) file n) (now (p .entry)) r ⌝ }
 {
     match file {
@@ -110,9 +109,6 @@ pub fn judge_records(
 {
     let mut repeat: u16 = 0;
     let mut least = Least::None;
-    if p.len() == 0 {
-        return Findings { repeat, least };
-    }
     let mut n: usize = 0;
     let mut at: usize = 1;
     loop {

@@ -12,19 +12,19 @@ use references::rules::demanded_by;
 use references::rules::refers;
 use slots::Slots;
 use walk::ItemStep;
-use walk::next_item;
+use walk::pass_item;
 use word::kind::Kind;
 ghost use mathlib.Core.Bool.{not};
 ghost use mathlib.Core.List.{_++_};
 ghost use mathlib.Core.Path.{_≡_};
-ghost use Prim.Native.Nat.{_≤_};
+ghost use Prim.Native.Nat.{_≤_, _<_};
 ghost use lib.ListN.{length};
 ghost use Rattle.limits.specs.Ceilings.{fileBytes};
-ghost use Prim.Native.Nat.{_<_, _^_};
 ghost use lib.Dec.{eqb};
 ghost use Rattle.notation.specs.Choice.{_and_};
 ghost use Rattle.word.specs.Kinds.{sumDiffers};
 ghost use Rattle.scalar.specs.Listed.{listed};
+ghost use Rattle.walk.specs.Along.{AlongItems};
 ghost use Rattle.schema.specs.Table23.{available as availableShape};
 ghost use Rattle.fault.specs.Fault.{least};
 ghost use Rattle.judge.specs.Faults.{faulty};
@@ -34,63 +34,53 @@ ghost use Rattle.fields.specs.Values.{textBy, thereBy, arrayBy, spelledBy, inte
 ghost use Rattle.references.specs.References.{when, demanded as demandedOf, refers as refersTo, named as namedBy, roomy as roomyOf};
 ghost use Rattle.cross.specs.Cross.{at, sumOf, availableFaults, statusFaults};
 ghost use Rattle.references.specs.Known.{Searchable};
-ghost use Rattle.cross.specs.Judged.{Judges};
+ghost use Rattle.cross.specs.Judged.{Object, Judges};
 
-// The counts of the items of the array `p`, summed.
-fn sum_of(p: &[u8]) -> u64
-    requires { ⌜ length (now p) ≤ fileBytes ⌝ }
-    ensures { λ r. ⌜ r ≡ sumOf (pickedItems availableShape (now (p .entry))) ⌝ }
-{
-    let mut sum: u64 = 0;
-    let mut at: usize = 1;
-    loop {
-        let ItemStep::Found(item) = next_item(p, at) else {
-            return sum;
-        };
-        let from = item.value;
-        let upto = item.value_end;
-        sum += integer_in(member(&p[from..upto], b"count"));
-        at = item.next;
-    }
+// What the types tell that are available: the sum of their counts, and the first rule that one breaks.
+struct Tally {
+    sum: u64,
+    least: Least,
 }
 
 // The types that are available, in the array `p`, item by item.
-fn judge_available(p: &[u8], n: u32, types: &[u8], type_notes: &[u32; Notes::SIZE]) -> Least
-    requires { ⌜ Searchable 1 (now types) (now «type_notes») × (length (now p) ≤ fileBytes) ⌝ }
-    ensures { λ r. ⌜ r ≡ least (availableFaults (pickedItems (recordShape 1) (now (types .entry))) n 1 (pickedItems availableShape (now (p .entry)))) ⌝ }
+fn judge_available(p: &[u8], n: u32, types: &[u8], type_notes: &[u32; Notes::SIZE]) -> Tally
+    requires { ⌜ Searchable 1 (now types) (now «type_notes») × (length (now p) ≤ fileBytes) × ((0 < length (now p)) → AlongItems (now p) 1) ⌝ }
+    ensures { λ r. ⌜ (r .sum ≡ sumOf (pickedItems availableShape (now (p .entry)))) × (r .least ≡ least (availableFaults (pickedItems (recordShape 1) (now (types .entry))) n 1 (pickedItems availableShape (now (p .entry))))) ⌝ }
 {
+    let mut sum: u64 = 0;
     let mut least = Least::None;
     let mut sub: u32 = 0;
     let mut at: usize = 1;
     loop {
-        let ItemStep::Found(item) = next_item(p, at) else {
-            return least;
+        let ItemStep::Found(item) = pass_item(p, at) else {
+            return Tally { sum, least };
         };
         sub += 1;
         let from = item.value;
         let upto = item.value_end;
+        let q = &p[from..upto];
         let place = Place {
             record: n,
             sub: sub,
         };
-        let reference = member(&p[from..upto], b"vehicle_type_id");
-        least = lesser(
-            least,
-            place.broken(38, refers(reference, 1, types, type_notes)),
+        let broken = place.broken(
+            38,
+            refers(member(q, b"vehicle_type_id"), 1, types, type_notes),
         );
+        least = lesser(least, broken);
+        sum += integer_in(member(q, b"count"));
         at = item.next;
     }
 }
 
 // What field 37 breaks whose counts do not sum to field 31: the kind, or 0.
-fn sum_kind(available: &[u8], bikes: &[u8]) -> u8
-    requires { ⌜ length (now available) ≤ fileBytes ⌝ }
-    ensures { λ r. ⌜ listed r ≡ when (thereBy (now (available .entry)) and not (eqb (sumOf (pickedItems availableShape (arrayBy (now (available .entry))))) (integerIn (spelledBy (now (bikes .entry)))))) sumDiffers ⌝ }
+fn sum_kind(available: &[u8], sum: u64, bikes: &[u8]) -> u8
+    ensures { λ r. ⌜ listed r ≡ when (thereBy (now (available .entry)) and not (eqb sum (integerIn (spelledBy (now (bikes .entry)))))) sumDiffers ⌝ }
 {
     if available.len() == 0 {
         return 0;
     }
-    if sum_of(array_in(available)) == integer_in(bikes) {
+    if sum == integer_in(bikes) {
         return 0;
     }
     Kind::SUM_DIFFERS
@@ -124,13 +114,14 @@ fn judge_counts(
     types: &[u8],
     type_notes: &[u32; Notes::SIZE],
 ) -> Least
-    requires { ⌜ Searchable 1 (now types) (now «type_notes») × (length (now available) ≤ fileBytes) ⌝ }
+    requires { ⌜ Searchable 1 (now types) (now «type_notes») × (length (now available) ≤ fileBytes) × ((0 < length (arrayBy (now available))) → AlongItems (arrayBy (now available)) 1) ⌝ }
     ensures { λ r. ⌜ r ≡ least (faulty (at n 0) 37 (demandedOf typed (thereBy (now (available .entry))) ++ when (thereBy (now (available .entry)) and not (eqb (sumOf (pickedItems availableShape (arrayBy (now (available .entry))))) (integerIn (spelledBy (now (bikes .entry)))))) sumDiffers) ++ availableFaults (pickedItems (recordShape 1) (now (types .entry))) n 1 (pickedItems availableShape (arrayBy (now (available .entry))))) ⌝ }
 {
     let place = Place { record: n, sub: 0 };
+    let tally = judge_available(array_in(available), n, types, type_notes);
     let a = place.broken(37, demanded(typed, available));
-    let b = place.broken(37, sum_kind(available, bikes));
-    let c = judge_available(array_in(available), n, types, type_notes);
+    let b = place.broken(37, sum_kind(available, tally.sum, bikes));
+    let c = tally.least;
     lesser(lesser(a, b), c)
 }
 
@@ -147,7 +138,7 @@ pub fn judge_status<'s>(
     type_notes: &[u32; Notes::SIZE],
     station_notes: &[u32; Notes::SIZE],
 ) -> Least
-    requires { ⌜ Gathered (now p) 25 10 (slotsOf (now state) (now from) (now upto)) × Searchable 1 (now types) (now «type_notes») × Searchable 2 (now stations) (now «station_notes») × (length (now p) ≤ fileBytes) ⌝ }
+    requires { ⌜ Gathered (now p) 25 10 (slotsOf (now state) (now from) (now upto)) × Searchable 1 (now types) (now «type_notes») × Searchable 2 (now stations) (now «station_notes») × (length (now p) ≤ fileBytes) × Object (now p) ⌝ }
     ensures { λ r. ⌜ Judges 3 (statusFaults typed (pickedItems (recordShape 1) (now (types .entry))) (pickedItems (recordShape 2) (now (stations .entry))) n) (now (p .entry)) r ⌝ }
 {
     let place = Place { record: n, sub: 0 };

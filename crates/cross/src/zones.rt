@@ -7,13 +7,13 @@ use ids::Notes;
 use judge::Place;
 use references::rules::refers;
 use walk::ItemStep;
-use walk::next_item;
 use walk::pass_item;
 ghost use mathlib.Core.Path.{_≡_};
-ghost use Prim.Native.Nat.{_≤_};
+ghost use Prim.Native.Nat.{_≤_, _<_};
 ghost use lib.ListN.{length};
 ghost use Rattle.limits.specs.Ceilings.{fileBytes};
 ghost use Rattle.walk.specs.Part.{Whole, treeOf};
+ghost use Rattle.walk.specs.Along.{AlongItems};
 ghost use Rattle.schema.specs.Shape.{Sort, scalar};
 ghost use Rattle.schema.specs.Table23.{rule as ruleShape};
 ghost use Rattle.fault.specs.Fault.{least};
@@ -25,13 +25,13 @@ ghost use Rattle.cross.specs.Staged.{Recorded};
 
 // The items of field 78, in the array `p`.
 fn judge_named(p: &[u8], place: Place, types: &[u8], type_notes: &[u32; Notes::SIZE]) -> Least
-    requires { ⌜ Searchable 1 (now types) (now «type_notes») ⌝ }
+    requires { ⌜ Searchable 1 (now types) (now «type_notes») × ((0 < length (now p)) → AlongItems (now p) 1) ⌝ }
     ensures { λ r. ⌜ r ≡ least (idFaults (pickedItems (recordShape 1) (now (types .entry))) (place .«record») (place .sub) (pickedItems (scalar Sort.id) (now (p .entry)))) ⌝ }
 {
     let mut least = Least::None;
     let mut at: usize = 1;
     loop {
-        let ItemStep::Found(item) = next_item(p, at) else {
+        let ItemStep::Found(item) = pass_item(p, at) else {
             return least;
         };
         let from = item.value;
@@ -46,14 +46,14 @@ fn judge_named(p: &[u8], place: Place, types: &[u8], type_notes: &[u32; Notes::S
 
 // The rules in the array `p`.
 fn judge_rules(p: &[u8], n: u32, types: &[u8], type_notes: &[u32; Notes::SIZE]) -> Least
-    requires { ⌜ Searchable 1 (now types) (now «type_notes») × (length (now p) ≤ fileBytes) ⌝ }
+    requires { ⌜ Searchable 1 (now types) (now «type_notes») × (length (now p) ≤ fileBytes) × ((0 < length (now p)) → AlongItems (now p) 1) ⌝ }
     ensures { λ r. ⌜ r ≡ least (ruleFaults (pickedItems (recordShape 1) (now (types .entry))) n 1 (pickedItems ruleShape (now (p .entry)))) ⌝ }
 {
     let mut least = Least::None;
     let mut sub: u32 = 0;
     let mut at: usize = 1;
     loop {
-        let ItemStep::Found(item) = next_item(p, at) else {
+        let ItemStep::Found(item) = pass_item(p, at) else {
             return least;
         };
         sub += 1;
@@ -88,9 +88,6 @@ pub fn judge_zones(p: &[u8], types: &[u8], type_notes: &[u32; Notes::SIZE]) -> L
     requires { ⌜ Searchable 1 (now types) (now «type_notes») × Recorded (now p) ⌝ }
     ensures { λ r. ⌜ r ≡ least (each (zoneFaults (pickedItems (recordShape 1) (now (types .entry)))) 1 (pickedItems (recordShape 6) (now (p .entry)))) ⌝ }
 {
-    if p.len() == 0 {
-        return Least::None;
-    }
     let mut least = Least::None;
     let mut n: u32 = 0;
     let mut at: usize = 1;

@@ -1,7 +1,7 @@
 -- The pass over the records of an array that notes them: each is the next one that is left, and the number of the first repeat so far and what is left
 -- come to that of all.
 use mathlib.Core.Bool.{Bool, false}
-use mathlib.Core.List.{List, [], _∷_, map}
+use mathlib.Core.List.{List, [], _∷_, map, List·Memᴰ, List·Memᴰ·head, List·Memᴰ·tail}
 use mathlib.Core.Path.{_≡_, refl, sym, ap, subst, _∙_}
 use Prim.Native.Nat.{ℕ, zero, suc, _+_, _≤_, _<_}
 use native.Mathlib.Numerals.{add-one}
@@ -14,11 +14,14 @@ use Rattle.limits.specs.Ceilings.{records}
 use Rattle.notation.specs.Choice.{_⇒_else_, _and_}
 use Rattle.lexeme.proofs.Steps.{by-test}
 use Rattle.walk.specs.declared.Item.{Item}
-use Rattle.walk.specs.Walk.{itemsFrom, itemsOf}
-use Rattle.walk.specs.Along.{AlongItems}
+use Rattle.walk.specs.declared.ItemStep.{ItemStep}
+use Rattle.walk.specs.declared.ItemStep.the-variants as step
+use Rattle.walk.specs.Walk.{itemAt, itemsFrom, itemsOf}
+use Rattle.walk.specs.Along.{AlongItems, ItemPassed}
 use Rattle.walk.proofs.Folds.{itemSteps, one-more}
 use Rattle.walk.proofs.Parts.{itemOf}
 use Rattle.document.specs.Document.{Maybe, none, some}
+use Rattle.fields.proofs.Arrays.{passed-read}
 use Rattle.ids.specs.Ids.{idOf, hasId, recordBytes, lastWith, anyHas, repeated, repeatFrom, firstRepeat, earlier}
 use Rattle.ids.specs.Notes.{Noted, Blank}
 use Rattle.ids.proofs.Entering.{noted-none}
@@ -70,13 +73,14 @@ module _ (file : ℕ) (rs : List (List ℕ)) where
 record Passes (p : List ℕ) (n at : ℕ) : Type 0 where
   fuel : ℕ
   enough : length p ≤ at + fuel
+  among : (m : Item) → List·Memᴰ m (itemsFrom fuel p at) → List·Memᴰ m (itemsOf p)
   count : n + length (itemsFrom fuel p at) ≡ length (itemsOf p)
   rest : drop n (recordBytes p) ≡ map (itemOf p) (itemsFrom fuel p at)
 
 module _ (p : List ℕ) where
   pass-start : Passes p 0 1
   unfolding itemsOf recordBytes
-  pass-start = record { fuel = length p; enough = omega arith; count = omega arith; rest = refl }
+  pass-start = record { fuel = length p; enough = omega arith; among = λ m i. i; count = omega arith; rest = refl }
 
   module _ {n at : ℕ} (w : Passes p n at) where
     pass-end : itemSteps p .Ends at → (n ≡ length (itemsOf p)) × (drop n (recordBytes p) ≡ [])
@@ -89,6 +93,9 @@ module _ (p : List ℕ) where
       unfolding recordBytes
       pass-inside =
           let j = one-more (itemSteps p) (w .fuel) at m f (w .enough) in omega (arith, w .count, ap length (j .2), length-map (itemsOf p) (itemOf p))
+
+      pass-among : List·Memᴰ m (itemsOf p)
+      pass-among = w .among m (subst (List·Memᴰ m) (sym (one-more (itemSteps p) (w .fuel) at m f (w .enough) .2)) (List·Memᴰ·head refl))
 
       split : getD (recordBytes p) n [] ∷ drop (suc n) (recordBytes p) ≡ itemOf p m ∷ map (itemOf p) (itemsFrom (one-more (itemSteps p) (w .fuel) at m f (w .enough) .0) p (m .next))
       split =
@@ -103,6 +110,7 @@ module _ (p : List ℕ) where
           record {
             fuel = j .0;
             enough = j .1;
+            among = λ t i. w .among t (subst (List·Memᴰ t) (sym (j .2)) (List·Memᴰ·tail i));
             count = omega (arith, w .count, ap length (j .2));
             rest = ap (λ (k : ℕ). drop k (recordBytes p)) (add-one n) ∙ cc split;
           }
@@ -110,7 +118,7 @@ module _ (p : List ℕ) where
 -- the first n records of the array are noted and `first` is the first repeat among them, or 0; those from `at` on are left
 pub record Noting (file : ℕ) (p notes : List ℕ) (first n at : ℕ) : Type 0 where
   passes : Passes p n at
-  pub along : AlongItems p at
+  along : at < length p → AlongItems p at
   pub noted : Noted file p n notes
   come : toCome file (recordBytes p) n first ≡ firstRepeat file (recordBytes p)
 
@@ -118,40 +126,41 @@ pub record Noting (file : ℕ) (p notes : List ℕ) (first n at : ℕ) : Type 0 
 abbrev pub NotedAll : (file : ℕ) (p notes : List ℕ) (first : ℕ) → Type 0
 NotedAll file p notes first = (first ≡ firstRepeat file (recordBytes p)) × Noted file p (length (itemsOf p)) notes
 
--- without a byte there is no record
-pub noting-none : (file : ℕ) (p notes : List ℕ) → length p ≡ 0 → Blank notes → NotedAll file p notes 0
-unfolding firstRepeat repeatFrom recordBytes itemsOf itemsFrom
-noting-none file [] notes e z = (refl, noted-none z)
-noting-none file (b ∷ p) notes e z = absurd (omega arith)
+pub noting-start : {file : ℕ} {p notes : List ℕ} → Blank notes → (0 < length p → AlongItems p 1) → Noting file p notes 0 0 1
+noting-start {file} {p} z a =
+    record { passes = pass-start p; along = λ h. a (omega arith); noted = noted-none z; come = come-start file (recordBytes p) }
 
-pub noting-start : {file : ℕ} {p notes : List ℕ} → Blank notes → AlongItems p 1 → Noting file p notes 0 0 1
-noting-start {file} {p} z a = record { passes = pass-start p; along = a; noted = noted-none z; come = come-start file (recordBytes p) }
+-- what a step that passes over the next record finds
+module _ {file : ℕ} {p notes : List ℕ} {first n at : ℕ} (w : Noting file p notes first n at) {s : ItemStep} (passes-over : ItemPassed p at s) where
+  pub noting-end : s ≡ step.End → NotedAll file p notes first
+  noting-end e =
+      let i = pass-end p (w .passes) (sym (passed-read p at passes-over (w .along)) ∙ e) in
+      (come-end file (recordBytes p) n first (i .1) ∙ w .come, subst (λ (k : ℕ). Noted file p k notes) (i .0) (w .noted))
 
-module _ {file : ℕ} {p notes : List ℕ} {first n at : ℕ} (w : Noting file p notes first n at) where
-  pub noting-end : itemSteps p .Ends at → NotedAll file p notes first
-  noting-end f =
-      let e = pass-end p (w .passes) f in
-      (come-end file (recordBytes p) n first (e .1) ∙ w .come, subst (λ (k : ℕ). Noted file p k notes) (e .0) (w .noted))
+  module _ (m : Item) (e : s ≡ step.Found m) where
+    noting-found : itemAt p at ≡ step.Found m
+    noting-found = sym (passed-read p at passes-over (w .along)) ∙ e
 
-  -- the record m stands at `at`
-  module _ (m : Item) (f : itemSteps p .Finds at m) where
+    pub noting-among : List·Memᴰ m (itemsOf p)
+    noting-among = pass-among p (w .passes) m noting-found
+
     pub noting-room : length (itemsOf p) ≤ records → n < records
     unfolding recordBytes
-    noting-room h = omega (arith, h, pass-inside p (w .passes) m f, length-map (itemsOf p) (itemOf p))
+    noting-room h = omega (arith, h, pass-inside p (w .passes) m noting-found, length-map (itemsOf p) (itemOf p))
 
     pub noting-record : itemOf p m ≡ getD (recordBytes p) n []
-    noting-record = pass-record p (w .passes) m f
+    noting-record = pass-record p (w .passes) m noting-found
 
     pub noting-more : {repeats : Bool} → repeats ≡ repeated file (earlier (recordBytes p) n) (itemOf p m) → {now′ : List ℕ} → Noted file p (n + 1) now′
         → {next : ℕ} → next ≡ (eqb first 0 and repeats ⇒ n + 1 else first) → Noting file p now′ next (n + 1) (m .next)
-    noting-more e k i =
-        let rs = recordBytes p in
+    noting-more i k j =
+        let rs = recordBytes p in let f = noting-found in let o = passes-over .placed m e in
         record {
           passes = pass-more p (w .passes) m f;
-          along = AlongItems.next (w .along) f;
+          along = λ h. AlongItems.next (w .along (omega (arith, o .later, o .value, o .next, o .inside))) f;
           noted = k;
           come =
-              ap (toCome file rs (n + 1)) (i ∙ ap (λ (t : Bool). eqb first 0 and t ⇒ n + 1 else first) (e ∙ ap (repeated file (earlier rs n)) noting-record))
+              ap (toCome file rs (n + 1)) (j ∙ ap (λ (t : Bool). eqb first 0 and t ⇒ n + 1 else first) (i ∙ ap (repeated file (earlier rs n)) noting-record))
               ∙ come-more file rs n first (pass-inside p (w .passes) m f)
               ∙ w .come;
         }

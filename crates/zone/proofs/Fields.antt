@@ -1,36 +1,29 @@
 -- Arrays in objects, and the fields of a rule, by the bytes of the object: each is a row of the table, and its member's bytes hold it.
-use mathlib.Core.Bool.{Bool, true, false}
+use mathlib.Core.Bool.{Bool, true}
 use mathlib.Core.List.{List, [], _∷_}
 use mathlib.Core.Path.{_≡_, refl, ap, _∙_}
 use Prim.Native.Nat.{ℕ}
 use native.Mathlib.Omega.{arith}
-use lib.Dec.{eqb}
 use lib.ListN.{length}
 use Rattle.limits.specs.Ceilings as ceiling
 use Rattle.notation.specs.Ascii.{bytes}
-use Rattle.notation.specs.Choice.{_⇒_else_}
 use Rattle.lexeme.specs.Character.{within}
 use Rattle.lexeme.specs.Numbers.{digit}
 use Rattle.lexeme.specs.Tokens.{start}
 use Rattle.json.specs.Tree.{Json}
-use Rattle.walk.specs.Walk.{part}
-use Rattle.walk.specs.Part.{Whole, treeOf, kindOf, kindAt}
-use Rattle.walk.proofs.Wholes.{whole-kind, whole-some}
+use Rattle.walk.specs.Part.{Whole, kindAt}
+use Rattle.walk.proofs.Wholes.{whole-some}
 use Rattle.schema.specs.Shape as shape
 use Rattle.schema.specs.Shape.{Shape, Rows, Sort, Numbering}
 use Rattle.schema.specs.Table23 as table
 use Rattle.schema.specs.Pick.{Picked, pick}
-use Rattle.slots.specs.declared.Found.{Found}
-use Rattle.slots.specs.declared.Found.the-variants.{Missing, Once, Twice}
-use Rattle.slots.specs.Found.{foundIn}
-use Rattle.slots.specs.Blank.{blankText}
-use Rattle.slots.proofs.Finds.{found-value}
 use Rattle.rings.specs.Parts.{Listing, partsOf}
 use Rattle.document.specs.Document.{Maybe, none, some, along, elements, elementsOf, field, fieldItems, given, textIn}
 use Rattle.document.proofs.Fields.{Lists}
 use Rattle.document.proofs.Records.{pickedItems}
-use Rattle.fields.specs.Values.{code, foundBytes, memberOf, textBy, arrayBy, integerIn, isId}
+use Rattle.fields.specs.Values.{memberOf, textBy, arrayBy, integerIn, isId}
 use Rattle.fields.proofs.Values.{Holds, member-holds, holds-text, holds-items}
+use Rattle.fields.proofs.Arrays.{member-array}
 use Rattle.fields.proofs.Fields.{field-spelled, field-truth, field-items, rowOf, listed}
 use Rattle.zone.specs.declared.Rule.{Rule}
 use Rattle.zone.specs.Zone.{anyText, applies}
@@ -42,42 +35,9 @@ parts-are : (σ : Shape) (p : List ℕ) → partsOf σ p ≡ pickedItems σ p
 unfolding partsOf
 parts-are σ p = refl
 
--- an array that is a member is whole
-empty : Listing []
-empty = record { whole = λ h. absurd (omega arith) }
-
-none-listing : Listing (arrayBy [])
-unfolding arrayBy kindAt start digit within
-none-listing = empty
-
-whole-listing : (q : List ℕ) (x : Json) → Whole q x → Listing (arrayBy q)
-unfolding arrayBy
-whole-listing q x w = rw (arrayBy, whole-kind w) (go x w)
-  where
-    go : (y : Json) → Whole q y → Listing (eqb (code (kindOf y)) 4 ⇒ q else [])
-    go Json.null v = empty
-    go (Json.boolean b) v = empty
-    go (Json.number s) v = empty
-    go (Json.string s) v = empty
-    go (Json.array is) v = record { whole = λ h. (is, v) }
-    go (Json.object ms) v = empty
-
+-- an array that is a member
 pub member-listing : (p name : List ℕ) → Listing (arrayBy (memberOf p name))
-unfolding memberOf
-member-listing p name = go (eqb (code (kindAt p)) 5)
-  where
-    unless-blank : (t : Bool) (q : List ℕ) → Whole q (treeOf q) → Listing (arrayBy (t ⇒ [] else q))
-    unless-blank true q w = none-listing
-    unless-blank false q w = whole-listing q (treeOf q) w
-
-    in-found : (o : Found) → foundIn p name ≡ o → Listing (arrayBy (foundBytes p o))
-    in-found Missing e = none-listing
-    in-found (Once from upto) e = unless-blank (blankText (treeOf (part p from upto))) (part p from upto) (found-value p name from upto e .whole)
-    in-found Twice e = none-listing
-
-    go : (t : Bool) → Listing (arrayBy (t ⇒ foundBytes p (foundIn p name) else []))
-    go true = in-found (foundIn p name) refl
-    go false = none-listing
+member-listing p name = record { whole = member-array p name }
 
 -- of no bytes there is no member, and so no item
 pub nothing-in : (σ : Shape) (name : List ℕ) → partsOf σ (arrayBy (memberOf [] name)) ≡ []

@@ -1,5 +1,4 @@
 -- `judge_record` goes by the file's number: past files 1 and 3 it is file 4.
-use borrow.Author.Needs.{needs}
 use mathlib.Core.Path.{_≡_, subst}
 use Prim.Native.Nat.{ℕ}
 use native.Mathlib.Omega.{arith}
@@ -20,7 +19,7 @@ judge-type-requires c κs = let s = c .before .before .before .before .before in
 
 judge-status-requires : tie.Need-judge-status-requires
 judge-status-requires c κs =
-    let s = c .before .before .before .before .before in let k = s .pre .2 in (gathered s (c .match .keys2), k .vehicleTypes, k .docks, s .pre .3)
+    let s = c .before .before .before .before .before in let k = s .pre .2 in (gathered s (c .match .keys2), k .vehicleTypes, k .docks, s .pre .3, s .pre .4)
 
 left : {file : ℕ} → Referring file → (file ≡ 1 → ⊥) → (file ≡ 3 → ⊥) → file ≡ 4
 left h i j = let a = h .least in let b = h .most in let c = h .other in omega arith

@@ -8,21 +8,18 @@ use lib.ListN.{length}
 use Rattle.limits.specs.Ceilings.{records}
 use Rattle.json.specs.Tree as tree
 use Rattle.json.specs.Tree.{Members}
-use Rattle.walk.specs.declared.ItemStep.the-variants as items
-use Rattle.walk.specs.Walk.{itemAt}
 use Rattle.walk.specs.Part.{Whole, treeOf}
 use Rattle.walk.specs.Along.{ItemPlaced}
-use Rattle.walk.proofs.Parts.{itemOf, item-whole}
+use Rattle.walk.proofs.Parts.{itemOf}
 use Rattle.schema.specs.Pick.{pick}
 use Rattle.fault.specs.Fault.{least as leastOf}
 use Rattle.document.proofs.Records.{recordShape}
 use Rattle.fields.proofs.Sizes.{part-short}
-use Rattle.ids.proofs.Passing.{Noting, noting-none, noting-start, noting-end, noting-room, noting-record, noting-more}
+use Rattle.ids.proofs.Passing.{Noting, noting-start, noting-end, noting-room, noting-record, noting-more}
 use Rattle.cross.specs.Judged.{broken}
-use Rattle.cross.proofs.Fielded.{no-bytes}
 use Rattle.cross.proofs.Layouts.{id-slot}
 use Rattle.cross.proofs.Staging.{repeat-is}
-use Rattle.cross.proofs.Walked.{Goes, goes-none, goes-start, goes-end, goes-more, left-among}
+use Rattle.cross.proofs.Walked.{Goes, goes-start, goes-end, goes-more, left-among, left-whole}
 use Rattle.cross.proofs.records.judge_records.Statement.{statement}
 use Rattle.cross.proofs.records.judge_records.Tie as tie
 
@@ -33,23 +30,16 @@ Inv-loop file p notes₀ set types stations plans typeNotes stationNotes planNot
 abbrev μ-loop : tie.MeasureT-loop
 μ-loop file p notes₀ set types stations plans typeNotes stationNotes planNotes repeat₀ least₀ n₀ at₀ notes repeat least n at = length p - at
 
+loop-holds : tie.Need-loop-holds Inv-loop μ-loop
+loop-holds c = let x = c .before .before .before .before .pre in (noting-start (x .2) (x .1 .along), goes-start _ _ _ (x .1 .along))
+
 returns : tie.Need-returns Inv-loop μ-loop
 returns c =
-    let s = c .before .before .before .before .before in let a = s .args in let e = noting-none (a .file) (a .p .now) (a .notes .now) (c .if1 .taken) (s .pre .2) in
-    let most = s .pre .0 .most in
-    (record { repeats = e .0 ∙ repeat-is (a .file) (omega arith) (a .p .now); breaks = goes-none _ _ _ (no-bytes _ (c .if1 .taken)) }, e .1)
-
-loop-holds : tie.Need-loop-holds Inv-loop μ-loop
-loop-holds c = let s = c .before .before .before .before .before in (noting-start (s .pre .2) (s .pre .1 .along (omega arith)), goes-start _ _ _)
-
-returns-2 : tie.Need-returns-2 Inv-loop μ-loop
-returns-2 c =
-    let t = c .before .before in let l = t .before in let s = l .before .before .before .before .before .before in let a = s .args in let w = l .loop .inv .0 in
-    let f = sym (t .pass-item .ensures .same (w .along)) ∙ c .enum-told .given .1 in let e = noting-end w f in
-    let most = s .pre .0 .most in (
+    let t = c .before .before in let l = t .before in let s = l .before .before .before .before .before in let a = s .args in
+    let e = noting-end (l .loop .inv .0) (t .pass-item .ensures) (c .enum-told .given .1) in let most = s .pre .0 .most in (
       record {
         repeats = e .0 ∙ repeat-is (a .file) (omega arith) (a .p .now);
-        breaks = goes-end _ _ _ (l .loop .n) (l .loop .at) (l .loop .least) (l .loop .inv .1) f;
+        breaks = goes-end _ _ _ (l .loop .n) (l .loop .at) (l .loop .least) (l .loop .inv .1) (t .pass-item .ensures) (c .enum-told .given .1);
       },
       e .1,
     )
@@ -59,35 +49,33 @@ abbrev Met : Type 0
 Met = tie.After-item Inv-loop μ-loop
 
 abbrev start : Met → tie.Start Inv-loop μ-loop
-start c = c .before .before .before .before .before .before .before .before .before
+start c = c .before .before .before .before .before .before .before .before
 
-placed : (c : Met) → let l = c .before .before .before in ItemPlaced (start c .args .p .now) (l .loop .at) (c .item .given .0 .0)
+placed : (c : Met) → ItemPlaced (start c .args .p .now) (c .before .before .before .loop .at) (c .item .given .0 .0)
 placed c = c .before .before .pass-item .ensures .placed _ (c .item .given .1)
 
--- and which it is
-found : (c : Met) → let l = c .before .before .before in itemAt (start c .args .p .now) (l .loop .at) ≡ items.Found (c .item .given .0 .0)
-found c = let t = c .before .before in sym (t .pass-item .ensures .same (t .before .loop .inv .0 .along)) ∙ c .item .given .1
-
 room : (c : Met) → c .before .before .before .loop .n < records
-room c = noting-room (c .before .before .before .loop .inv .0) _ (found c) (start c .pre .1 .few)
+room c = let t = c .before .before in noting-room (t .before .loop .inv .0) (t .pass-item .ensures) _ (c .item .given .1) (start c .pre .1 .few)
 
 -- an object
 object : (c : Met) → (ms : Members) × (treeOf (itemOf (start c .args .p .now) (c .item .given .0 .0)) ≡ tree.object ms)
 object c =
-    let l = c .before .before .before in let s = start c in let m = c .item .given .0 .0 in
-    s .pre .1 .objects m (left-among (recordShape (s .args .file)) (s .args .p .now) _ (l .loop .at) (l .loop .inv .1) m (found c))
+    let t = c .before .before in let s = start c in let m = c .item .given .0 .0 in
+    s .pre .1 .objects m (left-among (recordShape (s .args .file)) (s .args .p .now) _ (t .before .loop .inv .1) (t .pass-item .ensures) m (c .item .given .1))
 
 whole : (c : Met) → Whole (itemOf (start c .args .p .now) (c .item .given .0 .0)) (tree.object (object c .0))
-whole c = let p = start c .args .p .now in let m = c .item .given .0 .0 in subst (Whole (itemOf p m)) (object c .1) (item-whole p _ m (found c))
+whole c =
+    let t = c .before .before in let a = start c .args in let m = c .item .given .0 .0 in
+    subst (Whole (itemOf (a .p .now) m)) (object c .1) (left-whole (recordShape (a .file)) (a .p .now) _ (t .before .loop .inv .1) (t .pass-item .ensures) m (c .item .given .1))
 
 note-record-requires : tie.Need-note-record-requires Inv-loop μ-loop
 note-record-requires c κs =
-    let v = c .before in let g = v .before .before .before .before .before in let d = g .before .before .before in let l = d .before .before .before in let s = start d in
+    let v = c .before in let g = v .before .before .before .before .before in let d = g .before .before .before in let t = d .before .before in let l = t .before in let s = start d in
     let m = placed d in let short = s .pre .1 .short in (
       omega arith,
       omega arith,
       room d,
-      noting-record (l .loop .inv .0) (d .item .given .0 .0) (found d),
+      noting-record (l .loop .inv .0) (t .pass-item .ensures) _ (d .item .given .1),
       l .loop .inv .0 .noted,
       id-slot (whole d) (s .args .file) (s .pre .0) (g .gather-record .ensures) (v .value-in .ensures .0),
     )
@@ -95,7 +83,7 @@ note-record-requires c κs =
 judge-record-requires : tie.Need-judge-record-requires Inv-loop μ-loop
 judge-record-requires c κs =
     let g = c .before .before .before .before .before .before .before .before .before .before .before .before in let d = g .before .before .before in let s = start d in let m = d .item .given .0 .0 in
-    (s .pre .0, g .gather-record .ensures, s .pre .3, omega (arith, s .pre .1 .short, part-short (s .args .p .now) (m .value) (m .«value_end»)))
+    (s .pre .0, g .gather-record .ensures, s .pre .3, omega (arith, s .pre .1 .short, part-short (s .args .p .now) (m .value) (m .«value_end»)), (object d .0, whole d))
 
 abbrev met : tie.After-lesser Inv-loop μ-loop → Met
 met c = c .before .before .before .before .before .before .before .before .before .before .before .before .before .before .before .before .before
@@ -105,11 +93,11 @@ loop-less c = let m = placed (met c) in omega arith
 
 loop-again : tie.Need-loop-again Inv-loop μ-loop
 loop-again c =
-    let j = c .before in let i = j .before .before .before .before .before in let k = i .before in let d = met c in let l = d .before .before .before in
-    let a = start d .args in let m = d .item .given .0 .0 in let f = found d in
+    let j = c .before in let i = j .before .before .before .before .before in let k = i .before in let d = met c in let t = d .before .before in let l = t .before in
+    let a = start d .args in let m = d .item .given .0 .0 in let e = d .item .given .1 in
     let faults = broken (a .set) (a .types .now) (a .stations .now) (a .plans .now) (a .file) in let σ = recordShape (a .file) in (
-      noting-more (l .loop .inv .0) m f (k .note-record .ensures .0) (k .note-record .ensures .1) (i .first-of .ensures),
-      goes-more faults σ (a .p .now) (l .loop .n) (l .loop .at) (l .loop .least) (l .loop .inv .1) m f
+      noting-more (l .loop .inv .0) (t .pass-item .ensures) m e (k .note-record .ensures .0) (k .note-record .ensures .1) (i .first-of .ensures),
+      goes-more faults σ (a .p .now) (l .loop .n) (l .loop .at) (l .loop .least) (l .loop .inv .1) (t .pass-item .ensures) m e
           (j .judge-record .ensures (object d .0) (whole d) ∙ ap (λ x. leastOf (faults (l .loop .n + 1) (pick σ x))) (sym (object d .1)))
           (c .lesser .ensures),
     )
@@ -117,7 +105,7 @@ loop-again c =
 pub judge-records-spec : {M : Type 1} → statement M
 judge-records-spec =
     tie.close
-    (tie.spec Inv-loop μ-loop returns loop-holds (λ c κs. search needs) (λ c. search needs) (λ c. search needs) returns-2
+    (tie.spec Inv-loop μ-loop loop-holds (λ c κs. search needs) (λ c. search needs) (λ c. search needs) returns
     (λ c. let m = placed (c .before) in omega arith) (λ c. let m = placed (c .before) in omega arith) (λ c. let m = placed (c .before) in omega arith)
     (λ c κs. search needs) (λ c κs. search needs) note-record-requires (λ c κs. room (c .before .before .before .before .before .before .before .before .before .before))
     (λ c. let h = room (c .before .before .before .before .before .before .before .before .before .before .before) in omega arith) (λ c. let h = room (c .before .before .before .before .before .before .before .before .before .before .before .before .before .before .before) in omega arith) judge-record-requires

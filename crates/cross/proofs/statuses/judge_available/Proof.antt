@@ -1,39 +1,40 @@
--- `judge_available` walks over the items of field 37. The loop's invariant: the least so far, with what the items left break, makes the least of all;
--- each item takes a byte at least, so no number is past the bytes.
+-- `judge_available` passes over the items of field 37. The loop's invariant: the sum so far, with the counts left, makes the sum of all, and the least so
+-- far, with what the items left break, the least of all. An item takes a byte at least, so no number is past the bytes; and a count has at most twelve
+-- digits, so the sum fits.
 use borrow.Author.Needs.{needs}
-use mathlib.Core.Path.{sym, ap, _∙_}
-use Prim.Native.Nat.{_+_, _-_, _<_}
+use mathlib.Core.Path.{ap, _∙_}
+use Prim.Native.Nat.{_+_, _*_, _-_, _^_, _≤_, _<_}
 use native.Mathlib.Omega.{arith}
 use lib.ListN.{length}
-use Rattle.walk.proofs.Places.{ItemPlaced, item-placed}
-use Rattle.walk.proofs.Parts.{item-whole}
+use Rattle.walk.specs.Along.{ItemPlaced}
 use Rattle.schema.specs.Table23.{available}
 use Rattle.fault.specs.Fault.{least as leastOf}
 use Rattle.document.proofs.Records.{recordShape, pickedItems}
-use Rattle.fields.specs.Values.{textBy}
+use Rattle.fields.specs.Values.{textBy, spelledBy, integerIn}
 use Rattle.references.specs.References.{refers as refersTo}
 use Rattle.cross.specs.Cross.{at as placeAt}
 use Rattle.cross.proofs.Joined.{breaks}
-use Rattle.cross.proofs.Walked.{Goes, goes-start, goes-end, goes-more}
-use Rattle.cross.proofs.Fielded.{availableItem, available-each, available-text}
+use Rattle.cross.proofs.Walked.{Goes, goes-start, goes-end, goes-more, Sums, sums-start, sums-end, sums-more, left-whole}
+use Rattle.cross.proofs.Fielded.{availableItem, available-each, available-text, available-count, count-small}
 use Rattle.cross.proofs.statuses.judge_available.Statement.{statement}
 use Rattle.cross.proofs.statuses.judge_available.Tie as tie
 
 abbrev Inv-loop : tie.InvT-loop
-Inv-loop p n types typeNotes least₀ sub₀ at₀ t18 least sub at =
-    (sub < at) × Goes (availableItem (pickedItems (recordShape 1) types) n) available p sub at least
+Inv-loop p n types typeNotes sum₀ least₀ sub₀ at₀ t15 t16 sum least sub at =
+    (sub < at) × (sum ≤ at * 10 ^ 12) × Sums p sum at × Goes (availableItem (pickedItems (recordShape 1) types) n) available p sub at least
 
 abbrev μ-loop : tie.MeasureT-loop
-μ-loop p n types typeNotes least₀ sub₀ at₀ t18 least sub at = length p - at
+μ-loop p n types typeNotes sum₀ least₀ sub₀ at₀ t15 t16 sum least sub at = length p - at
 
 loop-holds : tie.Need-loop-holds Inv-loop μ-loop
-loop-holds c = (omega arith, goes-start _ _ _)
+loop-holds c = let a = c .before .before .pre .2 in (omega arith, omega arith, sums-start _ a, goes-start _ _ _ a)
 
 returns : tie.Need-returns Inv-loop μ-loop
 returns c =
-    let n = c .before .before in let k = n .before in
-    goes-end _ _ _ (k .loop .sub) (k .loop .at) (k .loop .least) (k .loop .inv .1) (sym (n .next-item .ensures) ∙ c .enum-told .given .1)
-    ∙ ap leastOf (available-each _ _ 1 _)
+    let t = c .before .before in let k = t .before in let s = t .pass-item .ensures in let e = c .enum-told .given .1 in (
+      sums-end _ (k .loop .sum) (k .loop .at) (k .loop .inv .2) s e,
+      goes-end _ _ _ (k .loop .sub) (k .loop .at) (k .loop .least) (k .loop .inv .3) s e ∙ ap leastOf (available-each _ _ 1 _),
+    )
 
 -- where an item was found
 abbrev Met : Type 0
@@ -41,22 +42,33 @@ Met = tie.After-known-told Inv-loop μ-loop
 
 placed : (c : Met) →
     let k = c .before .before .before .before in ItemPlaced (k .before .before .before .args .p .now) (k .loop .at) (c .before .item .given .0 .0)
-placed c = item-placed _ _ _ (sym (c .before .before .before .next-item .ensures) ∙ c .before .item .given .1)
+placed c = c .before .before .before .pass-item .ensures .placed _ (c .before .item .given .1)
+
+abbrev met : tie.After-integer-in Inv-loop μ-loop → Met
+met c = c .before .before .before .before .before .before .before .before .before
+
+add-sum : tie.Need-add-sum Inv-loop μ-loop
+add-sum c =
+    let k = met c .before .before .before .before in let m = placed (met c) in
+    omega (arith, k .loop .inv .1, k .before .before .before .pre .1, c .integer-in .ensures, count-small (c .before .member2 .result .now))
 
 loop-less : tie.Need-loop-less Inv-loop μ-loop
-loop-less c = let m = placed (c .before .before .before .before .before .before) in omega arith
+loop-less c = let m = placed (met c) in omega arith
 
 loop-again : tie.Need-loop-again Inv-loop μ-loop
 loop-again c =
-    let b = c .before in let r = b .before in let q = r .before in let d = q .before .before .before .before in let t = d .before .before in let k = t .before in
-    let a = k .before .before .before .args in let m = d .item .given .0 .0 in
-    let f = sym (t .next-item .ensures) ∙ d .item .given .1 in let i = item-placed _ _ _ f in let whole = item-whole (a .p .now) (k .loop .at) m f in
-    let types = pickedItems (recordShape 1) (a .types .now) in (
+    let q₂ = c .before in let l = q₂ .before .before in let b = l .before in let r = b .before in let q = r .before in
+    let d = met c .before in let t = d .before .before in let k = t .before in let a = k .before .before .before .args in
+    let m = d .item .given .0 .0 in let e = d .item .given .1 in let s = t .pass-item .ensures in let i = placed (met c) in
+    let whole = left-whole available (a .p .now) _ (k .loop .inv .2) s m e in let types = pickedItems (recordShape 1) (a .types .now) in (
       omega (arith, k .loop .inv .0),
-      goes-more (availableItem types (a .n)) available (a .p .now) (k .loop .sub) (k .loop .at) (k .loop .least) (k .loop .inv .1) m f
+      omega (arith, k .loop .inv .1, c .integer-in .ensures, count-small (q₂ .member2 .result .now)),
+      sums-more (a .p .now) (k .loop .sum) (k .loop .at) (k .loop .inv .2) s m e
+          (c .integer-in .ensures ∙ ap integerIn (ap spelledBy (q₂ .member2 .ensures _ whole) ∙ available-count whole)),
+      goes-more (availableItem types (a .n)) available (a .p .now) (k .loop .sub) (k .loop .at) (k .loop .least) (k .loop .inv .3) s m e
           (breaks (placeAt (a .n) (k .loop .sub + 1)) 38 (r .refers .result) (b .broken .ensures)
           (r .refers .ensures ∙ ap (λ z. refersTo z 10 types) (ap textBy (q .member .ensures _ whole) ∙ available-text whole)))
-          (c .lesser .ensures),
+          (l .lesser .ensures),
     )
 
 pub judge-available-spec : {M : Type 1} → statement M
@@ -64,5 +76,5 @@ judge-available-spec =
     tie.close
     (tie.spec Inv-loop μ-loop loop-holds (λ c κs. search needs) (λ c. search needs) (λ c. search needs) returns
     (λ c. let m = placed c in omega arith) (λ c. let m = placed c in omega arith) (λ c. let m = placed c in omega arith)
-    (λ c. let m = placed c in omega arith) (λ c. search needs) (λ c κs. search needs) (λ c κs. search needs) (λ c κs. search needs)
-    (λ c κs. search needs) loop-less loop-again)
+    (λ c. let m = placed c in omega arith) (λ c. search needs) (λ c κs. search needs) (λ c κs. search needs) (λ c κs. search needs) (λ c κs. search needs)
+    (λ c. search needs) (λ c κs. search needs) (λ c κs. search needs) add-sum loop-less loop-again)

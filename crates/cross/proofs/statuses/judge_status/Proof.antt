@@ -5,13 +5,14 @@ use native.Mathlib.Omega.{arith}
 use Rattle.fault.specs.Fault.{least}
 use Rattle.document.proofs.Records.{recordShape, pickedItems}
 use Rattle.cross.proofs.Joined.{both}
-use Rattle.cross.proofs.Gathering.{status-is}
+use Rattle.cross.proofs.Gathering.{status-is, counts-along}
 use Rattle.cross.proofs.statuses.judge_status.Statement.{statement}
 use Rattle.cross.proofs.statuses.judge_status.Tie as tie
 
 judge-counts-requires : tie.Need-judge-counts-requires
 judge-counts-requires c κs =
-    let v = c .before in let x = v .before .before .before .before .before .before .before .pre in (x .1, omega (arith, x .3, v .value-in3 .ensures .1))
+    let v = c .before in let x = v .before .before .before .before .before .before .before .pre in
+    (x .1, omega (arith, x .3, v .value-in3 .ensures .1), counts-along (x .0) (v .value-in3 .ensures .0) (x .4 .1))
 
 returns : tie.Need-returns
 unfolding recordShape

@@ -1,18 +1,17 @@
 -- `judge_named` walks over the ids of a rule. The loop's invariant: the least so far, with what the ids left break, makes the least of all; all ids
 -- of a rule stand at one place, so any number serves for them.
 use borrow.Author.Needs.{needs}
-use mathlib.Core.Path.{sym, ap, _∙_}
+use mathlib.Core.Path.{ap, _∙_}
 use Prim.Native.Nat.{ℕ, _+_, _-_}
 use native.Mathlib.Omega.{arith}
 use lib.ListN.{length}
-use Rattle.walk.proofs.Places.{ItemPlaced, item-placed}
-use Rattle.walk.proofs.Parts.{item-whole}
+use Rattle.walk.specs.Along.{ItemPlaced}
 use Rattle.schema.specs.Shape.{Sort, scalar}
 use Rattle.fault.specs.Fault.{least as leastOf}
 use Rattle.document.proofs.Records.{recordShape, pickedItems}
 use Rattle.references.specs.References.{refers as refersTo}
 use Rattle.cross.proofs.Joined.{breaks}
-use Rattle.cross.proofs.Walked.{Goes, goes-start, goes-end, goes-more}
+use Rattle.cross.proofs.Walked.{Goes, goes-start, goes-end, goes-more, left-whole}
 use Rattle.cross.proofs.Fielded.{idItem, id-each, id-text}
 use Rattle.cross.proofs.zones.judge_named.Statement.{statement}
 use Rattle.cross.proofs.zones.judge_named.Tie as tie
@@ -25,12 +24,12 @@ abbrev μ-loop : tie.MeasureT-loop
 μ-loop p place types typeNotes least₀ at₀ least at = length p - at
 
 loop-holds : tie.Need-loop-holds Inv-loop μ-loop
-loop-holds c = (0, goes-start _ _ _)
+loop-holds c = (0, goes-start _ _ _ (c .before .before .pre .1))
 
 returns : tie.Need-returns Inv-loop μ-loop
 returns c =
-    let n = c .before .before in let k = n .before in
-    goes-end _ _ _ (k .loop .inv .0) (k .loop .at) (k .loop .least) (k .loop .inv .1) (sym (n .next-item .ensures) ∙ c .enum-told .given .1)
+    let t = c .before .before in let k = t .before in
+    goes-end _ _ _ (k .loop .inv .0) (k .loop .at) (k .loop .least) (k .loop .inv .1) (t .pass-item .ensures) (c .enum-told .given .1)
     ∙ ap leastOf (id-each _ _ _ 1 _)
 
 -- where an item was found
@@ -39,7 +38,7 @@ Met = tie.After-known-told Inv-loop μ-loop
 
 placed : (c : Met) →
     let k = c .before .before .before .before in ItemPlaced (k .before .before .before .args .p .now) (k .loop .at) (c .before .item .given .0 .0)
-placed c = item-placed _ _ _ (sym (c .before .before .before .next-item .ensures) ∙ c .before .item .given .1)
+placed c = c .before .before .before .pass-item .ensures .placed _ (c .before .item .given .1)
 
 loop-less : tie.Need-loop-less Inv-loop μ-loop
 loop-less c = let m = placed (c .before .before .before .before) in omega arith
@@ -47,14 +46,13 @@ loop-less c = let m = placed (c .before .before .before .before) in omega arith
 loop-again : tie.Need-loop-again Inv-loop μ-loop
 loop-again c =
     let b = c .before in let r = b .before in let d = r .before .before .before in let t = d .before .before in let k = t .before in
-    let a = k .before .before .before .args in let m = d .item .given .0 .0 in
-    let f = sym (t .next-item .ensures) ∙ d .item .given .1 in
-    let types = pickedItems (recordShape 1) (a .types .now) in (
+    let a = k .before .before .before .args in let m = d .item .given .0 .0 in let e = d .item .given .1 in
+    let types = pickedItems (recordShape 1) (a .types .now) in let w = k .loop .inv .1 in (
       k .loop .inv .0 + 1,
-      goes-more (idItem types (a .place .«record») (a .place .sub)) (scalar Sort.id) (a .p .now) (k .loop .inv .0)
-          (k .loop .at) (k .loop .least) (k .loop .inv .1) m f
+      goes-more (idItem types (a .place .«record») (a .place .sub)) (scalar Sort.id) (a .p .now) (k .loop .inv .0) (k .loop .at) (k .loop .least) w
+          (t .pass-item .ensures) m e
           (breaks (a .place) 78 (r .refers .result) (b .broken .ensures)
-          (r .refers .ensures ∙ ap (λ z. refersTo z 10 types) (id-text (item-whole (a .p .now) (k .loop .at) m f))))
+          (r .refers .ensures ∙ ap (λ z. refersTo z 10 types) (id-text (left-whole (scalar Sort.id) (a .p .now) _ w (t .pass-item .ensures) m e))))
           (c .lesser .ensures),
     )
 

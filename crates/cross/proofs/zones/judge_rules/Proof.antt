@@ -1,19 +1,23 @@
 -- `judge_rules` walks over the rules of a zone. The loop's invariant: the least so far, with what the rules left break, makes the least of all;
 -- each rule takes a byte at least, so no number is past the bytes.
 use borrow.Author.Needs.{needs}
-use mathlib.Core.Path.{sym, ap, _∙_}
-use Prim.Native.Nat.{_+_, _-_, _<_}
+use mathlib.Core.List.{List}
+use mathlib.Core.Path.{_≡_, sym, ap, subst, _∙_}
+use Prim.Native.Nat.{ℕ, _+_, _-_, _<_}
 use native.Mathlib.Omega.{arith}
 use lib.ListN.{length}
-use Rattle.walk.proofs.Places.{ItemPlaced, item-placed}
-use Rattle.walk.proofs.Parts.{item-whole}
+use Rattle.notation.specs.Ascii.{bytes}
+use Rattle.walk.specs.Part.{Whole, treeOf}
+use Rattle.walk.specs.Along.{AlongItems, ItemPlaced}
+use Rattle.walk.proofs.Parts.{itemOf}
 use Rattle.schema.specs.Shape.{Sort, scalar}
 use Rattle.schema.specs.Table23.{rule}
 use Rattle.fault.specs.Fault.{least as leastOf}
 use Rattle.document.proofs.Records.{recordShape, pickedItems}
-use Rattle.fields.specs.Values.{arrayBy}
+use Rattle.fields.specs.Values.{memberOf, arrayBy}
+use Rattle.fields.proofs.Arrays.{member-along}
 use Rattle.cross.specs.Cross.{idFaults}
-use Rattle.cross.proofs.Walked.{Goes, goes-start, goes-end, goes-more}
+use Rattle.cross.proofs.Walked.{Goes, goes-start, goes-end, goes-more, left-whole}
 use Rattle.cross.proofs.Fielded.{ruleItem, rule-each, rule-ids}
 use Rattle.cross.proofs.zones.judge_rules.Statement.{statement}
 use Rattle.cross.proofs.zones.judge_rules.Tie as tie
@@ -26,12 +30,12 @@ abbrev μ-loop : tie.MeasureT-loop
 μ-loop p n types typeNotes least₀ sub₀ at₀ t18 least sub at = length p - at
 
 loop-holds : tie.Need-loop-holds Inv-loop μ-loop
-loop-holds c = (omega arith, goes-start _ _ _)
+loop-holds c = (omega arith, goes-start _ _ _ (c .before .before .pre .2))
 
 returns : tie.Need-returns Inv-loop μ-loop
 returns c =
-    let n = c .before .before in let k = n .before in
-    goes-end _ _ _ (k .loop .sub) (k .loop .at) (k .loop .least) (k .loop .inv .1) (sym (n .next-item .ensures) ∙ c .enum-told .given .1)
+    let t = c .before .before in let k = t .before in
+    goes-end _ _ _ (k .loop .sub) (k .loop .at) (k .loop .least) (k .loop .inv .1) (t .pass-item .ensures) (c .enum-told .given .1)
     ∙ ap leastOf (rule-each _ _ 1 _)
 
 -- where a rule was found
@@ -40,21 +44,36 @@ Met = tie.After-known-told Inv-loop μ-loop
 
 placed : (c : Met) →
     let k = c .before .before .before .before in ItemPlaced (k .before .before .before .args .p .now) (k .loop .at) (c .before .item .given .0 .0)
-placed c = item-placed _ _ _ (sym (c .before .before .before .next-item .ensures) ∙ c .before .item .given .1)
+placed c = c .before .before .before .pass-item .ensures .placed _ (c .before .item .given .1)
+
+-- the rule is whole, and its ids are the array under their name
+whole : (c : tie.After-item Inv-loop μ-loop) →
+    let p = c .before .before .before .before .before .before .args .p .now in Whole (itemOf p (c .item .given .0 .0)) (treeOf (itemOf p (c .item .given .0 .0)))
+whole c =
+    let t = c .before .before in let l = t .before in
+    left-whole rule (l .before .before .before .args .p .now) _ (l .loop .inv .1) (t .pass-item .ensures) (c .item .given .0 .0) (c .item .given .1)
+
+ids-are : (c : tie.After-array-in Inv-loop μ-loop) →
+    let d = c .before .before .before .before .before in let p = d .before .before .before .before .before .before .args .p .now in
+    c .array-in .result .now ≡ arrayBy (memberOf (itemOf p (d .item .given .0 .0)) (bytes "vehicle_type_id"))
+ids-are c = let q = c .before in c .array-in .ensures ∙ ap arrayBy (q .member .ensures _ (whole (q .before .before .before .before)))
+
+judge-named-requires : tie.Need-judge-named-requires Inv-loop μ-loop
+judge-named-requires c κs =
+    let s = c .before .before .before .before .before .before .before .before .before .before .before in
+    (s .pre .0, subst (λ (l : List ℕ). 0 < length l → AlongItems l 1) (sym (ids-are c)) (member-along _ _))
 
 loop-less : tie.Need-loop-less Inv-loop μ-loop
 loop-less c = let m = placed (c .before .before .before .before .before .before) in omega arith
 
 loop-again : tie.Need-loop-again Inv-loop μ-loop
 loop-again c =
-    let j = c .before in let i = j .before in let q = i .before in let d = q .before .before .before .before in let t = d .before .before in let k = t .before in
-    let a = k .before .before .before .args in let m = d .item .given .0 .0 in
-    let f = sym (t .next-item .ensures) ∙ d .item .given .1 in let s = item-placed _ _ _ f in let whole = item-whole (a .p .now) (k .loop .at) m f in
-    let types = pickedItems (recordShape 1) (a .types .now) in (
+    let j = c .before in let i = j .before in let d = i .before .before .before .before .before in let t = d .before .before in let k = t .before in
+    let a = k .before .before .before .args in let types = pickedItems (recordShape 1) (a .types .now) in let o = placed (i .before .before .before .before) in (
       omega (arith, k .loop .inv .0),
-      goes-more (ruleItem types (a .n)) rule (a .p .now) (k .loop .sub) (k .loop .at) (k .loop .least) (k .loop .inv .1) m f
-          (j .judge-named .ensures ∙ ap (λ l. leastOf (idFaults types (a .n) (k .loop .sub + 1) l))
-          (ap (pickedItems (scalar Sort.id)) (i .array-in .ensures ∙ ap arrayBy (q .member .ensures _ whole)) ∙ rule-ids whole))
+      goes-more (ruleItem types (a .n)) rule (a .p .now) (k .loop .sub) (k .loop .at) (k .loop .least) (k .loop .inv .1) (t .pass-item .ensures) _ (d .item .given .1)
+          (j .judge-named .ensures
+          ∙ ap (λ l. leastOf (idFaults types (a .n) (k .loop .sub + 1) l)) (ap (pickedItems (scalar Sort.id)) (ids-are i) ∙ rule-ids (whole d)))
           (c .lesser .ensures),
     )
 
@@ -63,5 +82,5 @@ judge-rules-spec =
     tie.close
     (tie.spec Inv-loop μ-loop loop-holds (λ c κs. search needs) (λ c. search needs) (λ c. search needs) returns
     (λ c. let m = placed c in omega arith) (λ c. let m = placed c in omega arith) (λ c. let m = placed c in omega arith)
-    (λ c. let m = placed c in omega arith) (λ c. search needs) (λ c κs. search needs) (λ c κs. search needs) (λ c κs. search needs)
+    (λ c. let m = placed c in omega arith) (λ c. search needs) (λ c κs. search needs) (λ c κs. search needs) judge-named-requires
     (λ c κs. search needs) loop-less loop-again)

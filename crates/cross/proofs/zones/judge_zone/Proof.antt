@@ -2,17 +2,19 @@
 use borrow.Author.Needs.{needs}
 use mathlib.Core.List.{List}
 use mathlib.Core.Path.{_≡_, sym, ap, subst, _∙_}
-use Prim.Native.Nat.{ℕ}
+use Prim.Native.Nat.{ℕ, _<_}
 use native.Mathlib.Omega.{arith}
 use lib.ListN.{length}
 use Rattle.notation.specs.Ascii.{bytes}
 use Rattle.walk.specs.Part.{Whole}
+use Rattle.walk.specs.Along.{AlongItems}
 use Rattle.schema.specs.Table23.{rule}
 use Rattle.fault.specs.Fault.{least}
 use Rattle.fault.proofs.Leasts.{none-least}
 use Rattle.document.proofs.Records.{recordShape, pickedItems}
 use Rattle.fields.specs.Values.{memberOf, arrayBy}
 use Rattle.cross.specs.Cross.{ruleFaults}
+use Rattle.fields.proofs.Arrays.{member-along}
 use Rattle.fields.proofs.Sizes.{member-short, array-short}
 use Rattle.cross.proofs.Fielded.{no-bytes, properties-whole, zone-rules, zone-bare}
 use Rattle.cross.proofs.zones.judge_zone.Statement.{statement}
@@ -45,8 +47,11 @@ rules-are c =
 judge-rules-requires : tie.Need-judge-rules-requires
 judge-rules-requires c κs =
     let s = start (looked c) in let p = s .args .p .now in
-    let inner = memberOf p (bytes "properties") in let deep = memberOf inner (bytes "rules") in
-    (s .pre .0, omega (arith, ap length (rules-are c), s .pre .1, array-short deep, member-short inner (bytes "rules"), member-short p (bytes "properties")))
+    let inner = memberOf p (bytes "properties") in let deep = memberOf inner (bytes "rules") in (
+      s .pre .0,
+      omega (arith, ap length (rules-are c), s .pre .1, array-short deep, member-short inner (bytes "rules"), member-short p (bytes "properties")),
+      subst (λ (l : List ℕ). 0 < length l → AlongItems l 1) (sym (rules-are c)) (member-along _ _),
+    )
 
 returns : tie.Need-returns
 unfolding recordShape

@@ -1,17 +1,13 @@
 -- `note` goes over the records once. The loop's invariant: those passed are noted, and those left come after them.
 use borrow.Author.Needs.{needs}
-use mathlib.Core.Path.{_≡_, sym, ap, subst, _∙_}
+use mathlib.Core.Path.{sym, ap, subst, _∙_}
 use Prim.Native.Nat.{_-_, _<_}
 use native.Mathlib.Omega.{arith}
 use lib.ListN.{length}
 use Rattle.limits.specs.Ceilings.{records}
-use Rattle.walk.specs.Walk.{itemAt}
-use Rattle.walk.specs.Part.{Whole, treeOf}
-use Rattle.walk.proofs.Parts.{itemOf, item-whole}
-use Rattle.walk.specs.declared.ItemStep.the-variants as items
 use Rattle.walk.specs.Along.{ItemPlaced}
-use Rattle.ids.specs.Ids.{idValue}
-use Rattle.ids.proofs.Passing.{Noting, noting-none, noting-start, noting-end, noting-room, noting-record, noting-more}
+use Rattle.ids.specs.Ids.{idValue, Single}
+use Rattle.ids.proofs.Passing.{Noting, noting-start, noting-end, noting-among, noting-room, noting-record, noting-more}
 use Rattle.ids.proofs.note.note.Statement.{statement}
 use Rattle.ids.proofs.note.note.Tie as tie
 
@@ -22,50 +18,50 @@ abbrev μ-loop : tie.MeasureT-loop
 μ-loop file p notes₀ first₀ n₀ at₀ notes first n at = length p - at
 
 loop-holds : tie.Need-loop-holds Inv-loop μ-loop
-loop-holds c = let g = c .before .before in noting-start (g .pre .2) (g .pre .3 (omega arith))
+loop-holds c = let x = c .before .pre in noting-start (x .2) (x .3)
 
 returns : tie.Need-returns Inv-loop μ-loop
-returns c = noting-none _ _ _ (c .if1 .taken) (c .before .before .pre .2)
-
-returns-2 : tie.Need-returns-2 Inv-loop μ-loop
-returns-2 c =
-    let t = c .before .before in let w = t .before .loop .inv in noting-end w (sym (t .pass-item .ensures .same (w .along)) ∙ c .enum-told .given .1)
+returns c = let t = c .before .before in noting-end (t .before .loop .inv) (t .pass-item .ensures) (c .enum-told .given .1)
 
 -- where a record is found
-placed : (c : tie.After-m Inv-loop μ-loop) → let l = c .before .before .before in ItemPlaced (l .before .before .before .args .p .now) (l .loop .at) (c .m .given .0 .0)
+abbrev Met : Type 0
+Met = tie.After-m Inv-loop μ-loop
+
+abbrev start : Met → tie.Start Inv-loop μ-loop
+start c = c .before .before .before .before .before
+
+placed : (c : Met) → ItemPlaced (start c .args .p .now) (c .before .before .before .loop .at) (c .m .given .0 .0)
 placed c = c .before .before .pass-item .ensures .placed _ (c .m .given .1)
 
--- and which it is
-found : (c : tie.After-m Inv-loop μ-loop) →
-    let l = c .before .before .before in itemAt (l .before .before .before .args .p .now) (l .loop .at) ≡ items.Found (c .m .given .0 .0)
-found c = let t = c .before .before in sym (t .pass-item .ensures .same (t .before .loop .inv .along)) ∙ c .m .given .1
+room : (c : Met) → c .before .before .before .loop .n < records
+room c = let t = c .before .before in noting-room (t .before .loop .inv) (t .pass-item .ensures) _ (c .m .given .1) (start c .pre .1)
 
-room : (c : tie.After-m Inv-loop μ-loop) → c .before .before .before .loop .n < records
-room c = let l = c .before .before .before in noting-room (l .loop .inv) _ (found c) (l .before .before .before .pre .1)
-
--- what the record holds as its id
-value-is : (c : tie.After-id-value Inv-loop μ-loop) →
-    let d = c .before .before .before in let a = d .before .before .before .before .before .before .args in
-    c .id-value .result .now ≡ idValue (a .file) (itemOf (a .p .now) (d .m .given .0 .0))
-value-is c =
-    let u = c .before in let d = u .before .before in let a = d .before .before .before .before .before .before .args in
-    c .id-value .ensures _ (subst (λ q. Whole q (treeOf (itemOf (a .p .now) (d .m .given .0 .0)))) (sym (u .cut .ensures)) (item-whole _ _ _ (found d)))
-    ∙ ap (λ q. idValue (a .file) q) (u .cut .ensures)
+-- its id is there at most once
+id-value-requires : tie.Need-id-value-requires Inv-loop μ-loop
+id-value-requires c κs =
+    let d = c .before .before in let t = d .before .before in let s = start d in
+    subst (Single (s .args .file)) (sym (c .cut .ensures)) (s .pre .4 _ (noting-among (t .before .loop .inv) (t .pass-item .ensures) _ (d .m .given .1)))
 
 note-record-requires : tie.Need-note-record-requires Inv-loop μ-loop
 note-record-requires c κs =
-    let v = c .before in let d = v .before .before .before in let l = d .before .before .before in let m = placed d in let s = l .before .before .before .pre .0 in
-    (omega arith, omega arith, room d, noting-record (l .loop .inv) (d .m .given .0 .0) (found d), l .loop .inv .noted, value-is v)
+    let v = c .before in let d = v .before .before .before in let t = d .before .before in let l = t .before in let m = placed d in let short = start d .pre .0 in (
+      omega arith,
+      omega arith,
+      room d,
+      noting-record (l .loop .inv) (t .pass-item .ensures) _ (d .m .given .1),
+      l .loop .inv .noted,
+      v .id-value .ensures ∙ ap (λ q. idValue (start d .args .file) q) (v .before .cut .ensures),
+    )
 
 loop-again : tie.Need-loop-again Inv-loop μ-loop
 loop-again c =
-    let k = c .before in let d = k .before .before .before .before .before in let l = d .before .before .before in
-    noting-more (l .loop .inv) (d .m .given .0 .0) (found d) (k .note-record .ensures .0) (k .note-record .ensures .1) (c .first-of .ensures)
+    let k = c .before in let d = k .before .before .before .before .before in let t = d .before .before in
+    noting-more (t .before .loop .inv) (t .pass-item .ensures) _ (d .m .given .1) (k .note-record .ensures .0) (k .note-record .ensures .1) (c .first-of .ensures)
 
 pub note-spec : {M : Type 1} → statement M
 note-spec =
     tie.close
-    (tie.spec Inv-loop μ-loop returns loop-holds (λ c κs. search needs) (λ c. search needs) returns-2 (λ c. search needs) (λ c κs. search needs)
-    (λ c κs. search needs) note-record-requires (λ c κs. room (c .before .before .before .before .before))
+    (tie.spec Inv-loop μ-loop loop-holds (λ c κs. search needs) (λ c. search needs) returns (λ c. search needs) (λ c κs. search needs)
+    id-value-requires note-record-requires (λ c κs. room (c .before .before .before .before .before))
     (λ c. let h = room (c .before .before .before .before .before .before) in omega arith)
     (λ c. let m = placed (c .before .before .before .before .before .before) in omega arith) loop-again)
