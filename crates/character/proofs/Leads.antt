@@ -6,7 +6,7 @@ use borrow.Author.Tests.{lt-ltb, le-ltb, ne-eqb}
 use Rattle.lexeme.specs.declared.Next.{Next}
 use Rattle.lexeme.specs.Class.{leadOf}
 use Rattle.lexeme.specs.Character.Surrogates.{paired}
-use Rattle.lexeme.specs.Character.{byte, Lead, lead, char1, nextBy, next}
+use Rattle.lexeme.specs.Character.{byte, Lead, lead, char1, escape, nextBy, next}
 use Rattle.character.proofs.Ranges.{NoneOf}
 
 pub class-plain : (c : ℕ) → c < 8 → leadOf c ≡ Lead.plain
@@ -28,3 +28,7 @@ module _ (l : List ℕ) {c : ℕ} where
 pub next-class : {n : Next} {b : ℕ} (l : List ℕ) (c : ℕ) → b ≡ byte l 0 → leadOf c ≡ lead b → n ≡ nextBy paired l (leadOf c) → n ≡ next paired l
 unfolding next
 next-class l c e f g = g ∙ ap (nextBy paired l) (f ∙ ap lead e)
+
+pub next-escape : {n : Next} {b : ℕ} (l : List ℕ) → b ≡ byte l 0 → b ≡ 0x5c → n ≡ escape paired l → n ≡ next paired l
+unfolding next nextBy lead
+next-escape l e f g = g ∙ ap (λ z. nextBy paired l (lead z)) (sym f ∙ e)

@@ -72,10 +72,14 @@ pub fn next_by(s: &[u8], at: usize, class: u8) -> Next
     }
 }
 
-// What stands at `at`, inside a string.
+// What stands at `at`, inside a string. An escape is told without the table of classes, which would be laid out for it.
 // Shut out: a surrogate escape with no partner let through; a fault named at the backslash, and not at the first wrong byte after it.
 pub fn next_char(s: &[u8], at: usize) -> Next
     ensures { λ r. ⌜ r ≡ spec.next paired (drop at (now (s .entry))) ⌝ }
 {
-    next_by(s, at, class_of(first(s, at)))
+    let b = first(s, at);
+    if b == b'\\' {
+        return escape(s, at);
+    }
+    next_by(s, at, class_of(b))
 }

@@ -13,9 +13,9 @@ use json::reader::name_by;
 use json::reader::read_value;
 use json::reader::value_by;
 use lexeme::Scan;
+use lexeme::ascii::is_digit;
+use lexeme::ascii::is_either;
 use lexeme::blank::skip_blanks;
-use lexeme::class::Class;
-use lexeme::class::class_of;
 use lexeme::class::class_table;
 use lexeme::front::ahead;
 use lexeme::front::first;
@@ -200,17 +200,28 @@ pub fn closed_end(p: &[u8], at: usize) -> usize
     place(p, ahead(p, i, 1))
 }
 
-// The kind of the value `p`, by its first byte.
+// The kind of the value `p`, by its first byte. By plain tests: the table of classes would be laid out for each value.
 pub fn value_kind(p: &[u8]) -> ValueKind
     ensures { λ r. ⌜ r ≡ kindAt (now (p .entry)) ⌝ }
 {
-    match class_of(first(p, 0)) {
-        Class::QUOTE => ValueKind::String,
-        Class::NUMBER => ValueKind::Number,
-        Class::ARRAY => ValueKind::Array,
-        Class::OBJECT => ValueKind::Object,
-        Class::LETTER_T => ValueKind::Boolean,
-        Class::LETTER_F => ValueKind::Boolean,
-        _ => ValueKind::Null,
+    let b = first(p, 0);
+    if b == b'"' {
+        return ValueKind::String;
     }
+    if b == b'[' {
+        return ValueKind::Array;
+    }
+    if b == b'{' {
+        return ValueKind::Object;
+    }
+    if b == b'-' {
+        return ValueKind::Number;
+    }
+    if is_digit(b) {
+        return ValueKind::Number;
+    }
+    if is_either(b, b't', b'f') {
+        return ValueKind::Boolean;
+    }
+    ValueKind::Null
 }

@@ -1,12 +1,15 @@
--- The class of the first byte says what the byte says.
+-- The class of the first byte says what the byte says; a backslash says it by itself.
 use borrow.Author.Needs.{needs}
-use Rattle.character.proofs.Leads.{next-class}
+use Rattle.character.proofs.Leads.{next-class, next-escape}
 use Rattle.character.proofs.next_char.Statement.{statement}
 use Rattle.character.proofs.next_char.Tie as tie
 
 returns : tie.Need-returns
-returns c =
-    next-class _ _ (c .before .before .first .ensures) (c .before .class-of .ensures .lead) (c .next-by .ensures)
+returns c = next-escape _ (c .before .before .first .ensures) (c .before .if1 .taken) (c .escape .ensures)
+
+returns-2 : tie.Need-returns-2
+returns-2 c =
+    next-class _ _ (c .before .before .before .first .ensures) (c .before .class-of .ensures .lead) (c .next-by .ensures)
 
 pub next-char-spec : {M : Type 1} → statement M
-next-char-spec = tie.close (tie.spec (λ c κs. search needs) (λ c κs. search needs) (λ c κs. search needs) returns)
+next-char-spec = tie.close (tie.spec (λ c κs. search needs) (λ c κs. search needs) returns (λ c κs. search needs) (λ c κs. search needs) returns-2)

@@ -1,38 +1,47 @@
--- `value_kind` goes by the class of the first byte.
+-- `value_kind` goes by the first byte, in the definition's order.
 use borrow.Author.Needs.{needs}
-use Rattle.lexeme.specs.Class.{startOf}
-use Rattle.walk.proofs.FirstByte.{kind-classed, kind-rest}
+use mathlib.Core.Path.{sym, _∙_}
+use Rattle.lexeme.specs.Character.{within}
+use Rattle.lexeme.specs.Numbers.{digit}
+use Rattle.lexeme.specs.Tokens.{start}
+use Rattle.walk.proofs.FirstByte.{kind-is, kind-digit, kind-truth, kind-null}
 use Rattle.walk.proofs.value_kind.Statement.{statement}
 use Rattle.walk.proofs.value_kind.Tie as tie
 
 returns : tie.Need-returns
-unfolding startOf
-returns c = let k = c .before in kind-classed _ _ _ 8 (k .before .first .ensures) (k .class-of .ensures) (c .match .keys1)
+unfolding start digit within
+returns c = kind-is _ (c .before .first .ensures) 0x22 (c .if1 .taken)
 
 returns-2 : tie.Need-returns-2
-unfolding startOf
-returns-2 c = let k = c .before in kind-classed _ _ _ 2 (k .before .first .ensures) (k .class-of .ensures) (c .match .keys2)
+unfolding start digit within
+returns-2 c = kind-is _ (c .before .before .first .ensures) 0x5b (c .if2 .taken)
 
 returns-3 : tie.Need-returns-3
-unfolding startOf
-returns-3 c = let k = c .before in kind-classed _ _ _ 3 (k .before .first .ensures) (k .class-of .ensures) (c .match .keys3)
+unfolding start digit within
+returns-3 c = kind-is _ (c .before .before .before .first .ensures) 0x7b (c .if3 .taken)
 
 returns-4 : tie.Need-returns-4
-unfolding startOf
-returns-4 c = let k = c .before in kind-classed _ _ _ 4 (k .before .first .ensures) (k .class-of .ensures) (c .match .keys4)
+unfolding start digit within
+returns-4 c = kind-is _ (c .before .before .before .before .first .ensures) 0x2d (c .if4 .taken)
 
 returns-5 : tie.Need-returns-5
-unfolding startOf
-returns-5 c = let k = c .before in kind-classed _ _ _ 5 (k .before .first .ensures) (k .class-of .ensures) (c .match .keys5)
+returns-5 c =
+    let d = c .before in let n = d .before in let o = n .before in let a = o .before in let q = a .before in
+    kind-digit _ (q .before .first .ensures) (q .if1 .left) (a .if2 .left) (o .if3 .left) (n .if4 .left) (sym (d .is-digit .ensures) ∙ c .if5 .taken)
 
 returns-6 : tie.Need-returns-6
-unfolding startOf
-returns-6 c = let k = c .before in kind-classed _ _ _ 6 (k .before .first .ensures) (k .class-of .ensures) (c .match .keys6)
+returns-6 c =
+    let e = c .before in let d = e .before in let n = d .before .before in let o = n .before in let a = o .before in let q = a .before in
+    kind-truth _ (q .before .first .ensures) (q .if1 .left) (a .if2 .left) (o .if3 .left) (n .if4 .left) (sym (d .before .is-digit .ensures) ∙ d .if5 .left)
+    (sym (e .is-either .ensures) ∙ c .if6 .taken)
 
 returns-7 : tie.Need-returns-7
 returns-7 c =
-    let k = c .before in let n = c .match .rest in
-    kind-rest _ _ _ (k .before .first .ensures) (k .class-of .ensures) (n .0 .0 .0 .0 .1) (n .0 .0 .0 .1) (n .0 .0 .1) (n .0 .1) (n .1) (n .0 .0 .0 .0 .0 .1)
+    let e = c .before in let d = e .before in let n = d .before .before in let o = n .before in let a = o .before in let q = a .before in
+    kind-null _ (q .before .first .ensures) (q .if1 .left) (a .if2 .left) (o .if3 .left) (n .if4 .left) (sym (d .before .is-digit .ensures) ∙ d .if5 .left)
+    (sym (e .is-either .ensures) ∙ c .if6 .left)
 
 pub value-kind-spec : {M : Type 1} → statement M
-value-kind-spec = tie.close (tie.spec (λ c κs. search needs) (λ c κs. search needs) returns returns-2 returns-3 returns-4 returns-5 returns-6 returns-7)
+value-kind-spec =
+    tie.close
+    (tie.spec (λ c κs. search needs) returns returns-2 returns-3 returns-4 (λ c κs. search needs) returns-5 (λ c κs. search needs) returns-6 returns-7)
