@@ -3,4 +3,3 @@ pub mod Repeated
 pub mod Judged
 pub mod Shows
 pub mod Cleans
-pub mod Singles

@@ -1,7 +1,7 @@
 -- The pass over the records of an array that notes them: each is the next one that is left, and the number of the first repeat so far and what is left
 -- come to that of all.
 use mathlib.Core.Bool.{Bool, false}
-use mathlib.Core.List.{List, [], _∷_, map, List·Memᴰ, List·Memᴰ·head, List·Memᴰ·tail}
+use mathlib.Core.List.{List, [], _∷_, map}
 use mathlib.Core.Path.{_≡_, refl, sym, ap, subst, _∙_}
 use Prim.Native.Nat.{ℕ, zero, suc, _+_, _≤_, _<_}
 use native.Mathlib.Numerals.{add-one}
@@ -73,14 +73,13 @@ module _ (file : ℕ) (rs : List (List ℕ)) where
 record Passes (p : List ℕ) (n at : ℕ) : Type 0 where
   fuel : ℕ
   enough : length p ≤ at + fuel
-  among : (m : Item) → List·Memᴰ m (itemsFrom fuel p at) → List·Memᴰ m (itemsOf p)
   count : n + length (itemsFrom fuel p at) ≡ length (itemsOf p)
   rest : drop n (recordBytes p) ≡ map (itemOf p) (itemsFrom fuel p at)
 
 module _ (p : List ℕ) where
   pass-start : Passes p 0 1
   unfolding itemsOf recordBytes
-  pass-start = record { fuel = length p; enough = omega arith; among = λ m i. i; count = omega arith; rest = refl }
+  pass-start = record { fuel = length p; enough = omega arith; count = omega arith; rest = refl }
 
   module _ {n at : ℕ} (w : Passes p n at) where
     pass-end : itemSteps p .Ends at → (n ≡ length (itemsOf p)) × (drop n (recordBytes p) ≡ [])
@@ -93,9 +92,6 @@ module _ (p : List ℕ) where
       unfolding recordBytes
       pass-inside =
           let j = one-more (itemSteps p) (w .fuel) at m f (w .enough) in omega (arith, w .count, ap length (j .2), length-map (itemsOf p) (itemOf p))
-
-      pass-among : List·Memᴰ m (itemsOf p)
-      pass-among = w .among m (subst (List·Memᴰ m) (sym (one-more (itemSteps p) (w .fuel) at m f (w .enough) .2)) (List·Memᴰ·head refl))
 
       split : getD (recordBytes p) n [] ∷ drop (suc n) (recordBytes p) ≡ itemOf p m ∷ map (itemOf p) (itemsFrom (one-more (itemSteps p) (w .fuel) at m f (w .enough) .0) p (m .next))
       split =
@@ -110,7 +106,6 @@ module _ (p : List ℕ) where
           record {
             fuel = j .0;
             enough = j .1;
-            among = λ t i. w .among t (subst (List·Memᴰ t) (sym (j .2)) (List·Memᴰ·tail i));
             count = omega (arith, w .count, ap length (j .2));
             rest = ap (λ (k : ℕ). drop k (recordBytes p)) (add-one n) ∙ cc split;
           }
@@ -138,11 +133,8 @@ module _ {file : ℕ} {p notes : List ℕ} {first n at : ℕ} (w : Noting file p
       (come-end file (recordBytes p) n first (i .1) ∙ w .come, subst (λ (k : ℕ). Noted file p k notes) (i .0) (w .noted))
 
   module _ (m : Item) (e : s ≡ step.Found m) where
-    noting-found : itemAt p at ≡ step.Found m
+    pub noting-found : itemAt p at ≡ step.Found m
     noting-found = sym (passed-read p at passes-over (w .along)) ∙ e
-
-    pub noting-among : List·Memᴰ m (itemsOf p)
-    noting-among = pass-among p (w .passes) m noting-found
 
     pub noting-room : length (itemsOf p) ≤ records → n < records
     unfolding recordBytes

@@ -1,5 +1,4 @@
--- A record that has the name of its id once or not at all, as each that is noted: the first member of that name holds the id, and without such a member
--- there is none.
+-- A record that is noted has its id once or not at all, so the first member of the id's name holds the id, and a record without such a member has none.
 use mathlib.Core.Bool.{Bool, true, false}
 use mathlib.Core.List.{List, [], _∷_, foldl, map, List·Memᴰ, List·Memᴰ·head, List·Memᴰ·tail}
 use mathlib.Core.Logic.{_⊎_, inl, inr, ⊎-elim}
@@ -170,36 +169,6 @@ module _ (q name : List ℕ) where
   first-found a e at (k, h, is) single =
       ⊎-elim (λ o. sym o ∙ is) (λ t. absurd (single (sym is ∙ t))) (once-or-twice a e (membersFrom k q at))
 
--- no member of the id's name was met in the record q up to a place
-module _ (file : ℕ) (q : List ℕ) (at : ℕ) (w : Walk (memberSteps q) (noted q (idName file)) Missing at (foundIn q (idName file))) where
-  lacking : memberAt q at ≡ members.End → Missing ≡ foundIn q (idName file)
-  lacking e = walk-end (memberSteps q) (noted q (idName file)) Missing at (foundIn q (idName file)) e w
-
-  -- v is what nothing holds
-  pub value-none : memberAt q at ≡ members.End → 5 ≡ code (kindAt q) → {v : List ℕ} → (Standing q Missing → v ≡ foundBytes q Missing) → v ≡ idValue file q
-  unfolding idValue
-  value-none e object holds = holds tt ∙ member-found q (idName file) 5 object refl Missing (lacking e)
-
-  -- the member there, x its name
-  module _ (m : Member) (f : memberAt q at ≡ members.Found m) (x : List ℕ) (is : x ≡ part q (m .name) (m .«name_end»)) where
-    onward : {t : Bool} → same (textOf x) (idName file) ≡ t
-        → Walk (memberSteps q) (noted q (idName file)) (t ⇒ Once (m .value) (m .«value_end») else Missing) (m .next) (foundIn q (idName file))
-    onward e =
-        subst (λ (t : Bool). Walk (memberSteps q) (noted q (idName file)) (t ⇒ Once (m .value) (m .«value_end») else Missing) (m .next) (foundIn q (idName file)))
-        (ap (λ (y : List ℕ). same (textOf y) (idName file)) (sym is) ∙ e) (walk-more (memberSteps q) (noted q (idName file)) Missing at (foundIn q (idName file)) m f w)
-
-    pub member-other : same (textOf x) (idName file) ≡ false → Walk (memberSteps q) (noted q (idName file)) Missing (m .next) (foundIn q (idName file))
-    member-other e = onward e
-
-    -- v is what it holds
-    pub value-first : same (textOf x) (idName file) ≡ true → 5 ≡ code (kindAt q) → (foundIn q (idName file) ≡ Twice → ⊥) → {v : List ℕ}
-        → (Standing q (Once (m .value) (m .«value_end»)) → v ≡ foundBytes q (Once (m .value) (m .«value_end»))) → v ≡ idValue file q
-    unfolding idValue
-    value-first e object single holds =
-        holds (member-whole q at m f)
-        ∙ member-found q (idName file) 5 object refl (Once (m .value) (m .«value_end»))
-        (first-found q (idName file) (m .value) (m .«value_end») (m .next) (onward e) single)
-
 -- whether the record r, of which q is kept, has an id
 module _ (file : ℕ) (id r q : List ℕ) (keeps : q ≡ kept file r) where
   kept-has : hasId file id q ≡ hasId file id r
@@ -208,15 +177,28 @@ module _ (file : ℕ) (id r q : List ℕ) (keeps : q ≡ kept file r) where
   -- no member of the name was met up to a place
   module _ (at : ℕ) (w : Walk (memberSteps q) (noted q (idName file)) Missing at (foundIn q (idName file))) where
     pub member-lacking : memberAt q at ≡ members.End → hasId file id r ≡ false
-    member-lacking e = sym kept-has ∙ ap (isId id) (none-found file q Missing (lacking file q at w e) refl)
+    member-lacking e =
+        sym kept-has ∙ ap (isId id) (none-found file q Missing (walk-end (memberSteps q) (noted q (idName file)) Missing at (foundIn q (idName file)) e w) refl)
 
-    -- the member there, x its name, v what it holds
-    pub member-decides : (m : Member) (f : memberAt q at ≡ members.Found m) (x : List ℕ) (is : x ≡ part q (m .name) (m .«name_end»))
-        → same (textOf x) (idName file) ≡ true → {v : List ℕ}
-        → (Standing q (Once (m .value) (m .«value_end»)) → v ≡ foundBytes q (Once (m .value) (m .«value_end»))) → isId id (textBy v) ≡ hasId file id r
-    member-decides m f x is e holds =
-        let single : foundIn q (idName file) ≡ Twice → ⊥ = λ t. kept-single file r (ap (λ (y : List ℕ). foundIn y (idName file)) (sym keeps) ∙ t) in
-        let k = member-placed q at m f in
-        let some : 0 < length (kept file r) = omega (arith, ap length keeps) in
-        let object : 5 ≡ code (kindAt q) = kept-object file r some ∙ ap (λ (y : List ℕ). code (kindAt y)) (sym keeps) in
-        ap (λ (y : List ℕ). isId id (textBy y)) (value-first file q at w m f x is e object single holds) ∙ kept-has
+    -- the member there, x its name
+    module _ (m : Member) (f : memberAt q at ≡ members.Found m) (x : List ℕ) (is : x ≡ part q (m .name) (m .«name_end»)) where
+      onward : {t : Bool} → same (textOf x) (idName file) ≡ t
+          → Walk (memberSteps q) (noted q (idName file)) (t ⇒ Once (m .value) (m .«value_end») else Missing) (m .next) (foundIn q (idName file))
+      onward e =
+          subst (λ (t : Bool). Walk (memberSteps q) (noted q (idName file)) (t ⇒ Once (m .value) (m .«value_end») else Missing) (m .next) (foundIn q (idName file)))
+          (ap (λ (y : List ℕ). same (textOf y) (idName file)) (sym is) ∙ e) (walk-more (memberSteps q) (noted q (idName file)) Missing at (foundIn q (idName file)) m f w)
+
+      pub member-other : same (textOf x) (idName file) ≡ false → Walk (memberSteps q) (noted q (idName file)) Missing (m .next) (foundIn q (idName file))
+      member-other e = onward e
+
+      -- v is what it holds
+      pub member-decides : same (textOf x) (idName file) ≡ true → {v : List ℕ}
+          → (Standing q (Once (m .value) (m .«value_end»)) → v ≡ foundBytes q (Once (m .value) (m .«value_end»))) → isId id (textBy v) ≡ hasId file id r
+      unfolding idValue
+      member-decides e holds =
+          let single : foundIn q (idName file) ≡ Twice → ⊥ = λ t. kept-single file r (ap (λ (y : List ℕ). foundIn y (idName file)) (sym keeps) ∙ t) in
+          let found = first-found q (idName file) (m .value) (m .«value_end») (m .next) (onward e) single in
+          let k = member-placed q at m f in
+          let some : 0 < length (kept file r) = omega (arith, ap length keeps) in
+          let object : 5 ≡ code (kindAt q) = kept-object file r some ∙ ap (λ (y : List ℕ). code (kindAt y)) (sym keeps) in
+          ap (λ (y : List ℕ). isId id (textBy y)) (holds (member-whole q at m f) ∙ member-found q (idName file) 5 object refl (Once (m .value) (m .«value_end»)) found) ∙ kept-has

@@ -1,19 +1,13 @@
 -- The ids of a file's own records: what a record has as its id, which records have a given id, and the first record whose id one before it has.
 use mathlib.Core.Bool.{Bool, true, false}
-use mathlib.Core.List.{List, [], _∷_, map, List·Memᴰ}
-use mathlib.Core.Path.{_≡_}
+use mathlib.Core.List.{List, [], _∷_, map}
 use Prim.Native.Nat.{ℕ, zero, suc, _+_}
 use lib.Dec.{eqb}
 use lib.ListN.{getD}
 use Rattle.notation.specs.Ascii.{bytes}
 use Rattle.notation.specs.Choice.{_⇒_else_}
-use Rattle.json.specs.Tree.{Json, Members}
-use Rattle.walk.specs.declared.Item.{Item}
 use Rattle.walk.specs.Walk.{itemsOf}
-use Rattle.walk.specs.Part.{Whole}
 use Rattle.walk.proofs.Parts.{itemOf}
-use Rattle.slots.specs.declared.Found.the-variants.{Twice}
-use Rattle.slots.specs.Found.{foundIn}
 use Rattle.document.specs.Document.{Maybe, none, some}
 use Rattle.fields.specs.Values.{memberOf, textBy, isId}
 
@@ -41,16 +35,6 @@ hasId file id q = isId id (idOf file q)
 -- the records of an array, as bytes
 unfoldable pub recordBytes : List ℕ → List (List ℕ)
 recordBytes p = map (itemOf p) (itemsOf p)
-
--- the record q is an object, and has the name of its id at most once
-pub record Single (file : ℕ) (q : List ℕ) : Type 0 where
-  pub members : Members
-  pub whole : Whole q (Json.object members)
-  pub once : foundIn q (idName file) ≡ Twice → ⊥
-
--- every record of the array p is
-abbrev pub Singles : ℕ → List ℕ → Type 0
-Singles file p = (m : Item) → List·Memᴰ m (itemsOf p) → Single file (itemOf p m)
 
 -- one more than the index of the last of the first n records that has the id; 0 where none has it
 unfoldable pub lastWith : ℕ → List ℕ → List (List ℕ) → ℕ → ℕ

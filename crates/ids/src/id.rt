@@ -1,18 +1,16 @@
 // The id of a record.
-use document::cut;
 use fields::STRING;
 use fields::code_of;
+use fields::member;
 use fields::unquoted;
-use fields::value_at;
-use slots::Found;
 use text::compare::same_text;
 use text::compare::text_is;
-use walk::MemberStep;
-use walk::pass_member;
 ghost use mathlib.Core.Path.{_≡_};
+ghost use Rattle.json.specs.Tree.{Json};
+ghost use Rattle.walk.specs.Part.{Whole};
 ghost use Rattle.text.specs.Text.{textOf, same};
 ghost use Rattle.fields.specs.Values.{textBy, isId};
-ghost use Rattle.ids.specs.Ids.{idName, idValue, Single};
+ghost use Rattle.ids.specs.Ids.{idName, idValue};
 
 // Whether a name is that of a file's own ids.
 pub fn names_id(file: u8, spelled: &[u8]) -> bool
@@ -27,24 +25,16 @@ pub fn names_id(file: u8, spelled: &[u8]) -> bool
     }
 }
 
-// What the record `q` of a file holds as its id. Its name is there at most once, so the members behind it are not looked at.
+// What the record `q` of a file holds as its id.
 pub fn id_value(file: u8, q: &[u8]) -> &[u8]
-    requires { ⌜ Single file (now q) ⌝ }
-    ensures { λ r. ⌜ now r ≡ idValue file (now (q .entry)) ⌝ }
+    ensures { λ r. ⌜ ((x : Json) → Whole (now (q .entry)) x → now r ≡ idValue file (now (q .entry))) ⌝ }
 {
-    let mut at: usize = 1;
-    loop {
-        match pass_member(q, at) {
-            MemberStep::End => {
-                return value_at(q, Found::Missing);
-            }
-            MemberStep::Found(m) => {
-                if names_id(file, cut(q, m.name, m.name_end)) {
-                    return value_at(q, Found::Once(m.value, m.value_end));
-                }
-                at = m.next;
-            }
-        }
+    match file {
+        1 => member(q, b"vehicle_type_id"),
+        2 => member(q, b"station_id"),
+        3 => member(q, b"station_id"),
+        4 => member(q, b"bike_id"),
+        _ => member(q, b"plan_id"),
     }
 }
 

@@ -2,7 +2,6 @@
 use borrow.Author.Needs.{needs}
 use mathlib.Core.Path.{_≡_, sym, ap, _∙_}
 use native.Mathlib.Omega.{arith}
-use Rattle.clean.proofs.Singles.{singles}
 use Rattle.clean.specs.declared.Cleanness.the-variants.{Broken}
 use Rattle.cross.specs.Staged.{numberedLeast, firstFrom}
 use Rattle.cross.proofs.Files.{file-bytes}
@@ -35,16 +34,8 @@ held c =
 
 judge-parts-requires : tie.Need-judge-parts-requires
 judge-parts-requires c κs =
-    let h = held (c .before) in (
-      h .first .recorded,
-      h .second .recorded,
-      h .third .recorded,
-      h .fourth .recorded,
-      h .fifth .recorded,
-      h .sixth .recorded,
-      singles 2 (omega arith) (omega arith) _ (h .second .sound),
-      singles 5 (omega arith) (omega arith) _ (h .fifth .sound),
-    )
+    let h = held (c .before) in
+    (h .first .recorded, h .second .recorded, h .third .recorded, h .fourth .recorded, h .fifth .recorded, h .sixth .recorded)
 
 crossed : (c : tie.After-judge-parts) → c .judge-parts .result ≡ firstFrom (leasts (held (c .before .before))) 1 6
 crossed c =

@@ -1,13 +1,15 @@
 -- `note` goes over the records once. The loop's invariant: those passed are noted, and those left come after them.
 use borrow.Author.Needs.{needs}
-use mathlib.Core.Path.{sym, ap, subst, _∙_}
+use mathlib.Core.Path.{_≡_, sym, ap, subst, _∙_}
 use Prim.Native.Nat.{_-_, _<_}
 use native.Mathlib.Omega.{arith}
 use lib.ListN.{length}
 use Rattle.limits.specs.Ceilings.{records}
+use Rattle.walk.specs.Part.{Whole, treeOf}
+use Rattle.walk.proofs.Parts.{itemOf, item-whole}
 use Rattle.walk.specs.Along.{ItemPlaced}
-use Rattle.ids.specs.Ids.{idValue, Single}
-use Rattle.ids.proofs.Passing.{Noting, noting-start, noting-end, noting-among, noting-room, noting-record, noting-more}
+use Rattle.ids.specs.Ids.{idValue}
+use Rattle.ids.proofs.Passing.{Noting, noting-start, noting-end, noting-found, noting-room, noting-record, noting-more}
 use Rattle.ids.proofs.note.note.Statement.{statement}
 use Rattle.ids.proofs.note.note.Tie as tie
 
@@ -36,11 +38,14 @@ placed c = c .before .before .pass-item .ensures .placed _ (c .m .given .1)
 room : (c : Met) → c .before .before .before .loop .n < records
 room c = let t = c .before .before in noting-room (t .before .loop .inv) (t .pass-item .ensures) _ (c .m .given .1) (start c .pre .1)
 
--- its id is there at most once
-id-value-requires : tie.Need-id-value-requires Inv-loop μ-loop
-id-value-requires c κs =
-    let d = c .before .before in let t = d .before .before in let s = start d in
-    subst (Single (s .args .file)) (sym (c .cut .ensures)) (s .pre .4 _ (noting-among (t .before .loop .inv) (t .pass-item .ensures) _ (d .m .given .1)))
+-- what the record holds as its id
+value-is : (c : tie.After-id-value Inv-loop μ-loop) →
+    let d = c .before .before .before in let a = start d .args in c .id-value .result .now ≡ idValue (a .file) (itemOf (a .p .now) (d .m .given .0 .0))
+value-is c =
+    let u = c .before in let d = u .before .before in let t = d .before .before in let a = start d .args in
+    let f = noting-found (t .before .loop .inv) (t .pass-item .ensures) _ (d .m .given .1) in
+    c .id-value .ensures _ (subst (λ q. Whole q (treeOf (itemOf (a .p .now) (d .m .given .0 .0)))) (sym (u .cut .ensures)) (item-whole _ _ _ f))
+    ∙ ap (λ q. idValue (a .file) q) (u .cut .ensures)
 
 note-record-requires : tie.Need-note-record-requires Inv-loop μ-loop
 note-record-requires c κs =
@@ -50,7 +55,7 @@ note-record-requires c κs =
       room d,
       noting-record (l .loop .inv) (t .pass-item .ensures) _ (d .m .given .1),
       l .loop .inv .noted,
-      v .id-value .ensures ∙ ap (λ q. idValue (start d .args .file) q) (v .before .cut .ensures),
+      value-is v,
     )
 
 loop-again : tie.Need-loop-again Inv-loop μ-loop
@@ -62,6 +67,6 @@ pub note-spec : {M : Type 1} → statement M
 note-spec =
     tie.close
     (tie.spec Inv-loop μ-loop loop-holds (λ c κs. search needs) (λ c. search needs) returns (λ c. search needs) (λ c κs. search needs)
-    id-value-requires note-record-requires (λ c κs. room (c .before .before .before .before .before))
+    (λ c κs. search needs) note-record-requires (λ c κs. room (c .before .before .before .before .before))
     (λ c. let h = room (c .before .before .before .before .before .before) in omega arith)
     (λ c. let m = placed (c .before .before .before .before .before .before) in omega arith) loop-again)

@@ -61,7 +61,7 @@ loop-again c =
     let a = r .before .before .before .before .before .before .before .args in
     let f = passed-found _ _ (t .pass-member .ensures) (d .m .given .1) (l .loop .inv .2) in (
       l .loop .inv .0,
-      member-other (a .file) _ (l .loop .at) (l .loop .inv .1) _ f _ (u .cut .ensures) (sym (n .names-id .ensures) ∙ c .if2 .left),
+      member-other (a .file) (textOf (a .id .now)) _ _ (keeps r) (l .loop .at) (l .loop .inv .1) _ f _ (u .cut .ensures) (sym (n .names-id .ensures) ∙ c .if2 .left),
       λ h. AlongMembers.next (l .loop .inv .2 h) f,
     )
 
