@@ -1,4 +1,5 @@
 pub mod Faultless
+pub mod Singles
 pub mod Repeated
 pub mod Judged
 pub mod Shows

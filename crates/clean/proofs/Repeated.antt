@@ -1,7 +1,7 @@
 -- Kind 12 of a file without a stage B fault: its records in bytes have the ids that their picked values have, so the first record whose id one before
 -- it has in bytes is that of the least fault of all repeats.
 use mathlib.Core.Bool.{Bool, true, false}
-use mathlib.Core.List.{List, [], _∷_, map, List·Memᴰ, List·Memᴰ·head, List·Memᴰ·tail, List·Memᴰ·cases-cons, List·Memᴰ·not-nil}
+use mathlib.Core.List.{List, [], _∷_, map, List·Memᴰ, List·Memᴰ·head, List·Memᴰ·tail, List·Memᴰ·cases-cons, List·Memᴰ·not-nil, Memᴰ·map}
 use mathlib.Core.Logic.{⊎-elim}
 use mathlib.Core.Path.{_≡_, refl, sym, ap, subst, _∙_}
 use Prim.Native.Nat.{ℕ, zero, suc, _+_, _*_, _≤_}
@@ -42,12 +42,13 @@ use Rattle.document.specs.Spans.{recordsSpan, RecordsFrom}
 use Rattle.document.proofs.Fields.{noRow, past, field-lacks}
 use Rattle.document.proofs.Rests.{rest-along, rest-picked}
 use Rattle.document.proofs.Records.{recordShape, pickedItems, Records, records-stand}
-use Rattle.ids.specs.Ids.{idOf, recordBytes, anyHas, repeated, repeatFrom, firstRepeat}
+use Rattle.ids.specs.Ids.{idOf, Singles, recordBytes, anyHas, repeated, repeatFrom, firstRepeat}
 use Rattle.ids.proofs.Passing.{repeated-none, repeated-some}
 use Rattle.ids.proofs.Picked.{id-picked}
 use Rattle.clean.specs.Clean as clean
 use Rattle.clean.specs.Clean.{recordsOf, usedBefore, repeatedId, repeatsFrom, repeats, idField, blamed}
 use Rattle.clean.proofs.Faultless.{array-there, items-there, demands-there, demands-to}
+use Rattle.clean.proofs.Singles.{single-id}
 
 -- Repeats, by picked records and by bytes.
 
@@ -153,6 +154,7 @@ pub record Repeats (n : ℕ) (s p : List ℕ) : Type 0 where
   pub short : length p ≤ ceiling.fileBytes
   pub few : length (itemsOf p) ≤ ceiling.records
   pub along : AlongItems p 1
+  pub singles : Singles n p
   pub names : least (repeats n (pick (fileShape table23 n) (clean.treeOf s))) ≡ blamed (idField n) (firstRepeat n (recordBytes p))
 
 pub held : (n : ℕ) → 1 ≤ n → n ≤ 6 → (s : List ℕ) (t : Passed s) → fileFaults (fileShape table23 n) (t .tree) ≡ [] → Held n s (t .tree)
@@ -244,6 +246,10 @@ module _ (n : ℕ) (s : List ℕ) (reads : syntaxOf s ≡ Sound) (faultless : le
           short = omega (arith, t .short, f .inside);
           few = omega (arith, r .few, ap length l ∙ length-map (itemsOf p) (λ m. pick (recordShape n) (treeOf (itemOf p m))));
           along = rest-along f reads (r .there);
+          singles = λ m j.
+              let g : Item → Picked = λ k. pick (recordShape n) (treeOf (itemOf p k)) in
+              let y = r .sound (g m) (subst (List·Memᴰ (g m)) (sym l) (Memᴰ·map g j)) in
+              single-id n h i (items-whole p m j) (y .0) (r .field) (y .1);
           names =
               ap (λ (x : Json). least (repeatsFrom (idField n) 1 [] (recordsOf n (pick (fileShape table23 n) x)))) (tree-is s t)
               ∙ ap (λ (z : List Picked). least (repeatsFrom (idField n) 1 [] z)) (r .are ∙ l)

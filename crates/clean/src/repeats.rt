@@ -16,13 +16,13 @@ ghost use Rattle.schema.specs.Pick.{pick};
 ghost use Rattle.fault.specs.declared.Least.the-variants.{None};
 ghost use Rattle.fault.specs.Fault.{least};
 ghost use Rattle.judge.specs.Faults.{fileFaults};
-ghost use Rattle.ids.specs.Ids.{recordBytes, firstRepeat};
+ghost use Rattle.ids.specs.Ids.{Singles, recordBytes, firstRepeat};
 ghost use Rattle.clean.specs.Clean.{treeOf, idField, repeats, blamed};
 
 // The number of the first record of the array `p` whose id one before it has; 0 where there is none.
 // Shut out: the earlier of two records blamed.
 fn first_repeat(file: u8, p: &[u8]) -> u16
-    requires { ⌜ (length (now p) ≤ fileBytes) × (length (itemsOf (now p)) ≤ records) × ((0 < length (now p)) → AlongItems (now p) 1) ⌝ }
+    requires { ⌜ (length (now p) ≤ fileBytes) × (length (itemsOf (now p)) ≤ records) × ((0 < length (now p)) → AlongItems (now p) 1) × Singles file (now p) ⌝ }
     ensures { λ r. ⌜ r ≡ firstRepeat file (recordBytes (now (p .entry))) ⌝ }
 {
     let mut notes: [u32; Notes::SIZE] = [0; Notes::SIZE];

@@ -28,7 +28,7 @@ use Rattle.judge.specs.Faults.{faults, fileFaults}
 use Rattle.document.specs.Spans.{RecordsFrom}
 use Rattle.document.proofs.Records.{recordShape, pickedItems}
 use Rattle.document.proofs.Rests.{none-from, rest-along, rest-picked}
-use Rattle.ids.specs.Ids.{recordBytes, repeatFrom, firstRepeat}
+use Rattle.ids.specs.Ids.{Singles, recordBytes, repeatFrom, firstRepeat}
 use Rattle.clean.specs.Clean as clean
 use Rattle.clean.specs.Clean.{repeats, blamed}
 use Rattle.clean.proofs.Faultless.{object-there}
@@ -42,6 +42,7 @@ pub record InBytes (n : ℕ) (s p : List ℕ) : Type 0 where
   pub recorded : Recorded p
   pub picked : recordsIn n (fileOf n s) ≡ pickedItems (recordShape n) p
   pub repeated : least (repeatsIn n (fileOf n s)) ≡ idsLeast n p
+  pub singles : n ≤ 5 → Singles n p
   pub sound : (m : Item) → List·Memᴰ m (itemsOf p)
       → (q : Place) × (φ : ℕ) × (faults (recordShape n) q φ (pick (recordShape n) (treeOf (itemOf p m))) ≡ [])
 
@@ -52,6 +53,7 @@ absent-bytes n =
       recorded = record { short = omega arith; objects = λ m i. absurd (List·Memᴰ·not-nil i); few = omega arith; along = λ h. absurd (omega arith) };
       picked = refl;
       repeated = by-test (ltb 5 n) (λ t. rw (idsLeast, repeatOf, t) (none-least [] refl)) (λ t. rw (idsLeast, repeatOf, t) (none-least [] refl));
+      singles = λ h m i. absurd (List·Memᴰ·not-nil i);
       sound = λ m i. absurd (List·Memᴰ·not-nil i);
     }
 
@@ -122,6 +124,7 @@ module _ (n : ℕ) (h : 1 ≤ n) (i : n ≤ 6) (b : ℕ) (r : List ℕ) (t : Thr
             };
         picked = through .are ∙ are-picked;
         repeated = repeated-is;
+        singles = λ j. repeats-are n s reads (none-least _ (t .faultless (λ e. omega arith))) h j f .singles;
         sound = sound-item;
       }
 

@@ -6,6 +6,7 @@ use crate::types::judge_type;
 use fault::Least;
 use fault::lesser;
 use ids::Notes;
+use ids::id::id_place;
 use ids::note::first_of;
 use ids::note::note_record;
 use references::Set;
@@ -120,7 +121,8 @@ pub fn judge_records(
         let q = &p[start..end];
         let slots = gather_record(file, q);
         let id = value_in(q, &slots.state, &slots.from, &slots.upto, 0);
-        let repeats = note_record(file, p, start, end, id, n, notes);
+        let member = id_place(file, q);
+        let repeats = note_record(file, p, start, end, member, id, n, notes);
         repeat = first_of(repeat, repeats, n);
         n += 1;
         let broken = judge_record(

@@ -23,6 +23,7 @@ ghost use Rattle.walk.specs.Walk.{itemsOf};
 ghost use Rattle.fault.specs.declared.Least.the-variants.{None};
 ghost use Rattle.fault.specs.Fault.{least, lesser as lesserOf};
 ghost use Rattle.judge.specs.Faults.{top, faulty};
+ghost use Rattle.ids.specs.Ids.{Singles};
 ghost use Rattle.ids.specs.Notes.{Noted, Blank};
 ghost use Rattle.clean.specs.Clean.{blamed};
 ghost use Rattle.references.specs.References.{when};
@@ -105,7 +106,7 @@ fn judge_file(file: u8, found: Findings, set: Set) -> Least
 
 // The records of file 2 or 5, which break no rule but by their ids.
 fn note_records(file: u8, p: &[u8], notes: &mut [u32; Notes::SIZE]) -> Findings
-    requires { ⌜ (file ≤ 5) × Recorded (now p) × Blank (now notes) ⌝ }
+    requires { ⌜ (file ≤ 5) × Recorded (now p) × Blank (now notes) × Singles file (now p) ⌝ }
     ensures { λ r. ⌜ (r .repeat ≡ repeatOf file (now (p .entry))) × (r .least ≡ None) × Noted file (now (p .entry)) (length (itemsOf (now (p .entry)))) (now (notes .exit)) ⌝ }
 {
     Findings {
@@ -261,7 +262,7 @@ fn judge_parts(
     zones: &[u8],
     set: Set,
 ) -> Crossed
-    requires { ⌜ Recorded (now types) × Recorded (now stations) × Recorded (now statuses) × Recorded (now bikes) × Recorded (now plans) × Recorded (now zones) ⌝ }
+    requires { ⌜ Recorded (now types) × Recorded (now stations) × Recorded (now statuses) × Recorded (now bikes) × Recorded (now plans) × Recorded (now zones) × Singles 2 (now stations) × Singles 5 (now plans) ⌝ }
     ensures { λ r. ⌜ r ≡ firstFrom (numberedLeast set (now (types .entry)) (now (stations .entry)) (now (plans .entry)) (now (statuses .entry)) (now (bikes .entry)) (now (zones .entry))) 1 6 ⌝ }
 {
     let mut type_notes: [u32; Notes::SIZE] = [0; Notes::SIZE];

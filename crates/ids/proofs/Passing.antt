@@ -1,7 +1,7 @@
 -- The pass over the records of an array that notes them: each is the next one that is left, and the number of the first repeat so far and what is left
 -- come to that of all.
 use mathlib.Core.Bool.{Bool, false}
-use mathlib.Core.List.{List, [], _∷_, map}
+use mathlib.Core.List.{List, [], _∷_, map, List·Memᴰ, List·Memᴰ·head, List·Memᴰ·tail}
 use mathlib.Core.Path.{_≡_, refl, sym, ap, subst, _∙_}
 use Prim.Native.Nat.{ℕ, zero, suc, _+_, _≤_, _<_}
 use native.Mathlib.Numerals.{add-one}
@@ -73,13 +73,14 @@ module _ (file : ℕ) (rs : List (List ℕ)) where
 record Passes (p : List ℕ) (n at : ℕ) : Type 0 where
   fuel : ℕ
   enough : length p ≤ at + fuel
+  among : (m : Item) → List·Memᴰ m (itemsFrom fuel p at) → List·Memᴰ m (itemsOf p)
   count : n + length (itemsFrom fuel p at) ≡ length (itemsOf p)
   rest : drop n (recordBytes p) ≡ map (itemOf p) (itemsFrom fuel p at)
 
 module _ (p : List ℕ) where
   pass-start : Passes p 0 1
   unfolding itemsOf recordBytes
-  pass-start = record { fuel = length p; enough = omega arith; count = omega arith; rest = refl }
+  pass-start = record { fuel = length p; enough = omega arith; among = λ m i. i; count = omega arith; rest = refl }
 
   module _ {n at : ℕ} (w : Passes p n at) where
     pass-end : itemSteps p .Ends at → (n ≡ length (itemsOf p)) × (drop n (recordBytes p) ≡ [])
@@ -97,6 +98,9 @@ module _ (p : List ℕ) where
       split =
           sym (drop-cons (recordBytes p) n [] pass-inside) ∙ w .rest ∙ ap (map (itemOf p)) (one-more (itemSteps p) (w .fuel) at m f (w .enough) .2)
 
+      pass-among : List·Memᴰ m (itemsOf p)
+      pass-among = w .among m (subst (List·Memᴰ m) (sym (one-more (itemSteps p) (w .fuel) at m f (w .enough) .2)) (List·Memᴰ·head refl))
+
       pass-record : itemOf p m ≡ getD (recordBytes p) n []
       pass-record = cc split
 
@@ -106,6 +110,7 @@ module _ (p : List ℕ) where
           record {
             fuel = j .0;
             enough = j .1;
+            among = λ t i. w .among t (subst (List·Memᴰ t) (sym (j .2)) (List·Memᴰ·tail i));
             count = omega (arith, w .count, ap length (j .2));
             rest = ap (λ (k : ℕ). drop k (recordBytes p)) (add-one n) ∙ cc split;
           }
@@ -139,6 +144,9 @@ module _ {file : ℕ} {p notes : List ℕ} {first n at : ℕ} (w : Noting file p
     pub noting-room : length (itemsOf p) ≤ records → n < records
     unfolding recordBytes
     noting-room h = omega (arith, h, pass-inside p (w .passes) m noting-found, length-map (itemsOf p) (itemOf p))
+
+    pub noting-among : List·Memᴰ m (itemsOf p)
+    noting-among = pass-among p (w .passes) m noting-found
 
     pub noting-record : itemOf p m ≡ getD (recordBytes p) n []
     noting-record = pass-record p (w .passes) m noting-found

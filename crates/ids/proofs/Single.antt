@@ -1,12 +1,13 @@
--- A record that is noted has its id once or not at all, so the first member of the id's name holds the id, and a record without such a member has none.
+-- A walk over a record's members up to the first with the name of its id. A record that is noted has its id once or not at all, so this member holds the
+-- id, and a record without such a member has none.
 use mathlib.Core.Bool.{Bool, true, false}
-use mathlib.Core.List.{List, [], _∷_, foldl, map, List·Memᴰ, List·Memᴰ·head, List·Memᴰ·tail}
+use mathlib.Core.List.{List, [], _∷_, foldl}
 use mathlib.Core.Logic.{_⊎_, inl, inr, ⊎-elim}
 use mathlib.Core.Path.{_≡_, refl, sym, ap, subst, _∙_}
 use Prim.Native.Nat.{ℕ, zero, suc, _<_}
 use native.Mathlib.Omega.{arith}
 use lib.Dec.{eqb}
-use lib.ListN.{length, getD}
+use lib.ListN.{length}
 use borrow.Author.Tests.{eqb-true, ne-eqb}
 use Rattle.notation.specs.Ascii.{bytes}
 use Rattle.notation.specs.Choice.{_⇒_else_}
@@ -15,26 +16,24 @@ use Rattle.lexeme.specs.Numbers.{digit}
 use Rattle.lexeme.specs.Tokens.{blanks, start}
 use Rattle.lexeme.proofs.Steps.{by-test}
 use Rattle.text.specs.Text.{textOf, same}
-use Rattle.json.specs.Tree.{Json}
+use Rattle.json.specs.Tree.{Json, Members}
 use Rattle.json.specs.Text.{expect}
-use Rattle.walk.specs.declared.Item.{Item}
 use Rattle.walk.specs.declared.Member.{Member}
 use Rattle.walk.specs.declared.MemberStep.{MemberStep}
 use Rattle.walk.specs.declared.MemberStep.the-variants as members
-use Rattle.walk.specs.Walk.{part, memberIn, memberAt, membersFrom, membersOf, itemsOf}
-use Rattle.walk.specs.Part.{Whole, treeOf, kindOf, kindAt}
+use Rattle.walk.specs.Walk.{part, memberIn, memberAt, membersFrom, membersOf}
+use Rattle.walk.specs.Part.{Whole, kindAt}
 use Rattle.walk.specs.Along.{AlongMembers, MemberPassed}
-use Rattle.walk.proofs.Wholes.{whole-kind}
-use Rattle.walk.proofs.Folds.{Walk, memberSteps, walk-more, walk-end}
+use Rattle.walk.proofs.Folds.{Walk, memberSteps, members-start, walk-more, walk-end}
 use Rattle.walk.proofs.Places.{member-placed}
-use Rattle.walk.proofs.Parts.{itemOf, items-whole, member-whole}
+use Rattle.walk.proofs.Parts.{member-whole}
 use Rattle.slots.specs.declared.Found.{Found}
 use Rattle.slots.specs.declared.Found.the-variants.{Missing, Once, Twice}
 use Rattle.slots.specs.Found.{noted, foundIn}
 use Rattle.document.specs.Document.{Maybe, none, some}
 use Rattle.fields.specs.Values.{code, foundBytes, Standing, memberOf, textBy, isId}
 use Rattle.fields.proofs.Ways.{member-found}
-use Rattle.ids.specs.Ids.{idName, idValue, idOf, hasId, recordBytes}
+use Rattle.ids.specs.Ids.{idName, idValue, idOf, Unmet, IdPlace, hasId}
 use Rattle.ids.specs.Notes.{kept}
 
 -- of any other number than 1 to 4
@@ -102,41 +101,6 @@ module _ (file : ℕ) (q : List ℕ) where
       go none e h = absurd (omega arith)
       go (some id) e h = object-id id e
 
--- a record of an array is whole, or past the last there is nothing
-item-or-nothing : (p : List ℕ) (ms : List Item) → ((m : Item) → List·Memᴰ m ms → Whole (itemOf p m) (treeOf (itemOf p m))) → (j : ℕ)
-    → 0 < length (getD (map (itemOf p) ms) j []) → (x : Json) × Whole (getD (map (itemOf p) ms) j []) x
-item-or-nothing p [] w j h = absurd (omega arith)
-item-or-nothing p (m ∷ ms) w zero h = (_, w m (List·Memᴰ·head refl))
-item-or-nothing p (m ∷ ms) w (suc j) h = item-or-nothing p ms (λ n i. w n (List·Memᴰ·tail i)) j h
-
-module _ (file : ℕ) (p : List ℕ) (j : ℕ) {q : List ℕ} (keeps : q ≡ kept file (getD (recordBytes p) j [])) where
-  -- what is kept of one is the record, where it is anything
-  kept-itself : (r : List ℕ) → 0 < length (kept file r) → kept file r ≡ r
-  kept-itself r = go (idOf file r)
-    where
-      go : (o : Maybe (List ℕ)) → 0 < length (held file r o) → held file r o ≡ r
-      go none h = absurd (omega arith)
-      go (some t) h = refl
-
-  pub kept-along : 0 < length q → AlongMembers q 1
-  unfolding recordBytes
-  kept-along h =
-      let r = getD (recordBytes p) j [] in
-      let some : 0 < length (kept file r) = omega (arith, ap length keeps) in
-      let same : q ≡ r = keeps ∙ kept-itself r some in
-      let (x, w) = item-or-nothing p (itemsOf p) (items-whole p) j (omega (arith, ap length same)) in
-      let w′ : Whole q x = subst (λ (l : List ℕ). Whole l x) (sym same) w in
-      let object : 5 ≡ code (kindAt q) = kept-object file r some ∙ ap (λ (y : List ℕ). code (kindAt y)) (sym keeps) in
-      of-object x w′ (object ∙ ap code (whole-kind w′))
-    where
-      of-object : (x : Json) → Whole q x → 5 ≡ code (kindOf x) → AlongMembers q 1
-      of-object Json.null w e = absurd (omega arith)
-      of-object (Json.boolean b) w e = absurd (omega arith)
-      of-object (Json.number s) w e = absurd (omega arith)
-      of-object (Json.string s) w e = absurd (omega arith)
-      of-object (Json.array is) w e = absurd (omega arith)
-      of-object (Json.object ms) w e = AlongMembers.start w
-
 -- a step that passes over values, along such a record or in nothing
 nothing-at : (at : ℕ) → memberAt [] at ≡ members.End
 unfolding memberAt memberIn expect blanks
@@ -169,36 +133,73 @@ module _ (q name : List ℕ) where
   first-found a e at (k, h, is) single =
       ⊎-elim (λ o. sym o ∙ is) (λ t. absurd (single (sym is ∙ t))) (once-or-twice a e (membersFrom k q at))
 
+-- Where no member of the name is met.
+
+pub unmet-none : (file at : ℕ) → Unmet file [] at
+unfolding foundIn membersOf membersFrom
+unmet-none file at = record { left = (0, omega arith, refl); along = λ h. absurd (omega arith) }
+
+pub unmet-start : (file : ℕ) {q : List ℕ} {ms : Members} → Whole q (Json.object ms) → Unmet file q 1
+unfolding foundIn
+unmet-start file w = record { left = members-start _ _ Missing; along = λ h. AlongMembers.start w }
+
+pub unmet-at : {file : ℕ} {q r : List ℕ} {a b : ℕ} → q ≡ r → a ≡ b → Unmet file r b → Unmet file q a
+unmet-at {file} {r = r} {a = a} e i u = subst (λ (l : List ℕ). Unmet file l a) (sym e) (subst (Unmet file r) (sym i) u)
+
+module _ {file : ℕ} {q : List ℕ} {at : ℕ} (u : Unmet file q at) where
+  -- at the end none has it
+  unmet-end : memberAt q at ≡ members.End → Missing ≡ foundIn q (idName file)
+  unmet-end e = walk-end (memberSteps q) (noted q (idName file)) Missing at (foundIn q (idName file)) e (u .left)
+
+  pub place-end : memberAt q at ≡ members.End → IdPlace file q at
+  place-end e =
+      record { unmet = u; here = λ m f. let k : members.End ≡ members.Found m = sym e ∙ f in let z : _≡_ {A = ℕ} 0 1 = cc in absurd (omega arith) }
+
+  pub value-end : memberAt q at ≡ members.End → 5 ≡ code (kindAt q) → [] ≡ idValue file q
+  unfolding idValue
+  value-end e object = member-found q (idName file) 5 object refl Missing (unmet-end e)
+
+  -- the member there, x its name
+  module _ (m : Member) (f : memberAt q at ≡ members.Found m) (x : List ℕ) (is : x ≡ part q (m .name) (m .«name_end»)) where
+    onward : {t : Bool} → same (textOf x) (idName file) ≡ t
+        → Walk (memberSteps q) (noted q (idName file)) (t ⇒ Once (m .value) (m .«value_end») else Missing) (m .next) (foundIn q (idName file))
+    onward e =
+        subst (λ (t : Bool). Walk (memberSteps q) (noted q (idName file)) (t ⇒ Once (m .value) (m .«value_end») else Missing) (m .next) (foundIn q (idName file)))
+        (ap (λ (y : List ℕ). same (textOf y) (idName file)) (sym is) ∙ e) (walk-more (memberSteps q) (noted q (idName file)) Missing at (foundIn q (idName file)) m f (u .left))
+
+    pub unmet-next : same (textOf x) (idName file) ≡ false → Unmet file q (m .next)
+    unmet-next e = record { left = onward e; along = λ h. AlongMembers.next (u .along h) f }
+
+    pub place-here : same (textOf x) (idName file) ≡ true → IdPlace file q at
+    place-here e =
+        record {
+          unmet = u;
+          here = λ n g.
+              let k : members.Found m ≡ members.Found n = sym f ∙ g in let z : m ≡ n = cc in
+              subst (λ (o : Member). same (textOf (part q (o .name) (o .«name_end»))) (idName file) ≡ true) z (ap (λ (y : List ℕ). same (textOf y) (idName file)) (sym is) ∙ e);
+        }
+
+    -- v is what it holds
+    pub value-here : same (textOf x) (idName file) ≡ true → 5 ≡ code (kindAt q) → (foundIn q (idName file) ≡ Twice → ⊥) → {v : List ℕ}
+        → (Standing q (Once (m .value) (m .«value_end»)) → v ≡ foundBytes q (Once (m .value) (m .«value_end»))) → v ≡ idValue file q
+    unfolding idValue
+    value-here e object single holds =
+        holds (member-whole q at m f)
+        ∙ member-found q (idName file) 5 object refl (Once (m .value) (m .«value_end»)) (first-found q (idName file) (m .value) (m .«value_end») (m .next) (onward e) single)
+
 -- whether the record r, of which q is kept, has an id
-module _ (file : ℕ) (id r q : List ℕ) (keeps : q ≡ kept file r) where
+module _ (file : ℕ) (id r q : List ℕ) (keeps : q ≡ kept file r) {at : ℕ} (u : Unmet file q at) where
   kept-has : hasId file id q ≡ hasId file id r
   kept-has = ap (isId id) (ap (λ (x : List ℕ). idOf file x) keeps ∙ kept-id file r)
 
-  -- no member of the name was met up to a place
-  module _ (at : ℕ) (w : Walk (memberSteps q) (noted q (idName file)) Missing at (foundIn q (idName file))) where
-    pub member-lacking : memberAt q at ≡ members.End → hasId file id r ≡ false
-    member-lacking e =
-        sym kept-has ∙ ap (isId id) (none-found file q Missing (walk-end (memberSteps q) (noted q (idName file)) Missing at (foundIn q (idName file)) e w) refl)
+  pub member-lacking : memberAt q at ≡ members.End → hasId file id r ≡ false
+  member-lacking e = sym kept-has ∙ ap (isId id) (none-found file q Missing (unmet-end u e) refl)
 
-    -- the member there, x its name
-    module _ (m : Member) (f : memberAt q at ≡ members.Found m) (x : List ℕ) (is : x ≡ part q (m .name) (m .«name_end»)) where
-      onward : {t : Bool} → same (textOf x) (idName file) ≡ t
-          → Walk (memberSteps q) (noted q (idName file)) (t ⇒ Once (m .value) (m .«value_end») else Missing) (m .next) (foundIn q (idName file))
-      onward e =
-          subst (λ (t : Bool). Walk (memberSteps q) (noted q (idName file)) (t ⇒ Once (m .value) (m .«value_end») else Missing) (m .next) (foundIn q (idName file)))
-          (ap (λ (y : List ℕ). same (textOf y) (idName file)) (sym is) ∙ e) (walk-more (memberSteps q) (noted q (idName file)) Missing at (foundIn q (idName file)) m f w)
-
-      pub member-other : same (textOf x) (idName file) ≡ false → Walk (memberSteps q) (noted q (idName file)) Missing (m .next) (foundIn q (idName file))
-      member-other e = onward e
-
-      -- v is what it holds
-      pub member-decides : same (textOf x) (idName file) ≡ true → {v : List ℕ}
-          → (Standing q (Once (m .value) (m .«value_end»)) → v ≡ foundBytes q (Once (m .value) (m .«value_end»))) → isId id (textBy v) ≡ hasId file id r
-      unfolding idValue
-      member-decides e holds =
-          let single : foundIn q (idName file) ≡ Twice → ⊥ = λ t. kept-single file r (ap (λ (y : List ℕ). foundIn y (idName file)) (sym keeps) ∙ t) in
-          let found = first-found q (idName file) (m .value) (m .«value_end») (m .next) (onward e) single in
-          let k = member-placed q at m f in
-          let some : 0 < length (kept file r) = omega (arith, ap length keeps) in
-          let object : 5 ≡ code (kindAt q) = kept-object file r some ∙ ap (λ (y : List ℕ). code (kindAt y)) (sym keeps) in
-          ap (λ (y : List ℕ). isId id (textBy y)) (holds (member-whole q at m f) ∙ member-found q (idName file) 5 object refl (Once (m .value) (m .«value_end»)) found) ∙ kept-has
+  pub member-decides : (m : Member) → memberAt q at ≡ members.Found m → (x : List ℕ) → x ≡ part q (m .name) (m .«name_end») → same (textOf x) (idName file) ≡ true
+      → {v : List ℕ} → (Standing q (Once (m .value) (m .«value_end»)) → v ≡ foundBytes q (Once (m .value) (m .«value_end»))) → isId id (textBy v) ≡ hasId file id r
+  member-decides m f x is e holds =
+      let single : foundIn q (idName file) ≡ Twice → ⊥ = λ t. kept-single file r (ap (λ (y : List ℕ). foundIn y (idName file)) (sym keeps) ∙ t) in
+      let k = member-placed q at m f in
+      let some : 0 < length (kept file r) = omega (arith, ap length keeps) in
+      let object : 5 ≡ code (kindAt q) = kept-object file r some ∙ ap (λ (y : List ℕ). code (kindAt y)) (sym keeps) in
+      ap (λ (y : List ℕ). isId id (textBy y)) (value-here u m f x is e object single holds) ∙ kept-has

@@ -1,13 +1,25 @@
--- The ids of a file's own records: what a record has as its id, which records have a given id, and the first record whose id one before it has.
+-- The ids of a file's own records: what a record has as its id and where, which records have a given id, and the first record whose id one before it has.
 use mathlib.Core.Bool.{Bool, true, false}
-use mathlib.Core.List.{List, [], _∷_, map}
-use Prim.Native.Nat.{ℕ, zero, suc, _+_}
+use mathlib.Core.List.{List, [], _∷_, map, List·Memᴰ}
+use mathlib.Core.Path.{_≡_}
+use Prim.Native.Nat.{ℕ, zero, suc, _+_, _<_}
 use lib.Dec.{eqb}
-use lib.ListN.{getD}
+use lib.ListN.{length, getD}
 use Rattle.notation.specs.Ascii.{bytes}
 use Rattle.notation.specs.Choice.{_⇒_else_}
-use Rattle.walk.specs.Walk.{itemsOf}
+use Rattle.json.specs.Tree as tree
+use Rattle.json.specs.Tree.{Members}
+use Rattle.text.specs.Text.{textOf, same}
+use Rattle.walk.specs.declared.Item.{Item}
+use Rattle.walk.specs.declared.Member.{Member}
+use Rattle.walk.specs.declared.MemberStep.the-variants as members
+use Rattle.walk.specs.Walk.{part, memberAt, itemsOf}
+use Rattle.walk.specs.Part.{treeOf}
+use Rattle.walk.specs.Along.{AlongMembers}
+use Rattle.walk.proofs.Folds.{Walk, memberSteps}
 use Rattle.walk.proofs.Parts.{itemOf}
+use Rattle.slots.specs.declared.Found.the-variants.{Missing, Twice}
+use Rattle.slots.specs.Found.{noted, foundIn}
 use Rattle.document.specs.Document.{Maybe, none, some}
 use Rattle.fields.specs.Values.{memberOf, textBy, isId}
 
@@ -27,6 +39,25 @@ idValue file q = memberOf q (idName file)
 -- the text of it
 abbrev pub idOf : ℕ → List ℕ → Maybe (List ℕ)
 idOf file q = textBy (idValue file q)
+
+-- a walk over the members of the record q has come to `at`, and none that it passed has the name of the file's ids
+pub record Unmet (file : ℕ) (q : List ℕ) (at : ℕ) : Type 0 where
+  pub left : Walk (memberSteps q) (noted q (idName file)) Missing at (foundIn q (idName file))
+  pub along : (0 < length q) → AlongMembers q at
+
+-- and the next member, if there is one, has it
+pub record IdPlace (file : ℕ) (q : List ℕ) (at : ℕ) : Type 0 where
+  pub unmet : Unmet file q at
+  pub here : (m : Member) → memberAt q at ≡ members.Found m → same (textOf (part q (m .name) (m .«name_end»))) (idName file) ≡ true
+
+-- the record q is an object in which this name stands once at most
+pub record Single (file : ℕ) (q : List ℕ) : Type 0 where
+  pub object : (ms : Members) × (treeOf q ≡ tree.object ms)
+  pub once : foundIn q (idName file) ≡ Twice → ⊥
+
+-- all records of an array are such objects
+abbrev pub Singles : ℕ → List ℕ → Type 0
+Singles file p = (m : Item) → List·Memᴰ m (itemsOf p) → Single file (itemOf p m)
 
 -- a record has this id
 abbrev pub hasId : ℕ → List ℕ → List ℕ → Bool

@@ -1,5 +1,6 @@
--- What is noted of the records of an array, in one list of numbers: the digests of their ids, where they start and end, and chains. Entries whose
--- digests fall into one bucket make a chain: the bucket's head tells the last of them, and the link of each the one before it.
+-- What is noted of the records of an array, in one list of numbers: the digests of their ids, where they start and end, where the members of their ids
+-- are looked for, and chains. Entries whose digests fall into one bucket make a chain: the bucket's head tells the last of them, and the link of each the
+-- one before it.
 use mathlib.Core.List.{List, []}
 use mathlib.Core.Path.{_≡_}
 use Prim.Native.Nat.{ℕ, zero, suc, _+_, _*_, _%_, _≤_, _<_}
@@ -10,16 +11,17 @@ use Rattle.notation.specs.Choice.{_⇒_else_}
 use Rattle.text.specs.Text as text
 use Rattle.walk.specs.Walk.{part}
 use Rattle.document.specs.Document.{none, some}
-use Rattle.ids.specs.Ids.{idOf, recordBytes}
+use Rattle.ids.specs.Ids.{idOf, Unmet, recordBytes}
 
 -- as many buckets; all numbers
 abbrev pub buckets : ℕ
 buckets = 4_096
 
 abbrev pub size : ℕ
-size = 4 * records + buckets
+size = 5 * records + buckets
 
--- of the entry j: the digest of the id, where the record starts and ends, and one more than the index of the entry before it in its bucket, or 0
+-- of the entry j: the digest of the id, where the record starts and ends, where in it the member of the id is looked for, and one more than the index of
+-- the entry before it in its bucket, or 0
 abbrev pub digestAt : List ℕ → ℕ → ℕ
 digestAt notes j = getD notes j 0
 
@@ -29,12 +31,15 @@ startAt notes j = getD notes (records + j) 0
 abbrev pub endAt : List ℕ → ℕ → ℕ
 endAt notes j = getD notes (2 * records + j) 0
 
+abbrev pub memberAt : List ℕ → ℕ → ℕ
+memberAt notes j = getD notes (3 * records + j) 0
+
 abbrev pub linkAt : List ℕ → ℕ → ℕ
-linkAt notes j = getD notes (3 * records + j) 0
+linkAt notes j = getD notes (4 * records + j) 0
 
 -- of a bucket: one more than the index of its last entry, or 0
 abbrev pub headAt : List ℕ → ℕ → ℕ
-headAt notes bucket = getD notes (4 * records + bucket) 0
+headAt notes bucket = getD notes (5 * records + bucket) 0
 
 -- one more than the index of the last of the first n entries that fall into the bucket; 0 where none does
 unfoldable pub lastIn : (notes : List ℕ) → (bucket n : ℕ) → ℕ
@@ -42,18 +47,19 @@ lastIn notes bucket zero = 0
 lastIn notes bucket (suc n) = eqb (digestAt notes n % buckets) bucket ⇒ suc n else lastIn notes bucket n
 
 -- the notes with one entry more, at the index n, before which its bucket's head was
-unfoldable pub entered : (notes : List ℕ) → (n digest start end : ℕ) → List ℕ
-entered notes n digest start end =
-    set (set (set (set (set notes n digest) (records + n) start) (2 * records + n) end) (3 * records + n) (headAt notes (digest % buckets)))
-    (4 * records + digest % buckets) (n + 1)
+unfoldable pub entered : (notes : List ℕ) → (n digest start end member : ℕ) → List ℕ
+entered notes n digest start end member =
+    set (set (set (set (set (set notes n digest) (records + n) start) (2 * records + n) end) (3 * records + n) member) (4 * records + n) (headAt notes (digest % buckets)))
+    (5 * records + digest % buckets) (n + 1)
 
 -- a record as it is noted: whole where it has an id, no bytes where it has none
 abbrev pub kept : ℕ → List ℕ → List ℕ
 kept file q = elim (idOf file q) [ none ↦ [] | some id ↦ q ]
 
--- the entry j tells where the j-th record of p is, and the digest of its id
+-- the entry j tells where the j-th record of p is, where the member of its id is looked for, and the digest of its id
 pub record Entry (file : ℕ) (p notes : List ℕ) (j : ℕ) : Type 0 where
   pub there : part p (startAt notes j) (endAt notes j) ≡ kept file (getD (recordBytes p) j [])
+  pub unmet : Unmet file (part p (startAt notes j) (endAt notes j)) (memberAt notes j)
   pub digested : (id : List ℕ) → idOf file (getD (recordBytes p) j []) ≡ some id → digestAt notes j ≡ text.digest id
 
 -- the first n records of p are noted, and in chains

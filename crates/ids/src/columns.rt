@@ -5,7 +5,7 @@ ghost use mathlib.Core.Path.{_≡_};
 ghost use Prim.Native.Nat.{_%_, _≤_, _<_};
 ghost use Rattle.limits.specs.Ceilings.{records, fileBytes};
 ghost use Rattle.walk.specs.Walk.{part};
-ghost use Rattle.ids.specs.Notes.{buckets, digestAt, startAt, endAt, linkAt, headAt, entered};
+ghost use Rattle.ids.specs.Notes.{buckets, digestAt, startAt, endAt, memberAt, linkAt, headAt, entered};
 
 // A place or an index as a number of 64 bits.
 fn wide(x: u32) -> usize
@@ -34,6 +34,14 @@ pub fn record_at<'a>(p: &'a [u8], notes: &[u32; Notes::SIZE], k: usize) -> &'a [
     )
 }
 
+// Where in the record of the entry `k` the member of its id is looked for.
+pub fn member_at(notes: &[u32; Notes::SIZE], k: usize) -> usize
+    requires { ⌜ k < records ⌝ }
+    ensures { λ r. ⌜ r ≡ memberAt (now (notes .entry)) k ⌝ }
+{
+    wide(notes[Notes::MEMBERS + k])
+}
+
 // One more than the entry before the entry `k` in its chain; 0 where there is none.
 pub fn link_at(notes: &[u32; Notes::SIZE], k: usize) -> usize
     requires { ⌜ k < records ⌝ }
@@ -51,15 +59,23 @@ pub fn last(notes: &[u32; Notes::SIZE], digest: u32) -> usize
 
 // One entry more, the last of its chain.
 // Shut out: an entry that is not linked to those before it in its chain.
-pub fn enter(notes: &mut [u32; Notes::SIZE], k: usize, digest: u32, from: usize, upto: usize)
-    requires { ⌜ (k < records) × (from ≤ fileBytes) × (upto ≤ fileBytes) ⌝ }
-    ensures { λ r. ⌜ now (notes .exit) ≡ entered (now (notes .entry)) k digest from upto ⌝ }
+pub fn enter(
+    notes: &mut [u32; Notes::SIZE],
+    k: usize,
+    digest: u32,
+    from: usize,
+    upto: usize,
+    member: usize,
+)
+    requires { ⌜ (k < records) × (from ≤ fileBytes) × (upto ≤ fileBytes) × (member ≤ fileBytes) ⌝ }
+    ensures { λ r. ⌜ now (notes .exit) ≡ entered (now (notes .entry)) k digest from upto member ⌝ }
 {
     let bucket = digest as usize % Notes::BUCKETS;
     let head = notes[Notes::HEADS + bucket];
     notes[k] = digest;
     notes[Notes::STARTS + k] = from as u32;
     notes[Notes::ENDS + k] = upto as u32;
+    notes[Notes::MEMBERS + k] = member as u32;
     notes[Notes::LINKS + k] = head;
     notes[Notes::HEADS + bucket] = (k + 1) as u32;
 }

@@ -1,16 +1,26 @@
 // The id of a record.
+use document::cut;
 use fields::STRING;
 use fields::code_of;
-use fields::member;
 use fields::unquoted;
+use fields::value_at;
+use slots::Found;
 use text::compare::same_text;
 use text::compare::text_is;
+use walk::MemberStep;
+use walk::pass_member;
 ghost use mathlib.Core.Path.{_≡_};
-ghost use Rattle.json.specs.Tree.{Json};
+ghost use Prim.Native.Nat.{ℕ, _≤_};
+ghost use lib.ListN.{length};
+ghost use Rattle.limits.specs.Ceilings.{fileBytes};
+ghost use Rattle.json.specs.Tree as tree;
+ghost use Rattle.json.specs.Tree.{Members};
 ghost use Rattle.walk.specs.Part.{Whole};
 ghost use Rattle.text.specs.Text.{textOf, same};
+ghost use Rattle.slots.specs.declared.Found.the-variants.{Twice};
+ghost use Rattle.slots.specs.Found.{foundIn};
 ghost use Rattle.fields.specs.Values.{textBy, isId};
-ghost use Rattle.ids.specs.Ids.{idName, idValue};
+ghost use Rattle.ids.specs.Ids.{idName, idValue, IdPlace};
 
 // Whether a name is that of a file's own ids.
 pub fn names_id(file: u8, spelled: &[u8]) -> bool
@@ -25,16 +35,34 @@ pub fn names_id(file: u8, spelled: &[u8]) -> bool
     }
 }
 
-// What the record `q` of a file holds as its id.
-pub fn id_value(file: u8, q: &[u8]) -> &[u8]
-    ensures { λ r. ⌜ ((x : Json) → Whole (now (q .entry)) x → now r ≡ idValue file (now (q .entry))) ⌝ }
+// Where the member of the record `q` is looked for that has the name of the file's ids; where the members end, if none has it.
+pub fn id_place(file: u8, q: &[u8]) -> usize
+    requires { ⌜ length (now q) ≤ fileBytes ⌝ }
+    ensures { λ r. ⌜ (r ≤ fileBytes) × ((ms : Members) → Whole (now (q .entry)) (tree.object ms) → IdPlace file (now (q .entry)) r) ⌝ }
 {
-    match file {
-        1 => member(q, b"vehicle_type_id"),
-        2 => member(q, b"station_id"),
-        3 => member(q, b"station_id"),
-        4 => member(q, b"bike_id"),
-        _ => member(q, b"plan_id"),
+    let mut at: usize = 1;
+    loop {
+        let MemberStep::Found(m) = pass_member(q, at) else {
+            return at;
+        };
+        if names_id(file, cut(q, m.name, m.name_end)) {
+            return at;
+        }
+        at = m.next;
+    }
+}
+
+// What the record `q` holds as its id, of which the member is looked for at `at`.
+pub fn id_value(q: &[u8], at: usize) -> &[u8]
+    ensures { λ r. ⌜ ((file : ℕ) (ms : Members) → Whole (now (q .entry)) (tree.object ms) → IdPlace file (now (q .entry)) at → (foundIn (now (q .entry)) (idName file) ≡ Twice → ⊥) → now r ≡ idValue file (now (q .entry))) ⌝ }
+{
+    match pass_member(q, at) {
+        MemberStep::End => {
+            return value_at(q, Found::Missing);
+        }
+        MemberStep::Found(m) => {
+            return value_at(q, Found::Once(m.value, m.value_end));
+        }
     }
 }
 

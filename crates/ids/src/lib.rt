@@ -6,7 +6,7 @@ pub mod id;
 pub mod note;
 pub mod search;
 
-// The notes of a file are an array of `SIZE` numbers: four columns with an entry for each record, and one with a head for each bucket.
+// The notes of a file are an array of `SIZE` numbers: five columns with an entry for each record, and one with a head for each bucket.
 pub struct Notes {
     pub entries: u16,
 }
@@ -18,14 +18,16 @@ impl Notes {
     // As many chains.
     pub const BUCKETS: usize = 4_096;
 
-    // Where the other columns begin: where records start, where they end, links and heads of chains.
+    // Where the other columns begin: where records start, where they end, where the members of their ids are looked for, links and heads of chains.
     pub const STARTS: usize = Notes::ENTRIES;
 
     pub const ENDS: usize = 2 * Notes::ENTRIES;
 
-    pub const LINKS: usize = 3 * Notes::ENTRIES;
+    pub const MEMBERS: usize = 3 * Notes::ENTRIES;
 
-    pub const HEADS: usize = 4 * Notes::ENTRIES;
+    pub const LINKS: usize = 4 * Notes::ENTRIES;
 
-    pub const SIZE: usize = 4 * Notes::ENTRIES + Notes::BUCKETS;
+    pub const HEADS: usize = 5 * Notes::ENTRIES;
+
+    pub const SIZE: usize = 5 * Notes::ENTRIES + Notes::BUCKETS;
 }

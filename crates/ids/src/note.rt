@@ -2,6 +2,7 @@
 use crate::Notes;
 use crate::columns::enter;
 use crate::columns::last;
+use crate::id::id_place;
 use crate::id::id_value;
 use crate::search::search;
 use document::cut;
@@ -20,30 +21,32 @@ ghost use Rattle.notation.specs.Choice.{_⇒_else_, _and_};
 ghost use Rattle.limits.specs.Ceilings.{records, fileBytes};
 ghost use Rattle.walk.specs.Walk.{part, itemsOf};
 ghost use Rattle.walk.specs.Along.{AlongItems};
-ghost use Rattle.ids.specs.Ids.{idValue, recordBytes, repeated, earlier, firstRepeat};
+ghost use Rattle.ids.specs.Ids.{idValue, Unmet, Singles, recordBytes, repeated, earlier, firstRepeat};
 ghost use Rattle.ids.specs.Notes.{Noted, Blank};
 
-// Notes the record between two places of `p` behind the `n` that are noted, where `value` is what it holds as its id; whether one of those has its id.
+// Notes the record between two places of `p` behind the `n` that are noted; whether one of those has its id. `value` is what it holds as its id, and the
+// member with it is looked for at `member`.
 pub fn note_record(
     file: u8,
     p: &[u8],
     from: usize,
     upto: usize,
+    member: usize,
     value: &[u8],
     n: usize,
     notes: &mut [u32; Notes::SIZE],
 ) -> bool
-    requires { ⌜ (from ≤ fileBytes) × (upto ≤ fileBytes) × (n < records) × (part (now p) from upto ≡ getD (recordBytes (now p)) n []) × Noted file (now p) n (now notes) × (now value ≡ idValue file (part (now p) from upto)) ⌝ }
+    requires { ⌜ (from ≤ fileBytes) × (upto ≤ fileBytes) × (member ≤ fileBytes) × (n < records) × Unmet file (part (now p) from upto) member × (part (now p) from upto ≡ getD (recordBytes (now p)) n []) × Noted file (now p) n (now notes) × (now value ≡ idValue file (part (now p) from upto)) ⌝ }
     ensures { λ r. ⌜ (r ≡ repeated file (earlier (recordBytes (now (p .entry))) n) (part (now (p .entry)) from upto)) × Noted file (now (p .entry)) (n + 1) (now (notes .exit)) ⌝ }
 {
     if code_of(value) != STRING {
-        enter(notes, n, 0, 0, 0);
+        enter(notes, n, 0, 0, 0, 0);
         return false;
     }
     let id = unquoted(value);
     let digest = digest_of(id);
     let met = search(file, p, notes, last(notes, digest), id, digest);
-    enter(notes, n, digest, from, upto);
+    enter(notes, n, digest, from, upto, member);
     0 < met
 }
 
@@ -64,7 +67,7 @@ pub fn first_of(first: u16, repeats: bool, n: usize) -> u16
 // Notes the records of the array `p`; the number of the first record whose id one before it has, or 0.
 // Shut out: the earlier of two records blamed; a record left out because its id repeats.
 pub fn note(file: u8, p: &[u8], notes: &mut [u32; Notes::SIZE]) -> u16
-    requires { ⌜ (length (now p) ≤ fileBytes) × (length (itemsOf (now p)) ≤ records) × Blank (now notes) × ((0 < length (now p)) → AlongItems (now p) 1) ⌝ }
+    requires { ⌜ (length (now p) ≤ fileBytes) × (length (itemsOf (now p)) ≤ records) × Blank (now notes) × ((0 < length (now p)) → AlongItems (now p) 1) × Singles file (now p) ⌝ }
     ensures { λ r. ⌜ (r ≡ firstRepeat file (recordBytes (now (p .entry)))) × Noted file (now (p .entry)) (length (itemsOf (now (p .entry)))) (now (notes .exit)) ⌝ }
 {
     let mut first: u16 = 0;
@@ -76,8 +79,10 @@ pub fn note(file: u8, p: &[u8], notes: &mut [u32; Notes::SIZE]) -> u16
                 return first;
             }
             ItemStep::Found(m) => {
-                let value = id_value(file, cut(p, m.value, m.value_end));
-                let repeats = note_record(file, p, m.value, m.value_end, value, n, notes);
+                let q = cut(p, m.value, m.value_end);
+                let member = id_place(file, q);
+                let value = id_value(q, member);
+                let repeats = note_record(file, p, m.value, m.value_end, member, value, n, notes);
                 first = first_of(first, repeats, n);
                 n += 1;
                 at = m.next;

@@ -2,6 +2,7 @@
 use crate::Notes;
 use crate::columns::digest_at;
 use crate::columns::link_at;
+use crate::columns::member_at;
 use crate::columns::record_at;
 use crate::id::is_this;
 use crate::id::names_id;
@@ -16,7 +17,8 @@ ghost use Rattle.ids.specs.Ids.{lastWith, recordBytes};
 ghost use Rattle.ids.specs.Notes.{Searched};
 
 // One more than the index of the last record of the array `p` that has the id of this digest, among those before `from` and in its chain; 0 where none has it. The
-// search goes along the chain and over a record's members, and is left where the id is met. A record that is noted has its id once.
+// search goes along the chain and over a record's members, from the one that was noted on, and is left where the id is met. A record that is noted has its
+// id once.
 // Shut out: two ids taken for one because their digests agree; an id passed over because it is spelled in another way.
 pub fn search(
     file: u8,
@@ -35,7 +37,7 @@ pub fn search(
         let k = j - 1;
         if digest_at(notes, k) == digest {
             let record = record_at(p, notes, k);
-            let mut at: usize = 1;
+            let mut at = member_at(notes, k);
             loop {
                 match pass_member(record, at) {
                     MemberStep::End => {

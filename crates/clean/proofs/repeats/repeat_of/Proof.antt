@@ -11,7 +11,7 @@ by-records : (c : tie.After-records-from) → let a = c .before .before .args in
 by-records c = let x = c .before .before .pre in repeats-are _ _ (x .2) (x .3) (x .0) (x .1) (c .records-from .ensures)
 
 first-repeat-requires : tie.Need-first-repeat-requires
-first-repeat-requires c κs = let w = by-records c in (w .short, w .few, λ h. w .along)
+first-repeat-requires c κs = let w = by-records c in (w .short, w .few, λ h. w .along, w .singles)
 
 returns : tie.Need-returns
 returns c =

@@ -2,10 +2,10 @@
 -- records left break, makes the least of all. A record's first slot is its id.
 use borrow.Author.Needs.{needs}
 use mathlib.Core.Path.{_≡_, sym, ap, subst, _∙_}
-use Prim.Native.Nat.{_+_, _-_, _<_}
+use Prim.Native.Nat.{_+_, _-_, _≤_, _<_}
 use native.Mathlib.Omega.{arith}
 use lib.ListN.{length}
-use Rattle.limits.specs.Ceilings.{records}
+use Rattle.limits.specs.Ceilings.{records, fileBytes}
 use Rattle.json.specs.Tree as tree
 use Rattle.json.specs.Tree.{Members}
 use Rattle.walk.specs.Part.{Whole, treeOf}
@@ -68,13 +68,18 @@ whole c =
     let t = c .before .before in let a = start c .args in let m = c .item .given .0 .0 in
     subst (Whole (itemOf (a .p .now) m)) (object c .1) (left-whole (recordShape (a .file)) (a .p .now) _ (t .before .loop .inv .1) (t .pass-item .ensures) m (c .item .given .1))
 
+short : (c : Met) → length (itemOf (start c .args .p .now) (c .item .given .0 .0)) ≤ fileBytes
+short c = let s = start c in let m = c .item .given .0 .0 in omega (arith, s .pre .1 .short, part-short (s .args .p .now) (m .value) (m .«value_end»))
+
 note-record-requires : tie.Need-note-record-requires Inv-loop μ-loop
 note-record-requires c κs =
-    let v = c .before in let g = v .before .before .before .before .before in let d = g .before .before .before in let t = d .before .before in let l = t .before in let s = start d in
-    let m = placed d in let short = s .pre .1 .short in (
+    let i = c .before in let v = i .before in let g = v .before .before .before .before .before in let d = g .before .before .before in let t = d .before .before in let l = t .before in let s = start d in
+    let m = placed d in let h = s .pre .1 .short in (
       omega arith,
       omega arith,
+      i .id-place .ensures .0,
       room d,
+      i .id-place .ensures .1 _ (whole d) .unmet,
       noting-record (l .loop .inv .0) (t .pass-item .ensures) _ (d .item .given .1),
       l .loop .inv .0 .noted,
       id-slot (whole d) (s .args .file) (s .pre .0) (g .gather-record .ensures) (v .value-in .ensures .0),
@@ -82,11 +87,11 @@ note-record-requires c κs =
 
 judge-record-requires : tie.Need-judge-record-requires Inv-loop μ-loop
 judge-record-requires c κs =
-    let g = c .before .before .before .before .before .before .before .before .before .before .before .before in let d = g .before .before .before in let s = start d in let m = d .item .given .0 .0 in
-    (s .pre .0, g .gather-record .ensures, s .pre .3, omega (arith, s .pre .1 .short, part-short (s .args .p .now) (m .value) (m .«value_end»)), (object d .0, whole d))
+    let g = c .before .before .before .before .before .before .before .before .before .before .before .before .before in let d = g .before .before .before in let s = start d in
+    (s .pre .0, g .gather-record .ensures, s .pre .3, short d, (object d .0, whole d))
 
 abbrev met : tie.After-lesser Inv-loop μ-loop → Met
-met c = c .before .before .before .before .before .before .before .before .before .before .before .before .before .before .before .before .before
+met c = c .before .before .before .before .before .before .before .before .before .before .before .before .before .before .before .before .before .before
 
 loop-less : tie.Need-loop-less Inv-loop μ-loop
 loop-less c = let m = placed (met c) in omega arith
@@ -107,6 +112,7 @@ judge-records-spec =
     tie.close
     (tie.spec Inv-loop μ-loop loop-holds (λ c κs. search needs) (λ c. search needs) (λ c. search needs) returns
     (λ c. let m = placed (c .before) in omega arith) (λ c. let m = placed (c .before) in omega arith) (λ c. let m = placed (c .before) in omega arith)
-    (λ c κs. search needs) (λ c κs. search needs) note-record-requires (λ c κs. room (c .before .before .before .before .before .before .before .before .before .before))
-    (λ c. let h = room (c .before .before .before .before .before .before .before .before .before .before .before) in omega arith) (λ c. let h = room (c .before .before .before .before .before .before .before .before .before .before .before .before .before .before .before) in omega arith) judge-record-requires
+    (λ c κs. search needs) (λ c κs. search needs) (λ c κs. short (c .before .before .before .before .before .before .before .before)) note-record-requires (λ c κs. room (c .before .before .before .before .before .before .before .before .before .before .before))
+    (λ c. let h = room (c .before .before .before .before .before .before .before .before .before .before .before .before) in omega arith)
+    (λ c. let h = room (c .before .before .before .before .before .before .before .before .before .before .before .before .before .before .before .before) in omega arith) judge-record-requires
     (λ c κs. search needs) loop-less loop-again)

@@ -9,10 +9,10 @@ use Rattle.cross.proofs.stage.judge_parts.Statement.{statement}
 use Rattle.cross.proofs.stage.judge_parts.Tie as tie
 
 note-records-requires : tie.Need-note-records-requires
-note-records-requires c κs = (omega arith, c .before .before .before .before .before .before .before .pre .1, blank)
+note-records-requires c κs = let x = c .before .before .before .before .before .before .before .pre in (omega arith, x .1, blank, x .6)
 
 note-records-requires-2 : tie.Need-note-records-requires-2
-note-records-requires-2 c κs = (omega arith, c .before .before .before .before .before .before .before .before .before .pre .4, blank)
+note-records-requires-2 c κs = let x = c .before .before .before .before .before .before .before .before .before .pre in (omega arith, x .4, blank, x .7)
 
 judge-records-requires : tie.Need-judge-records-requires
 judge-records-requires c κs =

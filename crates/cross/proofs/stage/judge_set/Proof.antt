@@ -35,7 +35,7 @@ held c =
 judge-parts-requires : tie.Need-judge-parts-requires
 judge-parts-requires c κs =
     let h = held (c .before) in
-    (h .first .recorded, h .second .recorded, h .third .recorded, h .fourth .recorded, h .fifth .recorded, h .sixth .recorded)
+    (h .first .recorded, h .second .recorded, h .third .recorded, h .fourth .recorded, h .fifth .recorded, h .sixth .recorded, h .second .singles (omega arith), h .fifth .singles (omega arith))
 
 crossed : (c : tie.After-judge-parts) → c .judge-parts .result ≡ firstFrom (leasts (held (c .before .before))) 1 6
 crossed c =

@@ -1,37 +1,31 @@
--- `id_value` takes the member with the name of the file's number.
+-- The member at the place of the id holds it; where the members end there, the record has none.
 use borrow.Author.Needs.{needs}
-use mathlib.Core.Path.{sym, ap, _∙_}
+use mathlib.Core.Path.{_≡_, refl, sym, ap, _∙_}
 use Prim.Native.Nat.{ℕ}
-use Rattle.fields.specs.Values.{memberOf}
-use Rattle.ids.specs.Ids.{idName, idValue}
-use Rattle.ids.proofs.Single.{id-name-else}
+use mathlib.Core.List.{List}
+use Rattle.json.specs.Tree as tree
+use Rattle.json.specs.Tree.{Members}
+use Rattle.walk.specs.Part.{Whole, kindAt}
+use Rattle.walk.proofs.Wholes.{whole-kind}
+use Rattle.fields.specs.Values.{code}
+use Rattle.ids.proofs.Single.{passed-end, passed-found, value-end, value-here}
 use Rattle.ids.proofs.id.id_value.Statement.{statement}
 use Rattle.ids.proofs.id.id_value.Tie as tie
 
+object : {q : List ℕ} {ms : Members} → Whole q (tree.object ms) → 5 ≡ code (kindAt q)
+object w = sym (ap code (whole-kind w))
+
 returns : tie.Need-returns
-unfolding idValue idName
-returns c x w = let m = c .before .before in c .member .ensures x w ∙ ap (λ (f : ℕ). idValue f (m .before .before .args .q .now)) (sym (m .match .keys1))
+returns c file ms w l once =
+    let e = c .before in let t = e .before .before in
+    c .value-at .ensures .0 tt ∙ value-end (l .unmet) (passed-end _ _ (t .pass-member .ensures) (e .enum-told .given .1) (l .unmet .along)) (object w)
 
 returns-2 : tie.Need-returns-2
-unfolding idValue idName
-returns-2 c x w = let m = c .before .before in c .member2 .ensures x w ∙ ap (λ (f : ℕ). idValue f (m .before .before .args .q .now)) (sym (m .match .keys2))
-
-returns-3 : tie.Need-returns-3
-unfolding idValue idName
-returns-3 c x w = let m = c .before .before in c .member3 .ensures x w ∙ ap (λ (f : ℕ). idValue f (m .before .before .args .q .now)) (sym (m .match .keys3))
-
-returns-4 : tie.Need-returns-4
-unfolding idValue idName
-returns-4 c x w = let m = c .before .before in c .member4 .ensures x w ∙ ap (λ (f : ℕ). idValue f (m .before .before .args .q .now)) (sym (m .match .keys4))
-
-returns-5 : tie.Need-returns-5
-unfolding idValue
-returns-5 c x w =
-    let m = c .before .before in let r = m .match .rest in
-    c .member5 .ensures x w ∙ ap (memberOf (m .before .before .args .q .now)) (id-name-else _ (r .0 .0 .0 .1) (r .0 .0 .1) (r .0 .1) (r .1))
+returns-2 c file ms w l once =
+    let d = c .before .before in let t = d .before .before in
+    let f = passed-found _ _ (t .pass-member .ensures) (d .m .given .1) (l .unmet .along) in
+    value-here (l .unmet) _ f _ refl (l .here _ f) (object w) once (c .value-at2 .ensures .0)
 
 pub id-value-spec : {M : Type 1} → statement M
 id-value-spec =
-    tie.close
-    (tie.spec (λ c. search needs) (λ c κs. search needs) (λ c. search needs) (λ c κs. search needs) (λ c. search needs) (λ c κs. search needs)
-    (λ c. search needs) (λ c κs. search needs) (λ c. search needs) (λ c κs. search needs) returns returns-2 returns-3 returns-4 returns-5)
+    tie.close (tie.spec (λ c κs. search needs) (λ c. search needs) (λ c κs. search needs) returns (λ c. search needs) (λ c κs. search needs) returns-2)

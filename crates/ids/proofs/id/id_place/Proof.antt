@@ -1,0 +1,56 @@
+-- `id_place` goes over the members of a record. The loop's invariant: none that is passed has the name of the file's ids.
+use borrow.Author.Needs.{needs}
+use mathlib.Core.Path.{sym, _∙_}
+use Prim.Native.Nat.{_-_, _≤_}
+use native.Mathlib.Omega.{arith}
+use lib.ListN.{length}
+use Rattle.limits.specs.Ceilings.{fileBytes}
+use Rattle.json.specs.Tree as tree
+use Rattle.json.specs.Tree.{Members}
+use Rattle.walk.specs.Part.{Whole}
+use Rattle.ids.specs.Ids.{Unmet}
+use Rattle.ids.proofs.Single.{passed-end, passed-found, unmet-start, unmet-next, place-end, place-here}
+use Rattle.ids.proofs.id.id_place.Statement.{statement}
+use Rattle.ids.proofs.id.id_place.Tie as tie
+
+abbrev Inv-loop : tie.InvT-loop
+Inv-loop file q at₀ at = (at ≤ fileBytes) × ((ms : Members) → Whole q (tree.object ms) → Unmet file q at)
+
+abbrev μ-loop : tie.MeasureT-loop
+μ-loop file q at₀ at = length q - at
+
+loop-holds : tie.Need-loop-holds Inv-loop μ-loop
+loop-holds c = (omega arith, λ ms w. unmet-start _ w)
+
+returns : tie.Need-returns Inv-loop μ-loop
+returns c =
+    let t = c .before .before in let v = t .before .loop .inv in
+    (v .0, λ ms w. let u = v .1 ms w in place-end u (passed-end _ _ (t .pass-member .ensures) (c .enum-told .given .1) (u .along)))
+
+returns-2 : tie.Need-returns-2 Inv-loop μ-loop
+returns-2 c =
+    let n = c .before in let k = n .before in let d = k .before .before in let t = d .before .before in let v = t .before .loop .inv in (
+      v .0,
+      λ ms w.
+          let u = v .1 ms w in
+          place-here u _ (passed-found _ _ (t .pass-member .ensures) (d .m .given .1) (u .along)) _ (k .cut .ensures) (sym (n .names-id .ensures) ∙ c .if1 .taken),
+    )
+
+loop-less : tie.Need-loop-less Inv-loop μ-loop
+loop-less c = let d = c .before .before .before .before in let m = d .before .before .pass-member .ensures .placed _ (d .m .given .1) in omega arith
+
+loop-again : tie.Need-loop-again Inv-loop μ-loop
+loop-again c =
+    let n = c .before in let k = n .before in let d = k .before .before in let t = d .before .before in let l = t .before in let v = l .loop .inv in
+    let m = t .pass-member .ensures .placed _ (d .m .given .1) in let short = l .before .before .pre in (
+      omega arith,
+      λ ms w.
+          let u = v .1 ms w in
+          unmet-next u _ (passed-found _ _ (t .pass-member .ensures) (d .m .given .1) (u .along)) _ (k .cut .ensures) (sym (n .names-id .ensures) ∙ c .if1 .left),
+    )
+
+pub id-place-spec : {M : Type 1} → statement M
+id-place-spec =
+    tie.close
+    (tie.spec Inv-loop μ-loop loop-holds (λ c κs. search needs) (λ c. search needs) (λ c. search needs) returns (λ c κs. search needs)
+    (λ c κs. search needs) returns-2 loop-less loop-again)
