@@ -27,6 +27,7 @@ ghost use Rattle.ids.specs.Ids.{Singles};
 ghost use Rattle.ids.specs.Notes.{Noted, Blank};
 ghost use Rattle.clean.specs.Clean.{blamed};
 ghost use Rattle.references.specs.References.{when};
+ghost use Rattle.references.specs.Known.{Searchable};
 ghost use Rattle.cross.specs.Judged.{Known, Referring};
 ghost use Rattle.cross.specs.Stage.{Through, filesOf, stageC};
 ghost use Rattle.cross.specs.Staged.{Recorded, Finds, calledFor, repeatOf, numberedLeast, firstFrom};
@@ -113,6 +114,34 @@ fn note_records(file: u8, p: &[u8], notes: &mut [u32; Notes::SIZE]) -> Findings
         repeat: note(file, p, notes),
         least: Least::None,
     }
+}
+
+// The records of file 1. A type may name a plan and nothing else, so types are judged as they are noted, with no type known.
+fn judge_types(
+    types: &[u8],
+    notes: &mut [u32; Notes::SIZE],
+    set: Set,
+    stations: &[u8],
+    plans: &[u8],
+    station_notes: &[u32; Notes::SIZE],
+    plan_notes: &[u32; Notes::SIZE],
+) -> Findings
+    requires { ⌜ Recorded (now types) × Blank (now notes) × Searchable 2 (now stations) (now «station_notes») × Searchable 5 (now plans) (now «plan_notes») ⌝ }
+    ensures { λ r. ⌜ Finds set (now (types .entry)) (now (stations .entry)) (now (plans .entry)) 1 (now (types .entry)) r × Noted 1 (now (types .entry)) (length (itemsOf (now (types .entry)))) (now (notes .exit)) ⌝ }
+{
+    let no_notes: [u32; Notes::SIZE] = [0; Notes::SIZE];
+    judge_records(
+        1,
+        types,
+        notes,
+        set,
+        b"",
+        stations,
+        plans,
+        &no_notes,
+        station_notes,
+        plan_notes,
+    )
 }
 
 // The records of file 3 or 4, which no reference names: they are noted for their repeats alone.
@@ -252,7 +281,7 @@ fn judge_noted(
     Crossed::Nothing
 }
 
-// The same with nothing noted yet. A type may name a plan and nothing else, so types are judged as they are noted, with no type known.
+// The same with nothing noted yet.
 fn judge_parts(
     types: &[u8],
     stations: &[u8],
@@ -268,18 +297,14 @@ fn judge_parts(
     let mut type_notes: [u32; Notes::SIZE] = [0; Notes::SIZE];
     let mut station_notes: [u32; Notes::SIZE] = [0; Notes::SIZE];
     let mut plan_notes: [u32; Notes::SIZE] = [0; Notes::SIZE];
-    let no_notes: [u32; Notes::SIZE] = [0; Notes::SIZE];
     let stations_found = note_records(2, stations, &mut station_notes);
     let plans_found = note_records(5, plans, &mut plan_notes);
-    let types_found = judge_records(
-        1,
+    let types_found = judge_types(
         types,
         &mut type_notes,
         set,
-        b"",
         stations,
         plans,
-        &no_notes,
         &station_notes,
         &plan_notes,
     );
