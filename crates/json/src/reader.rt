@@ -1,5 +1,5 @@
 // Values, arrays and objects. `levels` counts the brackets that may still open, one inside another, and falls with each. The table of classes is
-// lent to all that a value holds.
+// lent to all that a value holds. A string is most often plain up to its closing quote, and then nothing is called for it.
 ghost use mathlib.Core.Path.{_≡_};
 ghost use lib.ListN.{drop};
 ghost use Rattle.lexeme.specs.Character.{paired};
@@ -53,7 +53,11 @@ pub fn value_by(table: &[u8; 256], s: &[u8], at: usize, levels: u8) -> Scan
             return read_literal(s, at, b"null");
         }
         Class::QUOTE => {
-            return read_string(table, s, at + 1);
+            let i = plain_end(table, s, at + 1);
+            if first(s, i) == b'"' {
+                return Scan::End(i + 1);
+            }
+            return read_string(table, s, i);
         }
         _ => {
             return Scan::Fault(Kind::NOT_JSON, place(s, at));
@@ -122,7 +126,7 @@ fn read_member(table: &[u8; 256], s: &[u8], at: usize, levels: u8) -> Scan
     }
 }
 
-// The string at `at`, from its opening quote on. It is most often plain up to the closing one.
+// The string at `at`, from its opening quote on.
 pub fn name_by(table: &[u8; 256], s: &[u8], at: usize) -> Scan
     requires { ⌜ Classifies (now table) ⌝ }
     ensures { λ r. ⌜ r ≡ placed (now (s .entry)) (expect 0x22 (string paired 0) (drop at (now (s .entry)))) ⌝ }

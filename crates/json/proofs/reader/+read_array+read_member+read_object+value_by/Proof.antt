@@ -37,7 +37,9 @@ use Rattle.json.proofs.reader.value_by.Kinds as value-by-kinds
 use Rattle.json.proofs.reader.+read_array+read_member+read_object+value_by.Lts-value_by as value-by-lts
 use Rattle.json.proofs.element.after_element.Reads as after-element-reads
 use Rattle.json.proofs.reader.name_by.Reads as name-by-reads
+use Rattle.strings.proofs.plain_end.Reads as plain-end-reads
 use Rattle.strings.proofs.read_string.Reads as read-string-reads
+use Rattle.strings.proofs.Spelling.{at-mark}
 use Rattle.lexeme.proofs.blank.skip_blanks.Reads as skip-blanks-reads
 use Rattle.lexeme.proofs.class.class_by.Reads as class-by-reads
 use Rattle.lexeme.proofs.front.first.Reads as first-reads
@@ -93,7 +95,7 @@ abbrev read-object-calls : ℕ → read-object-lts.Claims
 read-object-calls t = (skip-blanks-reads.Asked, skip-blanks-reads.Learnt, first-reads.Asked, first-reads.Learnt, read-member-below t, read-member.Post, after-element-reads.Asked, after-element-reads.Learnt)
 
 abbrev value-by-calls : ℕ → value-by-lts.Claims
-value-by-calls t = (first-reads.Asked, first-reads.Learnt, class-by-reads.Asked, class-by-reads.Learnt, read-number-reads.Asked, read-number-reads.Learnt, read-array-below t, read-array.Post, read-object-below t, read-object.Post, read-literal-reads.Asked, read-literal-reads.Learnt, read-string-reads.Asked, read-string-reads.Learnt, place-reads.Asked, place-reads.Learnt)
+value-by-calls t = (first-reads.Asked, first-reads.Learnt, class-by-reads.Asked, class-by-reads.Learnt, read-number-reads.Asked, read-number-reads.Learnt, read-array-below t, read-array.Post, read-object-below t, read-object.Post, read-literal-reads.Asked, read-literal-reads.Learnt, plain-end-reads.Asked, plain-end-reads.Learnt, read-string-reads.Asked, read-string-reads.Learnt, place-reads.Asked, place-reads.Learnt)
 
 -- arrays
 abbrev read-array-Inv-loop : read-array-lts.InvT-loop
@@ -346,23 +348,39 @@ value-by-returns-8 t c =
     let e = began s i _ _ 7 (m .before .before .first .ensures) (m .before .class-by .ensures) (m .match .keys6) in
     c .read-literal3 .ensures ∙ sym (value-null s i d e)
 
-value-by-add-read-string : (t : ℕ) → value-by-lts.Need-add-read-string (value-by-calls t) (value-by-at t) value-by.Post
+value-by-add-plain-end : (t : ℕ) → value-by-lts.Need-add-plain-end (value-by-calls t) (value-by-at t) value-by.Post
 unfolding startOf
-value-by-add-read-string t c =
+value-by-add-plain-end t c =
     let m = c in let a = m .before .before .before .before .args in let s = a .s .now in let i = a .at in let d = a .levels in
     let e = began s i _ _ 8 (m .before .before .first .ensures) (m .before .class-by .ensures) (m .match .keys7) in
     omega (arith, start-inside s i Start.string e refl)
 
-value-by-returns-9 : (t : ℕ) → value-by-lts.Need-returns-9 (value-by-calls t) (value-by-at t) value-by.Post
+-- past plain bytes what is left of the string decides the value
+value-by-opened : (t : ℕ) (c : value-by-lts.After-plain-end (value-by-calls t) (value-by-at t) value-by.Post) →
+    let a = c .before .before .before .before .before .args in let s = a .s .now in
+    placed s (string paired 0 (drop (c .plain-end .result) s)) ≡ placed s (value paired (a .levels) (drop (a .at) s))
 unfolding startOf
-value-by-returns-9 t c =
+value-by-opened t c =
     let m = c .before in let a = m .before .before .before .before .args in let s = a .s .now in let i = a .at in let d = a .levels in
     let e = began s i _ _ 8 (m .before .before .first .ensures) (m .before .class-by .ensures) (m .match .keys7) in
-    c .read-string .ensures ∙ sym (value-string s i d e)
+    c .plain-end .ensures ∙ sym (value-string s i d e)
 
-value-by-returns-10 : (t : ℕ) → value-by-lts.Need-returns-10 (value-by-calls t) (value-by-at t) value-by.Post
+-- the closing quote stands in the text
+value-by-closes : (t : ℕ) (c : value-by-lts.Then3 (value-by-calls t) (value-by-at t) value-by.Post) →
+    let e = c .before .before in e .plain-end .result < length (e .before .before .before .before .before .args .s .now)
+value-by-closes t c =
+    let e = c .before .before in
+    equal-inside 0x22 refl (e .before .before .before .before .before .args .s .now) (e .plain-end .result) (sym (c .before .first2 .ensures) ∙ c .if3 .taken)
+
+value-by-returns-9 : (t : ℕ) → value-by-lts.Need-returns-9 (value-by-calls t) (value-by-at t) value-by.Post
+value-by-returns-9 t c =
+    let e = c .before .before in
+    at-mark paired (e .before .before .before .before .before .args .s .now) (e .plain-end .result) (value-by-closes t c) (sym (c .before .first2 .ensures) ∙ c .if3 .taken)
+    ∙ value-by-opened t e
+
+value-by-returns-11 : (t : ℕ) → value-by-lts.Need-returns-11 (value-by-calls t) (value-by-at t) value-by.Post
 unfolding startOf
-value-by-returns-10 t c =
+value-by-returns-11 t c =
     let m = c .before in let a = m .before .before .before .before .args in let s = a .s .now in let i = a .at in let d = a .levels in
     let e = began s i _ _ _ (m .before .before .first .ensures) (m .before .class-by .ensures) refl
     ∙ classless _ (m .match .rest .0 .0 .0 .0 .0 .0 .1) (m .match .rest .0 .0 .0 .0 .0 .1) (m .match .rest .0 .0 .0 .0 .1) (m .match .rest .0 .0 .0 .1) (m .match .rest .0 .0 .1) (m .match .rest .0 .1) (m .match .rest .1) in
@@ -381,4 +399,5 @@ pub +read-array+read-member+read-object+value-by-spec : {M : Type 1} → stateme
     (λ c κs. search needs) (λ c κs. search needs) (λ c κs. search needs) (value-by-returns t) (value-by-returns-2 t) (value-by-add-read-array t) (λ c. omega arith) (λ c κs. (omega arith, c .before .before .before .before .before .pre .1)) (value-by-returns-3 t)
     (value-by-returns-4 t) (value-by-add-read-object t) (λ c. omega arith) (λ c κs. (omega arith, c .before .before .before .before .before .pre .1)) (value-by-returns-5 t)
     (λ c. search needs) (λ c κs. search needs) (value-by-returns-6 t) (λ c. search needs) (λ c κs. search needs) (value-by-returns-7 t) (λ c. search needs) (λ c κs. search needs) (value-by-returns-8 t)
-    (value-by-add-read-string t) (λ c κs. search needs) (value-by-returns-9 t) (λ c κs. search needs) (value-by-returns-10 t))
+    (value-by-add-plain-end t) (λ c κs. search needs) (λ c κs. search needs) (λ c. omega (arith, value-by-closes t c)) (value-by-returns-9 t)
+    (λ c κs. search needs) (λ c. c .read-string .ensures ∙ value-by-opened t (c .before .before .before)) (λ c κs. search needs) (value-by-returns-11 t))
