@@ -23,7 +23,7 @@ use strings::read_string;
 use word::kind::Kind;
 
 // The value at `at`.
-pub fn value_by(table: &[u8; 256], s: &[u8], at: usize, levels: u8) -> Scan
+fn value_by(table: &[u8; 256], s: &[u8], at: usize, levels: u8) -> Scan
     requires { ⌜ Classifies (now table) ⌝ }
     ensures { λ r. ⌜ r ≡ placed (now (s .entry)) (value paired levels (drop at (now (s .entry)))) ⌝ }
 {
@@ -127,7 +127,7 @@ fn read_member(table: &[u8; 256], s: &[u8], at: usize, levels: u8) -> Scan
 }
 
 // The string at `at`, from its opening quote on.
-pub fn name_by(table: &[u8; 256], s: &[u8], at: usize) -> Scan
+fn name_by(table: &[u8; 256], s: &[u8], at: usize) -> Scan
     requires { ⌜ Classifies (now table) ⌝ }
     ensures { λ r. ⌜ r ≡ placed (now (s .entry)) (expect 0x22 (string paired 0) (drop at (now (s .entry)))) ⌝ }
 {

@@ -57,10 +57,3 @@ pub fn judge_scalar(p: &[u8], letter: u8, line: usize) -> u8
         ValueKind::Object => Kind::WRONG_TYPE,
     }
 }
-
-// The same for a sort that has no words, as a coordinate's.
-pub fn judge_number(p: &[u8], letter: u8) -> u8
-    ensures { λ r. ⌜ ((σ : Sort) (x : Json) → sortLetter σ ≡ letter → sortWords σ ≡ [] → Whole (now (p .entry)) x → kindsOf σ x ≡ listed r) ⌝ }
-{
-    judge_scalar(p, letter, Line::COUNT)
-}

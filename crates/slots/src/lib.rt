@@ -44,16 +44,9 @@ impl Slots {
     pub const ONCE: u8 = 1;
 
     const TWICE: u8 = 2;
-
-    // What the object holds under the name of a row.
-    pub fn slot(self, row: usize) -> Found
-        ensures { λ r. ⌜ r ≡ slotAt self row ⌝ }
-    {
-        slot_in(&self.state, &self.from, &self.upto, row)
-    }
 }
 
-// The same by the slots' columns, which are lent: nothing is copied.
+// What the object holds under the name of a row, by the slots' columns, which are lent: nothing is copied.
 pub fn slot_in<'a>(
     state: &'a [u8; Slots::ROWS],
     from: &'a [usize; Slots::ROWS],

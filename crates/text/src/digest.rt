@@ -66,16 +66,3 @@ pub fn digest_of(spelled: &[u8]) -> u32
     }
     h
 }
-
-// The digest of bytes that stand for themselves.
-pub fn digest_plain(bytes: &[u8]) -> u32
-    ensures { λ r. ⌜ r ≡ spec.digest (now (bytes .entry)) ⌝ }
-{
-    let mut h = EMPTY;
-    let mut i: usize = 0;
-    while i < bytes.len() {
-        h = mixed(h, bytes[i]);
-        i += 1;
-    }
-    h
-}

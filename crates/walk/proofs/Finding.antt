@@ -13,20 +13,19 @@ use Rattle.lexeme.specs.Read.Read.{done, bad}
 use Rattle.lexeme.specs.Character.{paired, byte}
 use Rattle.lexeme.specs.Strings as Strings
 use Rattle.lexeme.specs.Tokens.{blanks}
-use Rattle.lexeme.proofs.Reading.{Any, Ok}
-use Rattle.lexeme.proofs.Placed.{takes-leaves, Lands, lands, lands-after}
+use Rattle.lexeme.proofs.Reading.{Ok}
+use Rattle.lexeme.proofs.Placed.{takes-leaves, Lands, lands}
 use Rattle.lexeme.proofs.NumberParts.{equal-inside}
 use Rattle.lexeme.proofs.Rests.{next-drop, place-at, shows}
 use Rattle.lexeme.proofs.Spans.{Skipped}
-use Rattle.lexeme.proofs.Takes.{string-takes, string-eats}
 use Rattle.json.specs.Tree.{Json}
 use Rattle.json.specs.Text.{expect, value}
-use Rattle.json.proofs.Takes.{expect-takes, expect-eats, value-takes}
+use Rattle.json.proofs.Takes.{value-takes}
 use Rattle.json.proofs.Values.{expect-there, expect-absent}
 use Rattle.walk.specs.declared.MemberStep.the-variants as members
 use Rattle.walk.specs.declared.ItemStep.the-variants as items
 use Rattle.walk.specs.Walk.{place, onward, memberIn, memberAt, itemIn, itemAt}
-use Rattle.walk.proofs.Steps.{onward-end, onward-comma, onward-other, Reads, member-unnamed, member-unvalued, member-found, item-none, item-found}
+use Rattle.walk.proofs.Steps.{onward-end, onward-comma, onward-other, Reads, member-unvalued, member-found, item-none, item-found}
 
 abbrev quoted : List ℕ → Read (List ℕ)
 quoted = expect 0x22 (Strings.string paired 0)
@@ -35,12 +34,6 @@ abbrev whole : List ℕ → Read Json
 whole = value paired depth
 
 -- a reading by where it ended
-pub named-at : (p : List ℕ) (i j : ℕ) → scan.End j ≡ placed p (quoted (drop i p)) → Lands quoted p i j
-named-at p i j = lands quoted p i j (takes-leaves Any quoted (expect-takes 0x22 _ (string-takes paired 0)))
-
-pub named-later : (p : List ℕ) (i j : ℕ) → Lands quoted p i j → i < j
-named-later p i j = lands-after quoted p i j (expect-eats 0x22 _ (string-eats paired 0))
-
 pub valued-at : (p : List ℕ) (i j : ℕ) → scan.End j ≡ placed p (whole (drop i p)) → Lands whole p i j
 valued-at p i j = lands whole p i j (takes-leaves Ok whole (value-takes paired depth))
 
@@ -83,9 +76,6 @@ module _ (p : List ℕ) (at i : ℕ) (k : Skipped p at i) where
   unfolding memberAt
   member-here = ap (memberIn p) (sym (k .rest))
 
-  pub member-nameless : (f n : ℕ) → scan.Fault f n ≡ placed p (quoted (drop i p)) → members.End ≡ memberAt p at
-  member-nameless f n e = sym (member-here ∙ member-unnamed p (drop i p) (failed p f n (quoted (drop i p)) e .1))
-
   module _ (j c : ℕ) (named : Lands quoted p i j) (w : Skipped p j c) where
     pub member-colonless : (byte (drop c p) 0 ≡ 0x3a → ⊥) → members.End ≡ memberAt p at
     member-colonless n =
@@ -94,10 +84,6 @@ module _ (p : List ℕ) (at i : ℕ) (k : Skipped p at i) where
     module _ (v : ℕ) (colon : byte (drop c p) 0 ≡ 0x3a) (u : Skipped p (c + 1) v) where
       after-colon : expect 0x3a (λ r. whole (blanks r)) (blanks (drop j p)) ≡ whole (drop v p)
       after-colon = ap (expect 0x3a _) (sym (w .rest)) ∙ expect-there 0x3a _ p c refl colon ∙ ap whole (sym (u .rest))
-
-      pub member-valueless : (f n : ℕ) → scan.Fault f n ≡ placed p (whole (drop v p)) → members.End ≡ memberAt p at
-      member-valueless f n e =
-          sym (member-here ∙ member-unvalued p (drop i p) (named .reads) (after-colon ∙ failed p f n (whole (drop v p)) e .1))
 
       pub member-there : (e n : ℕ) → Lands whole p v e → n ≡ onward p (blanks (drop e p))
           → members.Found (record { name = i + 1; «name_end» = j - 1; value = v; «value_end» = e; next = n }) ≡ memberAt p at

@@ -9,14 +9,11 @@ ghost use Rattle.walk.specs.Along.{ItemPassed, MemberPassed, NamePassed}
 ghost use Rattle.walk.specs.declared.NameStep.the-variants as names;
 use crate::skip::skip_value;
 use crate::skip::string_end;
-use json::reader::name_by;
 use json::reader::read_value;
-use json::reader::value_by;
 use lexeme::Scan;
 use lexeme::ascii::is_digit;
 use lexeme::ascii::is_either;
 use lexeme::blank::skip_blanks;
-use lexeme::class::class_table;
 use lexeme::front::ahead;
 use lexeme::front::first;
 use lexeme::front::place;
@@ -73,32 +70,6 @@ pub enum ValueKind {
     Object,
 }
 
-// The member of the object `p` that is looked for at `at`, read whole: for any bytes.
-pub fn next_member(p: &[u8], at: usize) -> MemberStep
-    ensures { λ r. ⌜ r ≡ memberAt (now (p .entry)) at ⌝ }
-{
-    let table = class_table();
-    let quote = skip_blanks(p, at);
-    let Scan::End(named) = name_by(&table, p, quote) else {
-        return MemberStep::End;
-    };
-    let colon = skip_blanks(p, named);
-    if first(p, colon) != b':' {
-        return MemberStep::End;
-    }
-    let value = skip_blanks(p, colon + 1);
-    let Scan::End(value_end) = value_by(&table, p, value, Limits::DEPTH) else {
-        return MemberStep::End;
-    };
-    MemberStep::Found(Member {
-        name: quote + 1,
-        name_end: named - 1,
-        value: value,
-        value_end: value_end,
-        next: next_place(p, value_end),
-    })
-}
-
 // The item of the array `p` that is looked for at `at`, read whole: for any bytes.
 pub fn next_item(p: &[u8], at: usize) -> ItemStep
     ensures { λ r. ⌜ r ≡ itemAt (now (p .entry)) at ⌝ }
@@ -114,7 +85,8 @@ pub fn next_item(p: &[u8], at: usize) -> ItemStep
     })
 }
 
-// As `next_member`, with name and value passed over and not read: the same for an object that stage A passed, and in order in any bytes.
+// The member of the object `p` that is looked for at `at`, with name and value passed over and not read: the member there for an object that stage A
+// passed, and in order in any bytes.
 pub fn pass_member(p: &[u8], at: usize) -> MemberStep
     ensures { λ r. ⌜ MemberPassed (now (p .entry)) at r ⌝ }
 {
