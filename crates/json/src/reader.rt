@@ -1,5 +1,5 @@
 // Values, arrays and objects. `levels` counts the brackets that may still open, one inside another, and falls with each. The table of classes is
-// lent to all that a value holds. A string is most often plain up to its closing quote, and then nothing is called for it.
+// lent to all that a value holds.
 ghost use mathlib.Core.Path.{_≡_};
 ghost use lib.ListN.{drop};
 ghost use Rattle.lexeme.specs.Character.{paired};
@@ -10,6 +10,7 @@ ghost use Rattle.json.specs.Text.{expect, bracketed, member, value, text
 use super::element::Turn;
 use super::element::after_element;
 use lexeme::Scan;
+use lexeme::ascii::is_digit;
 use lexeme::blank::skip_blanks;
 use lexeme::class::Class;
 use lexeme::class::class_by;
@@ -53,11 +54,7 @@ fn value_by(table: &[u8; 256], s: &[u8], at: usize, levels: u8) -> Scan
             return read_literal(s, at, b"null");
         }
         Class::QUOTE => {
-            let i = plain_end(table, s, at + 1);
-            if first(s, i) == b'"' {
-                return Scan::End(i + 1);
-            }
-            return read_string(table, s, i);
+            return read_string(table, s, at + 1);
         }
         _ => {
             return Scan::Fault(Kind::NOT_JSON, place(s, at));
@@ -107,12 +104,12 @@ fn read_object(table: &[u8; 256], s: &[u8], at: usize, levels: u8) -> Scan
     }
 }
 
-// The member at `at`: its name, a colon, its value.
+// The member at `at`: its name, a colon, its value. A string or a number, which most values are, is read here, so that `value_by` need not be called.
 fn read_member(table: &[u8; 256], s: &[u8], at: usize, levels: u8) -> Scan
     requires { ⌜ Classifies (now table) ⌝ }
     ensures { λ r. ⌜ r ≡ placed (now (s .entry)) (member paired (value paired levels) (drop at (now (s .entry)))) ⌝ }
 {
-    match name_by(table, s, at) {
+    match string_by(table, s, at) {
         Scan::Fault(kind, place) => {
             return Scan::Fault(kind, place);
         }
@@ -121,13 +118,21 @@ fn read_member(table: &[u8; 256], s: &[u8], at: usize, levels: u8) -> Scan
             if first(s, i) != b':' {
                 return Scan::Fault(Kind::NOT_JSON, i);
             }
-            return value_by(table, s, skip_blanks(s, i + 1), levels);
+            let value = skip_blanks(s, i + 1);
+            let b = first(s, value);
+            if b == b'"' {
+                return string_by(table, s, value);
+            }
+            if is_digit(b) {
+                return read_number(s, value);
+            }
+            return value_by(table, s, value, levels);
         }
     }
 }
 
-// The string at `at`, from its opening quote on.
-fn name_by(table: &[u8; 256], s: &[u8], at: usize) -> Scan
+// The string at `at`, from its opening quote on. It is most often plain up to the closing one, and then nothing is called for it.
+fn string_by(table: &[u8; 256], s: &[u8], at: usize) -> Scan
     requires { ⌜ Classifies (now table) ⌝ }
     ensures { λ r. ⌜ r ≡ placed (now (s .entry)) (expect 0x22 (string paired 0) (drop at (now (s .entry)))) ⌝ }
 {

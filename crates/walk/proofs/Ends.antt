@@ -20,6 +20,7 @@ use Rattle.lexeme.proofs.Placed.{takes-leaves, lands}
 use Rattle.lexeme.proofs.Rests.{at-cons, place-at, first-byte, rest-at, rest-after}
 use Rattle.lexeme.proofs.NumberParts.{digit-inside, either-inside, equal-inside}
 use Rattle.lexeme.proofs.Takes.{number-takes}
+use Rattle.json.proofs.Values.{digit-starts}
 use Rattle.walk.specs.Skip.{quoted, outside, enclosed, numbered, skipped}
 use Rattle.walk.proofs.Quotes.{apart, Itself, quoted-mark, escape-begins}
 use Rattle.walk.proofs.Skips.{Between, enclosed-between, enclosed-opens, enclosed-closes, enclosed-end, enclosed-mark, numbered-done, numbered-bad, skipped-string, skipped-number, skipped-array, skipped-object, skipped-true, skipped-false, skipped-null, skipped-none}
@@ -138,10 +139,6 @@ module _ (b : ℕ) (l : List ℕ) where
   skipped-four h =
       by-test (eqb b 0x74) (λ e. skipped-true b l (ap start (eqb-true b 0x74 e)))
       (λ e. let f : eqb b 0x6e ≡ true = rw e at h in skipped-null b l (ap start (eqb-true b 0x6e f)))
-
-digit-starts : (b : ℕ) → digit b ≡ true → start b ≡ Start.number
-unfolding start digit within
-digit-starts b h = rw (start, apart digit 0x22 refl b h, apart digit 0x5b refl b h, apart digit 0x7b refl b h, apart digit 0x2d refl b h, h)
 
 neither : (x y b : ℕ) → either x y b ≡ false → (eqb b x ≡ false) × (eqb b y ≡ false)
 unfolding either

@@ -12,7 +12,7 @@ use Rattle.lexeme.specs.Class.{startOf}
 use Rattle.lexeme.specs.Character.{paired}
 use Rattle.lexeme.specs.Read.{placed}
 use Rattle.lexeme.specs.Strings.{string}
-use Rattle.lexeme.specs.Tokens.{Start}
+use Rattle.lexeme.specs.Tokens.{Start, start}
 use Rattle.lexeme.proofs.Placed.{ends-at, faults, faults-at, passes, Leaves, lands, takes-leaves}
 use Rattle.lexeme.proofs.Reading.{Any}
 use Rattle.lexeme.proofs.Spans.{skipped}
@@ -22,7 +22,7 @@ use Rattle.json.proofs.Bound.{all}
 use Rattle.lexeme.proofs.Takes.{string-takes}
 use Rattle.json.proofs.Takes.{expect-takes, value-eats, value-takes, member-eats, member-takes}
 use Rattle.json.proofs.Loops.{opened-closed, opened-all, Onward, all-stops, all-next}
-use Rattle.json.proofs.Values.{start-inside, began, classless, value-string, value-number, array-deep, object-deep, array-opened, object-opened, value-true, value-false, value-null, value-none, value-empty, member-empty, member-unnamed, member-wrong, member-value}
+use Rattle.json.proofs.Values.{start-inside, began, digit-starts, expect-there, classless, value-string, value-number, array-deep, object-deep, array-opened, object-opened, value-true, value-false, value-null, value-none, value-empty, member-empty, member-unnamed, member-wrong, member-value}
 use Rattle.json.proofs.reader.read_array.Reads as read-array
 use Rattle.json.proofs.reader.read_array.Kinds as read-array-kinds
 use Rattle.json.proofs.reader.+read_array+read_member+read_object+value_by.Lts-read_array as read-array-lts
@@ -36,12 +36,11 @@ use Rattle.json.proofs.reader.value_by.Reads as value-by
 use Rattle.json.proofs.reader.value_by.Kinds as value-by-kinds
 use Rattle.json.proofs.reader.+read_array+read_member+read_object+value_by.Lts-value_by as value-by-lts
 use Rattle.json.proofs.element.after_element.Reads as after-element-reads
-use Rattle.json.proofs.reader.name_by.Reads as name-by-reads
-use Rattle.strings.proofs.plain_end.Reads as plain-end-reads
+use Rattle.json.proofs.reader.string_by.Reads as string-by-reads
 use Rattle.strings.proofs.read_string.Reads as read-string-reads
-use Rattle.strings.proofs.Spelling.{at-mark}
 use Rattle.lexeme.proofs.blank.skip_blanks.Reads as skip-blanks-reads
 use Rattle.lexeme.proofs.class.class_by.Reads as class-by-reads
+use Rattle.lexeme.proofs.ascii.is_digit.Reads as is-digit-reads
 use Rattle.lexeme.proofs.front.first.Reads as first-reads
 use Rattle.lexeme.proofs.front.place.Reads as place-reads
 use Rattle.lexeme.proofs.literal.read_literal.Reads as read-literal-reads
@@ -89,13 +88,13 @@ abbrev read-array-calls : ℕ → read-array-lts.Claims
 read-array-calls t = (skip-blanks-reads.Asked, skip-blanks-reads.Learnt, first-reads.Asked, first-reads.Learnt, value-by-below t, value-by.Post, after-element-reads.Asked, after-element-reads.Learnt)
 
 abbrev read-member-calls : ℕ → read-member-lts.Claims
-read-member-calls t = (name-by-reads.Asked, name-by-reads.Learnt, skip-blanks-reads.Asked, skip-blanks-reads.Learnt, first-reads.Asked, first-reads.Learnt, value-by-below t, value-by.Post)
+read-member-calls t = (string-by-reads.Asked, string-by-reads.Learnt, skip-blanks-reads.Asked, skip-blanks-reads.Learnt, first-reads.Asked, first-reads.Learnt, is-digit-reads.Asked, is-digit-reads.Learnt, read-number-reads.Asked, read-number-reads.Learnt, value-by-below t, value-by.Post)
 
 abbrev read-object-calls : ℕ → read-object-lts.Claims
 read-object-calls t = (skip-blanks-reads.Asked, skip-blanks-reads.Learnt, first-reads.Asked, first-reads.Learnt, read-member-below t, read-member.Post, after-element-reads.Asked, after-element-reads.Learnt)
 
 abbrev value-by-calls : ℕ → value-by-lts.Claims
-value-by-calls t = (first-reads.Asked, first-reads.Learnt, class-by-reads.Asked, class-by-reads.Learnt, read-number-reads.Asked, read-number-reads.Learnt, read-array-below t, read-array.Post, read-object-below t, read-object.Post, read-literal-reads.Asked, read-literal-reads.Learnt, plain-end-reads.Asked, plain-end-reads.Learnt, read-string-reads.Asked, read-string-reads.Learnt, place-reads.Asked, place-reads.Learnt)
+value-by-calls t = (first-reads.Asked, first-reads.Learnt, class-by-reads.Asked, class-by-reads.Learnt, read-number-reads.Asked, read-number-reads.Learnt, read-array-below t, read-array.Post, read-object-below t, read-object.Post, read-literal-reads.Asked, read-literal-reads.Learnt, read-string-reads.Asked, read-string-reads.Learnt, place-reads.Asked, place-reads.Learnt)
 
 -- arrays
 abbrev read-array-Inv-loop : read-array-lts.InvT-loop
@@ -249,7 +248,7 @@ read-object-loop-again t c =
 read-member-returns : (t : ℕ) → read-member-lts.Need-returns (read-member-calls t) (read-member-at t) read-member.Post
 read-member-returns t c =
     let r = c .before .before .before in let a = r .before .before .args in let s = a .s .now in
-    passes s _ _ (expect 0x22 (string paired 0) (drop (a .at) s)) _ (sym (c .before .kind .given .1) ∙ r .name-by .ensures)
+    passes s _ _ (expect 0x22 (string paired 0) (drop (a .at) s)) _ (sym (c .before .kind .given .1) ∙ r .string-by .ensures)
     (member-unnamed (value paired (a .levels)) (drop (a .at) s) _)
 
 named-leaves : Leaves (expect 0x22 (string paired 0))
@@ -258,7 +257,7 @@ named-leaves = takes-leaves Any (expect 0x22 (string paired 0)) (expect-takes 0x
 read-member-returns-2 : (t : ℕ) → read-member-lts.Need-returns-2 (read-member-calls t) (read-member-at t) read-member.Post
 read-member-returns-2 t c =
     let k = c .before .before in let n = k .before .before in let r = n .before .before in let a = r .before .before .args in let s = a .s .now in
-    let d = lands (expect 0x22 (string paired 0)) s (a .at) _ named-leaves (sym (n .next .given .1) ∙ r .name-by .ensures) in
+    let d = lands (expect 0x22 (string paired 0)) s (a .at) _ named-leaves (sym (n .next .given .1) ∙ r .string-by .ensures) in
     let i = k .skip-blanks .result in let w = skipped s (n .next .given .0 .0) i (k .skip-blanks .ensures) in
     faults-at s i _ (w .upto) _
     (member-wrong (value paired (a .levels)) s (a .at) _ i _ (d .reads) w (λ z. c .if1 .taken (c .before .first .ensures ∙ z)))
@@ -268,14 +267,33 @@ read-member-add-skip-blanks t c =
     let k = c .before .before in let n = k .before .before in let r = n .before .before in let a = r .before .before .args in
     omega (arith, equal-inside 0x3a refl (a .s .now) (k .skip-blanks .result) (sym (c .before .first .ensures) ∙ c .if1 .left))
 
-read-member-returns-3 : (t : ℕ) → read-member-lts.Need-returns-3 (read-member-calls t) (read-member-at t) read-member.Post
-read-member-returns-3 t c =
+-- behind the colon the value decides the member
+read-member-valued : (t : ℕ) (c : read-member-lts.After-first2 (read-member-calls t) (read-member-at t) read-member.Post) →
+    let a = c .before .before .before .before .before .before .before .before .before .before .args in let s = a .s .now in
+    placed s (value paired (a .levels) (drop (c .before .skip-blanks2 .result) s)) ≡ placed s (member paired (value paired (a .levels)) (drop (a .at) s))
+read-member-valued t c =
     let f = c .before .before .before in let k = f .before in let n = k .before .before in let r = n .before .before in let a = r .before .before .args in let s = a .s .now in
-    let d = lands (expect 0x22 (string paired 0)) s (a .at) _ named-leaves (sym (n .next .given .1) ∙ r .name-by .ensures) in
+    let d = lands (expect 0x22 (string paired 0)) s (a .at) _ named-leaves (sym (n .next .given .1) ∙ r .string-by .ensures) in
     let i = k .skip-blanks .result in let j = c .before .skip-blanks2 .result in
-    c .value-by .ensures
-    ∙ sym (member-value (value paired (a .levels)) s (a .at) _ i _ (d .reads) (skipped s (n .next .given .0 .0) i (k .skip-blanks .ensures))
+    sym (member-value (value paired (a .levels)) s (a .at) _ i _ (d .reads) (skipped s (n .next .given .0 .0) i (k .skip-blanks .ensures))
     (sym (f .first .ensures) ∙ c .before .before .if1 .left) j (skipped s (i + 1) j (c .before .skip-blanks2 .ensures)))
+
+read-member-returns-3 : (t : ℕ) → read-member-lts.Need-returns-3 (read-member-calls t) (read-member-at t) read-member.Post
+unfolding start
+read-member-returns-3 t c =
+    let e = c .before .before in let a = e .before .before .before .before .before .before .before .before .before .before .args in let s = a .s .now in let j = e .before .skip-blanks2 .result in
+    let q = sym (e .first2 .ensures) ∙ c .before .if2 .taken in
+    c .string-by2 .ensures ∙ ap (placed s) (expect-there 0x22 (string paired 0) s j refl q) ∙ sym (value-string s j (a .levels) (ap start q)) ∙ read-member-valued t e
+
+read-member-returns-4 : (t : ℕ) → read-member-lts.Need-returns-4 (read-member-calls t) (read-member-at t) read-member.Post
+read-member-returns-4 t c =
+    let g = c .before .before in let e = g .before .before in let a = e .before .before .before .before .before .before .before .before .before .before .args in let s = a .s .now in
+    let j = e .before .skip-blanks2 .result in
+    c .read-number .ensures ∙ sym (value-number s j (a .levels) (ap start (sym (e .first2 .ensures)) ∙ digit-starts _ (sym (g .is-digit .ensures) ∙ c .before .if3 .taken)))
+    ∙ read-member-valued t e
+
+read-member-returns-5 : (t : ℕ) → read-member-lts.Need-returns-5 (read-member-calls t) (read-member-at t) read-member.Post
+read-member-returns-5 t c = c .value-by .ensures ∙ read-member-valued t (c .before .before .before .before)
 
 -- values
 value-by-returns : (t : ℕ) → value-by-lts.Need-returns (value-by-calls t) (value-by-at t) value-by.Post
@@ -348,39 +366,23 @@ value-by-returns-8 t c =
     let e = began s i _ _ 7 (m .before .before .first .ensures) (m .before .class-by .ensures) (m .match .keys6) in
     c .read-literal3 .ensures ∙ sym (value-null s i d e)
 
-value-by-add-plain-end : (t : ℕ) → value-by-lts.Need-add-plain-end (value-by-calls t) (value-by-at t) value-by.Post
+value-by-add-read-string : (t : ℕ) → value-by-lts.Need-add-read-string (value-by-calls t) (value-by-at t) value-by.Post
 unfolding startOf
-value-by-add-plain-end t c =
+value-by-add-read-string t c =
     let m = c in let a = m .before .before .before .before .args in let s = a .s .now in let i = a .at in let d = a .levels in
     let e = began s i _ _ 8 (m .before .before .first .ensures) (m .before .class-by .ensures) (m .match .keys7) in
     omega (arith, start-inside s i Start.string e refl)
 
--- past plain bytes what is left of the string decides the value
-value-by-opened : (t : ℕ) (c : value-by-lts.After-plain-end (value-by-calls t) (value-by-at t) value-by.Post) →
-    let a = c .before .before .before .before .before .args in let s = a .s .now in
-    placed s (string paired 0 (drop (c .plain-end .result) s)) ≡ placed s (value paired (a .levels) (drop (a .at) s))
+value-by-returns-9 : (t : ℕ) → value-by-lts.Need-returns-9 (value-by-calls t) (value-by-at t) value-by.Post
 unfolding startOf
-value-by-opened t c =
+value-by-returns-9 t c =
     let m = c .before in let a = m .before .before .before .before .args in let s = a .s .now in let i = a .at in let d = a .levels in
     let e = began s i _ _ 8 (m .before .before .first .ensures) (m .before .class-by .ensures) (m .match .keys7) in
-    c .plain-end .ensures ∙ sym (value-string s i d e)
+    c .read-string .ensures ∙ sym (value-string s i d e)
 
--- the closing quote stands in the text
-value-by-closes : (t : ℕ) (c : value-by-lts.Then3 (value-by-calls t) (value-by-at t) value-by.Post) →
-    let e = c .before .before in e .plain-end .result < length (e .before .before .before .before .before .args .s .now)
-value-by-closes t c =
-    let e = c .before .before in
-    equal-inside 0x22 refl (e .before .before .before .before .before .args .s .now) (e .plain-end .result) (sym (c .before .first2 .ensures) ∙ c .if3 .taken)
-
-value-by-returns-9 : (t : ℕ) → value-by-lts.Need-returns-9 (value-by-calls t) (value-by-at t) value-by.Post
-value-by-returns-9 t c =
-    let e = c .before .before in
-    at-mark paired (e .before .before .before .before .before .args .s .now) (e .plain-end .result) (value-by-closes t c) (sym (c .before .first2 .ensures) ∙ c .if3 .taken)
-    ∙ value-by-opened t e
-
-value-by-returns-11 : (t : ℕ) → value-by-lts.Need-returns-11 (value-by-calls t) (value-by-at t) value-by.Post
+value-by-returns-10 : (t : ℕ) → value-by-lts.Need-returns-10 (value-by-calls t) (value-by-at t) value-by.Post
 unfolding startOf
-value-by-returns-11 t c =
+value-by-returns-10 t c =
     let m = c .before in let a = m .before .before .before .before .args in let s = a .s .now in let i = a .at in let d = a .levels in
     let e = began s i _ _ _ (m .before .before .first .ensures) (m .before .class-by .ensures) refl
     ∙ classless _ (m .match .rest .0 .0 .0 .0 .0 .0 .1) (m .match .rest .0 .0 .0 .0 .0 .1) (m .match .rest .0 .0 .0 .0 .1) (m .match .rest .0 .0 .0 .1) (m .match .rest .0 .0 .1) (m .match .rest .0 .1) (m .match .rest .1) in
@@ -392,12 +394,12 @@ pub +read-array+read-member+read-object+value-by-spec : {M : Type 1} → stateme
     (λ t. read-array-lts.spec (read-array-calls t) (read-array-at t) read-array.Post read-array-Inv-loop read-array-μ-loop
     (λ c κs. search needs) (λ c κs. search needs) (read-array-add-t10 t) (read-array-returns t) (read-array-loop-holds t) (λ c κs. (omega arith, c .before .before .before .before .before .pre .1)) (λ c κs. search needs) (λ c. search needs) (read-array-returns-2 t) (λ c. search needs) (read-array-loop-less t) (read-array-loop-again t))
     (λ t. read-member-lts.spec (read-member-calls t) (read-member-at t) read-member.Post
-    (λ c κs. search needs) (λ c. search needs) (read-member-returns t) (λ c. search needs) (λ c κs. search needs) (λ c κs. search needs) (read-member-returns-2 t) (read-member-add-skip-blanks t) (λ c κs. search needs) (λ c κs. (omega arith, c .before .before .before .before .before .before .before .before .before .pre .1)) (read-member-returns-3 t))
+    (λ c κs. search needs) (λ c. search needs) (read-member-returns t) (λ c. search needs) (λ c κs. search needs) (λ c κs. search needs) (read-member-returns-2 t) (read-member-add-skip-blanks t) (λ c κs. search needs) (λ c κs. search needs) (λ c κs. search needs) (read-member-returns-3 t) (λ c κs. search needs) (λ c κs. search needs) (read-member-returns-4 t)
+    (λ c κs. (omega arith, c .before .before .before .before .before .before .before .before .before .before .before .before .before .pre .1)) (read-member-returns-5 t))
     (λ t. read-object-lts.spec (read-object-calls t) (read-object-at t) read-object.Post read-object-Inv-loop read-object-μ-loop
     (λ c κs. search needs) (λ c κs. search needs) (read-object-add-t10 t) (read-object-returns t) (read-object-loop-holds t) (λ c κs. (omega arith, c .before .before .before .before .before .pre .1)) (λ c κs. search needs) (λ c. search needs) (read-object-returns-2 t) (λ c. search needs) (read-object-loop-less t) (read-object-loop-again t))
     (λ t. value-by-lts.spec (value-by-calls t) (value-by-at t) value-by.Post
     (λ c κs. search needs) (λ c κs. search needs) (λ c κs. search needs) (value-by-returns t) (value-by-returns-2 t) (value-by-add-read-array t) (λ c. omega arith) (λ c κs. (omega arith, c .before .before .before .before .before .pre .1)) (value-by-returns-3 t)
     (value-by-returns-4 t) (value-by-add-read-object t) (λ c. omega arith) (λ c κs. (omega arith, c .before .before .before .before .before .pre .1)) (value-by-returns-5 t)
     (λ c. search needs) (λ c κs. search needs) (value-by-returns-6 t) (λ c. search needs) (λ c κs. search needs) (value-by-returns-7 t) (λ c. search needs) (λ c κs. search needs) (value-by-returns-8 t)
-    (value-by-add-plain-end t) (λ c κs. search needs) (λ c κs. search needs) (λ c. omega (arith, value-by-closes t c)) (value-by-returns-9 t)
-    (λ c κs. search needs) (λ c. c .read-string .ensures ∙ value-by-opened t (c .before .before .before)) (λ c κs. search needs) (value-by-returns-11 t))
+    (value-by-add-read-string t) (λ c κs. search needs) (value-by-returns-9 t) (λ c κs. search needs) (value-by-returns-10 t))

@@ -1,4 +1,4 @@
--- `name_by` tests the quote and passes plain bytes; the closing quote ends the string, and anything else is left to `read_string`.
+-- `string_by` tests the quote and passes plain bytes; the closing quote ends the string, and anything else is left to `read_string`.
 use borrow.Author.Needs.{needs}
 use mathlib.Core.Path.{_≡_, refl, sym, ap, _∙_}
 use Prim.Native.Nat.{_<_}
@@ -16,10 +16,10 @@ use Rattle.lexeme.proofs.front.first.Reads as first-reads
 use Rattle.lexeme.proofs.front.place.Reads as place-reads
 use Rattle.strings.proofs.plain_end.Reads as plain-end-reads
 use Rattle.strings.proofs.read_string.Reads as read-string-reads
-use Rattle.json.proofs.reader.name_by.Lts as lts
-use Rattle.json.proofs.reader.name_by.Reads as reads
-use Rattle.json.proofs.reader.name_by.Statement.{statement}
-use Rattle.json.proofs.reader.name_by.Tie as tie
+use Rattle.json.proofs.reader.string_by.Lts as lts
+use Rattle.json.proofs.reader.string_by.Reads as reads
+use Rattle.json.proofs.reader.string_by.Statement.{statement}
+use Rattle.json.proofs.reader.string_by.Tie as tie
 
 abbrev calls : lts.Claims
 calls = (first-reads.Asked, first-reads.Learnt, place-reads.Asked, place-reads.Learnt, plain-end-reads.Asked, plain-end-reads.Learnt, read-string-reads.Asked, read-string-reads.Learnt)
@@ -52,8 +52,8 @@ returns-2 c =
     let e = c .before .before in
     at-mark paired (e .before .before .before .before .args .s .now) (e .plain-end .result) (closes c) (sym (c .before .first2 .ensures) ∙ c .if2 .taken) ∙ opened e
 
-pub name-by-spec : {M : Type 1} → statement M
-name-by-spec =
+pub string-by-spec : {M : Type 1} → statement M
+string-by-spec =
     tie.close
     (tie.spec (λ c κs. search needs) (λ c κs. search needs) returns add-plain-end (λ c κs. search needs) (λ c κs. search needs)
     (λ c. omega (arith, closes c)) returns-2 (λ c κs. search needs) (λ c. c .read-string .ensures ∙ opened (c .before .before .before)))
