@@ -1,8 +1,6 @@
 // The verdict on a feed set: whether it is accepted, and the word that says why not.
-use crate::stages::first_a;
-use crate::stages::first_b;
+use crate::stages::judge;
 use clean::Cleanness;
-use cross::stage::judge_set;
 use word::Parts;
 use word::Word;
 ghost use mathlib.Core.List.{_++_};
@@ -11,10 +9,7 @@ ghost use Prim.Native.Nat.{_≤_};
 ghost use lib.ListN.{length, drop};
 ghost use Rattle.word.specs.Form.{form1};
 ghost use Rattle.word.specs.Word.{Fits, wordOf};
-ghost use Rattle.clean.specs.declared.Cleanness.the-variants as clean;
-ghost use Rattle.cross.specs.Stage as cross;
-ghost use Rattle.gbfs.specs.Verdict.{feeds, picked, said, verdictOf, answerOf, bufferOf};
-ghost use Rattle.gbfs.specs.Stages.{firstA, firstB, orNext};
+ghost use Rattle.gbfs.specs.Verdict.{feeds, said, answerOf, bufferOf};
 
 mod stages;
 
@@ -23,41 +18,6 @@ pub enum Acceptance {
     NoRoom,
     Accepted,
     NotAccepted,
-}
-
-// Stages B and C of a set that is through stage A.
-fn judge_read<'a>(
-    types: &'a [u8],
-    stations: &'a [u8],
-    statuses: &'a [u8],
-    bikes: &'a [u8],
-    plans: &'a [u8],
-    zones: &'a [u8],
-) -> Cleanness
-    requires { ⌜ firstA (feeds (now types) (now stations) (now statuses) (now bikes) (now plans) (now zones)) ≡ clean.Clean ⌝ }
-    ensures { λ r. ⌜ r ≡ orNext (firstB (feeds (now (types .entry)) (now (stations .entry)) (now (statuses .entry)) (now (bikes .entry)) (now (plans .entry)) (now (zones .entry)))) (cross.stageC (picked (feeds (now (types .entry)) (now (stations .entry)) (now (statuses .entry)) (now (bikes .entry)) (now (plans .entry)) (now (zones .entry))))) ⌝ }
-{
-    match first_b(types, stations, statuses, bikes, plans, zones) {
-        Cleanness::Broken(p) => Cleanness::Broken(p),
-        Cleanness::Clean => judge_set(types, stations, statuses, bikes, plans, zones),
-    }
-}
-
-// The first broken rule of a set, stage by stage.
-fn judge<'a>(
-    types: &'a [u8],
-    stations: &'a [u8],
-    statuses: &'a [u8],
-    bikes: &'a [u8],
-    plans: &'a [u8],
-    zones: &'a [u8],
-) -> Cleanness
-    ensures { λ r. ⌜ r ≡ verdictOf (feeds (now (types .entry)) (now (stations .entry)) (now (statuses .entry)) (now (bikes .entry)) (now (plans .entry)) (now (zones .entry))) ⌝ }
-{
-    match first_a(types, stations, statuses, bikes, plans, zones) {
-        Cleanness::Broken(p) => Cleanness::Broken(p),
-        Cleanness::Clean => judge_read(types, stations, statuses, bikes, plans, zones),
-    }
 }
 
 // What a word says: nothing of an accepted set.

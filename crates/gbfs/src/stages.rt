@@ -1,7 +1,8 @@
-// Stages A and B of a set, file by file.
+// The stages of a set: A and B file by file, then C.
 use clean::Cleanness;
 use clean::first_fault;
 use clean::parts_of;
+use cross::stage::judge_set;
 use fault::Least;
 use json::Syntax;
 use json::check_syntax;
@@ -13,8 +14,9 @@ ghost use Rattle.json.specs.declared.Syntax.the-variants as syntax;
 ghost use Rattle.json.specs.Text.{syntaxOf};
 ghost use Rattle.clean.specs.declared.Cleanness.the-variants as clean;
 ghost use Rattle.clean.specs.Clean.{broken};
-ghost use Rattle.gbfs.specs.Verdict.{feeds, bytesOf, faultsB};
-ghost use Rattle.gbfs.specs.Stages.{brokenA, firstA, firstB};
+ghost use Rattle.cross.specs.Stage as cross;
+ghost use Rattle.gbfs.specs.Verdict.{feeds, bytesOf, picked, faultsB, verdictOf};
+ghost use Rattle.gbfs.specs.Stages.{brokenA, firstA, firstB, orNext};
 
 // Stage A of a file; where nothing is there, it passes.
 fn stage_a(file: u8, s: &[u8]) -> Cleanness
@@ -73,7 +75,7 @@ fn bytes_of<'a>(
 }
 
 // The first file that breaks a rule of stage A.
-pub fn first_a<'a>(
+fn first_a<'a>(
     types: &'a [u8],
     stations: &'a [u8],
     statuses: &'a [u8],
@@ -101,7 +103,7 @@ pub fn first_a<'a>(
 }
 
 // And of stage B, where stage A passes them all.
-pub fn first_b<'a>(
+fn first_b<'a>(
     types: &'a [u8],
     stations: &'a [u8],
     statuses: &'a [u8],
@@ -127,4 +129,39 @@ pub fn first_b<'a>(
         }
     }
     Cleanness::Clean
+}
+
+// Stages B and C of a set that is through stage A.
+fn judge_read<'a>(
+    types: &'a [u8],
+    stations: &'a [u8],
+    statuses: &'a [u8],
+    bikes: &'a [u8],
+    plans: &'a [u8],
+    zones: &'a [u8],
+) -> Cleanness
+    requires { ⌜ firstA (feeds (now types) (now stations) (now statuses) (now bikes) (now plans) (now zones)) ≡ clean.Clean ⌝ }
+    ensures { λ r. ⌜ r ≡ orNext (firstB (feeds (now (types .entry)) (now (stations .entry)) (now (statuses .entry)) (now (bikes .entry)) (now (plans .entry)) (now (zones .entry)))) (cross.stageC (picked (feeds (now (types .entry)) (now (stations .entry)) (now (statuses .entry)) (now (bikes .entry)) (now (plans .entry)) (now (zones .entry))))) ⌝ }
+{
+    match first_b(types, stations, statuses, bikes, plans, zones) {
+        Cleanness::Broken(p) => Cleanness::Broken(p),
+        Cleanness::Clean => judge_set(types, stations, statuses, bikes, plans, zones),
+    }
+}
+
+// The first broken rule of a set, stage by stage.
+pub fn judge<'a>(
+    types: &'a [u8],
+    stations: &'a [u8],
+    statuses: &'a [u8],
+    bikes: &'a [u8],
+    plans: &'a [u8],
+    zones: &'a [u8],
+) -> Cleanness
+    ensures { λ r. ⌜ r ≡ verdictOf (feeds (now (types .entry)) (now (stations .entry)) (now (statuses .entry)) (now (bikes .entry)) (now (plans .entry)) (now (zones .entry))) ⌝ }
+{
+    match first_a(types, stations, statuses, bikes, plans, zones) {
+        Cleanness::Broken(p) => Cleanness::Broken(p),
+        Cleanness::Clean => judge_read(types, stations, statuses, bikes, plans, zones),
+    }
 }

@@ -4,8 +4,8 @@ use mathlib.Core.Path.{sym, _∙_}
 use native.Mathlib.Omega.{arith}
 use Rattle.gbfs.specs.Verdict.{bytesOf}
 use Rattle.gbfs.proofs.Through.{all-through}
-use Rattle.gbfs.proofs.judge_read.Statement.{statement}
-use Rattle.gbfs.proofs.judge_read.Tie as tie
+use Rattle.gbfs.proofs.stages.judge_read.Statement.{statement}
+use Rattle.gbfs.proofs.stages.judge_read.Tie as tie
 
 judge-set-requires : tie.Need-judge-set-requires
 unfolding bytesOf

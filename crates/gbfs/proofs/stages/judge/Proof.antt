@@ -3,8 +3,8 @@ use borrow.Author.Needs.{needs}
 use mathlib.Core.Path.{sym, _∙_}
 use Rattle.gbfs.specs.Stages.{staged}
 use Rattle.gbfs.proofs.ByFile.{verdict-staged}
-use Rattle.gbfs.proofs.judge.Statement.{statement}
-use Rattle.gbfs.proofs.judge.Tie as tie
+use Rattle.gbfs.proofs.stages.judge.Statement.{statement}
+use Rattle.gbfs.proofs.stages.judge.Tie as tie
 
 judge-read-requires : tie.Need-judge-read-requires
 judge-read-requires c κs = sym (c .before .before .first-a .ensures) ∙ c .enum-told .given .1
