@@ -23,6 +23,12 @@ pub struct Segment {
     pub end: u64,
 }
 
+// The segments of one sort: so many of the places, from the first on.
+pub struct Segments {
+    pub list: [Segment; 16],
+    pub count: usize,
+}
+
 // A sum of charges: what is added and what is taken off, in ten-thousandths.
 pub struct Sum {
     pub added: u64,
@@ -40,4 +46,10 @@ pub struct Marks {
     pub some: bool,
     pub ended: bool,
     pub end: u64,
+}
+
+// A sum with the charges of all segments of one sort, and whether the ride is past all their ends.
+pub struct Charged {
+    pub sum: Sum,
+    pub past: bool,
 }

@@ -5,10 +5,6 @@ use clean::Cleanness;
 use clean::check_clean;
 use document::cut;
 use document::records_from;
-use fare::Kilometres;
-use fare::Marks;
-use fare::Minutes;
-use fare::Sum;
 use word::Parts;
 ghost use mathlib.Core.Path.{_≡_};
 ghost use Prim.Native.Nat.{_≤_};
@@ -19,7 +15,7 @@ ghost use Rattle.clean.specs.declared.Cleanness.the-variants.{Clean};
 ghost use Rattle.clean.specs.Clean.{treeOf, cleanOf};
 ghost use Rattle.quote.specs.Quote.{mostSeconds, mostMetres, answer, short, cleanQuote, quoteOf};
 
-mod money;
+mod numbers;
 mod plans;
 mod segment;
 mod trip;
@@ -38,18 +34,6 @@ pub enum Quote {
 pub enum Lookup {
     Plan(usize, usize),
     Nothing,
-}
-
-// A ride's length in one of the two measures.
-pub enum Ride {
-    InMinutes(Minutes),
-    InKilometres(Kilometres),
-}
-
-// Sum and mark of the segments of one sort; or there are more than a plan may have.
-pub enum Tally {
-    Is(Sum, Marks),
-    Crowded,
 }
 
 impl Quote {
