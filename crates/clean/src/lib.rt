@@ -113,7 +113,7 @@ fn judge_passed(file: u8, s: &[u8]) -> Cleanness
 }
 
 // Whether a file is clean, by its number, from 1 to 6, and its bytes; where nothing is there it is. Under any other number stage A alone counts.
-// Shut out: the least fault of kind 12 named where stage B has one; an absent file named as one that is no JSON text.
+// Shut out: stage B asked of no bytes, so that kind 12 is named where stage B has a fault; an absent file named as one that is no JSON text.
 pub fn check_clean(file: u8, s: &[u8]) -> Cleanness
     ensures { λ r. ⌜ r ≡ cleanOf file (now (s .entry)) ⌝ }
 {
@@ -170,17 +170,9 @@ pub fn shown_part(s: &[u8], shown: Shown) -> &[u8]
     ensures { λ r. ⌜ now r ≡ part (now (s .entry)) (answer shown .from) (answer shown .upto) ⌝ }
 {
     match shown {
-        Shown::Record(from, upto) => {
-            return cut(s, from, upto);
-        }
-        Shown::NoFile => {
-            return cut(s, 0, 0);
-        }
-        Shown::NotClean(_) => {
-            return cut(s, 0, 0);
-        }
-        Shown::NoRecord => {
-            return cut(s, 0, 0);
-        }
+        Shown::NoFile => return cut(s, 0, 0),
+        Shown::NotClean(_) => return cut(s, 0, 0),
+        Shown::NoRecord => return cut(s, 0, 0),
+        Shown::Record(from, upto) => return cut(s, from, upto),
     }
 }
