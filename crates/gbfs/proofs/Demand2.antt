@@ -15,8 +15,8 @@ use Rattle.gbfs.specs.Demand2.{First, Demand2}
 use Rattle.gbfs.proofs.First.{broken-parts, accepted, accepted-only, refused-first}
 use Rattle.gbfs.proofs.Only.{first-refused}
 use Rattle.gbfs.proofs.Says.{says}
-use Rattle.gbfs.proofs.Prices.{price, past-minutes, past-kilometres}
-use Rattle.gbfs.proofs.Zones.{ruled, unruled, no-rule}
+use Rattle.gbfs.proofs.Prices.{price, price-given, past-minutes, past-kilometres}
+use Rattle.gbfs.proofs.Zones.{rule, no-rule, ruled, unruled}
 
 -- a set that breaks a rule breaks a first one
 some-first : (s : Feeds) → (rules s ≡ [] → ⊥) → (p : Parts) × First p (rules s)
@@ -43,9 +43,11 @@ demand-2 =
       isWord = is-word;
       noWord = λ s bytes none. no-word form1 full1 s bytes none;
       price = price;
+      priced = price-given;
       endedMinutes = λ s id seconds metres plan e found over. past-minutes s id seconds metres e plan found over;
       endedKilometres = λ s id seconds metres plan e found over. past-kilometres s id seconds metres e plan found over;
+      rule = λ s q type moment. rule q type moment s;
+      noRule = λ s q type moment. no-rule q type moment s;
       ruled = λ s q type moment. ruled q type moment s;
       unruled = λ s q type moment. unruled q type moment s;
-      noRule = λ s q type moment. no-rule q type moment s;
     }

@@ -3,12 +3,12 @@
 use mathlib.Core.Bool.{Bool, true, false}
 use mathlib.Core.List.{List, [], _∷_, List·Memᴰ, List·Memᴰ·head, List·Memᴰ·tail}
 use mathlib.Core.Path.{_≡_, refl, sym, ap, _∙_}
-use Prim.Native.Nat.{ℕ, _*_, _/_, _^_, _≤_}
+use Prim.Native.Nat.{ℕ, _*_, _/_, _^_, _≤_, _<_}
 use native.Mathlib.Omega.{arith}
 use lib.Dec.{leb, ltb}
 use lib.IntN.{ℤ}
 use lib.Signed.{mag}
-use borrow.Author.Tests.{leb-true, le-leb}
+use borrow.Author.Tests.{leb-true, le-leb, lt-ltb}
 use Rattle.notation.specs.Choice.{_⇒_else_}
 use Rattle.schema.specs.Shape.{fileShape}
 use Rattle.schema.specs.Table23.{table23}
@@ -27,7 +27,7 @@ use Rattle.quote.specs.Plan.{perMinute, perKilometre, sum, pastMinutes, pastKil
 use Rattle.quote.specs.Quote.{Answer, refused, priced, fareOf, planQuote, cleanQuote, short, ofClean, quoteOf, mostSeconds, mostMetres}
 use Rattle.quote.proofs.Past as past
 use Rattle.quote.proofs.Past.{ended-minutes, ended-kilometres}
-use Rattle.gbfs.specs.Demand2.{planIn, fare, Ended}
+use Rattle.gbfs.specs.Demand2.{planIn, fare, PastEnds}
 
 -- a total that is given is the sum
 priced-total : (z : ℤ) (m k : Bool) → fareOf (charges.total z) m k .number ≡ 0 → fareOf (charges.total z) m k ≡ priced z m k
@@ -37,6 +37,10 @@ priced-total z m k e = go (ltb (mag z) (2 ^ 63)) e
     go : (t : Bool) → fareOf (t ⇒ total.Is z else total.Outside) m k .number ≡ 0 → fareOf (t ⇒ total.Is z else total.Outside) m k ≡ priced z m k
     go true e = refl
     go false e = absurd (omega arith)
+
+total-priced : (z : ℤ) (m k : Bool) → mag z < 2 ^ 63 → fareOf (charges.total z) m k ≡ priced z m k
+unfolding charges.total
+total-priced z m k h = ap (λ (t : Bool). fareOf (t ⇒ total.Is z else total.Outside) m k) (lt-ltb (mag z) (2 ^ 63) h)
 
 marked-minutes : (t : Total) (k : Bool) → fareOf t true k .number ≡ 0 → fareOf t true k .pastMinutes ≡ true
 marked-minutes (total.Is z) k e = refl
@@ -74,9 +78,9 @@ greatest-end [] ride h = omega arith
 greatest-end (x ∷ l) ride h =
     let a = h x (List·Memᴰ·head refl) in let b = greatest-end l ride (λ y m. h y (List·Memᴰ·tail m)) in omega arith
 
-ended : (l : List Segment) (ride : ℕ) → Ended l ride → past.Ended l ride
-ended [] ride e = absurd (e .there refl)
-ended (x ∷ l) ride e = record { first = x; others = l; are = refl; ended = all-ended (x ∷ l) (e .ended); late = greatest-end (x ∷ l) ride (e .over) }
+past-ends : (l : List Segment) (ride : ℕ) → PastEnds l ride → past.Ended l ride
+past-ends [] ride e = absurd (e .there refl)
+past-ends (x ∷ l) ride e = record { first = x; others = l; are = refl; ended = all-ended (x ∷ l) (e .ended); late = greatest-end (x ∷ l) ride (e .over) }
 
 -- the same of a ride of another length that is past the ends
 ended-at : {l : List Segment} {a : ℕ} (b : ℕ) → greatestEnd l ≤ b → past.Ended l a → past.Ended l b
@@ -91,6 +95,15 @@ module _ (s id : List ℕ) where
   unfolding quoteOf
   quote-clean seconds metres h c = rw (h, c)
 
+  pub price : (seconds metres : ℕ) (plan : Picked) → seconds ≤ mostSeconds → metres ≤ mostMetres → cleanOf 5 s ≡ Clean
+      → planIn s id ≡ some plan → mag (fare plan seconds metres .amount) < 2 ^ 63 → quoteOf s id seconds metres ≡ fare plan seconds metres
+  unfolding short cleanQuote sum amount pastMinutes pastKilometres
+  price seconds metres plan a b c found h =
+      let brief : short seconds metres ≡ true = rw (le-leb seconds mostSeconds a, le-leb metres mostMetres b, short) in
+      quote-clean seconds metres brief c
+      ∙ ap (planQuote seconds metres) found
+      ∙ total-priced (sum plan seconds metres) (pastMinutes plan seconds) (pastKilometres plan metres) h
+
   module _ (seconds metres : ℕ) (e : quoteOf s id seconds metres .number ≡ 0) where
     through : Passed (short seconds metres) (cleanOf 5 s) (planIn s id)
     unfolding quoteOf cleanQuote
@@ -99,20 +112,20 @@ module _ (s id : List ℕ) where
     by-plan : quoteOf s id seconds metres ≡ cleanQuote file id seconds metres
     by-plan = quote-clean seconds metres (through .brief) (through .clean)
 
-    pub price : (plan : Picked) × (planIn s id ≡ some plan) × (quoteOf s id seconds metres ≡ fare plan seconds metres)
+    pub price-given : (plan : Picked) × (planIn s id ≡ some plan) × (quoteOf s id seconds metres ≡ fare plan seconds metres)
     unfolding cleanQuote sum amount pastMinutes pastKilometres
-    price =
+    price-given =
         let plan = through .plan in
         let is : quoteOf s id seconds metres ≡ planQuote seconds metres (some plan) = by-plan ∙ ap (planQuote seconds metres) (through .found) in
         (plan, through .found, is ∙ priced-total (sum plan seconds metres) (pastMinutes plan seconds) (pastKilometres plan metres) (ap (λ (a : Answer). a .number) (sym is) ∙ e))
 
     module _ (plan : Picked) (found : planIn s id ≡ some plan) where
-      pub past-minutes : Ended (perMinute plan) (seconds / 60)
+      pub past-minutes : PastEnds (perMinute plan) (seconds / 60)
           → (quoteOf s id seconds metres ≡ quoteOf s id (greatestEnd (perMinute plan) * 60) metres) × (quoteOf s id seconds metres .pastMinutes ≡ true)
       unfolding short
       past-minutes over =
           let last = greatestEnd (perMinute plan) * 60 in
-          let p = ended (perMinute plan) (seconds / 60) over in let late = p .late in
+          let p = past-ends (perMinute plan) (seconds / 60) over in let late = p .late in
           let a = leb-true seconds mostSeconds (and-left (leb seconds mostSeconds) _ (through .brief)) in
           let brief : short last metres ≡ true = rw (le-leb last mostSeconds (omega arith), short) (and-right (leb seconds mostSeconds) _ (through .brief)) in
           let one = by-plan ∙ ended-minutes file id found seconds metres p in
@@ -120,12 +133,12 @@ module _ (s id : List ℕ) where
           let t = charges.total (sum plan last metres) in let k = pastKilometres plan metres in
           (one ∙ sym two, ap (λ (x : Answer). x .pastMinutes) one ∙ marked-minutes t k (ap (λ (x : Answer). x .number) (sym one) ∙ e))
 
-      pub past-kilometres : Ended (perKilometre plan) (metres / 1000)
+      pub past-kilometres : PastEnds (perKilometre plan) (metres / 1000)
           → (quoteOf s id seconds metres ≡ quoteOf s id seconds (greatestEnd (perKilometre plan) * 1000)) × (quoteOf s id seconds metres .pastKilometres ≡ true)
       unfolding short
       past-kilometres over =
           let last = greatestEnd (perKilometre plan) * 1000 in
-          let p = ended (perKilometre plan) (metres / 1000) over in let late = p .late in
+          let p = past-ends (perKilometre plan) (metres / 1000) over in let late = p .late in
           let a = leb-true metres mostMetres (and-right (leb seconds mostSeconds) _ (through .brief)) in
           let brief : short seconds last ≡ true = rw (and-left (leb seconds mostSeconds) _ (through .brief), short) (le-leb last mostMetres (omega arith)) in
           let one = by-plan ∙ ended-kilometres file id found seconds metres p in

@@ -22,7 +22,7 @@ use Rattle.clean.specs.declared.Cleanness.the-variants.{Clean, Broken}
 use Rattle.clean.specs.Clean.{treeOf, cleanOf}
 use Rattle.zone.specs.Zone.{counts, ringsHold, polygonsHold, applies, zoneRules, rules, firstFor, ruleAt}
 use Rattle.zone.specs.Answer.{Answer, refused, found, values, onMap, ofRule, ofClean, rulingOf}
-use Rattle.gbfs.specs.Demand2.{ZoneRule, everyRule, rulesIn, Holding, Applies, FirstWith, here, later}
+use Rattle.gbfs.specs.Demand2.{ZoneRule, everyRule, rulesIn, Holding, Applies, FirstWith, here, later, NoneWith}
 
 -- one of a list passes a test
 module _ (test : Picked → Bool) (any : List Picked → Bool) (none-passes : any [] ≡ false)
@@ -76,13 +76,20 @@ module _ {A : Type 0} {P : A → Type 0} where
   first-stands (here h) = List·Memᴰ·head refl
   first-stands (later n f) = List·Memᴰ·tail (first-stands f)
 
+  -- and there is but one
+  first-only : {x y : A} {l : List A} → FirstWith P x l → FirstWith P y l → x ≡ y
+  first-only (here h) (here k) = refl
+  first-only (here h) (later n g) = absurd (n h)
+  first-only (later n f) (here k) = absurd (n k)
+  first-only (later n f) (later k g) = first-only f g
+
 module _ (q : Point) (type : List ℕ) (moment : ℕ) where
   abbrev Apply : ZoneRule → Type 0
   Apply r = Applies q type moment r
 
   -- what a search for the first rule comes to
   data Outcome (l : List ZoneRule) : Maybe Picked → Type 0 where
-    nowhere : ((r : ZoneRule) → List·Memᴰ r l → Apply r → ⊥) → Outcome l none
+    nowhere : NoneWith Apply l → Outcome l none
     at : {r : ZoneRule} → FirstWith Apply r l → Outcome l (some (r .rule))
 
   passed-over : (y : ZoneRule) {l : List ZoneRule} {m : Maybe Picked} → (Apply y → ⊥) → Outcome l m → Outcome (y ∷ l) m
@@ -188,31 +195,41 @@ module _ (q : Point) (type : List ℕ) (moment : ℕ) where
     unfolding rulingOf
     in-order = refl
 
-    pub ruled : rulingOf s q type moment .number ≡ 0
-        → (r : ZoneRule) × FirstWith Apply r (rulesIn s) × (rulingOf s q type moment ≡ found (values (r .rule)))
-    ruled e = let k = go (onMap q) (cleanOf 6 s) ruleOf searched (ap (λ (a : Answer). a .number) (sym in-order) ∙ e) in (k .0, k .1, in-order ∙ k .2)
-      where
-        go : (t : Bool) (c : Cleanness) (m : Maybe Picked) → Outcome (rulesIn s) m → asked t c m .number ≡ 0
-            → (r : ZoneRule) × FirstWith Apply r (rulesIn s) × (asked t c m ≡ found (values (r .rule)))
-        go false c m o i = absurd (omega arith)
-        go true (Broken p) m o i = absurd (omega arith)
-        go true Clean none (nowhere h) i = absurd (omega arith)
-        go true Clean (some x) (at {r} f) i = (r, f, refl)
+    answered : onMap q ≡ true → cleanOf 6 s ≡ Clean → rulingOf s q type moment ≡ ofRule ruleOf
+    answered h c = in-order ∙ rw (h, c)
 
-    pub unruled : rulingOf s q type moment .number ≡ 9 → (r : ZoneRule) → List·Memᴰ r (rulesIn s) → Apply r → ⊥
-    unruled e = go (onMap q) (cleanOf 6 s) ruleOf searched (ap (λ (a : Answer). a .number) (sym in-order) ∙ e)
+    pub rule : onMap q ≡ true → cleanOf 6 s ≡ Clean → (r : ZoneRule) → FirstWith Apply r (rulesIn s) → rulingOf s q type moment ≡ found (values (r .rule))
+    rule h c r f = answered h c ∙ go ruleOf searched
       where
-        go : (t : Bool) (c : Cleanness) (m : Maybe Picked) → Outcome (rulesIn s) m → asked t c m .number ≡ 9
-            → (r : ZoneRule) → List·Memᴰ r (rulesIn s) → Apply r → ⊥
-        go false c m o i = absurd (omega arith)
-        go true (Broken p) m o i = absurd (omega arith)
-        go true Clean none (nowhere h) i = h
-        go true Clean (some x) (at f) i = absurd (omega arith)
+        go : (m : Maybe Picked) → Outcome (rulesIn s) m → ofRule m ≡ found (values (r .rule))
+        go none (nowhere k) = absurd (k r (first-stands f) (first-has f))
+        go (some x) (at g) = ap (λ (z : ZoneRule). found (values (z .rule))) (first-only g f)
 
-    pub no-rule : onMap q ≡ true → cleanOf 6 s ≡ Clean → ((r : ZoneRule) → List·Memᴰ r (rulesIn s) → Apply r → ⊥)
-        → rulingOf s q type moment ≡ refused 9 noParts
-    no-rule h c n = in-order ∙ rw (h, c) (go ruleOf searched)
+    pub no-rule : onMap q ≡ true → cleanOf 6 s ≡ Clean → NoneWith Apply (rulesIn s) → rulingOf s q type moment ≡ refused 9 noParts
+    no-rule h c n = answered h c ∙ go ruleOf searched
       where
         go : (m : Maybe Picked) → Outcome (rulesIn s) m → ofRule m ≡ refused 9 noParts
         go none (nowhere k) = refl
         go (some x) (at {r} f) = absurd (n r (first-stands f) (first-has f))
+
+    -- the number by what was asked
+    numbered : {n : ℕ} → rulingOf s q type moment .number ≡ n → asked (onMap q) (cleanOf 6 s) ruleOf .number ≡ n
+    numbered e = ap (λ (a : Answer). a .number) (sym in-order) ∙ e
+
+    pub ruled : rulingOf s q type moment .number ≡ 0 → (r : ZoneRule) × FirstWith Apply r (rulesIn s)
+    ruled e = go (onMap q) (cleanOf 6 s) ruleOf searched (numbered e)
+      where
+        go : (t : Bool) (c : Cleanness) (m : Maybe Picked) → Outcome (rulesIn s) m → asked t c m .number ≡ 0 → (r : ZoneRule) × FirstWith Apply r (rulesIn s)
+        go false c m o i = absurd (omega arith)
+        go true (Broken p) m o i = absurd (omega arith)
+        go true Clean none (nowhere h) i = absurd (omega arith)
+        go true Clean (some x) (at {r} f) i = (r, f)
+
+    pub unruled : rulingOf s q type moment .number ≡ 9 → NoneWith Apply (rulesIn s)
+    unruled e = go (onMap q) (cleanOf 6 s) ruleOf searched (numbered e)
+      where
+        go : (t : Bool) (c : Cleanness) (m : Maybe Picked) → Outcome (rulesIn s) m → asked t c m .number ≡ 9 → NoneWith Apply (rulesIn s)
+        go false c m o i = absurd (omega arith)
+        go true (Broken p) m o i = absurd (omega arith)
+        go true Clean none (nowhere h) i = h
+        go true Clean (some x) (at f) i = absurd (omega arith)

@@ -3,9 +3,10 @@
 use mathlib.Core.Bool.{true, false}
 use mathlib.Core.List.{List, [], _∷_, _++_, map, List·Memᴰ}
 use mathlib.Core.Path.{_≡_}
-use Prim.Native.Nat.{ℕ, _*_, _/_, _≤_}
+use Prim.Native.Nat.{ℕ, _*_, _/_, _^_, _≤_, _<_}
 use lib.IntN.{_+ℤ_}
 use lib.ListN.{length, take}
+use lib.Signed.{mag}
 use Rattle.radix.specs.Fields.{Bytes}
 use Rattle.word.specs.declared.Parts.{Parts}
 use Rattle.word.specs.Form.{form1}
@@ -24,7 +25,7 @@ use Rattle.clean.specs.declared.Cleanness.the-variants.{Clean}
 use Rattle.clean.specs.Clean.{treeOf, cleanOf}
 use Rattle.quote.specs.Plan.{priceAt, perMinute, perKilometre, planOf, plans}
 use Rattle.quote.specs.Quote as quote
-use Rattle.quote.specs.Quote.{quoteOf}
+use Rattle.quote.specs.Quote.{mostSeconds, mostMetres, quoteOf}
 use Rattle.zone.specs.Zone.{counts, applies}
 use Rattle.zone.specs.Answer as zone
 use Rattle.zone.specs.Answer.{values, onMap, rulingOf}
@@ -57,7 +58,7 @@ fare plan seconds metres =
     }
 
 -- there are segments, all of them end, and a ride of this length is at or past every end
-pub record Ended (l : List Segment) (ride : ℕ) : Type 0 where
+pub record PastEnds (l : List Segment) (ride : ℕ) : Type 0 where
   pub there : l ≡ [] → ⊥
   pub ended : (x : Segment) → List·Memᴰ x l → x .ended ≡ true
   pub over : (x : Segment) → List·Memᴰ x l → x .end ≤ ride
@@ -98,6 +99,11 @@ pub data FirstWith {A : Type 0} (P : A → Type 0) : A → List A → Type 0 whe
   here : {x : A} {l : List A} → P x → FirstWith P x (x ∷ l)
   later : {x y : A} {l : List A} → (P y → ⊥) → FirstWith P x l → FirstWith P x (y ∷ l)
 
+-- none has it
+abbrev pub NoneWith : {A : Type 0} → (A → Type 0) → List A → Type 0
+NoneWith {A} P l = (x : A) → List·Memᴰ x l → P x → ⊥
+
+-- the demand
 pub record Demand2 : Type 0 where
   -- A set that breaks no rule is accepted, and its word says nothing else.
   -- Shut out: a verdict that refuses all sets; a call that writes nothing.
@@ -113,25 +119,30 @@ pub record Demand2 : Type 0 where
   pub word : (s : List ℕ) (p : Parts) → IsWord form1 p s → readWord s ≡ record { number = 0; parts = p }
   pub isWord : (s : List ℕ) → Bytes s → readWord s .number ≡ 0 → IsWord form1 (readWord s .parts) s
   pub noWord : (s : List ℕ) → Bytes s → ((p : Parts) → IsWord form1 p s → ⊥) → readWord s ≡ record { number = 3; parts = noParts }
-  -- A quote that gives a price gives the plan's own price and all charges of its segments.
-  -- Shut out: one amount for everything; a ride rounded up to the next minute.
-  pub price : (s id : List ℕ) (seconds metres : ℕ) → quoteOf s id seconds metres .number ≡ 0
+  -- A ride within the limits, on a plan of a clean file, costs the plan's price and all charges of its segments, where signed 64 bits hold the amount;
+  -- and no other quote gives a price.
+  -- Shut out: one amount for everything; a ride rounded up to the next minute; a quote that always refuses.
+  pub price : (s id : List ℕ) (seconds metres : ℕ) (plan : Picked) → seconds ≤ mostSeconds → metres ≤ mostMetres → cleanOf 5 s ≡ Clean
+      → planIn s id ≡ some plan → mag (fare plan seconds metres .amount) < 2 ^ 63 → quoteOf s id seconds metres ≡ fare plan seconds metres
+  pub priced : (s id : List ℕ) (seconds metres : ℕ) → quoteOf s id seconds metres .number ≡ 0
       → (plan : Picked) × (planIn s id ≡ some plan) × (quoteOf s id seconds metres ≡ fare plan seconds metres)
   -- At and past the greatest end of a plan's segments per minute, where all end, every ride costs what it costs at that end, and the mark says so;
   -- and likewise per kilometre.
   -- Shut out: a charge at the end minute, or past it; a price past the ends without its mark.
   pub endedMinutes : (s id : List ℕ) (seconds metres : ℕ) (plan : Picked) → quoteOf s id seconds metres .number ≡ 0 → planIn s id ≡ some plan
-      → Ended (perMinute plan) (seconds / 60)
+      → PastEnds (perMinute plan) (seconds / 60)
       → (quoteOf s id seconds metres ≡ quoteOf s id (greatestEnd (perMinute plan) * 60) metres) × (quoteOf s id seconds metres .pastMinutes ≡ true)
   pub endedKilometres : (s id : List ℕ) (seconds metres : ℕ) (plan : Picked) → quoteOf s id seconds metres .number ≡ 0 → planIn s id ≡ some plan
-      → Ended (perKilometre plan) (metres / 1000)
+      → PastEnds (perKilometre plan) (metres / 1000)
       → (quoteOf s id seconds metres ≡ quoteOf s id seconds (greatestEnd (perKilometre plan) * 1000)) × (quoteOf s id seconds metres .pastKilometres ≡ true)
-  -- A zone answer with a rule has the values of the first rule, in file order over all zones, that applies.
-  -- Shut out: a rule of a zone that the point is outside of; a later rule, or values of two.
-  pub ruled : (s : List ℕ) (q : Point) (type : List ℕ) (moment : ℕ) → rulingOf s q type moment .number ≡ 0
-      → (r : ZoneRule) × FirstWith (Applies q type moment) r (rulesIn s) × (rulingOf s q type moment ≡ zone.found (values (r .rule)))
-  -- Number 9 answers exactly where none applies, of a clean file and at a point in range.
-  pub unruled : (s : List ℕ) (q : Point) (type : List ℕ) (moment : ℕ) → rulingOf s q type moment .number ≡ 9
-      → (r : ZoneRule) → List·Memᴰ r (rulesIn s) → Applies q type moment r → ⊥
+  -- At a point in range, a clean file answers with the values of the first rule, in file order over all zones, that applies, and with 9 where none does;
+  -- and exactly there.
+  -- Shut out: a rule of a zone that the point is outside of; a later rule, or values of two; an answer 9 for everything.
+  pub rule : (s : List ℕ) (q : Point) (type : List ℕ) (moment : ℕ) → onMap q ≡ true → cleanOf 6 s ≡ Clean
+      → (r : ZoneRule) → FirstWith (Applies q type moment) r (rulesIn s) → rulingOf s q type moment ≡ zone.found (values (r .rule))
   pub noRule : (s : List ℕ) (q : Point) (type : List ℕ) (moment : ℕ) → onMap q ≡ true → cleanOf 6 s ≡ Clean
-      → ((r : ZoneRule) → List·Memᴰ r (rulesIn s) → Applies q type moment r → ⊥) → rulingOf s q type moment ≡ zone.refused 9 noParts
+      → NoneWith (Applies q type moment) (rulesIn s) → rulingOf s q type moment ≡ zone.refused 9 noParts
+  pub ruled : (s : List ℕ) (q : Point) (type : List ℕ) (moment : ℕ) → rulingOf s q type moment .number ≡ 0
+      → (r : ZoneRule) × FirstWith (Applies q type moment) r (rulesIn s)
+  pub unruled : (s : List ℕ) (q : Point) (type : List ℕ) (moment : ℕ) → rulingOf s q type moment .number ≡ 9
+      → NoneWith (Applies q type moment) (rulesIn s)
