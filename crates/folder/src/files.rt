@@ -3,7 +3,7 @@ use crate::reading::Taken;
 use crate::reading::read_named;
 use crate::text::put;
 ghost use mathlib.Core.Path.{_≡_};
-ghost use Prim.Native.Nat.{_≤_, _<_};
+ghost use Prim.Native.Nat.{_<_};
 ghost use lib.ListN.{length};
 ghost use Rattle.folder.specs.Reading.{turnOf, Decides};
 ghost use Rattle.folder.specs.Places.{Appended, Placed};
