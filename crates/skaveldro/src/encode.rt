@@ -4,7 +4,7 @@ ghost use mathlib.Core.Path.{_≡_};
 ghost use Prim.Native.Nat.{_*_, _≤_};
 ghost use lib.ListN.{length, drop};
 ghost use Rattle.skaveldro.specs.Encoding.{encoded, filled};
-ghost use Rattle.skaveldro.specs.Answers.{bit as bitOf, signedBits, told};
+ghost use Rattle.skaveldro.specs.Answers.{answered, bit as bitOf, signedBits, told};
 
 // A truth as a number.
 pub fn bit(b: bool) -> u64
@@ -35,14 +35,30 @@ fn put(values: &[u64], buffer: &mut [u8])
     }
 }
 
-// Answers with a number and these values in the buffer, or with 2 where they have no room.
-pub fn give(number: u8, values: &[u64], buffer: &mut [u8]) -> u8
-    ensures { λ r. ⌜ r ≡ told (now (buffer .entry)) (record { number = number; values = now (values .entry) }) ⌝ }
-    ensures { λ _. ⌜ now (buffer .exit) ≡ filled (now (buffer .entry)) (now (values .entry)) ⌝ }
+// The values that an answer of this number gives: none on a refusal.
+// Shut out: a refusal that gives the zeros of its layout.
+fn given(number: u8, values: &[u64]) -> &[u64]
+    ensures { λ r. ⌜ now r ≡ answered number (now (values .entry)) .values ⌝ }
 {
-    if buffer.len() / 8 < values.len() {
+    if number == 0 {
+        return values;
+    }
+    if number == 5 {
+        return values;
+    }
+    &values[..0]
+}
+
+// Answers with a number, and with the values that it gives in the buffer, or with 2 where these have no room.
+// Shut out: 2 answered for a refusal, which needs no room; a byte past the values written.
+pub fn give(number: u8, values: &[u64], buffer: &mut [u8]) -> u8
+    ensures { λ r. ⌜ r ≡ told (now (buffer .entry)) (answered number (now (values .entry))) ⌝ }
+    ensures { λ _. ⌜ now (buffer .exit) ≡ filled (now (buffer .entry)) (answered number (now (values .entry)) .values) ⌝ }
+{
+    let told = given(number, values);
+    if buffer.len() / 8 < told.len() {
         return 2;
     }
-    put(values, buffer);
+    put(told, buffer);
     number
 }
