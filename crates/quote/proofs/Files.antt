@@ -37,11 +37,10 @@ use Rattle.clean.proofs.Repeated.{Held}
 use Rattle.clean.proofs.Cleans.{Sound, clean-held}
 use Rattle.quote.specs.declared.Lookup.{Lookup}
 use Rattle.quote.specs.declared.Lookup.the-variants as found
-use Rattle.quote.specs.declared.Quote.the-variants.{TooLong, NoPlan}
 use Rattle.quote.specs.Plan.{planOf, plans}
 use Rattle.quote.specs.Lookup.{isPlan, lookupIn, lookup}
 use Rattle.quote.specs.Tally.{Few, Fit}
-use Rattle.quote.specs.Quote.{mostSeconds, mostMetres, planQuote, cleanQuote, short, ofClean, quoteOf}
+use Rattle.quote.specs.Quote.{mostSeconds, mostMetres, refused, planQuote, cleanQuote, short, ofClean, quoteOf}
 use Rattle.quote.proofs.Looking.{recordOf, planAt, lookup-plan}
 
 -- short rides
@@ -85,7 +84,7 @@ module _ (p id : List ℕ) (φ from upto : ℕ) where
           rw (← a, ← b) (record { whole = w m (List·Memᴰ·head refl); few = plan-few (treeOf (itemOf p m)) (n .0) φ (n .1) })
 
 -- an absent file has no plans
-pub quote-absent : (s id : List ℕ) (seconds metres : ℕ) → length s ≡ 0 → NoPlan ≡ cleanQuote (pick (fileShape table23 5) (clean.treeOf s)) id seconds metres
+pub quote-absent : (s id : List ℕ) (seconds metres : ℕ) → length s ≡ 0 → refused 6 ≡ cleanQuote (pick (fileShape table23 5) (clean.treeOf s)) id seconds metres
 unfolding cleanQuote planOf plans along field pick fileShape table23 listing file clean.treeOf text blanks value valueBy read.then
 quote-absent [] id seconds metres e = refl
 quote-absent (b ∷ s) id seconds metres e = absurd (omega arith)
@@ -112,7 +111,7 @@ module _ {s p : List ℕ} (k : Sound 5 s) (f : RecordsFrom 5 s p) where
     unfolding cleanQuote
     quoted o e seconds metres = ap (planQuote seconds metres) (ap (planAt p) (sym e) ∙ plans-are)
 
-    pub quote-none : (seconds metres : ℕ) → lookup p id ≡ found.Nothing → NoPlan ≡ cleanQuote (pick (fileShape table23 5) (clean.treeOf s)) id seconds metres
+    pub quote-none : (seconds metres : ℕ) → lookup p id ≡ found.Nothing → refused 6 ≡ cleanQuote (pick (fileShape table23 5) (clean.treeOf s)) id seconds metres
     quote-none seconds metres e = quoted found.Nothing e seconds metres
 
     module _ (start end : ℕ) (e : lookup p id ≡ found.Plan start end) where
@@ -127,7 +126,7 @@ module _ {s p : List ℕ} (k : Sound 5 s) (f : RecordsFrom 5 s p) where
 
 -- the question, by what is found of the ride and of the file
 module _ (s id : List ℕ) (seconds metres : ℕ) where
-  pub quote-long : short seconds metres ≡ false → TooLong ≡ quoteOf s id seconds metres
+  pub quote-long : short seconds metres ≡ false → refused 4 ≡ quoteOf s id seconds metres
   unfolding quoteOf
   quote-long e = rw (quoteOf, e)
 

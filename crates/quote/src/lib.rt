@@ -17,7 +17,7 @@ ghost use Rattle.schema.specs.Table23.{table23};
 ghost use Rattle.schema.specs.Pick.{pick};
 ghost use Rattle.clean.specs.declared.Cleanness.the-variants.{Clean};
 ghost use Rattle.clean.specs.Clean.{treeOf, cleanOf};
-ghost use Rattle.quote.specs.Quote.{mostSeconds, mostMetres, short, cleanQuote, quoteOf};
+ghost use Rattle.quote.specs.Quote.{mostSeconds, mostMetres, answer, short, cleanQuote, quoteOf};
 
 mod money;
 mod plans;
@@ -75,7 +75,7 @@ fn is_short(seconds: u64, metres: u64) -> bool
 // The quote of a plan out of a clean file of plans, for a ride that is short enough.
 fn quote_clean(s: &[u8], id: &[u8], seconds: u64, metres: u64) -> Quote
     requires { ⌜ (cleanOf 5 (now s) ≡ Clean) × (seconds ≤ mostSeconds) × (metres ≤ mostMetres) ⌝ }
-    ensures { λ r. ⌜ r ≡ cleanQuote (pick (fileShape table23 5) (treeOf (now (s .entry)))) (now (id .entry)) seconds metres ⌝ }
+    ensures { λ r. ⌜ answer r ≡ cleanQuote (pick (fileShape table23 5) (treeOf (now (s .entry)))) (now (id .entry)) seconds metres ⌝ }
 {
     if s.len() == 0 {
         return Quote::NoPlan;
@@ -92,7 +92,7 @@ fn quote_clean(s: &[u8], id: &[u8], seconds: u64, metres: u64) -> Quote
 // Shut out: a file's faults, or an amount, told of a ride that is too long; a plan quoted from a file that only stage A passes; the first plan of the
 // file taken where none has the id.
 pub fn quote_trip(s: &[u8], id: &[u8], seconds: u64, metres: u64) -> Quote
-    ensures { λ r. ⌜ r ≡ quoteOf (now (s .entry)) (now (id .entry)) seconds metres ⌝ }
+    ensures { λ r. ⌜ answer r ≡ quoteOf (now (s .entry)) (now (id .entry)) seconds metres ⌝ }
 {
     if !is_short(seconds, metres) {
         return Quote::TooLong;

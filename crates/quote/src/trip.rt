@@ -23,11 +23,11 @@ ghost use Rattle.fare.specs.Bounds.{mostRide, Room};
 ghost use Rattle.fields.specs.Values.{memberOf, arrayBy};
 ghost use Rattle.quote.specs.Values.{priceBy};
 ghost use Rattle.quote.specs.Tally.{lengthOf, tally as tallyOf, Fit};
-ghost use Rattle.quote.specs.Quote.{mostSeconds, mostMetres, fareOf, planQuote};
+ghost use Rattle.quote.specs.Quote.{mostSeconds, mostMetres, answer, fareOf, planQuote};
 
 // A total with its marks.
 fn fare_of(total: Total, past_minutes: bool, past_kilometres: bool) -> Quote
-    ensures { λ r. ⌜ r ≡ fareOf total «past_minutes» «past_kilometres» ⌝ }
+    ensures { λ r. ⌜ answer r ≡ fareOf total «past_minutes» «past_kilometres» ⌝ }
 {
     let Total::Is(amount) = total else {
         return Quote::Outside;
@@ -55,7 +55,7 @@ fn tally_of(p: &[u8], name: &[u8], sum: Sum, ride: Ride) -> Tally
 // Shut out: a ride's kilometres charged by the minute; segments of one sort left out of the amount; a mark set by the other sort.
 pub fn quote_plan(p: &[u8], seconds: u64, metres: u64) -> Quote
     requires { ⌜ (seconds ≤ mostSeconds) × (metres ≤ mostMetres) × Fit (now p) ⌝ }
-    ensures { λ r. ⌜ r ≡ planQuote seconds metres (some (pick plan (treeOf (now (p .entry))))) ⌝ }
+    ensures { λ r. ⌜ answer r ≡ planQuote seconds metres (some (pick plan (treeOf (now (p .entry))))) ⌝ }
 {
     let minutes = Minutes::of_seconds(seconds);
     let kilometres = Kilometres::of_metres(metres);
