@@ -25,10 +25,10 @@ use Rattle.quote.specs.Quote.{quoteOf}
 use Rattle.zone.specs.Answer as zone
 use Rattle.zone.specs.Answer.{rulingOf}
 use Rattle.geometry.specs.Ring.{Point}
-use Rattle.gbfs.specs.Verdict.{Feeds, bytesOf, picked, rulesA, faultsB, everyFile, stageA, stageB, stageC, orElse, rules, first, verdictOf, said, acceptance, number}
+use Rattle.gbfs.specs.Verdict.{Feeds, bytesOf, picked, rulesA, faultsB, everyFile, stageA, stageB, stageC, orElse, rules, first, verdictOf, said}
 use Rattle.gbfs.specs.Demand3 as demand
 use Rattle.gbfs.specs.Demand3.{LaterFile, LaterSet, Agree}
-use Rattle.gbfs.proofs.Answers.{number-room, word-room}
+use Rattle.gbfs.proofs.Answers.{told, number-room, word-room}
 use Rattle.gbfs.proofs.Every.{every-same}
 use Rattle.gbfs.proofs.Passed.{there, read-there, faults-there, file-there}
 
@@ -102,7 +102,7 @@ unmoved s t later =
     let v = verdict-same s t later in
     record {
       verdicts = λ b c h i. (
-        number-room s b h ∙ ap (λ (x : Cleanness). number (acceptance x)) v ∙ sym (number-room t c i),
+        number-room s b h ∙ ap told v ∙ sym (number-room t c i),
         word-room s b h ∙ ap (λ (x : Cleanness). wordOf form1 (said x)) v ∙ sym (word-room t c i),
       );
       quotes = λ id seconds metres. ap quote.answer (quote-same s t later id seconds metres);

@@ -21,7 +21,7 @@ use Rattle.quote.specs.Quote as quote
 use Rattle.quote.specs.Quote.{quoteOf}
 use Rattle.zone.specs.Answer as zone
 use Rattle.zone.specs.Answer.{rulingOf}
-use Rattle.gbfs.specs.Verdict.{Feeds, bytesOf, verdictOf, answerOf, bufferOf, number}
+use Rattle.gbfs.specs.Verdict.{Feeds, bytesOf, verdictOf, numberOf, bufferOf}
 
 -- a file and a later one: both absent, or both well formed within length and depth, and the later one's tree later
 pub data LaterFile (file : ℕ) : List ℕ → List ℕ → Type 0 where
@@ -36,7 +36,7 @@ LaterSet s t = (file : ℕ) → 1 ≤ file → file ≤ 6 → LaterFile file (by
 -- the answers of two sets agree: number and word of the verdict wherever there is room for a word, and all that quotes and zone rules return
 pub record Agree (s t : Feeds) : Type 0 where
   pub verdicts : (b c : List ℕ) → 8 ≤ length b → 8 ≤ length c
-      → (number (answerOf s b) ≡ number (answerOf t c)) × (take 8 (bufferOf s b) ≡ take 8 (bufferOf t c))
+      → (numberOf s b ≡ numberOf t c) × (take 8 (bufferOf s b) ≡ take 8 (bufferOf t c))
   pub quotes : (id : List ℕ) (seconds metres : ℕ)
       → quote.answer (quoteOf (s .plans) id seconds metres) ≡ quote.answer (quoteOf (t .plans) id seconds metres)
   pub zones : (q : Point) (type : List ℕ) (moment : ℕ)
