@@ -5,6 +5,7 @@ use mathlib.Core.Path.{_≡_, refl, sym, ap, _∙_}
 use Prim.Native.Nat.{ℕ, suc, _≤_, _<_}
 use native.Mathlib.Omega.{arith}
 use lib.ListN.{length, getD}
+use Rattle.word.specs.Word.{noParts}
 use Rattle.json.specs.declared.Syntax.{Syntax}
 use Rattle.json.specs.declared.Syntax.the-variants as syntax
 use Rattle.json.specs.Text.{syntaxOf}
@@ -24,10 +25,9 @@ use Rattle.document.proofs.Rests.{records-listed}
 use Rattle.document.proofs.Records.{recordShape, record-at, record-past}
 use Rattle.clean.specs.declared.Cleanness.{Cleanness}
 use Rattle.clean.specs.declared.Cleanness.the-variants.{Clean, Broken}
-use Rattle.clean.specs.declared.Shown.the-variants.{NoRecord, Record}
 use Rattle.clean.specs.Clean as clean
 use Rattle.clean.specs.Clean.{recordsOf, broken, judged, cleanOf}
-use Rattle.clean.specs.Show.{recordShown, shownOf}
+use Rattle.clean.specs.Show.{refused, shown, ofSpan, shownOf}
 use Rattle.clean.proofs.Repeated.{Held, held, tree-is}
 use Rattle.clean.proofs.Judged.{clean-there, shown-of}
 
@@ -64,12 +64,12 @@ module _ (file : ℕ) (s : List ℕ) (some : length s ≡ 0 → ⊥) (e : cleanO
   pub record ShownAt (k : ℕ) (d : Picked) : Type 0 where
     pub start : ℕ
     pub end : ℕ
-    pub is : shownOf file (suc k) s ≡ Record start end
+    pub is : shownOf file (suc k) s ≡ shown start end
     pub whole : Whole (part s start end) (treeOf (part s start end))
     pub record′ : getD (recordsOf file picked) k d ≡ pick (recordShape file) (treeOf (part s start end))
 
   module _ (h : 1 ≤ file) (i : file ≤ 6) where
-    by-span : (n : ℕ) → shownOf file n s ≡ recordShown (recordSpan file s n)
+    by-span : (n : ℕ) → shownOf file n s ≡ ofSpan (recordSpan file s n)
     by-span n = sym (shown-of file n s h i Clean (sym e))
 
     pub shows : (k : ℕ) → k < length (recordsOf file picked) → (d : Picked) → ShownAt k d
@@ -80,14 +80,14 @@ module _ (file : ℕ) (s : List ℕ) (some : length s ≡ 0 → ⊥) (e : cleanO
         record {
           start = a .start;
           end = a .end;
-          is = by-span (suc k) ∙ ap recordShown (a .is);
+          is = by-span (suc k) ∙ ap ofSpan (a .is);
           whole = a .there .whole;
           record′ = ap (λ (l : List Picked). getD l k d) (are h i) ∙ a .picked;
         }
 
-    pub shows-no-more : (k : ℕ) → length (recordsOf file picked) ≤ k → shownOf file (suc k) s ≡ NoRecord
+    pub shows-no-more : (k : ℕ) → length (recordsOf file picked) ≤ k → shownOf file (suc k) s ≡ refused 10 noParts
     unfolding recordSpan
-    shows-no-more k j = by-span (suc k) ∙ ap recordShown (record-past (records h i .there) k (omega (arith, ap length (are h i))))
+    shows-no-more k j = by-span (suc k) ∙ ap ofSpan (record-past (records h i .there) k (omega (arith, ap length (are h i))))
 
 -- a clean file has its records in an array, or is not there
 pub listed : (file : ℕ) (s : List ℕ) → 1 ≤ file → file ≤ 6 → cleanOf file s ≡ Clean → Listed file s
