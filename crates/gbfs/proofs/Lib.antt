@@ -10,5 +10,6 @@ pub mod Staging
 pub mod InWord
 pub mod ReadBack
 pub mod Unmoved
+pub mod Opening
 pub mod Version
-pub mod Demand
+pub mod Demand3

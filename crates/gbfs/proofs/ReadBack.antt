@@ -28,6 +28,7 @@ use Rattle.cross.specs.Stage.{firstOf, stageC}
 use Rattle.gbfs.specs.Verdict.{Feeds, bytesOf, picked, faultsB, verdictOf, said, bufferOf}
 use Rattle.gbfs.specs.Stages.{orNext, malformed, brokenA, firstA, firstB, staged}
 use Rattle.gbfs.proofs.Passed.{syntax-kind}
+use Rattle.gbfs.proofs.Every.{files-all}
 use Rattle.gbfs.proofs.ByFile.{verdict-staged}
 use Rattle.gbfs.proofs.Through.{all-through}
 use Rattle.gbfs.proofs.Answers.{word-room}
@@ -69,14 +70,6 @@ sayable-next : (x y : Cleanness) → Sayable x → (x ≡ Clean → Sayable y) �
 sayable-next Clean y h k = k refl
 sayable-next (Broken p) y h k = h
 
-sayable-files : (judge : ℕ → Cleanness → Cleanness) → ((file : ℕ) → 1 ≤ file → file ≤ 6 → (x : Cleanness) → Sayable x → Sayable (judge file x))
-    → Sayable (firstOf judge)
-sayable-files judge h =
-    h 1 (omega arith) (omega arith) _
-    (h 2 (omega arith) (omega arith) _
-    (h 3 (omega arith) (omega arith) _
-    (h 4 (omega arith) (omega arith) _ (h 5 (omega arith) (omega arith) _ (h 6 (omega arith) (omega arith) Clean said-clean)))))
-
 module _ (file : ℕ) (h : 1 ≤ file) (i : file ≤ 6) (next : Cleanness) (n : Sayable next) where
   sayable-syntax : (s : List ℕ) (x : Syntax) → syntaxOf s ≡ x → Sayable (malformed file x next)
   sayable-syntax s syntax.Sound e = n
@@ -93,12 +86,12 @@ module _ (file : ℕ) (h : 1 ≤ file) (i : file ≤ 6) (next : Cleanness) (n : 
 sayable-faults : (faults : ℕ → List Fault) → ((file : ℕ) → 1 ≤ file → file ≤ 6 → (f : Fault) → least (faults file) ≡ Is f → InWord f)
     → Sayable (firstOf (λ file next. broken file (least (faults file)) next))
 sayable-faults faults w =
-    sayable-files (λ file next. broken file (least (faults file)) next) (λ file h i x n. sayable-broken file h i x n (least (faults file)) (w file h i))
+    files-all Sayable (λ file next. broken file (least (faults file)) next) said-clean (λ file h i x n. sayable-broken file h i x n (least (faults file)) (w file h i))
 
 module _ (s : Feeds) where
   sayable-A : Sayable (firstA s)
   unfolding firstA
-  sayable-A = sayable-files (λ file next. brokenA file (bytesOf s file) next) (λ file h i x n. sayable-read file h i x n (bytesOf s file))
+  sayable-A = files-all Sayable (λ file next. brokenA file (bytesOf s file) next) said-clean (λ file h i x n. sayable-read file h i x n (bytesOf s file))
 
   sayable-B : Sayable (firstB s)
   unfolding firstB
