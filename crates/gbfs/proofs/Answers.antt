@@ -12,7 +12,6 @@ use Rattle.word.specs.Form.{form1}
 use Rattle.word.specs.Word.{wordOf}
 use Rattle.word.proofs.Laws.{full1}
 use Rattle.clean.specs.declared.Cleanness.{Cleanness}
-use Rattle.clean.specs.declared.Cleanness.the-variants.{Broken}
 use Rattle.gbfs.specs.declared.Acceptance.the-variants.{NoRoom}
 use Rattle.gbfs.specs.Verdict.{Feeds, verdictOf, said, accepts, numberOf, bufferOf, number}
 
@@ -45,8 +44,3 @@ module _ (s : Feeds) (b : List ℕ) (room : 8 ≤ length b) where
   word-room =
       ap (λ x. take 8 (x ⇒ b else wordOf form1 (said (verdictOf s)) ++ drop 8 b)) (le-ltb (length b) 8 room)
       ∙ take-at (wordOf form1 (said (verdictOf s))) (drop 8 b) 8 (word-length _)
-
--- a refusal as the call tells it
-pub refused-room : (s : Feeds) (p : Parts) → verdictOf s ≡ Broken p → (b : List ℕ) → 8 ≤ length b
-    → (numberOf s b ≡ 1) × (take 8 (bufferOf s b) ≡ wordOf form1 p)
-refused-room s p e b room = (number-room s b room ∙ ap told e, word-room s b room ∙ ap (λ (x : Cleanness). wordOf form1 (said x)) e)

@@ -15,6 +15,10 @@ module _ {A : Type 0} where
   all-at {P} (more h hs) (List·Memᴰ·head e) = subst P (sym e) h
   all-at (more h hs) (List·Memᴰ·tail m) = all-at hs m
 
+  pub all-of : {P : A → Type 0} (l : List A) → ((x : A) → List·Memᴰ x l → P x) → All P l
+  all-of [] h = none
+  all-of (x ∷ l) h = more (h x (List·Memᴰ·head refl)) (all-of l (λ y m. h y (List·Memᴰ·tail m)))
+
   pub all-map : {P Q : A → Type 0} {l : List A} → ((x : A) → P x → Q x) → All P l → All Q l
   all-map t none = none
   all-map t (more {x = x} h hs) = more (t x h) (all-map t hs)

@@ -9,6 +9,10 @@ pub mod Through
 pub mod Staging
 pub mod InWord
 pub mod ReadBack
+pub mod Says
+pub mod Prices
+pub mod Zones
+pub mod Demand2
 pub mod Unmoved
 pub mod Opening
 pub mod Version

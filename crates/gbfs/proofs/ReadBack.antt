@@ -7,9 +7,8 @@ use native.Mathlib.Omega.{arith}
 use lib.ListN.{length, take}
 use Rattle.limits.specs.Ceilings.{fileBytes}
 use Rattle.word.specs.declared.Parts.{Parts}
-use Rattle.word.specs.declared.Reading.the-variants.{Word}
 use Rattle.word.specs.Form.{form1}
-use Rattle.word.specs.Word.{Fits, keeps, read}
+use Rattle.word.specs.Word.{Fits, keeps, readWord}
 use Rattle.word.proofs.Keeps.{by-offset, by-place}
 use Rattle.word.proofs.Laws.{full1, word-read}
 use Rattle.json.specs.declared.Syntax.{Syntax}
@@ -115,7 +114,8 @@ module _ (s : Feeds) where
   verdict-kept = verdict-said .kept
 
   -- the word in the buffer reads as the verdict
-  pub verdict-read : (b : List ℕ) → 8 ≤ length b → read form1 (take 8 (bufferOf s b)) ≡ Word (said (verdictOf s))
+  pub verdict-read : (b : List ℕ) → 8 ≤ length b → readWord (take 8 (bufferOf s b)) ≡ record { number = 0; parts = said (verdictOf s) }
+  unfolding readWord
   verdict-read b room =
       word-read form1 full1 (said (verdictOf s)) (take 8 (bufferOf s b))
       (record { fits = verdict-fits; kept = verdict-kept; packs = sym (word-room s b room) })

@@ -25,7 +25,6 @@ use Rattle.clean.proofs.Judged.{clean-there}
 use Rattle.cross.specs.Cross.{present, Files, crossFaults}
 use Rattle.cross.specs.Stage.{fileOf}
 use Rattle.quote.specs.Quote.{quoteOf}
-use Rattle.zone.specs.Answer as zone
 use Rattle.zone.specs.Answer.{rulingOf}
 use Rattle.geometry.specs.Ring.{Point}
 use Rattle.gbfs.specs.Verdict.{Feeds, bytesOf, picked, rulesA, faultsB, everyFile, stageA, stageB, stageC, orElse, rules, first, verdictOf, said}
@@ -113,5 +112,5 @@ unmoved s t later =
         word-room s b h ∙ ap (λ (x : Cleanness). wordOf form1 (said x)) v ∙ sym (word-room t c i),
       );
       quotes = quote-same s t later;
-      zones = λ q type moment. ap zone.answer (ruling-same s t later q type moment);
+      zones = ruling-same s t later;
     }

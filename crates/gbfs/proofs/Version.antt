@@ -38,13 +38,13 @@ use Rattle.clean.specs.Clean.{treeOf, place}
 use Rattle.gbfs.specs.Verdict.{Feeds, bytesOf, syntaxRules, rulesA, faultsB, stageA, stageB, stageC, orElse, rules, before, first, verdictOf}
 use Rattle.gbfs.specs.Stages.{firstB}
 use Rattle.gbfs.specs.Demand3.{OtherVersion, OfStageA, Ahead, malformed, earlier, header, Refused}
-use Rattle.gbfs.proofs.Answers.{refused-room}
 use Rattle.gbfs.proofs.Passed.{syntax-kind, tree-spelled, faults-there}
 use Rattle.gbfs.proofs.Every.{all-at, every-all, every-member, files-all}
 use Rattle.gbfs.proofs.Order.{faultOf, same-file, not-before-file}
 use Rattle.gbfs.proofs.First.{first-named, first-broken}
 use Rattle.gbfs.proofs.ByFile.{first-stageA, first-stageB}
 use Rattle.gbfs.proofs.Through.{all-read}
+use Rattle.gbfs.proofs.Says.{says}
 use Rattle.gbfs.proofs.Opening.{Opening, opening}
 
 -- a JSON text has bytes
@@ -163,8 +163,8 @@ module _ (s : Feeds) (file : ℕ) (h : 1 ≤ file) (i : file ≤ 6) (o : OtherVe
         let b : firstB s ≡ Broken (n .parts) = sym (first-stageB s) ∙ ap first (sym only-stageB) ∙ n .is in
         record {
           parts = n .parts;
-          ahead = ahead (n .parts) (subst OfB b (stageB-kind s)) (all-at (first-broken (rules s) (n .parts) (n .is) .first) m);
-          told = refused-room s (n .parts) (n .is);
+          ahead = ahead (n .parts) (subst OfB b (stageB-kind s)) (first-broken (rules s) (n .parts) (n .is) .first broken m);
+          told = says s (Broken (n .parts)) (n .is);
         }
 
   pub refused : Refused s file
@@ -176,5 +176,5 @@ module _ (s : Feeds) (file : ℕ) (h : 1 ≤ file) (i : file ≤ 6) (o : OtherVe
       go (p ∷ l) e =
           let r = only-stageA s p l e in
           let n = first-named (rules s) p (subst (List·Memᴰ p) (sym (r ∙ e)) (List·Memᴰ·head refl)) in
-          let m = subst (List·Memᴰ (n .parts)) r (first-broken (rules s) (n .parts) (n .is) .stands) in
-          record { parts = n .parts; ahead = malformed (all-at (stageA-kinds s) m); told = refused-room s (n .parts) (n .is) }
+          let m = subst (List·Memᴰ (n .parts)) r (first-broken (rules s) (n .parts) (n .is) .among) in
+          record { parts = n .parts; ahead = malformed (all-at (stageA-kinds s) m); told = says s (Broken (n .parts)) (n .is) }

@@ -12,17 +12,15 @@ use Rattle.json.specs.Spelling.{Spells}
 use Rattle.json.specs.Grammar.{IsText}
 use Rattle.word.specs.declared.Parts.{Parts}
 use Rattle.word.specs.Kinds.{tooLong, tooDeep}
-use Rattle.word.specs.Form.{form1}
-use Rattle.word.specs.Word.{wordOf}
 use Rattle.schema.specs.Shape.{fileShape}
 use Rattle.schema.specs.Table23.{table23}
 use Rattle.schema.specs.Later.{Later}
 use Rattle.judge.specs.Bounds.{OfStageB}
 use Rattle.geometry.specs.Ring.{Point}
 use Rattle.quote.specs.Quote.{quoteOf}
-use Rattle.zone.specs.Answer as zone
 use Rattle.zone.specs.Answer.{rulingOf}
 use Rattle.gbfs.specs.Verdict.{Feeds, bytesOf, numberOf, bufferOf}
+use Rattle.gbfs.specs.Demand2.{Says}
 
 -- a well-formed file within length and depth, every surrogate escape paired, and the tree that it spells
 pub record WellFormed (s : List ℕ) (x : Json) : Type 0 where
@@ -42,8 +40,7 @@ LaterSet s t = (file : ℕ) → 1 ≤ file → file ≤ 6 → LaterFile file (by
 pub record Agree (s t : Feeds) : Type 0 where
   pub verdicts : (b c : List ℕ) → 8 ≤ length b → 8 ≤ length c → (numberOf s b ≡ numberOf t c) × (take 8 (bufferOf s b) ≡ take 8 (bufferOf t c))
   pub quotes : (id : List ℕ) (seconds metres : ℕ) → quoteOf (s .plans) id seconds metres ≡ quoteOf (t .plans) id seconds metres
-  pub zones : (q : Point) (type : List ℕ) (moment : ℕ)
-      → zone.answer (rulingOf (s .zones) q type moment) ≡ zone.answer (rulingOf (t .zones) q type moment)
+  pub zones : (q : Point) (type : List ℕ) (moment : ℕ) → rulingOf (s .zones) q type moment ≡ rulingOf (t .zones) q type moment
 
 -- a member of this name holds this string
 pub data Holds (name value : List ℕ) : Members → Type 0 where
@@ -71,11 +68,11 @@ pub data Ahead (file : ℕ) (p : Parts) : Type 0 where
   earlier : OfStageB (p .kind) → p .file < file → Ahead file p
   header : OfStageB (p .kind) → p .file ≡ file → p .«record» ≡ 0 → p .field ≤ 1 → Ahead file p
 
--- the set is not accepted, and the word that the call leaves in the buffer names one of these
+-- the call does not accept the set, and names one of these
 pub record Refused (s : Feeds) (file : ℕ) : Type 0 where
   pub parts : Parts
   pub ahead : Ahead file parts
-  pub told : (b : List ℕ) → 8 ≤ length b → (numberOf s b ≡ 1) × (take 8 (bufferOf s b) ≡ wordOf form1 parts)
+  pub told : Says s 1 parts
 
 -- the demand, undivided
 pub record Demand3 : Type 0 where

@@ -53,7 +53,7 @@ fn put(parts: Parts, buffer: &mut [u8])
 
 // The verdict on a set of six files, of which one without bytes is absent. The word stands in the first eight bytes of the buffer, and the rest stays; in a buffer of
 // fewer bytes nothing is written.
-// Shut out: a set refused that breaks no rule, or for another rule than its first; a byte past the eighth written.
+// Shut out: a set refused that breaks no rule, or for another rule than its first; a word written anywhere else in the buffer.
 pub fn verdict<'a>(
     types: &'a [u8],
     stations: &'a [u8],

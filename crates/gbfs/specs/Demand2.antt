@@ -1,0 +1,137 @@
+-- Demand 2: what the answers say. Each field of the record is one sentence of it, over the definitions of the verdict, the word, the quote and the zone
+-- rule, with what it shuts out.
+use mathlib.Core.Bool.{true, false}
+use mathlib.Core.List.{List, [], _∷_, _++_, map, List·Memᴰ}
+use mathlib.Core.Path.{_≡_}
+use Prim.Native.Nat.{ℕ, _*_, _/_, _≤_}
+use lib.IntN.{_+ℤ_}
+use lib.ListN.{length, take}
+use Rattle.radix.specs.Fields.{Bytes}
+use Rattle.word.specs.declared.Parts.{Parts}
+use Rattle.word.specs.Form.{form1}
+use Rattle.word.specs.Word.{noParts, wordOf, IsWord, readWord}
+use Rattle.schema.specs.Shape.{fileShape}
+use Rattle.schema.specs.Table23.{table23}
+use Rattle.schema.specs.Pick.{Picked, pick}
+use Rattle.document.specs.Document.{Maybe, none, some, elements, elementsOf, field, fieldItems, along}
+use Rattle.decimal.specs.Exact.{tenThousandths}
+use Rattle.fare.specs.declared.Segment.{Segment}
+use Rattle.fare.specs.Charges.{charges, greatestEnd, past}
+use Rattle.geometry.specs.Ring.{Point}
+use Rattle.geometry.specs.Held.{holds}
+use Rattle.rings.specs.Rings.{position}
+use Rattle.clean.specs.declared.Cleanness.the-variants.{Clean}
+use Rattle.clean.specs.Clean.{treeOf, cleanOf}
+use Rattle.quote.specs.Plan.{priceAt, perMinute, perKilometre, planOf, plans}
+use Rattle.quote.specs.Quote as quote
+use Rattle.quote.specs.Quote.{quoteOf}
+use Rattle.zone.specs.Zone.{counts, applies}
+use Rattle.zone.specs.Answer as zone
+use Rattle.zone.specs.Answer.{values, onMap, rulingOf}
+use Rattle.gbfs.specs.Verdict.{Feeds, rules, before, numberOf, bufferOf}
+
+-- The verdict: p is among the rules, and none of them comes before it.
+pub record First (p : Parts) (l : List Parts) : Type 0 where
+  pub among : List·Memᴰ p l
+  pub first : (q : Parts) → List·Memᴰ q l → before q p ≡ false
+
+-- a call with room for a word gives this number, and leaves a word in the first eight bytes that reads back as these parts
+pub record Says (s : Feeds) (number : ℕ) (p : Parts) : Type 0 where
+  pub numbered : (b : List ℕ) → 8 ≤ length b → numberOf s b ≡ number
+  pub written : (b : List ℕ) → 8 ≤ length b → take 8 (bufferOf s b) ≡ wordOf form1 p
+  pub readBack : (b : List ℕ) → 8 ≤ length b → readWord (take 8 (bufferOf s b)) ≡ record { number = 0; parts = p }
+
+-- The price: the plan of an id, of the bytes of file 5.
+abbrev pub planIn : (s id : List ℕ) → Maybe Picked
+planIn s id = planOf (plans (pick (fileShape table23 5) (treeOf s))) id
+
+-- a plan's price and the charges of its segments, by whole minutes and kilometres; and whether the ride is past the ends
+abbrev pub fare : Picked → (seconds metres : ℕ) → quote.Answer
+fare plan seconds metres =
+    record {
+      number = 0;
+      parts = noParts;
+      amount = tenThousandths (priceAt plan) +ℤ charges (perMinute plan) (seconds / 60) +ℤ charges (perKilometre plan) (metres / 1000);
+      pastMinutes = past (perMinute plan) (seconds / 60);
+      pastKilometres = past (perKilometre plan) (metres / 1000);
+    }
+
+-- there are segments, all of them end, and a ride of this length is at or past every end
+pub record Ended (l : List Segment) (ride : ℕ) : Type 0 where
+  pub there : l ≡ [] → ⊥
+  pub ended : (x : Segment) → List·Memᴰ x l → x .ended ≡ true
+  pub over : (x : Segment) → List·Memᴰ x l → x .end ≤ ride
+
+-- The zone rule: a rule with its zone and the properties that it stands in; all those of a file, in its order.
+pub record ZoneRule : Type 0 where
+  pub zone : Picked
+  pub properties : Picked
+  pub rule : Picked
+
+unfoldable pub everyRule : List Picked → List ZoneRule
+everyRule [] = []
+everyRule (z ∷ zs) =
+    elim (field 74 z) [
+      | none ↦ everyRule zs
+      | some p ↦ map (λ r. record { zone = z; properties = p; rule = r }) (fieldItems 77 p) ++ everyRule zs
+    ]
+
+abbrev pub rulesIn : List ℕ → List ZoneRule
+rulesIn s = everyRule (elementsOf (along (4 ∷ 5 ∷ 7 ∷ []) (pick (fileShape table23 6) (treeOf s))))
+
+-- a zone holds the point: the ring of one of its polygons does
+pub record Holding (zone : Picked) (q : Point) : Type 0 where
+  pub polygon : Picked
+  pub ring : Picked
+  pub ofZone : List·Memᴰ polygon (elementsOf (along (71 ∷ 73 ∷ []) zone))
+  pub ofPolygon : List·Memᴰ ring (elements polygon)
+  pub held : holds (map position (elements ring)) q ≡ true
+
+-- a rule applies: its zone holds the point and counts at the moment, and it names the type or has no field 78
+pub record Applies (q : Point) (type : List ℕ) (moment : ℕ) (r : ZoneRule) : Type 0 where
+  pub holding : Holding (r .zone) q
+  pub counting : counts (r .properties) moment ≡ true
+  pub naming : applies (r .rule) type ≡ true
+
+-- the first of a list that has a property
+pub data FirstWith {A : Type 0} (P : A → Type 0) : A → List A → Type 0 where
+  here : {x : A} {l : List A} → P x → FirstWith P x (x ∷ l)
+  later : {x y : A} {l : List A} → (P y → ⊥) → FirstWith P x l → FirstWith P x (y ∷ l)
+
+pub record Demand2 : Type 0 where
+  -- A set that breaks no rule is accepted, and its word says nothing else.
+  -- Shut out: a verdict that refuses all sets; a call that writes nothing.
+  pub accepted : (s : Feeds) → rules s ≡ [] → Says s 0 noParts
+  -- Of the rules that a set breaks, there is one with none before it, and only one.
+  pub first : (s : Feeds) → (rules s ≡ [] → ⊥) → (p : Parts) × First p (rules s)
+  pub only : (s : Feeds) (p q : Parts) → First p (rules s) → First q (rules s) → p ≡ q
+  -- The set is not accepted for that rule.
+  -- Shut out: one word for everything; a record number or an offset made up; a later rule named.
+  pub notAccepted : (s : Feeds) (p : Parts) → First p (rules s) → Says s 1 p
+  -- Reading answers 0 and parts exactly where the bytes are the word of these parts, and 3 with nothing else otherwise.
+  -- Shut out: a reader that takes any eight bytes; one that refuses all.
+  pub word : (s : List ℕ) (p : Parts) → IsWord form1 p s → readWord s ≡ record { number = 0; parts = p }
+  pub isWord : (s : List ℕ) → Bytes s → readWord s .number ≡ 0 → IsWord form1 (readWord s .parts) s
+  pub noWord : (s : List ℕ) → Bytes s → ((p : Parts) → IsWord form1 p s → ⊥) → readWord s ≡ record { number = 3; parts = noParts }
+  -- A quote that gives a price gives the plan's own price and all charges of its segments.
+  -- Shut out: one amount for everything; a ride rounded up to the next minute.
+  pub price : (s id : List ℕ) (seconds metres : ℕ) → quoteOf s id seconds metres .number ≡ 0
+      → (plan : Picked) × (planIn s id ≡ some plan) × (quoteOf s id seconds metres ≡ fare plan seconds metres)
+  -- At and past the greatest end of a plan's segments per minute, where all end, every ride costs what it costs at that end, and the mark says so;
+  -- and likewise per kilometre.
+  -- Shut out: a charge at the end minute, or past it; a price past the ends without its mark.
+  pub endedMinutes : (s id : List ℕ) (seconds metres : ℕ) (plan : Picked) → quoteOf s id seconds metres .number ≡ 0 → planIn s id ≡ some plan
+      → Ended (perMinute plan) (seconds / 60)
+      → (quoteOf s id seconds metres ≡ quoteOf s id (greatestEnd (perMinute plan) * 60) metres) × (quoteOf s id seconds metres .pastMinutes ≡ true)
+  pub endedKilometres : (s id : List ℕ) (seconds metres : ℕ) (plan : Picked) → quoteOf s id seconds metres .number ≡ 0 → planIn s id ≡ some plan
+      → Ended (perKilometre plan) (metres / 1000)
+      → (quoteOf s id seconds metres ≡ quoteOf s id seconds (greatestEnd (perKilometre plan) * 1000)) × (quoteOf s id seconds metres .pastKilometres ≡ true)
+  -- A zone answer with a rule has the values of the first rule, in file order over all zones, that applies.
+  -- Shut out: a rule of a zone that the point is outside of; a later rule, or values of two.
+  pub ruled : (s : List ℕ) (q : Point) (type : List ℕ) (moment : ℕ) → rulingOf s q type moment .number ≡ 0
+      → (r : ZoneRule) × FirstWith (Applies q type moment) r (rulesIn s) × (rulingOf s q type moment ≡ zone.found (values (r .rule)))
+  -- Number 9 answers exactly where none applies, of a clean file and at a point in range.
+  pub unruled : (s : List ℕ) (q : Point) (type : List ℕ) (moment : ℕ) → rulingOf s q type moment .number ≡ 9
+      → (r : ZoneRule) → List·Memᴰ r (rulesIn s) → Applies q type moment r → ⊥
+  pub noRule : (s : List ℕ) (q : Point) (type : List ℕ) (moment : ℕ) → onMap q ≡ true → cleanOf 6 s ≡ Clean
+      → ((r : ZoneRule) → List·Memᴰ r (rulesIn s) → Applies q type moment r → ⊥) → rulingOf s q type moment ≡ zone.refused 9 noParts
