@@ -12,8 +12,6 @@ use Rattle.quote.specs.Quote as quote
 use Rattle.zone.specs.declared.Rule.{Rule}
 use Rattle.zone.specs.Answer as zone
 use Rattle.geometry.specs.Ring.{Point}
-use Rattle.clean.specs.declared.Shown.{Shown}
-use Rattle.clean.specs.declared.Shown.the-variants.{NoFile, NotClean, NoRecord, Record}
 use Rattle.clean.specs.Show as show
 use Rattle.skaveldro.specs.Encoding.{holds}
 
@@ -56,7 +54,7 @@ quoteValues a = partValues (a .parts) ++ (signedBits (a .amount) ∷ bit (a .pas
 
 unfoldable pub quoteAnswer : (plans id : List ℕ) → (seconds metres : ℕ) → Answer
 quoteAnswer plans id seconds metres =
-    let a = quote.answer (quote.quoteOf plans id seconds metres) in answered (a .number) (quoteValues a)
+    let a = quote.quoteOf plans id seconds metres in answered (a .number) (quoteValues a)
 
 -- zone rule: parts, then ride and through, the speed and parking, each of these two after whether it is given
 abbrev pub ruleValues : Rule → List ℕ
@@ -67,21 +65,14 @@ zoneValues a = partValues (a .parts) ++ ruleValues (a .rule)
 
 unfoldable pub zoneAnswer : (zones : List ℕ) → Point → (type : List ℕ) → (moment : ℕ) → Answer
 zoneAnswer zones q type moment =
-    let a = zone.answer (zone.rulingOf zones q type moment) in answered (a .number) (zoneValues a)
+    let a = zone.rulingOf zones q type moment in answered (a .number) (zoneValues a)
 
 -- show record: parts, then where the record begins and where it ends
-abbrev pub placeValues : Shown → List ℕ
-placeValues NoFile = 0 ∷ 0 ∷ []
-placeValues (NotClean p) = 0 ∷ 0 ∷ []
-placeValues NoRecord = 0 ∷ 0 ∷ []
-placeValues (Record from upto) = from ∷ upto ∷ []
-
-abbrev pub shownValues : List ℕ → Shown → List ℕ
-shownValues s shown = partValues (show.answer s shown .parts) ++ placeValues shown
+abbrev pub shownValues : show.Answer → List ℕ
+shownValues a = partValues (a .parts) ++ (a .from ∷ a .upto ∷ [])
 
 unfoldable pub shownAnswer : (file n : ℕ) → (bytes : List ℕ) → Answer
-shownAnswer file n s =
-    let shown = show.shownOf file n s in answered (show.answer s shown .number) (shownValues s shown)
+shownAnswer file n s = let a = show.shownOf file n s in answered (a .number) (shownValues a)
 
 -- the number that is answered: 2 where there are values and the buffer has no room for them
 unfoldable pub told : (buffer : List ℕ) → Answer → ℕ

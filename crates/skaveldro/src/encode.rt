@@ -1,10 +1,11 @@
 // Numbers into a buffer that the caller lends: eight bytes a number, the least significant first.
-ghost use mathlib.Core.List.{_++_};
+use word::Parts;
+ghost use mathlib.Core.List.{[], _∷_, _++_};
 ghost use mathlib.Core.Path.{_≡_};
 ghost use Prim.Native.Nat.{_*_, _≤_};
 ghost use lib.ListN.{length, drop};
 ghost use Rattle.skaveldro.specs.Encoding.{encoded, filled};
-ghost use Rattle.skaveldro.specs.Answers.{answered, bit as bitOf, signedBits, told};
+ghost use Rattle.skaveldro.specs.Answers.{answered, bit as bitOf, partValues, signedBits, told};
 
 // A truth as a number.
 pub fn bit(b: bool) -> u64
@@ -21,6 +22,26 @@ pub fn signed_bits(v: i64) -> u64
         return 0xffff_ffff_ffff_ffff - (-1 - v) as u64;
     }
     v as u64
+}
+
+// The values that begin with the parts of a word and are 0 from there on: what any question gives of a file that is not clean.
+pub fn parts_then_zeros(p: Parts) -> [u64; 12]
+    ensures { λ v. ⌜ v ≡ partValues p ++ (0 ∷ 0 ∷ 0 ∷ 0 ∷ 0 ∷ 0 ∷ []) ⌝ }
+{
+    [
+        p.file as u64,
+        p.kind as u64,
+        p.field as u64,
+        p.record as u64,
+        p.sub as u64,
+        p.offset as u64,
+        0,
+        0,
+        0,
+        0,
+        0,
+        0,
+    ]
 }
 
 // Puts numbers into the first bytes of a buffer that has room for them.
