@@ -76,10 +76,10 @@ pub fn give(number: u8, values: &[u64], buffer: &mut [u8]) -> u8
     ensures { λ r. ⌜ r ≡ told (now (buffer .entry)) (answered number (now (values .entry))) ⌝ }
     ensures { λ _. ⌜ now (buffer .exit) ≡ filled (now (buffer .entry)) (answered number (now (values .entry)) .values) ⌝ }
 {
-    let told = given(number, values);
-    if buffer.len() / 8 < told.len() {
+    let written = given(number, values);
+    if buffer.len() / 8 < written.len() {
         return 2;
     }
-    put(told, buffer);
+    put(written, buffer);
     number
 }

@@ -27,8 +27,12 @@ pub extern "C" fn skaveldro_verdict<'a>(
     zones: &'a [u8],
     buffer: &mut [u8],
 ) -> u8
-    ensures { λ r. ⌜ r ≡ numberOf (feeds (now (types .entry)) (now (stations .entry)) (now (statuses .entry)) (now (bikes .entry)) (now (plans .entry)) (now (zones .entry))) (now (buffer .entry)) ⌝ }
-    ensures { λ _. ⌜ now (buffer .exit) ≡ bufferOf (feeds (now (types .entry)) (now (stations .entry)) (now (statuses .entry)) (now (bikes .entry)) (now (plans .entry)) (now (zones .entry))) (now (buffer .entry)) ⌝ }
+    ensures { λ r. ⌜ r ≡ numberOf
+        (feeds (now (types .entry)) (now (stations .entry)) (now (statuses .entry)) (now (bikes .entry)) (now (plans .entry)) (now (zones .entry)))
+        (now (buffer .entry)) ⌝ }
+    ensures { λ _. ⌜ now (buffer .exit) ≡ bufferOf
+        (feeds (now (types .entry)) (now (stations .entry)) (now (statuses .entry)) (now (bikes .entry)) (now (plans .entry)) (now (zones .entry)))
+        (now (buffer .entry)) ⌝ }
 {
     let a = gbfs::verdict(types, stations, statuses, bikes, plans, zones, buffer);
     verdict::number(a)

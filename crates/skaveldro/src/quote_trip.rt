@@ -21,7 +21,7 @@ pub fn number(q: Quote) -> u8
     }
 }
 
-// Its values: the parts of a fault, the amount and the two marks.
+// The values of its layout: the parts of a fault, the amount and the two marks, then zeros.
 pub fn values(q: Quote) -> [u64; 12]
     ensures { λ v. ⌜ take 9 v ≡ quoteValues (answer q) ⌝ }
 {

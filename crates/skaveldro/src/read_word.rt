@@ -16,7 +16,7 @@ pub fn number(r: Reading) -> u8
     }
 }
 
-// Its values: the parts of the word.
+// The values of its layout: the parts of the word, then zeros.
 pub fn values(r: Reading) -> [u64; 12]
     ensures { λ v. ⌜ take 6 v ≡ wordValues (answer r) ⌝ }
 {

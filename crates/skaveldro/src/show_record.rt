@@ -18,7 +18,7 @@ pub fn number(shown: Shown) -> u8
     }
 }
 
-// Its values: the parts of a fault, where the record begins and where it ends.
+// The values of its layout: the parts of a fault, where the record begins and where it ends, then zeros.
 pub fn values(shown: Shown) -> [u64; 12]
     ensures { λ v. ⌜ take 8 v ≡ shownValues (answer shown) ⌝ }
 {
