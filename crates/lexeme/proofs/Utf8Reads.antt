@@ -2,19 +2,17 @@
 -- arithmetic on quotients and remainders, range by range.
 use mathlib.Core.Bool.{true, false}
 use mathlib.Core.List.{List, [], _∷_, _++_}
-use mathlib.Core.Path.{_≡_, refl, sym, ap, subst, _∙_}
-use Prim.Native.Nat.{ℕ, _+_, _-_, _*_, _/_, _%_, _≤_, _<_}
+use mathlib.Core.Path.{_≡_, refl, _∙_}
+use Prim.Native.Nat.{ℕ, _+_, _-_, _/_, _%_, _≤_, _<_}
 use native.Mathlib.Omega.{arith}
-use lib.ListN.{length, drop, take, take-append-drop}
-use lib.Dec.{eqb, leb, ltb}
-use borrow.Author.Tests.{eqb-true, eqb-false, ne-eqb, ltb-true, ltb-false, lt-ltb, le-ltb, leb-true, leb-false, le-leb, lt-leb}
+use lib.ListN.{length}
+use lib.Dec.{leb, ltb}
+use borrow.Author.Tests.{ne-eqb, ltb-true, ltb-false, lt-ltb, le-ltb, leb-true, leb-false, le-leb, lt-leb}
 use Rattle.word.specs.Kinds.{notJson}
-use Rattle.lexeme.specs.declared.Char.{Char}
-use Rattle.lexeme.specs.declared.Next.{Next}
-use Rattle.lexeme.specs.declared.Next.the-variants.{Quote, Character, Fault}
-use Rattle.lexeme.specs.Character.{Surrogates, byte, within, Lead, lead, char1, char2, char3, char4, bytesOf, utf2, utf3, utf4, encoded, escape, nextBy, next}
-use Rattle.lexeme.specs.Character.Lead.{plain, quote, backslash, wrong, two, threeE0, three, threeED, fourF0, four, fourF4}
-use Rattle.lexeme.specs.Utf8.{Scalar, Unescaped, bytesIn, utf8, codePoint, Stands}
+use Rattle.lexeme.specs.declared.Next.the-variants.{Fault}
+use Rattle.lexeme.specs.Character.{Surrogates, byte, within, Lead, lead, char1, char2, char3, char4, utf2, utf3, utf4, encoded, escape, nextBy, next}
+use Rattle.lexeme.specs.Character.Lead.{plain, two, threeE0, three, threeED, fourF0, four, fourF4}
+use Rattle.lexeme.specs.Utf8.{Unescaped, bytesIn, utf8}
 use Rattle.lexeme.proofs.Steps.{by-test, true-false}
 
 -- a number between two bounds, and outside them

@@ -1,6 +1,6 @@
 -- Every unescaped character is the encoding of one scalar value: by its first byte and the range of the second, the bits that its bytes leave open make a
 -- value of its length, which is no surrogate and not past the greatest; and an encoding's bytes hold all the bits of its value.
-use mathlib.Core.Bool.{true, false}
+use mathlib.Core.Bool.{false}
 use mathlib.Core.List.{List, [], _∷_, _++_}
 use mathlib.Core.Path.{_≡_, refl, sym, ap, subst, _∙_}
 use Prim.Native.Nat.{ℕ, _+_, _-_, _*_, _/_, _%_, _≤_, _<_}
@@ -14,7 +14,7 @@ use Rattle.lexeme.specs.declared.Next.the-variants.{Quote, Character, Fa
 use Rattle.lexeme.specs.Character.{Surrogates, byte, within, Lead, lead, char1, char2, char3, char4, bytesOf, utf2, utf3, utf4, encoded, nextBy, next}
 use Rattle.lexeme.specs.Character.Lead.{plain, quote, backslash, wrong, two, threeE0, three, threeED, fourF0, four, fourF4}
 use Rattle.lexeme.specs.Utf8.{Scalar, Unescaped, bytesIn, utf8, codePoint, Stands}
-use Rattle.lexeme.proofs.Steps.{by-test, true-false}
+use Rattle.lexeme.proofs.Steps.{by-test}
 use Rattle.lexeme.proofs.Local.{here}
 use Rattle.lexeme.proofs.Mends.{front, front-take}
 use Rattle.lexeme.proofs.Utf8Reads.{bounds, below, above}
@@ -54,7 +54,7 @@ unique v w s t e = sym (decodes v s) ∙ ap codePoint e ∙ decodes w t
 
 -- bytes of a value's length are the value's encoding
 module _ (v more : ℕ) where
-  encoded1 : v < 0x80 → encoded v more ≡ char1 v more
+  pub encoded1 : v < 0x80 → encoded v more ≡ char1 v more
   unfolding encoded
   encoded1 h = rw (lt-ltb v 0x80 h)
 

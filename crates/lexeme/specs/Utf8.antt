@@ -10,7 +10,7 @@ use Rattle.lexeme.specs.declared.Char.{Char}
 use Rattle.lexeme.specs.declared.Next.{Next}
 use Rattle.lexeme.specs.declared.Next.the-variants.{Quote, Character, Fault}
 use Rattle.lexeme.specs.declared.Quad.the-variants.{Value}
-use Rattle.lexeme.specs.Character.{Surrogates, byte, within, bytesOf, encoded, quad, combined, escape, next}
+use Rattle.lexeme.specs.Character.{Surrogates, paired, byte, within, bytesOf, encoded, quad, combined, escape, next}
 
 -- a scalar value: a code point that is no surrogate
 pub record Scalar (v : ℕ) : Type 0 where
@@ -55,19 +55,19 @@ pub record Escape (v : ℕ) (l : List ℕ) : Type 0 where
   pub digits : quad (drop 2 l) ≡ Value v
 
 pub record Agreement : Type 0 where
-  -- No code point is lost in its encoding, so no two share one: a first byte with too few bits of it would make two alike.
+  -- No code point is lost in its encoding, so no two share one. Shut out: a first byte with too few bits of the value.
   pub decodes : (v : ℕ) → Scalar v → codePoint (utf8 v) ≡ v
   pub unique : (v w : ℕ) → Scalar v → Scalar w → utf8 v ≡ utf8 w → v ≡ w
-  -- The encoding of a value that may stand unescaped is read as one character of exactly its bytes, whatever follows: an encoding that is not the shortest,
-  -- or a second byte's range too narrow, is not.
+  -- The encoding of a value that may stand unescaped is read as one character of exactly its bytes, whatever follows. Shut out: a range of second bytes that is
+  -- too narrow; an encoding that is not the shortest.
   pub reads : (ρ : Surrogates) (v : ℕ) → Unescaped v → (r : List ℕ) → next ρ (utf8 v ++ r) ≡ encoded v (length (utf8 v) - 1)
   -- The other scalar values are encoded in one byte, which is no character: a fault, a string's end, or an escape's beginning.
   pub single : (v : ℕ) → v < 0x80 → utf8 v ≡ v ∷ []
   pub control : (ρ : Surrogates) (v : ℕ) → v < 0x20 → (r : List ℕ) → next ρ (v ∷ r) ≡ Fault notJson 0
   pub quote : (ρ : Surrogates) (r : List ℕ) → next ρ (0x22 ∷ r) ≡ Quote
   pub backslash : (ρ : Surrogates) (r : List ℕ) → next ρ (0x5c ∷ r) ≡ escape ρ (0x5c ∷ r)
-  -- Every character that is no escape is the encoding of a scalar value that may stand unescaped, and of that one alone: overlong forms, surrogates and
-  -- values past the greatest are none.
+  -- Every character that is no escape is the encoding of a scalar value that may stand unescaped, and of no other. Shut out: overlong forms, surrogates and
+  -- values past the greatest.
   pub unescaped : (ρ : Surrogates) (l : List ℕ) (x : Char) → (byte l 0 ≡ 0x5c → ⊥) → next ρ l ≡ Character x → Stands (codePoint (bytesOf x)) x l
   -- An escape gives the encoding of its value, and two surrogate escapes that of the code point which they make: the bytes of the unescaped spelling.
   pub encodes : (v more : ℕ) → bytesIn (encoded v more) ≡ utf8 v
@@ -76,6 +76,8 @@ pub record Agreement : Type 0 where
       → Scalar (combined v w) × (next ρ l ≡ encoded (combined v w) 11)
   -- So escaped or not, a code point gives the same bytes.
   pub alike : (ρ : Surrogates) (v more : ℕ) (l r : List ℕ) → Unescaped v → next ρ l ≡ encoded v more → bytesIn (next ρ l) ≡ bytesIn (next ρ (utf8 v ++ r))
-  -- Every scalar value past the first 65,536 is what one pair makes.
+  -- And every character by stage A's rule, escaped or not, is the encoding of a scalar value: what a string spells is UTF-8.
+  pub spelled : (l : List ℕ) (x : Char) → next paired l ≡ Character x → Scalar (codePoint (bytesOf x)) × (utf8 (codePoint (bytesOf x)) ≡ bytesOf x)
+  -- Every scalar value past the first 65,536 is what a pair makes.
   pub halves : (v : ℕ) → 0x10000 ≤ v → v ≤ 0x10ffff
       → (within 0xd800 0xdbff (0xd7c0 + v / 1024) ≡ true) × (within 0xdc00 0xdfff (0xdc00 + v % 1024) ≡ true) × (combined (0xd7c0 + v / 1024) (0xdc00 + v % 1024) ≡ v)
