@@ -66,8 +66,8 @@ whole turn.Failed end e = let z : _≡_ {A = ℕ} 0 1 = cc in absurd (omega arit
 whole turn.Ended end e = refl
 whole (turn.Got n) end e = let z : _≡_ {A = ℕ} 0 1 = cc in absurd (omega arith)
 
--- the last call decides the sort of the answer
-pub tells : (t : Turn) (k : Taken) (bytes places : List ℕ) → Decides t k → Tells t (answerOf k bytes places)
+-- the last call decides the answer
+pub tells : (t : Turn) (k : Taken) (bytes places : List ℕ) → Decides t k → Tells t bytes places (answerOf k bytes places)
 tells turn.Failed k bytes places e = ap (λ (x : Taken). answerOf x bytes places) e
 tells turn.Ended taken.Unread bytes places e = let z : _≡_ {A = ℕ} 0 1 = cc in absurd (omega arith)
 tells turn.Ended taken.Full bytes places e = let z : _≡_ {A = ℕ} 0 1 = cc in absurd (omega arith)
