@@ -1,9 +1,9 @@
 -- What RFC 8259's rules pass leaves the place in a text as it was: a value closes every bracket and string that it opens, and a string's characters
 -- stay inside it.
-use mathlib.Core.Bool.{true, false}
+use mathlib.Core.Bool.{true}
 use mathlib.Core.List.{List, [], _∷_, _++_}
 use mathlib.Core.Path.{_≡_, refl, ap, _∙_}
-use Prim.Native.Nat.{ℕ, zero, suc, _+_, _≤_, _<_}
+use Prim.Native.Nat.{ℕ, zero, suc, _+_, _<_}
 use native.Mathlib.Omega.{arith}
 use lib.Dec.{eqb}
 use borrow.Author.Tests.{eqb-true, ne-eqb}
@@ -11,7 +11,7 @@ use Rattle.notation.specs.Ascii.{bytes}
 use Rattle.lexeme.specs.Character.{within}
 use Rattle.lexeme.specs.Numbers.{digit, either}
 use Rattle.lexeme.specs.Tokens.{blank}
-use Rattle.lexeme.proofs.Steps.{by-test, true-false}
+use Rattle.lexeme.proofs.Steps.{by-test}
 use Rattle.json.specs.Spelling.{Blanks, Padded}
 use Rattle.json.specs.Grammar.{Digits, Int, Frac, Exp, Number, tail, hexDigit, Char, Chars, String, Scalar, Elements, Enclosed, Member, Nested, Value}
 use Rattle.json.specs.Places.{Place, outside, inside, fromOutside, fromInside, step, along, placing}

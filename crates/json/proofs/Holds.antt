@@ -2,11 +2,11 @@
 -- at its source: what stands at the fault (P), a byte that goes on there instead (z), the place there (W) by the brackets open before it, and how many these
 -- may be where d levels are left (L). Each reader hands on what stands before the fault: the place that it leads to, and an ending that completes it.
 use mathlib.Core.Bool.{true, false}
-use mathlib.Core.List.{List, [], _∷_, _++_, append-assoc, append-nil, append-cancel-right}
+use mathlib.Core.List.{List, [], _∷_, _++_, append-assoc, append-cancel-right}
 use mathlib.Core.Path.{_≡_, refl, sym, ap, subst, _∙_}
-use Prim.Native.Nat.{ℕ, zero, suc, _+_, _<_}
+use Prim.Native.Nat.{ℕ, zero, suc, _+_}
 use native.Mathlib.Omega.{arith}
-use lib.ListN.{length, drop}
+use lib.ListN.{length}
 use lib.Dec.{eqb}
 use borrow.Author.Tests.{eqb-true, eq-eqb}
 use Rattle.word.specs.Kinds.{notJson, unpaired, tooDeep}
@@ -17,10 +17,9 @@ use Rattle.lexeme.specs.Strings as Strings
 use Rattle.lexeme.specs.Numbers as Numbers
 use Rattle.lexeme.specs.Numbers.{either}
 use Rattle.lexeme.specs.Tokens.{blank, blanks, literal, Start, start}
-use Rattle.notation.specs.Ascii.{bytes}
-use Rattle.lexeme.proofs.Reading.{Eats, Any, Ok, Stops, Took, Takes}
+use Rattle.lexeme.proofs.Reading.{Eats, Any, Ok, Takes}
 use Rattle.lexeme.proofs.Reading.Ok.{stops}
-use Rattle.lexeme.proofs.Steps.{by-test, blanks-stop, then-done, bad-done, done-bad, bad-kind, bad-rest, made-reads, made-bad, made-done, then-reads, then-fails}
+use Rattle.lexeme.proofs.Steps.{by-test, blanks-stop, then-done, done-bad, bad-kind, bad-rest, made-reads, made-bad, made-done, then-reads, then-fails}
 use Rattle.lexeme.proofs.Takes.{string-takes, blanks-of}
 use Rattle.lexeme.proofs.Goes.{string-goes}
 use Rattle.lexeme.proofs.Starts.{string-byte, array-byte, object-byte}
@@ -29,12 +28,12 @@ use Rattle.json.specs.Tree.{Json, itemsOf, membersOf}
 use Rattle.json.specs.Text.{expect, after, contents, bracketed, member, valueAt, valueBy, value, finish, text}
 use Rattle.json.specs.Text.After.{closed, more}
 use Rattle.json.specs.Places.{Place, outside, inside, step, along}
-use Rattle.json.proofs.Steps.{expect-end, expect-here, expect-other, after-closed, elements-bad, elements-closed, contents-end, contents-none, contents-some, named}
+use Rattle.json.proofs.Steps.{expect-end, expect-here, expect-other, after-closed, elements-closed, contents-end, contents-none, contents-some, named}
 use Rattle.json.proofs.Bound.{Follows, at-comma, follows-as, all, Run, faulty, last, next, broken, run, elements-next}
 use Rattle.json.proofs.FaultKinds.{Plain, number-plain, literal-plain}
 use Rattle.json.proofs.Takes.{joins, agree, ok-part, Solid, blanks-solid, blanks-frame, Continues, continues, expect-takes, member-takes, member-eats, value-takes, value-eats}
 use Rattle.json.proofs.Goes.{value-goes, ends-too}
-use Rattle.json.proofs.Faults.{Starts, Closing, square, curly}
+use Rattle.json.proofs.Faults.{Starts, extend, Closing, square, curly}
 use Rattle.json.proofs.Found.{string-found}
 use Rattle.json.proofs.Spellings.{blanks-front, expect-done, joined}
 use Rattle.json.proofs.Passed.{value-finds}
@@ -200,13 +199,6 @@ module _ (k : ℕ) (P : List ℕ → Type 0) (z : ℕ) (W : ℕ → Place) (L : 
     solid-on : (p r q : List ℕ) → Solid (p ++ r) → Solid (p ++ (z ∷ q))
     solid-on [] r q s = solid
     solid-on (c ∷ p) r q s = s
-
-    -- reading to the end carries over to a longer text, where what follows may follow
-    extend : {A : Type 0} {C : List ℕ → List ℕ → Type 0} (f : List ℕ → Read A) → Takes C f
-        → (p v : List ℕ) (x : A) → f (p ++ v) ≡ done x [] → (q : List ℕ) → C [] q → f (p ++ (v ++ q)) ≡ done x q
-    extend f takes p v x e q o =
-        let t = takes (p ++ v) [] x e in
-        ap f (sym (append-assoc p v q)) ∙ ap (λ (m : List ℕ). f (m ++ q)) (t .splits ∙ append-nil (t .part)) ∙ t .frame q o
 
     blanks-holds : {A : Type 0} (f : List ℕ → Read A) (d : ℕ) → Holds outside f d → Holds outside (λ l. f (blanks l)) d
     blanks-holds f d holds l r e =

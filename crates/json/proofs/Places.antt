@@ -2,12 +2,12 @@
 -- with 16 others open, where JSON allows it. For the latter, the grammar alone reads past the bracket (`Least`), and to there some JSON text begins so (`Faults`).
 use mathlib.Core.List.{List, [], _∷_, _++_, append-assoc, append-nil, append-cancel-right}
 use mathlib.Core.Path.{_≡_, refl, sym, ap, subst, _∙_}
-use Prim.Native.Nat.{ℕ, suc, _+_, _-_, _≤_, _<_}
+use Prim.Native.Nat.{ℕ, _+_, _-_, _≤_, _<_}
 use native.Mathlib.Omega.{arith}
 use lib.ListN.{length, take, drop, getD, length-append, take-append-drop}
-use lib.Seq.{take-at, drop-at, take-append-le, getD-append-seam}
+use lib.Seq.{drop-at, take-append-le, getD-append-seam}
 use Rattle.limits.specs.Ceilings.{depth}
-use Rattle.word.specs.Kinds.{notJson, unpaired, tooDeep}
+use Rattle.word.specs.Kinds.{unpaired, tooDeep}
 use Rattle.lexeme.specs.Read.{Read}
 use Rattle.lexeme.specs.Read.Read.{done, bad}
 use Rattle.lexeme.specs.Character.{paired, lone}
@@ -30,6 +30,7 @@ use Rattle.json.proofs.Found.{string-found}
 use Rattle.json.proofs.Spellings.{finish-done, read-spells}
 use Rattle.json.proofs.Passed.{reads-grammar}
 use Rattle.json.proofs.Verdict.{met}
+use Rattle.json.proofs.Prefix.{before}
 use Rattle.json.proofs.Least.{By, Grammar, least}
 use Rattle.json.proofs.Balanced.{chars-within}
 use Rattle.json.proofs.Surrogates.{string-stuck}
@@ -100,16 +101,16 @@ unfolding reading
 text-deep =
     text-holds tooDeep Opens 0x30 outside AllOpen (λ i. omega arith) refl refl refl (λ d m i. omega arith) (λ d l r e. absurd (no-level l r e)) at-bracket
 
--- the two sides of a place
+-- the two sides of the place n
 module _ (s p r : List ℕ) (n : ℕ) (e : s ≡ p ++ r) (at : length s - length r ≡ n) where
-  before-length : length p ≡ n
-  before-length = omega (arith, ap length e ∙ length-append p r)
+  size : length p ≡ n
+  size = omega (arith, ap length e ∙ length-append p r)
 
-  before : take n s ≡ p
-  before = ap (take n) e ∙ take-at p r n before-length
+  upto : take n s ≡ p
+  upto = ap (λ (i : ℕ). take i s) (sym at) ∙ before s p r e
 
-  from : drop n s ≡ r
-  from = ap (drop n) e ∙ drop-at p r n before-length
+  onward : drop n s ≡ r
+  onward = ap (drop n) e ∙ drop-at p r n size
 
 -- what stands before, with another byte behind it, is read to its end: so it spells its tree
 going-on : (s p : List ℕ) (c : ℕ) (v : List ℕ) (n : ℕ) (x : Json) → take n s ≡ p → text paired depth (p ++ (c ∷ v)) ≡ done x []
@@ -121,9 +122,9 @@ pub verdict-unpaired : (s : List ℕ) (n : ℕ) → syntaxOf s ≡ Fault unpaire
 verdict-unpaired s n e =
     let m = met s unpaired n e (λ i. omega arith) in
     let u = text-unpaired depth s (m .rest) (m .reads) in
-    let front = before s (u .part) (m .rest) n (u .splits) (m .place) in
+    let front = upto s (u .part) (m .rest) n (u .splits) (m .place) in
     record {
-      stands = subst Unpaired (sym (from s (u .part) (m .rest) n (u .splits) (m .place))) (u .stands);
+      stands = subst Unpaired (sym (onward s (u .part) (m .rest) n (u .splits) (m .place))) (u .stands);
       levels = 0 + u .levels;
       within-string = ap (along (outside 0)) front ∙ u .leads 0;
       ending = u .ending;
@@ -175,9 +176,9 @@ verdict-deep s n e =
     let m = met s tooDeep n e (λ i. omega arith) in
     let u = text-deep depth s (m .rest) (m .reads) in
     let b = u .stands in
-    let front = before s (u .part) (m .rest) n (u .splits) (m .place) in
+    let front = upto s (u .part) (m .rest) n (u .splits) (m .place) in
     let whole : s ≡ u .part ++ (b .byte ∷ b .after) = u .splits ∙ ap (λ (r : List ℕ). u .part ++ r) (b .begins) in
-    let long : length (u .part) ≡ n = before-length s (u .part) (m .rest) n (u .splits) (m .place) in
+    let long : length (u .part) ≡ n = size s (u .part) (m .rest) n (u .splits) (m .place) in
     let here : getD s n 0 ≡ b .byte =
     ap (λ (i : ℕ). getD s i 0) (sym long) ∙ ap (λ (l : List ℕ). getD l (length (u .part)) 0) whole ∙ getD-append-seam (u .part) (b .byte) (b .after) 0 in
     record {

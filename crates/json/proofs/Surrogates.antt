@@ -20,8 +20,7 @@ use Rattle.lexeme.specs.Strings.{string}
 use Rattle.lexeme.proofs.Steps.{by-test, done-bad, bad-kind, bad-rest, made-bad, made-reads, string-empty, string-inside, string-quote, string-fault, string-character}
 use Rattle.lexeme.proofs.Local.{Agree, encoded-char, character-near}
 use Rattle.lexeme.proofs.Takes.{closes}
-use Rattle.json.specs.Places.{Escape, High, Low, Unpaired}
-use Rattle.json.specs.Places as places
+use Rattle.json.specs.Places.{Escape, Low, Unpaired}
 use Rattle.json.proofs.Chars.{hex-back, quad-of}
 use Rattle.json.proofs.Leads.{ranged}
 

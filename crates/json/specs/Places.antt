@@ -2,7 +2,7 @@
 -- unpaired, with none before it. Kind 4: at a bracket that opens one level too many, where JSON allows a bracket.
 use mathlib.Core.Bool.{true}
 use mathlib.Core.List.{List, [], _∷_, _++_}
-use mathlib.Core.Path.{_≡_, refl}
+use mathlib.Core.Path.{_≡_}
 use Prim.Native.Nat.{ℕ, _+_, _-_, _*_}
 use lib.ListN.{take, drop, getD}
 use lib.Dec.{eqb}
@@ -11,6 +11,7 @@ use Rattle.notation.specs.Choice.{_⇒_else_}
 use Rattle.notation.specs.Ascii.{bytes}
 use Rattle.lexeme.specs.Character.{within, hexValue}
 use Rattle.lexeme.specs.Numbers.{either}
+use Rattle.lexeme.specs.Cases.{lexing}
 use Rattle.json.specs.Tree.{Json}
 use Rattle.json.specs.Spelling.{Spells}
 use Rattle.json.specs.Grammar.{hexDigit, Begins}
@@ -46,11 +47,6 @@ along p (b ∷ r) = along (step p b) r
 -- the place after the first bytes of a text
 abbrev pub placeAfter : List ℕ → Place
 placeAfter = along (outside 0)
-
--- opens these definitions
-unfoldable pub placing : Unit {0}
-unfolding fromOutside fromInside step along either
-placing = tt
 
 -- `Escape v t q`: the whole escape \u of the value v, by its four digits, is what t begins with, and q follows it
 pub data Escape : ℕ → List ℕ → List ℕ → Type 0 where
@@ -92,3 +88,8 @@ pub record TooDeepAt (s : List ℕ) (n : ℕ) : Type 0 where
   pub ending : List ℕ
   pub tree : Json
   pub before : Spells depth tree (take n s ++ bytes "0" ++ ending)
+
+-- opens the definitions
+unfoldable pub placing : Unit {0}
+unfolding lexing hexDigit fromOutside fromInside step along
+placing = tt
