@@ -1,5 +1,5 @@
--- Where stage A's faults of kinds 3 and 4 stand, as document 01 says it of the bytes: no reader is used. Kind 3: at an escape \u of a surrogate that is
--- unpaired, with none before it. Kind 4: at a bracket that opens one level too many, where JSON allows a bracket.
+-- Where stage A's faults of kinds 3 and 4 stand, as document 01 says it: told of the bytes, of the grammar and of what spells a tree, with nothing of the reader
+-- of texts. Kind 3: at an escape \u of a surrogate that is unpaired, with none before it. Kind 4: at a bracket that opens one level too many, where JSON allows one.
 use mathlib.Core.Bool.{true}
 use mathlib.Core.List.{List, [], _∷_, _++_}
 use mathlib.Core.Path.{_≡_}
