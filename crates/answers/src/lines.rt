@@ -5,28 +5,41 @@ use libc::STDIN_FILENO;
 
 // What a read came to: how many bytes are then gathered of a line that goes on.
 enum Turn {
+    Failed,
     Ended,
     Gathered(usize),
 }
 
-// Every loop must be seen to end, and input may go on for ever: turns are counted down from more than any run takes.
+// Every loop must be seen to end, and input may go on for ever: turns are counted down from more than any run takes. A line that a failed read cuts off is not
+// answered.
 pub fn answer_all(line: &mut [u8]) {
     let mut count = 0;
     let mut turns = u64::MAX;
     while turns > 0 {
-        let Turn::Gathered(n) = read_some(line, count) else {
-            break;
-        };
-        count = n;
-        turns -= 1;
+        match read_some(line, count) {
+            Turn::Failed => {
+                return;
+            }
+            Turn::Ended => {
+                answer_last(line, count);
+                return;
+            }
+            Turn::Gathered(n) => {
+                count = n;
+                turns -= 1;
+            }
+        }
     }
-    answer_last(line, count);
 }
 
-// Reads once, and answers the lines that come to their end.
+// Reads once, and answers the lines that come to their end. Where the read fails, a line on standard error says why.
 fn read_some(line: &mut [u8], count: usize) -> Turn {
     let mut chunk = io::large_buffer();
     let got = libc::read(STDIN_FILENO, &mut chunk);
+    if got < 0 {
+        os::fail(b"standard input");
+        return Turn::Failed;
+    }
     let n = io::count(got, &chunk);
     if n == 0 {
         return Turn::Ended;

@@ -3,18 +3,18 @@ use libc::STDOUT_FILENO;
 use word::Parts;
 
 pub fn error() {
-    io::write_all(STDOUT_FILENO, b"error\n");
+    put(b"error\n");
 }
 
 // The number that an answer begins with.
 pub fn first(n: u64) {
-    io::print_decimal(STDOUT_FILENO, n);
+    number(n);
 }
 
 // A number after others.
 pub fn next(n: u64) {
-    io::write_all(STDOUT_FILENO, b" ");
-    io::print_decimal(STDOUT_FILENO, n);
+    put(b" ");
+    number(n);
 }
 
 // An amount after others; below zero, a minus sign and its size, which is one more than that of the number above it.
@@ -23,8 +23,8 @@ pub fn amount(n: i64) {
         next(n as u64);
         return;
     }
-    io::write_all(STDOUT_FILENO, b" -");
-    io::print_decimal(STDOUT_FILENO, ((0 - (n + 1)) as u64) + 1);
+    put(b" -");
+    number(((0 - (n + 1)) as u64) + 1);
 }
 
 // A mark after others: 1 where it is set.
@@ -38,11 +38,11 @@ pub fn mark(set: bool) {
 
 // A minus sign after others, for a value that is not given.
 pub fn nothing() {
-    io::write_all(STDOUT_FILENO, b" -");
+    put(b" -");
 }
 
 pub fn end() {
-    io::write_all(STDOUT_FILENO, b"\n");
+    put(b"\n");
 }
 
 // The answer that a file is not clean, with what its word says.
@@ -63,7 +63,7 @@ pub fn parts(p: Parts) {
 
 // The first eight bytes of a buffer in hex, after the answer's number.
 pub fn word(room: &[u8; 64]) {
-    io::write_all(STDOUT_FILENO, b" ");
+    put(b" ");
     byte(room[0]);
     byte(room[1]);
     byte(room[2]);
@@ -75,5 +75,20 @@ pub fn word(room: &[u8; 64]) {
 }
 
 fn byte(b: u8) {
-    io::print_hex(STDOUT_FILENO, b as u64, 2);
+    told(io::print_hex(STDOUT_FILENO, b as u64, 2));
+}
+
+fn put(s: &[u8]) {
+    told(io::write_all(STDOUT_FILENO, s));
+}
+
+fn number(n: u64) {
+    told(io::print_decimal(STDOUT_FILENO, n));
+}
+
+// Where a write has failed, a line on standard error says why.
+fn told(written: bool) {
+    if !written {
+        os::fail(b"standard output");
+    }
 }

@@ -15,22 +15,14 @@ pub fn answer(line: &[u8], bytes: &mut [u8]) -> bool {
     if !files::decode(words::from(line, 1), bytes, &mut ends) {
         return false;
     }
-    let Number::Is(f) = number::parse(words::at(line, 7)) else {
+    let Number::Is(file) = number::parse(words::at(line, 7)) else {
         return false;
     };
-    let Number::Is(n) = number::parse(words::at(line, 8)) else {
+    let Number::Is(record) = number::parse(words::at(line, 8)) else {
         return false;
     };
-    print_shown(record(f, n, bytes, &ends));
+    print_shown(show_record(file, record, files::part(bytes, &ends, file as usize)));
     true
-}
-
-// A number past a byte's is no file's either.
-fn record(f: u64, n: u64, bytes: &[u8], ends: &[usize; 6]) -> Shown {
-    if 6 < f {
-        return Shown::NoFile;
-    }
-    show_record(f as u8, n as usize, files::part(bytes, ends, f as usize))
 }
 
 fn print_shown(s: Shown) {

@@ -36,10 +36,9 @@ use Rattle.document.proofs.Cuts.{part-length}
 use Rattle.document.proofs.Records.{top-is}
 use Rattle.clean.specs.declared.Cleanness.{Cleanness}
 use Rattle.clean.specs.declared.Cleanness.the-variants.{Clean, Broken}
-use Rattle.clean.specs.declared.Shown.{Shown}
 use Rattle.clean.specs.declared.Shown.the-variants.{NoFile}
 use Rattle.clean.specs.Clean.{treeOf, idField, repeats, blamed, place, broken, judged, cleanOf}
-use Rattle.clean.specs.Show.{ofClean, recordShown, shownOf}
+use Rattle.clean.specs.Show.{answer, ofClean, ofSpan, shownOf}
 use Rattle.clean.proofs.Repeated.{tree-is}
 
 -- a file that is not there, and one that is
@@ -105,13 +104,13 @@ module _ (file n : ℕ) (x : Least) (e : x ≡ blamed (idField file) n) where
 
 -- what is shown
 module _ (f n : ℕ) (s : List ℕ) where
-  pub shown-none : (1 ≤ f → f ≤ 6 → ⊥) → NoFile ≡ shownOf f n s
+  pub shown-none : (1 ≤ f → f ≤ 6 → ⊥) → answer NoFile ≡ shownOf f n s
   unfolding shownOf
   shown-none h =
       by-test (leb 1 f)
       (λ t. by-test (leb f 6) (λ u. absurd (h (leb-true 1 f t) (leb-true f 6 u))) (λ u. rw (shownOf, t, u)))
       (λ t. rw (shownOf, t))
 
-  pub shown-of : 1 ≤ f → f ≤ 6 → (x : Cleanness) → x ≡ cleanOf f s → ofClean x (recordShown (recordSpan f s n)) ≡ shownOf f n s
+  pub shown-of : 1 ≤ f → f ≤ 6 → (x : Cleanness) → x ≡ cleanOf f s → ofClean x (ofSpan (recordSpan f s n)) ≡ shownOf f n s
   unfolding shownOf
   shown-of h i x e = rw (shownOf, le-leb 1 f h, le-leb f 6 i, e)

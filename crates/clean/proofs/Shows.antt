@@ -1,38 +1,64 @@
--- What "show record" shows of a clean file that is there: the bytes of the record of that number, whole, from which the picked file's record of that
--- number is picked; and past the last record nothing.
+-- What "show record" shows, told by trees. A clean file that is there passes stages A and B, so its records stand in an array, each an object without a fault, and
+-- the code's spans are those of the tree's items; an absent file has none.
 use mathlib.Core.List.{List, [], _∷_}
-use mathlib.Core.Path.{_≡_, refl, sym, ap, _∙_}
-use Prim.Native.Nat.{ℕ, suc, _≤_, _<_}
+use mathlib.Core.Path.{_≡_, refl, sym, ap, subst, _∙_}
+use Prim.Native.Nat.{ℕ, zero, suc, _≤_, _<_}
 use native.Mathlib.Omega.{arith}
-use lib.ListN.{length, getD}
+use lib.Dec.{leb, ltb}
+use lib.ListN.{length, length-map}
+use borrow.Author.Tests.{leb-true, leb-false, ltb-true, ltb-false}
+use Rattle.limits.specs.Ceilings.{depth}
+use Rattle.lexeme.specs.Read.{then}
+use Rattle.lexeme.specs.Tokens.{blanks}
+use Rattle.lexeme.proofs.Steps.{by-test}
 use Rattle.json.specs.declared.Syntax.{Syntax}
 use Rattle.json.specs.declared.Syntax.the-variants as syntax
-use Rattle.json.specs.Text.{syntaxOf}
-use Rattle.walk.specs.Walk.{part}
-use Rattle.walk.specs.Part.{Whole, treeOf}
-use Rattle.walk.proofs.Files.{Passed, passed}
-use Rattle.schema.specs.Shape.{fileShape}
-use Rattle.schema.specs.Table23.{table23}
-use Rattle.schema.specs.Pick.{Picked, pick}
+use Rattle.json.specs.Tree as tree
+use Rattle.json.specs.Tree.{Json}
+use Rattle.json.specs.Text.{text, syntaxOf}
+use Rattle.json.proofs.Values.{value-empty}
+use Rattle.walk.specs.Walk.{part, itemsOf}
+use Rattle.walk.specs.Part as walk
+use Rattle.walk.specs.Part.{Whole}
+use Rattle.walk.proofs.Files.{passed}
+use Rattle.walk.proofs.Parts.{itemOf}
+use Rattle.schema.specs.Shape as shape
+use Rattle.schema.specs.Shape.{Shape, Rows, fileShape}
+use Rattle.schema.specs.Table23.{table23, vehicleType, station, status, bike, plan, zone}
+use Rattle.schema.specs.Pick.{pick}
 use Rattle.fault.specs.declared.Least.{Least}
 use Rattle.fault.specs.declared.Least.the-variants.{None, Is}
 use Rattle.fault.specs.Fault.{least}
 use Rattle.fault.proofs.Leasts.{least-none}
-use Rattle.judge.specs.Faults.{fileFaults}
-use Rattle.document.specs.Spans.{recordSpan, Listed}
-use Rattle.document.proofs.Rests.{records-listed}
-use Rattle.document.proofs.Records.{recordShape, record-at, record-past}
+use Rattle.judge.specs.Faults.{fileFaults, faults}
+use Rattle.document.specs.Spans.{namesTo, recordSpan, Listed}
+use Rattle.document.specs.Trees.{valueAlong, itemsIn, recordTrees, numbered}
+use Rattle.document.proofs.Rests.{records-listed, no-record}
+use Rattle.document.proofs.Records.{recordShape, itemTrees, array, as-many, RecordAt, record-at, record-past, record-none}
+use Rattle.document.proofs.Trees.{object-braces, records-trees}
 use Rattle.clean.specs.declared.Cleanness.{Cleanness}
 use Rattle.clean.specs.declared.Cleanness.the-variants.{Clean, Broken}
-use Rattle.clean.specs.declared.Shown.the-variants.{NoRecord, Record}
-use Rattle.clean.specs.Clean as clean
-use Rattle.clean.specs.Clean.{recordsOf, broken, judged, cleanOf}
-use Rattle.clean.specs.Show.{recordShown, shownOf}
+use Rattle.clean.specs.Clean.{treeOf, broken, judged, cleanOf}
+use Rattle.clean.specs.Show.{Answer, shown, ofSpan, shownOf}
+use Rattle.clean.specs.ShowTree.{Has, IsRecord, ShowsRecords}
+use Rattle.clean.proofs.Faultless.{object-there}
 use Rattle.clean.proofs.Repeated.{Held, held, tree-is}
-use Rattle.clean.proofs.Judged.{clean-there, shown-of}
+use Rattle.clean.proofs.Judged.{clean-there, shown-none, shown-of}
 
 never-broken : {A : Type 0} {p : _} → Broken p ≡ Clean → A
 never-broken e = let z : _≡_ {A = ℕ} 0 1 = cc in absurd (omega arith)
+
+-- the records of each file are objects
+record-rows : (n : ℕ) → 1 ≤ n → n ≤ 6 → (rows : Rows) × (recordShape n ≡ shape.object rows)
+unfolding recordShape vehicleType station status bike plan zone
+record-rows zero h i = absurd (omega arith)
+record-rows (suc zero) h i = (_, refl)
+record-rows (suc (suc zero)) h i = (_, refl)
+record-rows (suc (suc (suc zero))) h i = (_, refl)
+record-rows (suc (suc (suc (suc zero)))) h i = (_, refl)
+record-rows (suc (suc (suc (suc (suc zero))))) h i = (_, refl)
+record-rows (suc (suc (suc (suc (suc (suc zero)))))) h i = (_, refl)
+record-rows (suc (suc (suc (suc (suc (suc (suc n))))))) h i = absurd (omega arith)
 
 -- a clean file passes stages A and B
 module _ (file : ℕ) (s : List ℕ) (some : length s ≡ 0 → ⊥) (e : cleanOf file s ≡ Clean) where
@@ -47,47 +73,61 @@ module _ (file : ℕ) (s : List ℕ) (some : length s ≡ 0 → ⊥) (e : cleanO
   unbroken None next h = refl
   unbroken (Is f) next h = never-broken h
 
-  -- the picked file
-  abbrev pub picked : Picked
-  picked = pick (fileShape table23 file) (clean.treeOf s)
-
   records : 1 ≤ file → file ≤ 6 → Held file s (passed s sound .tree)
   records h i =
       let t = passed s sound in
       held file h i s t (ap (fileFaults (fileShape table23 file)) (sym (tree-is s t))
       ∙ least-none _ (unbroken _ _ (ap (judged file s) (sym sound) ∙ clean-there file s some ∙ e)))
 
-  are : (h : 1 ≤ file) (i : file ≤ 6) → recordsOf file picked ≡ records h i .list
-  are h i = ap (λ x. recordsOf file (pick (fileShape table23 file) x)) (tree-is s (passed s sound)) ∙ records h i .are
-
-  -- the record of number k + 1
-  pub record ShownAt (k : ℕ) (d : Picked) : Type 0 where
-    pub start : ℕ
-    pub end : ℕ
-    pub is : shownOf file (suc k) s ≡ Record start end
-    pub whole : Whole (part s start end) (treeOf (part s start end))
-    pub record′ : getD (recordsOf file picked) k d ≡ pick (recordShape file) (treeOf (part s start end))
-
   module _ (h : 1 ≤ file) (i : file ≤ 6) where
-    by-span : (n : ℕ) → shownOf file n s ≡ recordShown (recordSpan file s n)
+    by-span : (n : ℕ) → shownOf file n s ≡ ofSpan (recordSpan file s n)
     by-span n = sym (shown-of file n s h i Clean (sym e))
 
-    pub shows : (k : ℕ) → k < length (recordsOf file picked) → (d : Picked) → ShownAt k d
-    unfolding recordSpan
-    shows k j d =
-        let r = records h i in
-        let a = record-at (r .there) k (omega (arith, ap length (are h i))) d in
-        record {
-          start = a .start;
-          end = a .end;
-          is = by-span (suc k) ∙ ap recordShown (a .is);
-          whole = a .there .whole;
-          record′ = ap (λ (l : List Picked). getD l k d) (are h i) ∙ a .picked;
-        }
+    trees : recordTrees file (treeOf s) ≡ itemTrees (array (records h i .there))
+    trees = ap (recordTrees file) (tree-is s (passed s sound)) ∙ records-trees file (passed s sound) (records h i .there)
 
-    pub shows-no-more : (k : ℕ) → length (recordsOf file picked) ≤ k → shownOf file (suc k) s ≡ NoRecord
+    many : length (recordTrees file (treeOf s)) ≡ length (records h i .list)
+    many =
+        let p = array (records h i .there) in
+        ap length trees ∙ length-map (itemsOf p) (λ m. walk.treeOf (itemOf p m)) ∙ sym (as-many (records h i .there))
+
+    -- the record of number k + 1 is an object
+    object : (k : ℕ) (r : RecordAt (records h i .there) (suc k)) → (ms : tree.Members) × (r .tree ≡ tree.object ms)
+    object k r =
+        let d = records h i in
+        let y = d .sound (pick (recordShape file) (r .tree)) (r .picked) in
+        let rows = record-rows file h i in
+        let o = object-there (y .0) (d .field) (rows .0) (r .tree)
+        (subst (λ (σ : Shape). faults σ (y .0) (d .field) (pick σ (r .tree)) ≡ []) (rows .1) (y .1)) in
+        (o .0, o .1)
+
+    shown-at : (k : ℕ) → k < length (recordTrees file (treeOf s))
+        → (from : ℕ) × (upto : ℕ) × (shownOf file (suc k) s ≡ shown from upto) × IsRecord file (suc k) s from upto
     unfolding recordSpan
-    shows-no-more k j = by-span (suc k) ∙ ap recordShown (record-past (records h i .there) k (omega (arith, ap length (are h i))))
+    shown-at k j =
+        let r = record-at (records h i .there) k (omega (arith, many)) in
+        let o = object k r in
+        let b = object-braces (subst (Whole (part s (r .start) (r .end))) (o .1) (r .there .whole)) in (
+          r .start,
+          r .end,
+          by-span (suc k) ∙ ap ofSpan (r .is),
+          record {
+            tree = r .tree;
+            numbered = ap (numbered (suc k)) trees ∙ r .numbered;
+            inside = r .there .inside;
+            whole = r .there .whole;
+            between = b .0;
+            brackets = b .1;
+          },
+        )
+
+    shown-past : (k : ℕ) → length (recordTrees file (treeOf s)) ≤ k → shownOf file (suc k) s .number ≡ 10
+    unfolding recordSpan
+    shown-past k j = ap (λ (a : Answer). a .number) (by-span (suc k) ∙ ap ofSpan (record-past (records h i .there) k (omega (arith, many))))
+
+    shown-zero : shownOf file 0 s .number ≡ 10
+    unfolding recordSpan
+    shown-zero = ap (λ (a : Answer). a .number) (by-span 0 ∙ ap ofSpan (record-none (records h i .there)))
 
 -- a clean file has its records in an array, or is not there
 pub listed : (file : ℕ) (s : List ℕ) → 1 ≤ file → file ≤ 6 → cleanOf file s ≡ Clean → Listed file s
@@ -95,3 +135,64 @@ listed file [] h i e = Listed.absent refl
 listed file (b ∷ s) h i e =
     let some : length (b ∷ s) ≡ 0 → ⊥ = λ z. omega arith in
     records-listed (sound file (b ∷ s) some e) (records file (b ∷ s) some e h i .there)
+
+-- an absent file has no records, by its tree as by its bytes
+none-along : (names : List (List ℕ)) → itemsIn (valueAlong names tree.null) ≡ []
+unfolding valueAlong
+none-along [] = refl
+none-along (name ∷ names) = refl
+
+absent-null : treeOf [] ≡ tree.null
+unfolding treeOf text blanks then
+absent-null = rw (treeOf, text, value-empty depth)
+
+absent-none : (file : ℕ) → recordTrees file (treeOf []) ≡ []
+unfolding recordTrees
+absent-none file = ap (recordTrees file) absent-null ∙ none-along (namesTo file)
+
+absent-shown : (file n : ℕ) → 1 ≤ file → file ≤ 6 → shownOf file n [] .number ≡ 10
+unfolding cleanOf
+absent-shown file n h i = ap (λ (a : Answer). a .number) (sym (shown-of file n [] h i Clean refl) ∙ ap ofSpan (no-record file n))
+
+-- The law.
+never : {A : Type 0} {k : ℕ} → k ≡ 0 → 1 ≤ k → A
+never e h = absurd (omega arith)
+
+abbrev Shown : (file n : ℕ) → List ℕ → Type 0
+Shown file n s = (from : ℕ) × (upto : ℕ) × (shownOf file n s ≡ shown from upto) × IsRecord file n s from upto
+
+answers : (file n : ℕ) (s : List ℕ) → Has file n s → Shown file n s
+answers file zero s h = absurd (omega (arith, h .first))
+answers file (suc k) [] h = absurd (omega (arith, h .last, ap length (absent-none file)))
+answers file (suc k) (b ∷ s) h = shown-at file (b ∷ s) (λ z. omega arith) (h .clean) (h .least) (h .most) k (omega (arith, h .last))
+
+module _ (file : ℕ) (h : 1 ≤ file) (i : file ≤ 6) where
+  has-clean : (n : ℕ) (s : List ℕ) → cleanOf file s ≡ Clean → shownOf file n s .number ≡ 0 → Has file n s
+  has-clean n [] c e = never (sym (absent-shown file n h i) ∙ e) (omega arith)
+  has-clean zero (b ∷ s) c e = never (sym (shown-zero file (b ∷ s) (λ z. omega arith) c h i) ∙ e) (omega arith)
+  has-clean (suc k) (b ∷ s) c e =
+      by-test (ltb k (length (recordTrees file (treeOf (b ∷ s)))))
+      (λ t. let j = ltb-true k (length (recordTrees file (treeOf (b ∷ s)))) t in
+      record { least = h; most = i; clean = c; first = omega arith; last = omega arith })
+      (λ t. never (sym (shown-past file (b ∷ s) (λ z. omega arith) c h i k (ltb-false k (length (recordTrees file (treeOf (b ∷ s)))) t)) ∙ e) (omega arith))
+
+  has : (n : ℕ) (s : List ℕ) (x : Cleanness) → cleanOf file s ≡ x → shownOf file n s .number ≡ 0 → Has file n s
+  has n s Clean c e = has-clean n s c e
+  has n s (Broken p) c e = never (ap (λ (a : Answer). a .number) (shown-of file n s h i (Broken p) (sym c)) ∙ e) (omega arith)
+
+only : (file n : ℕ) (s : List ℕ) → shownOf file n s .number ≡ 0 → Has file n s
+only file n s e =
+    by-test (leb 1 file)
+    (λ t. by-test (leb file 6) (λ u. has file (leb-true 1 file t) (leb-true file 6 u) n s (cleanOf file s) refl e)
+    (λ u. never (ap (λ (a : Answer). a .number) (shown-none file n s (λ h i. omega (arith, leb-false file 6 u))) ∙ e) (omega arith)))
+    (λ t. never (ap (λ (a : Answer). a .number) (shown-none file n s (λ h i. omega (arith, leb-false 1 file t))) ∙ e) (omega arith))
+
+pub shows-records : ShowsRecords
+shows-records =
+    record {
+      answered = λ file n s h. ap (λ (a : Answer). a .number) (answers file n s h .2);
+      only = only;
+      shows = λ file n s e.
+          let a = answers file n s (only file n s e) in
+          subst (λ (z : Answer). IsRecord file n s (z .from) (z .upto)) (sym (a .2)) (a .3);
+    }

@@ -1,12 +1,10 @@
 -- The question "show record n of file f": document 01's table. A refusal shows an empty part.
-use mathlib.Core.Bool.{Bool, true, false}
-use mathlib.Core.List.{List, []}
+use mathlib.Core.List.{List}
 use Prim.Native.Nat.{ℕ}
 use lib.Dec.{leb}
 use Rattle.notation.specs.Choice.{_⇒_else_, _and_}
 use Rattle.word.specs.declared.Parts.{Parts}
 use Rattle.word.specs.Word.{noParts}
-use Rattle.walk.specs.Walk.{part}
 use Rattle.document.specs.declared.Span.{Span}
 use Rattle.document.specs.declared.Span.the-variants.{None, Is}
 use Rattle.document.specs.Spans.{recordSpan}
@@ -16,26 +14,39 @@ use Rattle.clean.specs.declared.Shown.{Shown}
 use Rattle.clean.specs.declared.Shown.the-variants.{NoFile, NotClean, NoRecord, Record}
 use Rattle.clean.specs.Clean.{cleanOf}
 
--- an answer's number, parts and bytes
+-- An answer's number, the parts of a word, and the part of the file's bytes that it shows. Parts that are not given are zero.
 pub record Answer : Type 0 where
   pub number : ℕ
   pub parts : Parts
-  pub shown : List ℕ
+  pub from : ℕ
+  pub upto : ℕ
 
-abbrev pub answer : List ℕ → Shown → Answer
-answer s NoFile = record { number = 10; parts = noParts; shown = [] }
-answer s (NotClean p) = record { number = 5; parts = p; shown = [] }
-answer s NoRecord = record { number = 10; parts = noParts; shown = [] }
-answer s (Record from upto) = record { number = 0; parts = noParts; shown = part s from upto }
+-- a refusal, which shows an empty part
+abbrev pub refused : ℕ → Parts → Answer
+refused number p = record { number = number; parts = p; from = 0; upto = 0 }
 
-abbrev pub recordShown : Span → Shown
-recordShown None = NoRecord
-recordShown (Is from upto) = Record from upto
+-- a record, from one place up to another
+abbrev pub shown : (from upto : ℕ) → Answer
+shown from upto = record { number = 0; parts = noParts; from = from; upto = upto }
 
-abbrev pub ofClean : Cleanness → Shown → Shown
+abbrev pub answer : Shown → Answer
+answer NoFile = refused 10 noParts
+answer (NotClean p) = refused 5 p
+answer NoRecord = refused 10 noParts
+answer (Record from upto) = shown from upto
+
+-- of a clean file: no such record, or where it stands
+abbrev pub ofSpan : Span → Answer
+ofSpan None = refused 10 noParts
+ofSpan (Is from upto) = shown from upto
+
+abbrev pub ofClean : Cleanness → Answer → Answer
 ofClean Clean next = next
-ofClean (Broken p) next = NotClean p
+ofClean (Broken p) next = refused 5 p
 
--- the n-th record of file f, of its bytes s
-unfoldable pub shownOf : ℕ → ℕ → List ℕ → Shown
-shownOf f n s = leb 1 f and leb f 6 ⇒ ofClean (cleanOf f s) (recordShown (recordSpan f s n)) else NoFile
+-- record n of a file, of its bytes s
+unfoldable pub shownOf : (file n : ℕ) → List ℕ → Answer
+shownOf file n s =
+    leb 1 file and leb file 6 ⇒
+    ofClean (cleanOf file s) (ofSpan (recordSpan file s n))
+    else refused 10 noParts

@@ -15,6 +15,7 @@ ghost use mathlib.Core.Path.{_≡_};
 ghost use Prim.Native.Nat.{_<_};
 ghost use Rattle.json.specs.declared.Syntax.the-variants.{Sound};
 ghost use Rattle.json.specs.Text.{syntaxOf};
+ghost use Rattle.walk.specs.Walk.{part};
 ghost use Rattle.schema.specs.Shape.{fileShape};
 ghost use Rattle.schema.specs.Table23.{table23};
 ghost use Rattle.schema.specs.Pick.{pick};
@@ -112,7 +113,7 @@ fn judge_passed(file: u8, s: &[u8]) -> Cleanness
 }
 
 // Whether a file is clean, by its number, from 1 to 6, and its bytes; where nothing is there it is. Under any other number stage A alone counts.
-// Shut out: the least fault of kind 12 named where stage B has one; an absent file named as one that is no JSON text.
+// Shut out: a repeated id named where stage B finds a fault; an absent file refused as no JSON text.
 pub fn check_clean(file: u8, s: &[u8]) -> Cleanness
     ensures { λ r. ⌜ r ≡ cleanOf file (now (s .entry)) ⌝ }
 {
@@ -136,22 +137,23 @@ pub fn check_clean(file: u8, s: &[u8]) -> Cleanness
     }
 }
 
-// The n-th record of file f, counted from 1, of which s are the bytes.
-// Shut out: a record of a file that is not clean; the record after the one asked for.
-pub fn show_record(f: u8, n: usize, s: &[u8]) -> Shown
-    ensures { λ r. ⌜ r ≡ shownOf f n (now (s .entry)) ⌝ }
+// The record of a number, counted from 1, of a file, of which s are the bytes. Every number of a file or of a record may be asked for.
+// Shut out: a record of a file that is not clean; file 257 taken for file 1.
+pub fn show_record(file: u64, record: u64, s: &[u8]) -> Shown
+    ensures { λ r. ⌜ answer r ≡ shownOf file «record» (now (s .entry)) ⌝ }
 {
-    if f == 0 {
+    if file == 0 {
         return Shown::NoFile;
     }
-    if 6 < f {
+    if 6 < file {
         return Shown::NoFile;
     }
+    let f = file as u8;
     match check_clean(f, s) {
         Cleanness::Broken(p) => {
             return Shown::NotClean(p);
         }
-        Cleanness::Clean => match record_span(f, s, n) {
+        Cleanness::Clean => match record_span(f, s, record as usize) {
             Span::None => {
                 return Shown::NoRecord;
             }
@@ -165,20 +167,12 @@ pub fn show_record(f: u8, n: usize, s: &[u8]) -> Shown
 // The bytes of an answer, a part of the caller's own: none on a refusal.
 // Shut out: a part that is shown on a refusal; one that ends before its record does.
 pub fn shown_part(s: &[u8], shown: Shown) -> &[u8]
-    ensures { λ r. ⌜ now r ≡ answer (now (s .entry)) shown .shown ⌝ }
+    ensures { λ r. ⌜ now r ≡ part (now (s .entry)) (answer shown .from) (answer shown .upto) ⌝ }
 {
     match shown {
-        Shown::Record(from, upto) => {
-            return cut(s, from, upto);
-        }
-        Shown::NoFile => {
-            return cut(s, 0, 0);
-        }
-        Shown::NotClean(_) => {
-            return cut(s, 0, 0);
-        }
-        Shown::NoRecord => {
-            return cut(s, 0, 0);
-        }
+        Shown::NoFile => return cut(s, 0, 0),
+        Shown::NotClean(_) => return cut(s, 0, 0),
+        Shown::NoRecord => return cut(s, 0, 0),
+        Shown::Record(from, upto) => return cut(s, from, upto),
     }
 }

@@ -335,10 +335,3 @@ priced (b ∷ r) = go (digit b) refl (eqb b 0x30) refl
         ∙ whole-tail (b ∷ front r) (beyond r) (follows r)
         ∙ price-run b e z r
     go false e z q = lost-from start b r (start-lost b e) ∙ price-other b r e
-
--- p was reached, and no byte of the text t is left
-pub price-end : (p : Progress) (l t : List ℕ) → l ≡ [] → steps p l ≡ steps start t → finished p (p .phase) ≡ priceOf t
-unfolding steps
-price-end p l t e h =
-    let q : p ≡ steps start t = ap (steps p) (sym e) ∙ h in
-    ap (λ (x : Progress). verdict x) q ∙ priced t

@@ -1,23 +1,26 @@
 -- The bytes of a price, one by one: the ways of a byte, and that the values stay within their digits, so that no sum wraps.
 use mathlib.Core.Bool.{Bool, true, false}
-use mathlib.Core.List.{List, [], _∷_, _++_}
-use mathlib.Core.Path.{_≡_, refl, sym, ap, subst}
+use mathlib.Core.List.{List, [], _∷_}
+use mathlib.Core.Path.{_≡_, refl, sym, ap, subst, _∙_}
 use Prim.Native.Nat.{ℕ, _+_, _-_, _*_, _^_, _<_, _≤_, min}
 use native.Mathlib.Omega.{arith}
-use lib.Dec.{eqb, ltb}
+use lib.Dec.{eqb, leb, ltb}
 use lib.ListN.{take}
 use lib.Seq.{take-all}
-use borrow.Author.Tests.{eq-eqb, ne-eqb, ltb-true, ltb-false, lt-ltb, le-ltb}
+use borrow.Author.Tests.{eq-eqb, ne-eqb, leb-true, ltb-true, ltb-false, lt-ltb, le-ltb}
+use Rattle.notation.specs.Choice.{_⇒_else_, _and_}
 use Rattle.radix.proofs.Digits.{one-more}
 use Rattle.lexeme.specs.declared.Char.{Char}
 use Rattle.lexeme.specs.Character.{bytesOf}
 use Rattle.lexeme.specs.Numbers.{digit}
-use Rattle.decimal.specs.declared.Price.the-variants.{NoNumber}
+use Rattle.decimal.specs.declared.Decimal.{Decimal}
+use Rattle.decimal.specs.declared.Price.the-variants.{Value, Unformed, NoNumber}
 use Rattle.decimal.specs.declared.spelling.Run.{Run}
 use Rattle.decimal.specs.declared.quoted.Phase.{Phase}
 use Rattle.decimal.specs.declared.quoted.Phase.the-variants.{Start, Zero, Whole, Part, Lost}
 use Rattle.decimal.specs.declared.quoted.Progress.{Progress}
 use Rattle.decimal.specs.Priced.{longer, lost, start, onDigit, onPoint, step, steps, priceSo, finished, Held}
+use Rattle.decimal.specs.Spelling.{made}
 use Rattle.decimal.proofs.Runs.{digit-range}
 
 -- one digit more, within the most digits and past them
@@ -91,6 +94,16 @@ module _ (p : Progress) (h : Held p) where
       go false q true r = subst Held (step-point p b q r) (on-point-held (p .phase))
       go false q false r = subst Held (step-other p b q r) lost-held
 
+pub steps-held : (l : List ℕ) (p : Progress) → Held p → Held (steps p l)
+unfolding steps
+steps-held [] p h = h
+steps-held (b ∷ l) p h = steps-held l (step p b) (step-held p h b)
+
+-- no byte is left, and those that were left led to x
+pub steps-end : (p x : Progress) (l : List ℕ) → l ≡ [] → steps p l ≡ x → p ≡ x
+unfolding steps
+steps-end p x l e h = ap (steps p) (sym e) ∙ h
+
 -- one byte, and then those that follow it
 pub steps-next : (p : Progress) {l : List ℕ} {b : ℕ} {r : List ℕ} → l ≡ b ∷ r → steps (step p b) r ≡ steps p l
 unfolding steps
@@ -104,6 +117,35 @@ part-none p e = rw (eq-eqb (p .part .count) 0 e)
 pub part-some : (p : Progress) → (p .part .count ≡ 0 → ⊥) → priceSo p ≡ finished p Part
 unfolding finished
 part-some p n = rw (ne-eqb (p .part .count) 0 n)
+
+-- a price in the form: it has no more digits behind the point than it may, and is the number of its digits
+no-value : {A : Type 0} {d : Decimal} → NoNumber ≡ Value d → A
+no-value e = let z : _≡_ {A = ℕ} 0 1 = cc in absurd (omega arith)
+
+module _ (p : Progress) (d : Decimal) where
+  price-so : (f : Phase) → finished p f ≡ Value d → priceSo p ≡ Value d
+  unfolding finished
+  price-so Start e = no-value e
+  price-so Zero e = e
+  price-so Whole e = e
+  price-so Part e = go (eqb (p .part .count) 0) e
+    where
+      go : (t : Bool) → (t ⇒ NoNumber else priceSo p) ≡ Value d → priceSo p ≡ Value d
+      go true e = no-value e
+      go false e = e
+  price-so Lost e = no-value e
+
+  pub price-digits : finished p (p .phase) ≡ Value d
+      → (p .part .count ≤ 18) × (made false (p .whole .value) (p .part .value) (p .part .count) ≡ d)
+  unfolding priceSo
+  price-digits e = go (leb (p .whole .count) 12) (leb (p .part .count) 18) refl (price-so (p .phase) e)
+    where
+      go : (a b : Bool) → leb (p .part .count) 18 ≡ b
+          → (a and b ⇒ Value (made false (p .whole .value) (p .part .value) (p .part .count)) else Unformed) ≡ Value d
+          → (p .part .count ≤ 18) × (made false (p .whole .value) (p .part .value) (p .part .count) ≡ d)
+      go true true h e = (leb-true _ _ h, cc)
+      go true false h e = let z : _≡_ {A = ℕ} 0 1 = cc in absurd (omega arith)
+      go false b h e = let z : _≡_ {A = ℕ} 0 1 = cc in absurd (omega arith)
 
 -- the bytes of a character, of which `len` count
 pub first-bytes : (p : Progress) (x : Char) (n : ℕ) → x .len ≡ n → steps p (take n (x .b0 ∷ x .b1 ∷ x .b2 ∷ x .b3 ∷ [])) ≡ steps p (bytesOf x)

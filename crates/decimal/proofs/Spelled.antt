@@ -5,7 +5,7 @@ use mathlib.Core.List.{List, [], _∷_}
 use mathlib.Core.Path.{_≡_, refl, sym, ap, _∙_}
 use Prim.Native.Nat.{ℕ, suc, _+_, _-_, _*_, _^_, _<_, _≤_, min}
 use native.Mathlib.Nat.{pow-succ', mul-assoc, mul-one}
-use native.Mathlib.Decide.{decLe}
+use native.Mathlib.Decide.{decLe, ℕ-discrete}
 use native.Mathlib.Omega.{arith}
 use lib.Dec.{eqb}
 use lib.ListN.{length, getD, take, drop, drop-of-length-le, length-take, length-drop}
@@ -16,12 +16,17 @@ use Rattle.radix.specs.Radix.{numberFrom}
 use Rattle.lexeme.specs.Read.{Read}
 use Rattle.lexeme.specs.Read.Read.{done, bad}
 use Rattle.lexeme.specs.Numbers.{digits}
+use Rattle.decimal.specs.declared.Decimal.{Decimal}
 use Rattle.decimal.specs.declared.Number.{Number}
 use Rattle.decimal.specs.declared.Number.the-variants.{Value, Unformed}
 use Rattle.decimal.specs.declared.spelling.Run.{Run}
 use Rattle.decimal.specs.Decimals.{decimalOf, formed, behindPoint, behindWhole, numberOf, hasPoint}
 use Rattle.decimal.specs.Spelling.{front, valueFrom, runFrom, made, fractionOf}
+use Rattle.decimal.specs.Formed.{IsNumber}
 use Rattle.decimal.proofs.Runs.{digit-range, at-cons, digits-front, front-length, front-at, front-all, front-take, value-from, run-count, run-value}
+
+no-value : {A : Type 0} {d : Decimal} → Unformed ≡ Value d → A
+no-value e = let z : _≡_ {A = ℕ} 0 1 = cc in absurd (omega arith)
 
 -- a sign counts only where the number is not 0
 pub sign-kept : (negative : Bool) (n : ℕ) → (n ≡ 0 → ⊥) → negative ≡ (negative and not (eqb n 0))
@@ -170,11 +175,34 @@ module _ (negative : Bool) (l : List ℕ) (m : ℕ) (a : m ≡ min 12 (length l)
       | no k ↦ absurd (omega (arith, p, digit-range (getD l (r .count) 0) (front-at l (r .count) (omega (arith, counted)))))
     ]
 
+    -- a spelling in the form: the point is there, and behind it stand digits to the end
+    module _ (v : IsNumber (behindWhole negative (digits l))) where
+      point-there : getD l (r .count) 0 ≡ 0x2e
+      point-there = elim (ℕ-discrete (getD l (r .count) 0) 0x2e) [ yes p ↦ p | no n ↦ no-value (no-point n ∙ v .1) ]
+
+      fraction-there : fractionOf negative (r .value) (drop (r .count + 1) l) ≡ Value (v .0)
+      fraction-there = point point-there ∙ v .1
+
+      pub part-short : length (drop (r .count + 1) l) ≤ 18
+      part-short = elim (decLe (length (drop (r .count + 1) l)) 18) [
+        | yes k ↦ k
+        | no k ↦ no-value (fraction-long negative (r .value) (drop (r .count + 1) l) (omega arith) ∙ fraction-there)
+      ]
+
+      pub part-digits : (q : Run) → q ≡ runFrom 0 0 (drop (r .count + 1) l) → Value (made negative (r .value) (q .value) (q .count)) ≡ behindWhole negative (digits l)
+      part-digits q w = elim (ℕ-discrete (q .count) (length (drop (r .count + 1) l))) [
+        | yes k ↦ fraction-run-digits negative (r .value) (drop (r .count + 1) l) part-short q w k ∙ point point-there
+        | no k ↦ no-value (fraction-run-other negative (r .value) (drop (r .count + 1) l) part-short q w k ∙ fraction-there)
+      ]
+
 -- the sign
 pub number-none : (s : List ℕ) → length s ≡ 0 → Unformed ≡ numberOf s
 unfolding numberOf
 number-none [] h = refl
 number-none (b ∷ s) h = absurd (omega arith)
+
+pub number-some : (s : List ℕ) → IsNumber (numberOf s) → length s ≡ 0 → ⊥
+number-some s v h = no-value (number-none s h ∙ v .1)
 
 pub number-minus : (s : List ℕ) → (length s ≡ 0 → ⊥) → getD s 0 0 ≡ 0x2d → behindWhole true (digits (drop 1 s)) ≡ numberOf s
 unfolding numberOf

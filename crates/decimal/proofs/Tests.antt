@@ -1,7 +1,7 @@
 -- The tests on the exact value, by the sign and the size: a number in the form is below 0 just where it has a sign, and it is within k
 -- of 0 where its size is at most k units. On whole and part this is linear.
 use mathlib.Core.Bool.{Bool, true, false, not}
-use mathlib.Core.Path.{_≡_, refl, sym, _∙_}
+use mathlib.Core.Path.{_≡_, refl, sym, ap, _∙_}
 use Prim.Native.Nat.{ℕ, _+_, _*_, _/_, _%_, _<_, _≤_}
 use native.Mathlib.Decide.{ℕ-discrete}
 use native.Mathlib.Omega.{arith}
@@ -9,12 +9,13 @@ use lib.Dec.{eqb, leb}
 use lib.IntN.{pos, negℤ}
 use lib.Signed.{leZ}
 use borrow.Author.Tests.{eq-eqb, ne-eqb, le-leb, lt-leb}
-use Rattle.notation.specs.Choice.{_and_}
+use Rattle.notation.specs.Choice.{_⇒_else_, _and_}
 use Rattle.signed.specs.Signed.{signed}
 use Rattle.signed.proofs.Gap.{gap-neg, gap-natural, signed-le, signed-across}
 use Rattle.decimal.specs.declared.Decimal.{Decimal}
+use Rattle.decimal.specs.declared.Amount.{Amount}
 use Rattle.decimal.specs.declared.Money.the-variants.{Is, Outside}
-use Rattle.decimal.specs.Exact.{unit, size, exact, natural, portion, within, moneyOf}
+use Rattle.decimal.specs.Exact.{unit, size, exact, natural, portion, within, amountOf, moneyOf}
 use Rattle.decimal.specs.Formed.{Formed}
 
 and-true : (t : Bool) → (t and true) ≡ t
@@ -81,9 +82,20 @@ module _ (d : Decimal) (f : Formed d) where
     unfolding moneyOf
     money-fine n = rw (e, rest-is, ne-eqb (d .part % 100_000_000_000_000) 0 n)
 
-    pub money-is : d .part % 100_000_000_000_000 ≡ 0 →
-        Is (record { negative = d .negative; size = d .whole * 10_000 + d .part / 100_000_000_000_000 }) ≡ moneyOf d
+    pub money-is : d .part % 100_000_000_000_000 ≡ 0 → Is (amountOf d) ≡ moneyOf d
     unfolding moneyOf
-    money-is z =
-        let q : size d / 100_000_000_000_000 ≡ d .whole * 10_000 + d .part / 100_000_000_000_000 = omega arith in
-        rw (e, rest-is, eq-eqb (d .part % 100_000_000_000_000) 0 z, q)
+    money-is z = rw (e, rest-is, eq-eqb (d .part % 100_000_000_000_000) 0 z)
+
+-- an amount, by whole and part; and what is money has that amount
+pub amount-parts : (d : Decimal) → record { negative = d .negative; size = d .whole * 10_000 + d .part / 100_000_000_000_000 } ≡ amountOf d
+amount-parts d =
+    let q : d .whole * 10_000 + d .part / 100_000_000_000_000 ≡ size d / 100_000_000_000_000 = omega arith in
+    ap (λ (n : ℕ). record { negative = d .negative; size = n }) q
+
+pub money-amount : (d : Decimal) (a : Amount) → moneyOf d ≡ Is a → amountOf d ≡ a
+unfolding moneyOf
+money-amount d a e = go (within 1_000_000 d and eqb (size d % 100_000_000_000_000) 0) e
+  where
+    go : (t : Bool) → (t ⇒ Is (amountOf d) else Outside) ≡ Is a → amountOf d ≡ a
+    go true e = cc
+    go false e = let z : _≡_ {A = ℕ} 0 1 = cc in absurd (omega arith)

@@ -38,11 +38,12 @@ within k d = leZ (negℤ (pos (k * unit))) (exact d) and leZ (exact d) (pos (k *
 unfoldable pub millionths : Decimal → ℤ
 millionths d = signed (d .negative) (size d / 1_000_000_000_000)
 
--- money: at most a million either way, and a multiple of 0.0001
+-- money: at most a million either way, and a multiple of 0.0001; its amount
+abbrev pub amountOf : Decimal → Amount
+amountOf d = record { negative = d .negative; size = size d / 100_000_000_000_000 }
+
 unfoldable pub moneyOf : Decimal → Money
-moneyOf d =
-    within 1_000_000 d and eqb (size d % 100_000_000_000_000) 0 ⇒
-    Is (record { negative = d .negative; size = size d / 100_000_000_000_000 }) else Outside
+moneyOf d = within 1_000_000 d and eqb (size d % 100_000_000_000_000) 0 ⇒ Is (amountOf d) else Outside
 
 -- an amount in ten-thousandths
 unfoldable pub tenThousandths : Amount → ℤ

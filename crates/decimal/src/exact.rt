@@ -6,7 +6,7 @@ ghost use mathlib.Core.Bool.{true};
 ghost use mathlib.Core.Path.{_≡_};
 ghost use Prim.Native.Nat.{_*_, _≤_};
 ghost use Rattle.signed.specs.Signed.{signed, difference};
-ghost use Rattle.decimal.specs.Exact.{natural as naturalOf, portion as portionOf, within as withinOf, moneyOf, millionths};
+ghost use Rattle.decimal.specs.Exact.{natural as naturalOf, portion as portionOf, within as withinOf, amountOf, moneyOf, millionths};
 ghost use Rattle.decimal.specs.Formed.{Formed};
 
 impl Decimal {
@@ -51,6 +51,17 @@ impl Decimal {
         return self.within(1);
     }
 
+    // The amount of a number that is money.
+    pub fn amount(self) -> Amount
+        requires { ⌜ Formed self ⌝ }
+        ensures { λ r. ⌜ r ≡ amountOf self ⌝ }
+    {
+        Amount {
+            negative: self.negative,
+            size: self.whole * 10_000 + self.part / Decimal::TEN_THOUSANDTH,
+        }
+    }
+
     // As money.
     pub fn money(self) -> Money
         requires { ⌜ Formed self ⌝ }
@@ -62,11 +73,7 @@ impl Decimal {
         if self.part % Decimal::TEN_THOUSANDTH != 0 {
             return Money::Outside;
         }
-        let size = self.whole * 10_000 + self.part / Decimal::TEN_THOUSANDTH;
-        return Money::Is(Amount {
-            negative: self.negative,
-            size,
-        });
+        return Money::Is(self.amount());
     }
 
     // How many millionths, without the sign.

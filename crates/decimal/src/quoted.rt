@@ -8,13 +8,16 @@ use crate::spelling::is_digit;
 use text::Step;
 use text::walk::cursor_at;
 use text::walk::next_byte;
-ghost use mathlib.Core.Bool.{true};
+ghost use mathlib.Core.Bool.{true, false};
 ghost use mathlib.Core.Path.{_≡_};
 ghost use Prim.Native.Nat.{_^_, _≤_, _<_, min};
 ghost use Rattle.lexeme.specs.Numbers.{digit};
 ghost use Rattle.text.specs.Text.{textOf};
+ghost use Rattle.decimal.specs.declared.Price.the-variants.{Value};
 ghost use Rattle.decimal.specs.Decimals.{priceOf};
-ghost use Rattle.decimal.specs.Priced.{longer, beginning, start as startOf, lost as lostOf, onDigit, onPoint, step as stepOf, priceSo, finished, Held};
+ghost use Rattle.decimal.specs.Spelling.{made};
+ghost use Rattle.decimal.specs.Priced.{longer, beginning, start as startOf, lost as lostOf, onDigit, onPoint, step as stepOf, steps, priceSo, finished, Held};
+ghost use Rattle.decimal.specs.Formed.{IsPrice};
 
 // How far a text is a number: nothing yet, a single 0, whole digits, a point and what follows it; or it is none.
 pub enum Phase {
@@ -164,6 +167,16 @@ impl Progress {
         return Progress::lost();
     }
 
+    // The number of the digits so far, no more of them behind the point than there may be.
+    fn value(self) -> Decimal
+        requires { ⌜ Held self × (self .part .count ≤ 18) ⌝ }
+        ensures { λ r. ⌜ r ≡ made false (self .whole .value) (self .part .value) (self .part .count) ⌝ }
+    {
+        let whole = self.whole;
+        let part = self.part;
+        decimal(false, whole.value, part)
+    }
+
     // The price of the digits so far.
     fn price(self) -> Price
         requires { ⌜ Held self ⌝ }
@@ -177,7 +190,7 @@ impl Progress {
         if Decimal::PART_DIGITS < part.count {
             return Price::Unformed;
         }
-        return Price::Value(decimal(false, whole.value, part));
+        return Price::Value(self.value());
     }
 
     fn finish(self) -> Price
@@ -209,17 +222,16 @@ impl Progress {
     }
 }
 
-// The price that the text of a string stands for, of its bytes between the quotes as spelled.
-// Shut out: an escape taken for itself, so that "\u0031" is no number; a sign, an exponent or a bare point let through.
-pub fn read_price(spelled: &[u8]) -> Price
-    ensures { λ r. ⌜ r ≡ priceOf (textOf (now (spelled .entry))) ⌝ }
+// How far the text of a string is a number, of its bytes between the quotes as spelled.
+fn progress_of(spelled: &[u8]) -> Progress
+    ensures { λ r. ⌜ r ≡ steps startOf (textOf (now (spelled .entry))) ⌝ }
 {
     let mut p = Progress::start();
     let mut c = cursor_at(0);
     loop {
         match next_byte(spelled, c) {
             Step::End => {
-                return p.finish();
+                return p;
             }
             Step::Byte(b, after) => {
                 p = p.step(b);
@@ -227,4 +239,20 @@ pub fn read_price(spelled: &[u8]) -> Price
             }
         }
     }
+}
+
+// The price that the text of a string stands for.
+// Shut out: an escape taken for itself, so that "\u0031" is no number; a sign, an exponent or a bare point let through.
+pub fn read_price(spelled: &[u8]) -> Price
+    ensures { λ r. ⌜ r ≡ priceOf (textOf (now (spelled .entry))) ⌝ }
+{
+    progress_of(spelled).finish()
+}
+
+// The same of a text that is known to be a price in the form.
+pub fn formed_price(spelled: &[u8]) -> Decimal
+    requires { ⌜ IsPrice (priceOf (textOf (now spelled))) ⌝ }
+    ensures { λ r. ⌜ Value r ≡ priceOf (textOf (now (spelled .entry))) ⌝ }
+{
+    progress_of(spelled).value()
 }

@@ -9,7 +9,9 @@ ghost use lib.ListN.{length};
 ghost use Rattle.notation.specs.Choice.{_and_};
 ghost use Rattle.lexeme.specs.Numbers.{digit, digits};
 ghost use Rattle.decimal.specs.Decimals.{behindWhole, numberOf, hasPoint};
+ghost use Rattle.decimal.specs.declared.Number.the-variants.{Value};
 ghost use Rattle.decimal.specs.Spelling.{runFrom, made, fractionOf};
+ghost use Rattle.decimal.specs.Formed.{IsNumber};
 
 // Digits in a row: the number that they spell, and how many they are.
 pub struct Run {
@@ -140,6 +142,30 @@ pub fn read_decimal(s: &[u8]) -> Number
         return unsigned(&s[1..], true);
     }
     return unsigned(s, false);
+}
+
+// The same of a spelling that is known to be in the form: behind its whole digits stands nothing, or a point with digits to the end.
+fn formed_unsigned(s: &[u8], negative: bool) -> Decimal
+    requires { ⌜ IsNumber (behindWhole negative (digits (now s))) ⌝ }
+    ensures { λ r. ⌜ Value r ≡ behindWhole negative (digits (now (s .entry))) ⌝ }
+{
+    let most = least(Decimal::WHOLE_DIGITS, s.len());
+    let run = Run::of(&s[..most]);
+    let at = run.count;
+    if s.len() <= at {
+        return decimal(negative, run.value, Run { value: 0, count: 0 });
+    }
+    return decimal(negative, run.value, Run::of(&s[at + 1..]));
+}
+
+pub fn formed_decimal(s: &[u8]) -> Decimal
+    requires { ⌜ IsNumber (numberOf (now s)) ⌝ }
+    ensures { λ r. ⌜ Value r ≡ numberOf (now (s .entry)) ⌝ }
+{
+    if s[0] == b'-' {
+        return formed_unsigned(&s[1..], true);
+    }
+    return formed_unsigned(s, false);
 }
 
 // Whether a spelling has a point: no integer has one.

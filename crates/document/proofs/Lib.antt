@@ -4,3 +4,4 @@ pub mod Fields
 pub mod First
 pub mod Records
 pub mod Rests
+pub mod Trees

@@ -1,10 +1,10 @@
 -- The records in a file's bytes are the records of the picked file, one by one: each stands at its span, whole, and is picked by its shape.
-use mathlib.Core.List.{List, [], _∷_, map, List·Memᴰ, List·Memᴰ·head, List·Memᴰ·tail}
+use mathlib.Core.List.{List, [], _∷_, map, List·Memᴰ, List·Memᴰ·head, List·Memᴰ·tail, Memᴰ·map}
 use mathlib.Core.Path.{_≡_, refl, sym, ap, subst, _∙_}
 use Prim.Native.Nat.{ℕ, zero, suc, _+_, _-_, _≤_, _<_}
 use native.Mathlib.Omega.{arith}
 use lib.Dec.{eqb}
-use lib.ListN.{length, drop, getD, length-map}
+use lib.ListN.{length, drop, length-map}
 use Rattle.limits.specs.Ceilings as ceiling
 use Rattle.notation.specs.Choice.{_⇒_else_}
 use Rattle.json.specs.Tree as tree
@@ -26,9 +26,11 @@ use Rattle.schema.specs.Pick.{Picked, PickedItems, items, pick, each, listOf}
 use Rattle.document.specs.declared.Span.{Span}
 use Rattle.document.specs.declared.Span.the-variants.{None, Is}
 use Rattle.document.specs.Document.{Maybe, none, some, field, along, path}
+use Rattle.document.specs.Trees as trees
+use Rattle.document.specs.Trees.{numbered}
 use Rattle.document.specs.Spans.{membersAlong, topSpan, namesTo, recordsSpan, nth, nthIn}
 use Rattle.document.proofs.Cuts.{part-part, part-inside}
-use Rattle.document.proofs.Along.{top-found}
+use Rattle.document.proofs.Along.{top-found, nth-zero}
 use Rattle.document.proofs.Fields.{Lists, here, below, none-some, some-some, field-held, Stands, reached}
 
 -- the value of a file that passes
@@ -98,6 +100,10 @@ leads-to (suc (suc (suc (suc (suc (suc (suc n))))))) h i = absurd (omega arith)
 abbrev pub pickedItems : Shape → List ℕ → List Picked
 pickedItems σ p = map (λ m. pick σ (treeOf (itemOf p m))) (itemsOf p)
 
+-- their trees
+abbrev pub itemTrees : List ℕ → List Json
+itemTrees p = map (λ m. treeOf (itemOf p m)) (itemsOf p)
+
 -- they are the same where more follows the array
 pub open-items : {is : Items} (σ : Shape) (s : List ℕ) (from upto : ℕ) → Whole (part s from upto) (tree.array is)
     → pickedItems σ (drop from s) ≡ pickedItems σ (part s from upto)
@@ -153,12 +159,12 @@ records-stand n h i s t is e =
 
 -- items by number
 module _ (from : ℕ) where
-  pub nth-of : (ms : List Item) (k : ℕ) → k < length ms → (m : Item) × List·Memᴰ m ms × (nth from ms (suc k) ≡ Is (from + m .value) (from + m .«value_end»))
-      × ((f : Item → Picked) (d : Picked) → getD (map f ms) k d ≡ f m)
-  unfolding nth
-  nth-of [] k h = absurd (omega arith)
-  nth-of (m ∷ ms) zero h = (m, List·Memᴰ·head refl, refl, λ f d. refl)
-  nth-of (m ∷ ms) (suc k) h = let t = nth-of ms k (omega arith) in (t .0, List·Memᴰ·tail (t .1), t .2, t .3)
+  pub nth-of : (f : Item → Json) (ms : List Item) (k : ℕ) → k < length ms → (m : Item) × List·Memᴰ m ms
+      × (nth from ms (suc k) ≡ Is (from + m .value) (from + m .«value_end»)) × (numbered (suc k) (map f ms) ≡ some (f m))
+  unfolding nth numbered
+  nth-of f [] k h = absurd (omega arith)
+  nth-of f (m ∷ ms) zero h = (m, List·Memᴰ·head refl, refl, refl)
+  nth-of f (m ∷ ms) (suc k) h = let t = nth-of f ms k (omega arith) in (t .0, List·Memᴰ·tail (t .1), t .2, t .3)
 
   pub nth-past : (ms : List Item) (k : ℕ) → length ms ≤ k → nth from ms (suc k) ≡ None
   unfolding nth
@@ -172,42 +178,51 @@ item-inside p =
     iterated.each (itemSteps p) (λ m. (m .value < m .«value_end») × (m .«value_end» ≤ length p))
     (λ at m e. let k = item-placed p at m e in (k .value, omega arith)) (length p) 1
 
--- the record of a number, counted from 1
-pub record RecordAt (s : List ℕ) (span : Span) (σ : Shape) (y : Picked) : Type 0 where
-  pub start : ℕ
-  pub end : ℕ
-  pub is : span ≡ Is start end
-  pub there : Stands s start end (treeOf (part s start end))
-  pub picked : y ≡ pick σ (treeOf (part s start end))
-
 module _ {s : List ℕ} {span : Span} {σ : Shape} {l : List Picked} (r : Records s span σ l) where
-  as-many : length l ≡ length (itemsOf (part s (r .start) (r .end)))
-  as-many =
-      let p = part s (r .start) (r .end) in
-      ap length (r .picked) ∙ length-map (itemsOf p) (λ m. pick σ (treeOf (itemOf p m)))
+  -- the bytes of the array
+  abbrev pub array : List ℕ
+  array = part s (r .start) (r .end)
 
-  pub record-at : (k : ℕ) → k < length l → (d : Picked) → RecordAt s (nthIn s span (suc k)) σ (getD l k d)
-  record-at k h d =
-      let p = part s (r .start) (r .end) in let a = r .start in
-      let t = nth-of a (itemsOf p) k (omega (arith, as-many)) in
+  pub as-many : length l ≡ length (itemsOf array)
+  as-many = ap length (r .picked) ∙ length-map (itemsOf array) (λ m. pick σ (treeOf (itemOf array m)))
+
+  -- the record of a number, counted from 1, with its tree
+  pub record RecordAt (n : ℕ) : Type 0 where
+    pub start : ℕ
+    pub end : ℕ
+    pub tree : Json
+    pub is : nthIn s span n ≡ Is start end
+    pub numbered : trees.numbered n (itemTrees array) ≡ some tree
+    pub there : Stands s start end tree
+    pub picked : List·Memᴰ (pick σ tree) l
+
+  pub record-at : (k : ℕ) → k < length l → RecordAt (suc k)
+  record-at k h =
+      let a = r .start in
+      let t = nth-of a (λ m. treeOf (itemOf array m)) (itemsOf array) k (omega (arith, as-many)) in
       let m = t .0 in
-      let i = item-inside p m (t .1) in
-      let n : length p ≡ r .end - a = part-inside s a (r .end) (r .there .inside) in
+      let i = item-inside array m (t .1) in
+      let n : length array ≡ r .end - a = part-inside s a (r .end) (r .there .inside) in
       let fits : m .«value_end» ≤ r .end - a = omega arith in
-      let same : part p (m .value) (m .«value_end») ≡ part s (a + m .value) (a + m .«value_end») = part-part s a (r .end) (m .value) (m .«value_end») fits in
+      let same : itemOf array m ≡ part s (a + m .value) (a + m .«value_end») = part-part s a (r .end) (m .value) (m .«value_end») fits in
       let outer = r .there .inside in let less = r .there .some in
       record {
         start = a + m .value;
         end = a + m .«value_end»;
+        tree = treeOf (itemOf array m);
         is = ap (λ (z : Span). nthIn s z (suc k)) (r .is) ∙ t .2;
+        numbered = t .3;
         there =
             record {
-              whole = subst (λ (q : List ℕ). Whole q (treeOf q)) same (items-whole p m (t .1));
+              whole = subst (λ (q : List ℕ). Whole q (treeOf (itemOf array m))) same (items-whole array m (t .1));
               some = omega arith;
               inside = omega arith;
             };
-        picked = ap (λ (z : List Picked). getD z k d) (r .picked) ∙ t .3 _ d ∙ ap (λ (q : List ℕ). pick σ (treeOf q)) same;
+        picked = subst (List·Memᴰ (pick σ (treeOf (itemOf array m)))) (sym (r .picked)) (Memᴰ·map (λ j. pick σ (treeOf (itemOf array j))) (t .1));
       }
 
   pub record-past : (k : ℕ) → length l ≤ k → nthIn s span (suc k) ≡ None
-  record-past k h = ap (λ (z : Span). nthIn s z (suc k)) (r .is) ∙ nth-past (r .start) (itemsOf (part s (r .start) (r .end))) k (omega (arith, as-many))
+  record-past k h = ap (λ (z : Span). nthIn s z (suc k)) (r .is) ∙ nth-past (r .start) (itemsOf array) k (omega (arith, as-many))
+
+  pub record-none : nthIn s span 0 ≡ None
+  record-none = ap (λ (z : Span). nthIn s z 0) (r .is) ∙ nth-zero (r .start) (itemsOf array)

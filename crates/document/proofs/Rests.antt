@@ -112,12 +112,12 @@ module _ {file : ℕ} {s p : List ℕ} {σ : Shape} {l : List Picked} (f : Recor
 pub records-listed : {file : ℕ} {s : List ℕ} {σ : Shape} {l : List Picked} → syntaxOf s ≡ Sound → Records s (recordsSpan file s) σ l → Listed file s
 records-listed sound r = Listed.listed (r .start) (r .end) sound (r .is) (r .there .whole)
 
-none-along : (s : List ℕ) (names : List (List ℕ)) → membersAlong s names None ≡ None
+pub none-along : (s : List ℕ) (names : List (List ℕ)) → membersAlong s names None ≡ None
 unfolding membersAlong
 none-along s [] = refl
 none-along s (name ∷ names) = none-along s names
 
-no-record : (file n : ℕ) → recordSpan file [] n ≡ None
+pub no-record : (file n : ℕ) → recordSpan file [] n ≡ None
 unfolding recordSpan recordsSpan topSpan blanks
 no-record file n =
     ap (λ (z : Span). nthIn [] (membersAlong [] (namesTo file) z) n) none ∙ ap (λ (z : Span). nthIn [] z n) (none-along [] (namesTo file))

@@ -1,2 +1,3 @@
 pub mod Document
 pub mod Spans
+pub mod Trees

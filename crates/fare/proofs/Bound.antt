@@ -61,7 +61,7 @@ room-price price h = go (price .negative)
     go true = record { added = omega arith; taken = omega arith }
     go false = record { added = omega arith; taken = omega arith }
 
-room-charges : (n : ℕ) (l : List Segment) (sum : Sum) (ride : ℕ) → Modest l → ride ≤ mostRide → Room (n + length l) sum → Room n (withCharges sum l ride)
+pub room-charges : (n : ℕ) (l : List Segment) (sum : Sum) (ride : ℕ) → Modest l → ride ≤ mostRide → Room (n + length l) sum → Room n (withCharges sum l ride)
 room-charges n [] sum ride m h r = room-less n (omega arith) r
 room-charges n (s ∷ l) sum ride m h r =
     room-charges n l (withCharge sum s ride) ride (λ t i. m t (List·Memᴰ·tail i)) h

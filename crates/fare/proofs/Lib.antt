@@ -2,5 +2,6 @@ pub mod Moments
 pub mod Worth
 pub mod Fold
 pub mod Bound
+pub mod Charging
 pub mod Ends
 pub mod Past

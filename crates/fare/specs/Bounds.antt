@@ -1,5 +1,6 @@
 -- The bounds within which nothing overflows: a sound plan's rates and a quote's longest ride keep them.
 use mathlib.Core.List.{List, List·Memᴰ}
+use mathlib.Core.Path.{_≡_}
 use Prim.Native.Nat.{ℕ, _+_, _*_, _^_, _≤_, _<_}
 use lib.ListN.{length}
 use Rattle.limits.specs.Ceilings.{segments}
@@ -7,7 +8,9 @@ use Rattle.decimal.specs.declared.Amount.{Amount}
 use Rattle.fare.specs.declared.Minutes.{Minutes}
 use Rattle.fare.specs.declared.Kilometres.{Kilometres}
 use Rattle.fare.specs.declared.Segment.{Segment}
+use Rattle.fare.specs.declared.Segments.{Segments}
 use Rattle.fare.specs.declared.Sum.{Sum}
+use Rattle.fare.specs.Folds.{listed}
 
 -- money at its most, in ten-thousandths
 abbrev pub mostMoney : ℕ
@@ -34,6 +37,14 @@ pub record Payable (sum : Sum) (s : Segment) (ride : ℕ) : Type 0 where
 
 abbrev pub Modest : List Segment → Type 0
 Modest l = (s : Segment) → List·Memᴰ s l → s .rate .size ≤ mostMoney
+
+-- all segments of one sort: their places are there, and the charges of all can be added
+pub record Chargeable (sum : Sum) (l : Segments) (ride : ℕ) : Type 0 where
+  pub few : l .count ≤ segments
+  pub filled : l .count ≡ length (listed l)
+  pub room : Room (l .count) sum
+  pub modest : Modest (listed l)
+  pub short : ride ≤ mostRide
 
 -- a plan and a ride for which there is a quote
 pub record Quotable (price : Amount) (perMinute perKilometre : List Segment) (minutes : Minutes) (kilometres : Kilometres) : Type 0 where

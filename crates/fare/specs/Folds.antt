@@ -2,17 +2,20 @@
 -- segments so far. The laws in proofs/ say that these are the charges and the mark of `Charges`.
 use mathlib.Core.Bool.{Bool, true, false}
 use mathlib.Core.List.{List, foldl}
+use mathlib.Core.Path.{_≡_}
 use Prim.Native.Nat.{ℕ, _+_, _-_, _*_, _/_, max}
 use lib.Dec.{eqb, leb}
 use lib.IntN.{ℤ}
-use lib.ListN.{length}
+use lib.ListN.{length, take}
 use Rattle.notation.specs.Choice.{_⇒_else_, _and_}
 use Rattle.signed.specs.Signed.{difference}
 use Rattle.decimal.specs.declared.Amount.{Amount}
 use Rattle.fare.specs.declared.Segment.{Segment}
+use Rattle.fare.specs.declared.Segments.{Segments}
 use Rattle.fare.specs.declared.Sum.{Sum}
 use Rattle.fare.specs.declared.Marks.{Marks}
-use Rattle.fare.specs.Charges.{moments}
+use Rattle.fare.specs.declared.Charged.{Charged}
+use Rattle.fare.specs.Charges.{moments, past}
 
 -- every moment below it is charged, and no other
 unfoldable pub boundOf : Segment → ℕ → ℕ
@@ -56,3 +59,15 @@ withEnds m l = foldl withEnd m l
 
 unfoldable pub marked : Marks → ℕ → Bool
 marked m ride = m .some and m .ended and leb (m .end) ride
+
+-- the segments that are there, and a sum with all their charges and the mark
+abbrev pub listed : Segments → List Segment
+listed l = take (l .count) (l .list)
+
+abbrev pub withAll : Sum → List Segment → ℕ → Charged
+withAll sum l ride = record { sum = withCharges sum l ride; past = past l ride }
+
+-- the places from the first on hold just these segments
+pub record Fills (l : Segments) (s : List Segment) : Type 0 where
+  pub count : l .count ≡ length s
+  pub are : listed l ≡ s

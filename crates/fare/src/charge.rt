@@ -1,7 +1,11 @@
-// Charges: moments are counted, not walked through, and amounts of either sign are added to one of two sums.
+// Charges: moments are counted, not walked through, and amounts of either sign are added to one of two sums. Only private functions take a ride's
+// length as a bare number.
+use crate::Charged;
 use crate::Kilometres;
+use crate::Marks;
 use crate::Minutes;
 use crate::Segment;
+use crate::Segments;
 use crate::Sum;
 use crate::Total;
 use decimal::Amount;
@@ -10,8 +14,8 @@ ghost use Prim.Native.Nat.{_+_, _^_, _≤_, _<_};
 ghost use lib.ListN.{length};
 ghost use Rattle.signed.specs.Signed.{difference};
 ghost use Rattle.fare.specs.Charges.{moments, total as totalOf};
-ghost use Rattle.fare.specs.Folds.{boundOf, withAmount, ofPrice, withCharge};
-ghost use Rattle.fare.specs.Bounds.{mostRide, Payable};
+ghost use Rattle.fare.specs.Folds.{boundOf, withAmount, ofPrice, withCharge, marked, listed, withAll};
+ghost use Rattle.fare.specs.Bounds.{mostRide, Payable, Chargeable};
 
 impl Segment {
     // The first moment that is no longer charged.
@@ -42,6 +46,21 @@ impl Segment {
             return 1;
         }
         return (bound - 1 - self.start) / self.interval + 1;
+    }
+}
+
+impl Marks {
+    // There is a segment, all have an end, and the ride is at or past the greatest.
+    fn past(self, ride: u64) -> bool
+        ensures { λ r. ⌜ r ≡ marked self ride ⌝ }
+    {
+        if !self.some {
+            return false;
+        }
+        if !self.ended {
+            return false;
+        }
+        return self.end <= ride;
     }
 }
 
@@ -81,19 +100,42 @@ impl Sum {
         return self.with(rate.negative, size);
     }
 
-    // With the charge of a per-minute segment, and of a per-kilometre segment.
-    pub fn with_minutes(self, s: Segment, ride: Minutes) -> Sum
-        requires { ⌜ Payable self s (ride .count) ⌝ }
-        ensures { λ r. ⌜ r ≡ withCharge self s (ride .count) ⌝ }
+    // With what all segments charge for a ride of this length, in their own measure, and with its mark.
+    // Shut out: a segment left out of the sum, or out of the mark.
+    fn with_all(self, l: Segments, ride: u64) -> Charged
+        requires { ⌜ Chargeable self l ride ⌝ }
+        ensures { λ r. ⌜ r ≡ withAll self (listed l) ride ⌝ }
     {
-        return self.with_charge(s, ride.count);
+        let list = l.list;
+        let count = l.count;
+        let mut sum = self;
+        let mut marks = Marks::none();
+        let mut i: usize = 0;
+        while i < count {
+            let s = list[i];
+            sum = sum.with_charge(s, ride);
+            marks = marks.with(s);
+            i += 1;
+        }
+        Charged {
+            sum,
+            past: marks.past(ride),
+        }
     }
 
-    pub fn with_kilometres(self, s: Segment, ride: Kilometres) -> Sum
-        requires { ⌜ Payable self s (ride .count) ⌝ }
-        ensures { λ r. ⌜ r ≡ withCharge self s (ride .count) ⌝ }
+    // With the charges of the per-minute segments, and of the per-kilometre segments.
+    pub fn with_minutes(self, l: Segments, ride: Minutes) -> Charged
+        requires { ⌜ Chargeable self l (ride .count) ⌝ }
+        ensures { λ r. ⌜ r ≡ withAll self (listed l) (ride .count) ⌝ }
     {
-        return self.with_charge(s, ride.count);
+        return self.with_all(l, ride.count);
+    }
+
+    pub fn with_kilometres(self, l: Segments, ride: Kilometres) -> Charged
+        requires { ⌜ Chargeable self l (ride .count) ⌝ }
+        ensures { λ r. ⌜ r ≡ withAll self (listed l) (ride .count) ⌝ }
+    {
+        return self.with_all(l, ride.count);
     }
 
     // The amount, of any two sums. Below zero the size is counted from -1 down, so that the least number of 64 bits needs no case.

@@ -1,5 +1,6 @@
 // What a ride costs by a plan's price and segments.
 use decimal::Amount;
+use limits::Limits;
 
 pub mod charge;
 pub mod length;
@@ -23,6 +24,16 @@ pub struct Segment {
     pub end: u64,
 }
 
+// The segments of one sort: so many of the places, from the first on.
+pub struct Segments {
+    pub list: [Segment; Segments::PLACES],
+    pub count: usize,
+}
+
+impl Segments {
+    pub const PLACES: usize = Limits::SEGMENTS as usize;
+}
+
 // A sum of charges: what is added and what is taken off, in ten-thousandths.
 pub struct Sum {
     pub added: u64,
@@ -40,4 +51,10 @@ pub struct Marks {
     pub some: bool,
     pub ended: bool,
     pub end: u64,
+}
+
+// A sum with the charges of all segments of one sort, and whether the ride is past all their ends.
+pub struct Charged {
+    pub sum: Sum,
+    pub past: bool,
 }

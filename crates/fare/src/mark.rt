@@ -1,12 +1,10 @@
-// The mark that a ride has come past every end.
-use crate::Kilometres;
+// What the mark needs of the segments.
 use crate::Marks;
-use crate::Minutes;
 use crate::Segment;
 ghost use mathlib.Core.Path.{_≡_};
 ghost use Prim.Native.Nat.{max};
 ghost use Rattle.notation.specs.Choice.{_and_};
-ghost use Rattle.fare.specs.Folds.{unmarked, withEnd, marked};
+ghost use Rattle.fare.specs.Folds.{unmarked, withEnd};
 
 fn both(a: bool, b: bool) -> bool
     ensures { λ r. ⌜ r ≡ a and b ⌝ }
@@ -44,30 +42,5 @@ impl Marks {
             ended: both(self.ended, s.ended),
             end: greatest(self.end, s.end),
         }
-    }
-
-    // There is a segment, all have an end, and the ride is at or past the greatest.
-    fn past(self, ride: u64) -> bool
-        ensures { λ r. ⌜ r ≡ marked self ride ⌝ }
-    {
-        if !self.some {
-            return false;
-        }
-        if !self.ended {
-            return false;
-        }
-        return self.end <= ride;
-    }
-
-    pub fn past_minutes(self, ride: Minutes) -> bool
-        ensures { λ r. ⌜ r ≡ marked self (ride .count) ⌝ }
-    {
-        return self.past(ride.count);
-    }
-
-    pub fn past_kilometres(self, ride: Kilometres) -> bool
-        ensures { λ r. ⌜ r ≡ marked self (ride .count) ⌝ }
-    {
-        return self.past(ride.count);
     }
 }

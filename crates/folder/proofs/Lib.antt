@@ -1,2 +1,5 @@
 pub mod Placing
 pub mod Said
+pub mod Turns
+pub mod Written
+pub mod Numerals

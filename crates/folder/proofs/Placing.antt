@@ -11,7 +11,7 @@ use Rattle.folder.specs.declared.reading.Taken.{Taken}
 use Rattle.folder.specs.declared.reading.Taken.the-variants.{To}
 use Rattle.folder.specs.declared.reading.Turn.{Turn}
 use Rattle.folder.specs.declared.reading.Turn.the-variants.{Got}
-use Rattle.folder.specs.Places.{Gets, Kept, Appended, InOrder}
+use Rattle.folder.specs.Places.{Gets, Kept, Appended, InOrder, Placed}
 
 -- a read into the bytes from a place on brings no more than stand there
 pub gets-rest : (to n : ℕ) (bytes : List ℕ) (r : Turn) → r ≡ Got n → Gets (length (midOf to (length bytes - to) bytes)) r
@@ -28,6 +28,11 @@ kept-before from to before bytes anew h i e =
     ∙ take-take from to bytes h
     ∙ e
 
+-- files that were all taken stand in order within any buffer of that size
+pub placed-within : (size room : ℕ) (places : List ℕ) (k : Taken) (end : ℕ) → size ≤ room → k ≡ To end → Placed size places k → InOrder 6 room places
+placed-within size room places k end h e p i l =
+    let q = subst (Placed size places) e p i l in (q .0, omega (arith, q .1))
+
 -- files stand in order, and the next one's place is within the buffer
 abbrev pub Standing : (files size : ℕ) (places : List ℕ) → Type 0
 Standing files size places = (getD places files 0 ≤ size) × InOrder files size places
@@ -40,7 +45,7 @@ module _ (i end : ℕ) (places : List ℕ) (h : i + 1 < length places) where
   stays j k = getD-set-other places (i + 1) j end 0 (λ z. omega arith)
 
   -- a file more behind them
-  pub standing-next : (size : ℕ) (before after : List ℕ) (r : Taken) → length before ≡ size → r ≡ To end → Appended (getD places i 0) before after r
+  pub standing-next : (size : ℕ) (before after : List ℕ) (r : Taken) → length before ≡ size + 1 → r ≡ To end → Appended (getD places i 0) before after r
       → Standing i size places → Standing (i + 1) size (set places (i + 1) end)
   standing-next size before after r f e a s =
       let b = subst (Appended (getD places i 0) before after) e a in

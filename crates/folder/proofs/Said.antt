@@ -4,18 +4,14 @@ use mathlib.Core.Path.{_≡_, sym, ap, _∙_}
 use Prim.Native.Nat.{ℕ, _≤_}
 use lib.ListN.{length, take}
 use lib.Seq.{take-all}
-use Rattle.word.specs.Form.{form1}
-use Rattle.word.specs.Word.{read, answer, readWord}
+use Rattle.word.specs.Word.{readWord}
 use Rattle.gbfs.specs.Verdict.{Feeds, feeds, said, verdictOf, bufferOf}
 use Rattle.gbfs.proofs.ReadBack.{verdict-read}
 
 pub parts-said : (s : Feeds) (before after : List ℕ) → 8 ≤ length before → length after ≤ 8 → after ≡ bufferOf s before
     → readWord after .parts ≡ said (verdictOf s)
-unfolding readWord
 parts-said s before after room h e =
-    ap
-    (λ r. answer r .parts)
-    (ap (read form1) (sym (take-all 8 after h)) ∙ ap (λ l. read form1 (take 8 l)) e ∙ verdict-read s before room)
+    ap (λ a. a .parts) (ap readWord (sym (take-all 8 after h)) ∙ ap (λ l. readWord (take 8 l)) e ∙ verdict-read s before room)
 
 -- the same files make the same set
 pub same-set : {t s u b p z t′ s′ u′ b′ p′ z′ : List ℕ} → t ≡ t′ → s ≡ s′ → u ≡ u′ → b ≡ b′ → p ≡ p′ → z ≡ z′

@@ -1,2 +1,5 @@
+pub mod Reading
 pub mod Places
 pub mod Desk
+pub mod Line
+pub mod Cases

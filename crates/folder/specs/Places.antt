@@ -20,14 +20,21 @@ Gets room (turn.Got n) = (0 < n) × (n ≤ room)
 abbrev pub Kept : (from : ℕ) (before after : List ℕ) → Type 0
 Kept from before after = take from after ≡ take from before
 
--- a file is put behind that, and ends within the buffer
+-- a file is put behind that; one that is all there leaves room for a byte at least
 abbrev pub Appended : (from : ℕ) (before after : List ℕ) → Taken → Type 0
 Appended from before after taken.Unread = Kept from before after
-Appended from before after (taken.To end) = Kept from before after × (from ≤ end) × (end ≤ length before)
+Appended from before after taken.Full = Kept from before after
+Appended from before after (taken.To end) = Kept from before after × (from ≤ end) × (end < length before)
 
--- the first files stand in order, within a buffer of this size
+-- the first files stand in order, and end within this size
 abbrev pub InOrder : (files size : ℕ) (places : List ℕ) → Type 0
 InOrder files size places = (i : ℕ) → i < files → (getD places i 0 ≤ getD places (i + 1) 0) × (getD places (i + 1) 0 ≤ size)
+
+-- where all files were taken, they stand in order
+abbrev pub Placed : (size : ℕ) (places : List ℕ) → Taken → Type 0
+Placed size places taken.Unread = Unit
+Placed size places taken.Full = Unit
+Placed size places (taken.To end) = InOrder 6 size places
 
 -- a file by its place in the set, counted from 0
 abbrev pub fileIn : (bytes places : List ℕ) (i : ℕ) → List ℕ

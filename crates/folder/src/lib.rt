@@ -2,46 +2,55 @@
 mod files;
 mod print;
 mod reading;
+mod text;
 mod verdict;
 
+use reading::Taken;
 use word::Parts;
 ghost use mathlib.Core.Path.{_≡_};
 ghost use lib.ListN.{length};
-ghost use Rattle.folder.specs.Places.{InOrder};
-ghost use Rattle.folder.specs.Desk.{answerOf};
+ghost use Rattle.folder.specs.Reading.{turnOf};
+ghost use Rattle.folder.specs.Places.{Placed};
+ghost use Rattle.folder.specs.Desk.{most, room, answerOf, Tells};
 
 // The most bytes that the files may have together. The buffer has room for one more, by which a set that is too large is told.
 const MOST: usize = 65536;
 
-// The answer: the set is too large, or what the word of its verdict says.
+// The answer: none, since a file can't be read; the set is too large; or what the word of its verdict says.
 pub enum Answer {
+    Nothing,
     TooLarge,
     Says(Parts),
 }
 
-// Judges the feeds in the current folder, and prints the answer. No contract can speak of files or of what is written: proved is the answer on what stands in the
-// buffer (`answer_in`), and that each file is put behind those before it and leaves them as they are.
+// Judges the feeds in the current folder, and prints the answer. No contract can speak of files or of what is written. Proved are the answer on what stands in
+// the buffer, that there is none where the last call on a file failed, the names that are opened and the bytes that are written.
 pub fn judge() {
     let mut bytes = [0u8; MOST + 1];
-    judge_in(&mut bytes);
+    let mut places: [usize; 7] = [0; 7];
+    let mut left = 0;
+    print::line(judge_in(&mut bytes, &mut places, &mut left));
 }
 
-// The same with room for the files. Where one of them can't be read there is no answer; a line on standard error has said why.
-fn judge_in(bytes: &mut [u8]) {
-    let mut places: [usize; 7] = [0; 7];
-    if files::read_all(bytes, &mut places) {
-        print::line(answer_in(bytes, &places));
-    }
+// The answer on the current folder, by what then stands in the buffer and at which places. `left` is the number that the last call on a file left.
+// Shut out: a verdict where the last call failed; one on other places than those that were read; a buffer that a set which is too large fits into.
+fn judge_in(bytes: &mut [u8], places: &mut [usize; 7], left: &mut isize) -> Answer
+    requires { ⌜ (length (now bytes) ≡ room) × (length (now places) ≡ 7) ⌝ }
+    ensures { λ r. ⌜ Tells (turnOf (now (left .exit))) (now (bytes .exit)) (now (places .exit)) r ⌝ }
+{
+    let taken = files::read_all(bytes, places, left);
+    answer_in(taken, bytes, places)
 }
 
 // The answer on the files that stand in a buffer.
-// Shut out: a set of a byte too many judged all the same; a file judged as another, or with bytes of the one before it.
-fn answer_in(bytes: &[u8], places: &[usize; 7]) -> Answer
-    requires { ⌜ InOrder 6 (length (now bytes)) (now places) ⌝ }
-    ensures { λ r. ⌜ r ≡ answerOf (now (bytes .entry)) (now (places .entry)) ⌝ }
+// Shut out: a file judged as another, or with bytes of the one before it; a verdict on a set that is too large.
+fn answer_in(taken: Taken, bytes: &[u8], places: &[usize; 7]) -> Answer
+    requires { ⌜ (length (now bytes) ≡ room) × Placed most (now places) taken ⌝ }
+    ensures { λ r. ⌜ r ≡ answerOf taken (now (bytes .entry)) (now (places .entry)) ⌝ }
 {
-    if MOST < places[6] {
-        return Answer::TooLarge;
+    match taken {
+        Taken::Unread => Answer::Nothing,
+        Taken::Full => Answer::TooLarge,
+        Taken::To(_) => Answer::Says(verdict::parts_of(bytes, places)),
     }
-    Answer::Says(verdict::parts_of(bytes, places))
 }

@@ -54,7 +54,7 @@ earlier-above p m above = go (first m) refl
   where
     go : (x : Cleanness) → first m ≡ x → earlier p x ≡ Broken p
     go Clean e = refl
-    go (Broken q) e = earlier-first p q (higher-file q p (all-at above (first-broken m q e .stands)))
+    go (Broken q) e = earlier-first p q (higher-file q p (all-at above (first-broken m q e .among)))
 
 first-append : (file : ℕ) (l m : List Parts) → Of file l → Above file m → first (l ++ m) ≡ orNext (first l) (first m)
 unfolding first

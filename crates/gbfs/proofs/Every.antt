@@ -1,16 +1,23 @@
--- Lists of rules, file after file: what holds of each file's holds of all, what stands in one stands among all, equal ones make equal lists, and where
--- there are none at all no file has any.
+-- File after file. Of lists of rules: what holds of each file's holds of all, what stands in one stands among all, equal ones make equal lists, and where
+-- there are none at all no file has any. Of what is found first: it has what every file hands on.
 use mathlib.Core.List.{List, [], _∷_, _++_, List·Memᴰ, List·Memᴰ·head, List·Memᴰ·tail, List·Memᴰ·not-nil, Memᴰ·append-left, Memᴰ·append-right}
 use mathlib.Core.Path.{_≡_, refl, sym, subst}
 use Prim.Native.Nat.{ℕ, zero, suc, _≤_}
 use native.Mathlib.Omega.{arith}
 use Rattle.judge.proofs.Holds.{All, none, more, all-append}
+use Rattle.clean.specs.declared.Cleanness.{Cleanness}
+use Rattle.clean.specs.declared.Cleanness.the-variants.{Clean}
+use Rattle.cross.specs.Stage.{firstOf}
 use Rattle.gbfs.specs.Verdict.{everyFile}
 
 module _ {A : Type 0} where
   pub all-at : {P : A → Type 0} {l : List A} {x : A} → All P l → List·Memᴰ x l → P x
   all-at {P} (more h hs) (List·Memᴰ·head e) = subst P (sym e) h
   all-at (more h hs) (List·Memᴰ·tail m) = all-at hs m
+
+  pub all-of : {P : A → Type 0} (l : List A) → ((x : A) → List·Memᴰ x l → P x) → All P l
+  all-of [] h = none
+  all-of (x ∷ l) h = more (h x (List·Memᴰ·head refl)) (all-of l (λ y m. h y (List·Memᴰ·tail m)))
 
   pub all-map : {P Q : A → Type 0} {l : List A} → ((x : A) → P x → Q x) → All P l → All Q l
   all-map t none = none
@@ -48,3 +55,12 @@ module _ {A : Type 0} where
       go [] k = refl
       go (x ∷ l) k =
           absurd (List·Memᴰ·not-nil (subst (List·Memᴰ x) e (every-member f x file h i (subst (List·Memᴰ x) (sym k) (List·Memᴰ·head refl)))))
+
+-- what each file hands on from the next holds of what is found first
+pub files-all : (P : Cleanness → Type 0) (judge : ℕ → Cleanness → Cleanness) → P Clean
+    → ((file : ℕ) → 1 ≤ file → file ≤ 6 → (x : Cleanness) → P x → P (judge file x)) → P (firstOf judge)
+files-all P judge c h =
+    h 1 (omega arith) (omega arith) _
+    (h 2 (omega arith) (omega arith) _
+    (h 3 (omega arith) (omega arith) _
+    (h 4 (omega arith) (omega arith) _ (h 5 (omega arith) (omega arith) _ (h 6 (omega arith) (omega arith) Clean c)))))

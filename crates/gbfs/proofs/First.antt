@@ -11,18 +11,21 @@ use Rattle.judge.proofs.Holds.{All, none, more}
 use Rattle.clean.specs.declared.Cleanness.{Cleanness}
 use Rattle.clean.specs.declared.Cleanness.the-variants.{Clean, Broken}
 use Rattle.gbfs.specs.Verdict.{Feeds, rules, before, earlier, first, verdictOf}
-use Rattle.gbfs.proofs.Every.{all-map}
+use Rattle.gbfs.specs.Demand2.{First}
+use Rattle.gbfs.proofs.Every.{all-at, all-of}
 use Rattle.gbfs.proofs.Order.{before-irrefl, before-asym, before-after}
 
--- p stands in the list, and nothing of the list comes before it
-pub record First (p : Parts) (l : List Parts) : Type 0 where
-  pub stands : List·Memᴰ p l
-  pub first : All (λ q. before q p ≡ false) l
+-- none of these comes before p
+abbrev NoneBefore : Parts → List Parts → Type 0
+NoneBefore p l = All (λ q. before q p ≡ false) l
+
+first-of : {p : Parts} {l : List Parts} → List·Memᴰ p l → NoneBefore p l → First p l
+first-of m a = record { among = m; first = λ q. all-at a }
 
 clean-broken : {A : Type 0} {p : Parts} → Clean ≡ Broken p → A
 clean-broken e = let z : _≡_ {A = ℕ} 0 1 = cc in absurd (omega arith)
 
-broken-parts : {p q : Parts} → Broken p ≡ Broken q → p ≡ q
+pub broken-parts : {p q : Parts} → Broken p ≡ Broken q → p ≡ q
 broken-parts e = cc
 
 -- of a rule and what is first of the rest
@@ -56,14 +59,14 @@ first-named (p ∷ l) q m = earlier-named p (first l)
 -- one rule more in front
 module _ (p : Parts) (l : List Parts) where
   first-alone : l ≡ [] → First p (p ∷ l)
-  first-alone e = record { stands = List·Memᴰ·head refl; first = more (before-irrefl p) (subst (All (λ q. before q p ≡ false)) (sym e) none) }
+  first-alone e = first-of (List·Memᴰ·head refl) (more (before-irrefl p) (subst (NoneBefore p) (sym e) none))
 
   module _ (q : Parts) (f : First q l) where
     first-later : before q p ≡ true → First q (p ∷ l)
-    first-later t = record { stands = List·Memᴰ·tail (f .stands); first = more (before-asym q p t) (f .first) }
+    first-later t = first-of (List·Memᴰ·tail (f .among)) (more (before-asym q p t) (all-of l (f .first)))
 
     first-here : before q p ≡ false → First p (p ∷ l)
-    first-here u = record { stands = List·Memᴰ·head refl; first = more (before-irrefl p) (all-map (λ r. before-after p q r u) (f .first)) }
+    first-here u = first-of (List·Memᴰ·head refl) (more (before-irrefl p) (all-of l (λ r m. before-after p q r u (f .first r m))))
 
 pub first-broken : (l : List Parts) (p : Parts) → first l ≡ Broken p → First p l
 unfolding first

@@ -9,6 +9,12 @@ pub mod Through
 pub mod Staging
 pub mod InWord
 pub mod ReadBack
+pub mod Says
+pub mod Moments
+pub mod Prices
+pub mod Zones
+pub mod Demand2
 pub mod Unmoved
+pub mod Opening
 pub mod Version
-pub mod Demand
+pub mod Demand3

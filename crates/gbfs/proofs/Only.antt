@@ -17,9 +17,10 @@ use Rattle.clean.specs.declared.Cleanness.the-variants.{Clean, Broken}
 use Rattle.clean.specs.Clean.{place}
 use Rattle.cross.specs.Cross.{crossFaults}
 use Rattle.gbfs.specs.Verdict.{Feeds, bytesOf, picked, syntaxRules, rulesA, faultsB, everyFile, stageA, stageB, stageC, orElse, rules, before, first, verdictOf}
+use Rattle.gbfs.specs.Demand2.{First}
 use Rattle.gbfs.proofs.Every.{all-at, every-all}
 use Rattle.gbfs.proofs.Order.{faultOf, same-file, not-before-file}
-use Rattle.gbfs.proofs.First.{First, first-clean, first-broken}
+use Rattle.gbfs.proofs.First.{first-clean, first-broken}
 
 -- what comes neither before nor after is the same but for its offset
 before-even : (p q : Parts) → (p .file ≡ q .file → p .offset ≡ q .offset) → before p q ≡ false → before q p ≡ false → p ≡ q
@@ -36,7 +37,7 @@ record Offsets (l : List Parts) : Type 0 where
 
 first-only : (l : List Parts) → Offsets l → (p q : Parts) → First p l → First q l → p ≡ q
 first-only l o p q f g =
-    before-even p q (λ e. all-at (o .are) (f .stands) ∙ ap (o .at) e ∙ sym (all-at (o .are) (g .stands))) (all-at (g .first) (f .stands)) (all-at (f .first) (g .stands))
+    before-even p q (λ e. all-at (o .are) (f .among) ∙ ap (o .at) e ∙ sym (all-at (o .are) (g .among))) (g .first p (f .among)) (f .first q (g .among))
 
 -- stage A: one rule a file at most
 stopped : Syntax → ℕ
@@ -80,5 +81,5 @@ unfolding verdictOf
 first-refused s p f = go (first (rules s)) refl
   where
     go : (x : Cleanness) → first (rules s) ≡ x → first (rules s) ≡ Broken p
-    go Clean e = absurd (List·Memᴰ·not-nil (subst (List·Memᴰ p) (first-clean (rules s) e) (f .stands)))
+    go Clean e = absurd (List·Memᴰ·not-nil (subst (List·Memᴰ p) (first-clean (rules s) e) (f .among)))
     go (Broken q) e = e ∙ ap Broken (first-only (rules s) (offsets s) q p (first-broken (rules s) q e) f)

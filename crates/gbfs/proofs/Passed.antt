@@ -13,6 +13,10 @@ use Rattle.json.specs.declared.Syntax.the-variants.{Sound, Fault}
 use Rattle.json.specs.Text.{syntaxOf}
 use Rattle.json.proofs.Verdict.{met}
 use Rattle.json.proofs.Least.{least}
+use Rattle.json.specs.Tree.{Json}
+use Rattle.json.specs.Spelling.{Spells}
+use Rattle.json.proofs.Spelled.{spelled-read}
+use Rattle.limits.specs.Ceilings.{depth}
 use Rattle.walk.proofs.Files.{passed}
 use Rattle.schema.specs.Shape.{fileShape}
 use Rattle.schema.specs.Table23.{table23}
@@ -33,6 +37,11 @@ syntax-kind s k o e =
 
 pub there : (s : List ℕ) → syntaxOf s ≡ Sound → length s ≡ 0 → ⊥
 there s e z = let t = passed s e in let h = t .some in let k = t .inside in omega arith
+
+-- the tree of a file is the one that its bytes spell
+pub tree-spelled : {x : Json} (s : List ℕ) → Spells depth x s → treeOf s ≡ x
+unfolding treeOf
+tree-spelled s h = rw (treeOf, spelled-read h)
 
 pub read-there : (file : ℕ) (s : List ℕ) → syntaxOf s ≡ Sound → rulesA file s ≡ []
 read-there file [] e = refl

@@ -7,9 +7,8 @@ use native.Mathlib.Omega.{arith}
 use lib.ListN.{length, take}
 use Rattle.limits.specs.Ceilings.{fileBytes}
 use Rattle.word.specs.declared.Parts.{Parts}
-use Rattle.word.specs.declared.Reading.the-variants.{Word}
 use Rattle.word.specs.Form.{form1}
-use Rattle.word.specs.Word.{Fits, keeps, read}
+use Rattle.word.specs.Word.{Fits, keeps, readWord}
 use Rattle.word.proofs.Keeps.{by-offset, by-place}
 use Rattle.word.proofs.Laws.{full1, word-read}
 use Rattle.json.specs.declared.Syntax.{Syntax}
@@ -28,6 +27,7 @@ use Rattle.cross.specs.Stage.{firstOf, stageC}
 use Rattle.gbfs.specs.Verdict.{Feeds, bytesOf, picked, faultsB, verdictOf, said, bufferOf}
 use Rattle.gbfs.specs.Stages.{orNext, malformed, brokenA, firstA, firstB, staged}
 use Rattle.gbfs.proofs.Passed.{syntax-kind}
+use Rattle.gbfs.proofs.Every.{files-all}
 use Rattle.gbfs.proofs.ByFile.{verdict-staged}
 use Rattle.gbfs.proofs.Through.{all-through}
 use Rattle.gbfs.proofs.Answers.{word-room}
@@ -69,14 +69,6 @@ sayable-next : (x y : Cleanness) → Sayable x → (x ≡ Clean → Sayable y) �
 sayable-next Clean y h k = k refl
 sayable-next (Broken p) y h k = h
 
-sayable-files : (judge : ℕ → Cleanness → Cleanness) → ((file : ℕ) → 1 ≤ file → file ≤ 6 → (x : Cleanness) → Sayable x → Sayable (judge file x))
-    → Sayable (firstOf judge)
-sayable-files judge h =
-    h 1 (omega arith) (omega arith) _
-    (h 2 (omega arith) (omega arith) _
-    (h 3 (omega arith) (omega arith) _
-    (h 4 (omega arith) (omega arith) _ (h 5 (omega arith) (omega arith) _ (h 6 (omega arith) (omega arith) Clean said-clean)))))
-
 module _ (file : ℕ) (h : 1 ≤ file) (i : file ≤ 6) (next : Cleanness) (n : Sayable next) where
   sayable-syntax : (s : List ℕ) (x : Syntax) → syntaxOf s ≡ x → Sayable (malformed file x next)
   sayable-syntax s syntax.Sound e = n
@@ -93,12 +85,12 @@ module _ (file : ℕ) (h : 1 ≤ file) (i : file ≤ 6) (next : Cleanness) (n : 
 sayable-faults : (faults : ℕ → List Fault) → ((file : ℕ) → 1 ≤ file → file ≤ 6 → (f : Fault) → least (faults file) ≡ Is f → InWord f)
     → Sayable (firstOf (λ file next. broken file (least (faults file)) next))
 sayable-faults faults w =
-    sayable-files (λ file next. broken file (least (faults file)) next) (λ file h i x n. sayable-broken file h i x n (least (faults file)) (w file h i))
+    files-all Sayable (λ file next. broken file (least (faults file)) next) said-clean (λ file h i x n. sayable-broken file h i x n (least (faults file)) (w file h i))
 
 module _ (s : Feeds) where
   sayable-A : Sayable (firstA s)
   unfolding firstA
-  sayable-A = sayable-files (λ file next. brokenA file (bytesOf s file) next) (λ file h i x n. sayable-read file h i x n (bytesOf s file))
+  sayable-A = files-all Sayable (λ file next. brokenA file (bytesOf s file) next) said-clean (λ file h i x n. sayable-read file h i x n (bytesOf s file))
 
   sayable-B : Sayable (firstB s)
   unfolding firstB
@@ -122,7 +114,8 @@ module _ (s : Feeds) where
   verdict-kept = verdict-said .kept
 
   -- the word in the buffer reads as the verdict
-  pub verdict-read : (b : List ℕ) → 8 ≤ length b → read form1 (take 8 (bufferOf s b)) ≡ Word (said (verdictOf s))
+  pub verdict-read : (b : List ℕ) → 8 ≤ length b → readWord (take 8 (bufferOf s b)) ≡ record { number = 0; parts = said (verdictOf s) }
+  unfolding readWord
   verdict-read b room =
       word-read form1 full1 (said (verdictOf s)) (take 8 (bufferOf s b))
       (record { fits = verdict-fits; kept = verdict-kept; packs = sym (word-room s b room) })

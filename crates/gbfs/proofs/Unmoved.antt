@@ -7,6 +7,10 @@ use Rattle.word.specs.Form.{form1}
 use Rattle.word.specs.Word.{wordOf}
 use Rattle.json.specs.declared.Syntax.the-variants.{Sound}
 use Rattle.json.specs.Text.{syntaxOf}
+use Rattle.json.specs.Tree.{Json}
+use Rattle.json.specs.Spelling.{Spells}
+use Rattle.json.proofs.Spellings.{spells-sound}
+use Rattle.limits.specs.Ceilings.{depth}
 use Rattle.schema.specs.Shape.{fileShape}
 use Rattle.schema.specs.Table23.{table23}
 use Rattle.schema.specs.Pick.{pick, Picked}
@@ -20,17 +24,15 @@ use Rattle.clean.specs.Clean.{treeOf, place, repeats, broken, judged, cleanOf}
 use Rattle.clean.proofs.Judged.{clean-there}
 use Rattle.cross.specs.Cross.{present, Files, crossFaults}
 use Rattle.cross.specs.Stage.{fileOf}
-use Rattle.quote.specs.Quote as quote
 use Rattle.quote.specs.Quote.{quoteOf}
-use Rattle.zone.specs.Answer as zone
 use Rattle.zone.specs.Answer.{rulingOf}
 use Rattle.geometry.specs.Ring.{Point}
-use Rattle.gbfs.specs.Verdict.{Feeds, bytesOf, picked, rulesA, faultsB, everyFile, stageA, stageB, stageC, orElse, rules, first, verdictOf, said, acceptance, number}
+use Rattle.gbfs.specs.Verdict.{Feeds, bytesOf, picked, rulesA, faultsB, everyFile, stageA, stageB, stageC, orElse, rules, first, verdictOf, said}
 use Rattle.gbfs.specs.Demand3 as demand
 use Rattle.gbfs.specs.Demand3.{LaterFile, LaterSet, Agree}
-use Rattle.gbfs.proofs.Answers.{number-room, word-room}
+use Rattle.gbfs.proofs.Answers.{told, number-room, word-room}
 use Rattle.gbfs.proofs.Every.{every-same}
-use Rattle.gbfs.proofs.Passed.{there, read-there, faults-there, file-there}
+use Rattle.gbfs.proofs.Passed.{there, tree-spelled, read-there, faults-there, file-there}
 
 -- whether a file past stage A is clean, by what is picked of it
 abbrev onPicked : ℕ → Picked → Cleanness
@@ -39,6 +41,9 @@ onPicked file x = broken file (least (faults (fileShape table23 file) top 0 x)) 
 clean-of : (file : ℕ) (s : List ℕ) → syntaxOf s ≡ Sound → cleanOf file s ≡ onPicked file (pick (fileShape table23 file) (treeOf s))
 unfolding fileFaults
 clean-of file s e = sym (clean-there file s (there s e)) ∙ ap (judged file s) e
+
+picked-tree : (file : ℕ) {x : Json} (s : List ℕ) → Spells depth x s → pick (fileShape table23 file) (treeOf s) ≡ pick (fileShape table23 file) x
+picked-tree file s h = ap (pick (fileShape table23 file)) (tree-spelled s h)
 
 -- A file and a later one.
 record Same (file : ℕ) (s t : List ℕ) : Type 0 where
@@ -51,8 +56,9 @@ record Same (file : ℕ) (s t : List ℕ) : Type 0 where
 same : (file : ℕ) {s t : List ℕ} → LaterFile file s t → Same file s t
 unfolding fileFaults
 same file demand.absent = record { reads = refl; faults = refl; files = refl; trees = refl; cleans = refl }
-same file (demand.present {s = s} {t = t} i j l) =
-    let p = pick-later₁ (distinct file) l in
+same file (demand.present {s = s} {t = t} a b l) =
+    let i = spells-sound s (a .short) (a .spells) in let j = spells-sound t (b .short) (b .spells) in
+    let p = picked-tree file s (a .spells) ∙ pick-later₁ (distinct file) l ∙ sym (picked-tree file t (b .spells)) in
     record {
       reads = read-there file s i ∙ sym (read-there file t j);
       faults = faults-there file s i ∙ ap (faults (fileShape table23 file) top 0) p ∙ sym (faults-there file t j);
@@ -102,9 +108,9 @@ unmoved s t later =
     let v = verdict-same s t later in
     record {
       verdicts = λ b c h i. (
-        number-room s b h ∙ ap (λ (x : Cleanness). number (acceptance x)) v ∙ sym (number-room t c i),
+        number-room s b h ∙ ap told v ∙ sym (number-room t c i),
         word-room s b h ∙ ap (λ (x : Cleanness). wordOf form1 (said x)) v ∙ sym (word-room t c i),
       );
-      quotes = λ id seconds metres. ap quote.answer (quote-same s t later id seconds metres);
-      zones = λ q type moment. ap zone.answer (ruling-same s t later q type moment);
+      quotes = quote-same s t later;
+      zones = ruling-same s t later;
     }

@@ -1,33 +1,36 @@
--- Demand 3: what may change in a feed set without changing an answer, and what another version string leads to.
-use mathlib.Core.Bool.{false}
+-- Demand 3: what may change in a feed set without changing an answer, and what another version string leads to. A file is known by what its bytes spell:
+-- blanks between tokens and escapes in strings may stand wherever RFC 8259 has them.
 use mathlib.Core.List.{List, [], _∷_}
 use mathlib.Core.Path.{_≡_}
 use Prim.Native.Nat.{ℕ, _≤_, _<_}
 use lib.ListN.{length, take}
 use Rattle.notation.specs.Ascii.{bytes}
-use Rattle.json.specs.declared.Syntax.the-variants.{Sound}
+use Rattle.limits.specs.Ceilings.{fileBytes, depth}
 use Rattle.json.specs.Tree as tree
-use Rattle.json.specs.Tree.{Members}
-use Rattle.json.specs.Text.{syntaxOf}
-use Rattle.text.specs.Text.{same}
+use Rattle.json.specs.Tree.{Json, Members}
+use Rattle.json.specs.Spelling.{Spells}
+use Rattle.json.specs.Grammar.{IsText}
 use Rattle.word.specs.declared.Parts.{Parts}
+use Rattle.word.specs.Kinds.{tooLong, tooDeep}
 use Rattle.schema.specs.Shape.{fileShape}
 use Rattle.schema.specs.Table23.{table23}
 use Rattle.schema.specs.Later.{Later}
+use Rattle.judge.specs.Bounds.{OfStageB}
 use Rattle.geometry.specs.Ring.{Point}
-use Rattle.clean.specs.declared.Cleanness.the-variants.{Broken}
-use Rattle.clean.specs.Clean.{treeOf}
-use Rattle.quote.specs.Quote as quote
 use Rattle.quote.specs.Quote.{quoteOf}
-use Rattle.zone.specs.Answer as zone
 use Rattle.zone.specs.Answer.{rulingOf}
-use Rattle.gbfs.specs.Verdict.{Feeds, bytesOf, verdictOf, answerOf, bufferOf, number}
+use Rattle.gbfs.specs.Verdict.{Feeds, bytesOf, numberOf, bufferOf}
+use Rattle.gbfs.specs.Demand2.{Says}
 
--- a file and a later one: both absent, or both well formed within length and depth, and the later one's tree later
+-- a well-formed file within length and depth, every surrogate escape paired, and the tree that it spells
+pub record WellFormed (s : List ℕ) (x : Json) : Type 0 where
+  pub short : length s ≤ fileBytes
+  pub spells : Spells depth x s
+
+-- a file and a later one: both absent, or both well formed, and the tree that the later one spells is later
 pub data LaterFile (file : ℕ) : List ℕ → List ℕ → Type 0 where
   absent : LaterFile file [] []
-  present : {s t : List ℕ} → syntaxOf s ≡ Sound → syntaxOf t ≡ Sound
-      → Later (fileShape table23 file ∷ []) (treeOf s) (treeOf t) → LaterFile file s t
+  present : {s t : List ℕ} {x y : Json} → WellFormed s x → WellFormed t y → Later (fileShape table23 file ∷ []) x y → LaterFile file s t
 
 -- a set and a later one, file by file
 abbrev pub LaterSet : Feeds → Feeds → Type 0
@@ -35,37 +38,41 @@ LaterSet s t = (file : ℕ) → 1 ≤ file → file ≤ 6 → LaterFile file (by
 
 -- the answers of two sets agree: number and word of the verdict wherever there is room for a word, and all that quotes and zone rules return
 pub record Agree (s t : Feeds) : Type 0 where
-  pub verdicts : (b c : List ℕ) → 8 ≤ length b → 8 ≤ length c
-      → (number (answerOf s b) ≡ number (answerOf t c)) × (take 8 (bufferOf s b) ≡ take 8 (bufferOf t c))
-  pub quotes : (id : List ℕ) (seconds metres : ℕ)
-      → quote.answer (quoteOf (s .plans) id seconds metres) ≡ quote.answer (quoteOf (t .plans) id seconds metres)
-  pub zones : (q : Point) (type : List ℕ) (moment : ℕ)
-      → zone.answer (rulingOf (s .zones) q type moment) ≡ zone.answer (rulingOf (t .zones) q type moment)
+  pub verdicts : (b c : List ℕ) → 8 ≤ length b → 8 ≤ length c → (numberOf s b ≡ numberOf t c) × (take 8 (bufferOf s b) ≡ take 8 (bufferOf t c))
+  pub quotes : (id : List ℕ) (seconds metres : ℕ) → quoteOf (s .plans) id seconds metres ≡ quoteOf (t .plans) id seconds metres
+  pub zones : (q : Point) (type : List ℕ) (moment : ℕ) → rulingOf (s .zones) q type moment ≡ rulingOf (t .zones) q type moment
 
 -- a member of this name holds this string
 pub data Holds (name value : List ℕ) : Members → Type 0 where
   here : {ms : Members} → Holds name value (tree.member name (tree.string value) ms)
-  later : {n : List ℕ} {x : tree.Json} {ms : Members} → Holds name value ms → Holds name value (tree.member n x ms)
+  later : {n : List ℕ} {x : Json} {ms : Members} → Holds name value ms → Holds name value (tree.member n x ms)
 
--- the file is JSON within length and depth, and its top object holds a version string other than 2.3
+-- an object that holds a version string other than 2.3
+pub data Outdated : Json → Type 0 where
+  outdated : {v : List ℕ} {ms : Members} → Holds (bytes "version") v ms → (v ≡ bytes "2.3" → ⊥) → Outdated (tree.object ms)
+
+-- A file of another version: a JSON text of any length and depth, and the tree that it spells is such an object. One that has a lone surrogate escape
+-- spells no tree, and is refused whatever its version.
 pub record OtherVersion (s : List ℕ) : Type 0 where
-  pub reads : syntaxOf s ≡ Sound
-  pub members : Members
-  pub top : treeOf s ≡ tree.object members
-  pub version : List ℕ
-  pub holds : Holds (bytes "version") version members
-  pub other : same version (bytes "2.3") ≡ false
+  pub json : IsText s
+  pub version : {levels : ℕ} {x : Json} → Spells levels x s → Outdated x
 
--- refused for field 1 of the file, or for something ahead of it: kinds 1 to 4 of any file, or a place that comes before
+-- the kinds of stage A
+pub record OfStageA (kind : ℕ) : Type 0 where
+  pub least : tooLong ≤ kind
+  pub most : kind ≤ tooDeep
+
+-- field 1 of the file, or what comes ahead of it: stage A of any file; in stage B an earlier file, or an earlier field of this one's header
 pub data Ahead (file : ℕ) (p : Parts) : Type 0 where
-  stageA : p .kind ≤ 4 → Ahead file p
-  earlierFile : p .file < file → Ahead file p
-  header : p .file ≡ file → p .«record» ≡ 0 → p .field ≤ 1 → Ahead file p
+  malformed : OfStageA (p .kind) → Ahead file p
+  earlier : OfStageB (p .kind) → p .file < file → Ahead file p
+  header : OfStageB (p .kind) → p .file ≡ file → p .«record» ≡ 0 → p .field ≤ 1 → Ahead file p
 
+-- the call does not accept the set, and names one of these
 pub record Refused (s : Feeds) (file : ℕ) : Type 0 where
   pub parts : Parts
-  pub named : verdictOf s ≡ Broken parts
   pub ahead : Ahead file parts
+  pub told : Says s 1 parts
 
 -- the demand, undivided
 pub record Demand3 : Type 0 where

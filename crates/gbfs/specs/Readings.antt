@@ -18,7 +18,6 @@ use Rattle.geometry.specs.Ring.{Point}
 use Rattle.geometry.specs.Held.{holds}
 use Rattle.clean.specs.declared.Cleanness.{Cleanness}
 use Rattle.clean.specs.declared.Cleanness.the-variants.{Clean, Broken}
-use Rattle.quote.specs.Quote as quote
 use Rattle.quote.specs.Quote.{quoteOf}
 use Rattle.radix.specs.Radix.{weight, numberFrom, digits, number}
 use Rattle.radix.specs.Fields.{packed}
@@ -67,7 +66,7 @@ flag false = 0
 unfoldable priced : String → ℕ → List ℕ
 priced s seconds =
     let r =
-    quote.answer (quoteOf (file "{'version':'2.3','last_updated':0,'ttl':0,'data':{'plans':[{'plan_id':'p','name':'n','currency':'EUR','is_taxable':false,'description':'d','price':" ++ file s ++ file "}]}}") (bytes "p") seconds 0)
+    quoteOf (file "{'version':'2.3','last_updated':0,'ttl':0,'data':{'plans':[{'plan_id':'p','name':'n','currency':'EUR','is_taxable':false,'description':'d','price':" ++ file s ++ file "}]}}") (bytes "p") seconds 0
     in
     (r .number ∷ sized (r .amount)) ++ flag (r .pastMinutes) ∷ flag (r .pastKilometres) ∷ []
 

@@ -105,23 +105,25 @@ first (p ∷ l) = earlier p (first l)
 unfoldable pub verdictOf : Feeds → Cleanness
 verdictOf s = first (rules s)
 
--- the answer: its number, and the bytes of the buffer after it
-abbrev pub number : Acceptance → ℕ
-number NoRoom = 2
-number Accepted = 0
-number NotAccepted = 1
-
-abbrev pub acceptance : Cleanness → Acceptance
-acceptance Clean = Accepted
-acceptance (Broken p) = NotAccepted
-
 -- an accepting word says nothing else
 abbrev pub said : Cleanness → Parts
 said Clean = noParts
 said (Broken p) = p
 
-unfoldable pub answerOf : Feeds → (buffer : List ℕ) → Acceptance
-answerOf s buffer = ltb (length buffer) 8 ⇒ NoRoom else acceptance (verdictOf s)
+abbrev pub accepts : Cleanness → Bool
+accepts Clean = true
+accepts (Broken p) = false
+
+-- The first row of the table of questions: the number in its order of checking, and the buffer after the call. Without room for a word nothing is
+-- written; otherwise the word stands in the first eight bytes, and the rest stays.
+unfoldable pub numberOf : Feeds → (buffer : List ℕ) → ℕ
+numberOf s buffer = ltb (length buffer) 8 ⇒ 2 else accepts (verdictOf s) ⇒ 0 else 1
 
 unfoldable pub bufferOf : Feeds → (buffer : List ℕ) → List ℕ
 bufferOf s buffer = ltb (length buffer) 8 ⇒ buffer else wordOf form1 (said (verdictOf s)) ++ drop 8 buffer
+
+-- the number of each case of the answer
+abbrev pub number : Acceptance → ℕ
+number NoRoom = 2
+number Accepted = 0
+number NotAccepted = 1

@@ -9,7 +9,7 @@ ghost use Prim.Native.Nat.{_≤_};
 ghost use lib.ListN.{length, drop};
 ghost use Rattle.word.specs.Form.{form1};
 ghost use Rattle.word.specs.Word.{Fits, wordOf};
-ghost use Rattle.gbfs.specs.Verdict.{feeds, said, answerOf, bufferOf};
+ghost use Rattle.gbfs.specs.Verdict.{feeds, said, number, numberOf, bufferOf};
 
 mod stages;
 
@@ -53,7 +53,7 @@ fn put(parts: Parts, buffer: &mut [u8])
 
 // The verdict on a set of six files, of which one without bytes is absent. The word stands in the first eight bytes of the buffer, and the rest stays; in a buffer of
 // fewer bytes nothing is written.
-// Shut out: a set refused that breaks no rule, or for another rule than its first; a byte past the eighth written.
+// Shut out: a set refused that breaks no rule, or for another rule than its first; a word written anywhere else in the buffer.
 pub fn verdict<'a>(
     types: &'a [u8],
     stations: &'a [u8],
@@ -63,7 +63,12 @@ pub fn verdict<'a>(
     zones: &'a [u8],
     buffer: &mut [u8],
 ) -> Acceptance
-    ensures { λ r. ⌜ (r ≡ answerOf (feeds (now (types .entry)) (now (stations .entry)) (now (statuses .entry)) (now (bikes .entry)) (now (plans .entry)) (now (zones .entry))) (now (buffer .entry))) × (now (buffer .exit) ≡ bufferOf (feeds (now (types .entry)) (now (stations .entry)) (now (statuses .entry)) (now (bikes .entry)) (now (plans .entry)) (now (zones .entry))) (now (buffer .entry))) ⌝ }
+    ensures { λ r. ⌜ (number r ≡ numberOf
+        (feeds (now (types .entry)) (now (stations .entry)) (now (statuses .entry)) (now (bikes .entry)) (now (plans .entry)) (now (zones .entry)))
+        (now (buffer .entry)))
+        × (now (buffer .exit) ≡ bufferOf
+        (feeds (now (types .entry)) (now (stations .entry)) (now (statuses .entry)) (now (bikes .entry)) (now (plans .entry)) (now (zones .entry)))
+        (now (buffer .entry))) ⌝ }
 {
     if buffer.len() < Word::SIZE {
         return Acceptance::NoRoom;

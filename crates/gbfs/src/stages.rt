@@ -141,7 +141,9 @@ fn judge_read<'a>(
     zones: &'a [u8],
 ) -> Cleanness
     requires { ⌜ firstA (feeds (now types) (now stations) (now statuses) (now bikes) (now plans) (now zones)) ≡ clean.Clean ⌝ }
-    ensures { λ r. ⌜ r ≡ orNext (firstB (feeds (now (types .entry)) (now (stations .entry)) (now (statuses .entry)) (now (bikes .entry)) (now (plans .entry)) (now (zones .entry)))) (cross.stageC (picked (feeds (now (types .entry)) (now (stations .entry)) (now (statuses .entry)) (now (bikes .entry)) (now (plans .entry)) (now (zones .entry))))) ⌝ }
+    ensures { λ r. ⌜ r ≡ orNext
+        (firstB (feeds (now (types .entry)) (now (stations .entry)) (now (statuses .entry)) (now (bikes .entry)) (now (plans .entry)) (now (zones .entry))))
+        (cross.stageC (picked (feeds (now (types .entry)) (now (stations .entry)) (now (statuses .entry)) (now (bikes .entry)) (now (plans .entry)) (now (zones .entry))))) ⌝ }
 {
     match first_b(types, stations, statuses, bikes, plans, zones) {
         Cleanness::Broken(p) => Cleanness::Broken(p),

@@ -1,5 +1,5 @@
--- Of a clean file of plans: its records are the items at the front of the rest, the plan that is looked up is the picked one, whole and with few
--- segments, and its quote is the file's. An absent file has no plans.
+-- Of a clean file of plans: its records are the items at the front of the rest, the plan that is looked up is the picked one, and clear, and its quote is
+-- the file's. An absent file has no plans.
 use mathlib.Core.Bool.{true, false}
 use mathlib.Core.List.{List, [], _∷_, map, List·Memᴰ, List·Memᴰ·head, List·Memᴰ·tail}
 use mathlib.Core.Path.{_≡_, refl, sym, ap, subst, _∙_}
@@ -11,7 +11,6 @@ use borrow.Author.Tests.{le-leb, lt-leb, leb-true}
 use Rattle.lexeme.proofs.Steps.{by-test}
 use Rattle.lexeme.specs.Read as read
 use Rattle.lexeme.specs.Tokens.{blanks}
-use Rattle.json.specs.Tree.{Json}
 use Rattle.json.specs.Text.{text, value, valueBy}
 use Rattle.walk.specs.declared.Item.{Item}
 use Rattle.walk.specs.Walk.{part, itemsOf}
@@ -28,20 +27,17 @@ use Rattle.document.specs.Document.{some, field, along}
 use Rattle.document.specs.Spans.{RecordsFrom}
 use Rattle.document.proofs.Records.{recordShape, pickedItems}
 use Rattle.document.proofs.Rests.{rest-along, rest-picked}
-use Rattle.fields.proofs.Fields.{rowOf, listed}
 use Rattle.clean.specs.declared.Cleanness.{Cleanness}
 use Rattle.clean.specs.Clean as clean
 use Rattle.clean.specs.Clean.{recordsOf, cleanOf}
-use Rattle.clean.proofs.Faultless.{items-few}
 use Rattle.clean.proofs.Repeated.{Held}
 use Rattle.clean.proofs.Cleans.{Sound, clean-held}
 use Rattle.quote.specs.declared.Lookup.{Lookup}
 use Rattle.quote.specs.declared.Lookup.the-variants as found
-use Rattle.quote.specs.declared.Quote.the-variants.{TooLong, NoPlan}
 use Rattle.quote.specs.Plan.{planOf, plans}
 use Rattle.quote.specs.Lookup.{isPlan, lookupIn, lookup}
-use Rattle.quote.specs.Tally.{Few, Fit}
-use Rattle.quote.specs.Quote.{mostSeconds, mostMetres, planQuote, cleanQuote, short, ofClean, quoteOf}
+use Rattle.quote.specs.Clear.{ClearPlan}
+use Rattle.quote.specs.Quote.{mostSeconds, mostMetres, refused, planQuote, cleanQuote, short, ofClean, quoteOf}
 use Rattle.quote.proofs.Looking.{recordOf, planAt, lookup-plan}
 
 -- short rides
@@ -61,31 +57,25 @@ module _ (seconds metres : ℕ) where
       let b = and-right (leb seconds mostSeconds) (leb metres mostMetres) e in
       (leb-true seconds mostSeconds a, leb-true metres mostMetres b)
 
--- a plan without a fault has few segments
-plan-few : (x : Json) (q : Place) (φ : ℕ) → faults plan q φ (pick plan x) ≡ [] → Few (pick plan x)
-unfolding plan rowOf
-plan-few x q φ e =
-    record { minutes = items-few q φ x e (listed {f = 61} refl) (λ a b. refl); kilometres = items-few q φ x e (listed {f = 56} refl) (λ a b. refl) }
-
 -- a plan that is found is one of the records
 module _ (p id : List ℕ) (φ from upto : ℕ) where
-  fit-in : (ms : List Item) → ((m : Item) → List·Memᴰ m ms → Whole (itemOf p m) (treeOf (itemOf p m)))
-      → ((y : Picked) → List·Memᴰ y (map (recordOf p) ms) → (q : Place) × (faults plan q φ y ≡ [])) → lookupIn p id ms ≡ found.Plan from upto → Fit (part p from upto)
+  clear-in : (ms : List Item) → ((m : Item) → List·Memᴰ m ms → Whole (itemOf p m) (treeOf (itemOf p m)))
+      → ((y : Picked) → List·Memᴰ y (map (recordOf p) ms) → (q : Place) × (faults plan q φ y ≡ [])) → lookupIn p id ms ≡ found.Plan from upto → ClearPlan (part p from upto)
   unfolding lookupIn
-  fit-in [] w sound e = let z : _≡_ {A = ℕ} 0 1 = cc in absurd (omega arith)
-  fit-in (m ∷ ms) w sound e =
+  clear-in [] w sound e = let z : _≡_ {A = ℕ} 0 1 = cc in absurd (omega arith)
+  clear-in (m ∷ ms) w sound e =
       by-test (isPlan id (recordOf p m)) (λ t. here (rw (lookupIn, t) at e))
-      (λ t. fit-in ms (λ n i. w n (List·Memᴰ·tail i)) (λ y i. sound y (List·Memᴰ·tail i)) (rw (lookupIn, t) at e))
+      (λ t. clear-in ms (λ n i. w n (List·Memᴰ·tail i)) (λ y i. sound y (List·Memᴰ·tail i)) (rw (lookupIn, t) at e))
     where
-      here : found.Plan (m .value) (m .«value_end») ≡ found.Plan from upto → Fit (part p from upto)
+      here : found.Plan (m .value) (m .«value_end») ≡ found.Plan from upto → ClearPlan (part p from upto)
       here h =
           let a : m .value ≡ from = cc in
           let b : m .«value_end» ≡ upto = cc in
           let n = sound (recordOf p m) (List·Memᴰ·head refl) in
-          rw (← a, ← b) (record { whole = w m (List·Memᴰ·head refl); few = plan-few (treeOf (itemOf p m)) (n .0) φ (n .1) })
+          rw (← a, ← b) (record { whole = w m (List·Memᴰ·head refl); place = n .0; field = φ; clear = n .1 })
 
 -- an absent file has no plans
-pub quote-absent : (s id : List ℕ) (seconds metres : ℕ) → length s ≡ 0 → NoPlan ≡ cleanQuote (pick (fileShape table23 5) (clean.treeOf s)) id seconds metres
+pub quote-absent : (s id : List ℕ) (seconds metres : ℕ) → length s ≡ 0 → refused 6 ≡ cleanQuote (pick (fileShape table23 5) (clean.treeOf s)) id seconds metres
 unfolding cleanQuote planOf plans along field pick fileShape table23 listing file clean.treeOf text blanks value valueBy read.then
 quote-absent [] id seconds metres e = refl
 quote-absent (b ∷ s) id seconds metres e = absurd (omega arith)
@@ -112,14 +102,14 @@ module _ {s p : List ℕ} (k : Sound 5 s) (f : RecordsFrom 5 s p) where
     unfolding cleanQuote
     quoted o e seconds metres = ap (planQuote seconds metres) (ap (planAt p) (sym e) ∙ plans-are)
 
-    pub quote-none : (seconds metres : ℕ) → lookup p id ≡ found.Nothing → NoPlan ≡ cleanQuote (pick (fileShape table23 5) (clean.treeOf s)) id seconds metres
+    pub quote-none : (seconds metres : ℕ) → lookup p id ≡ found.Nothing → refused 6 ≡ cleanQuote (pick (fileShape table23 5) (clean.treeOf s)) id seconds metres
     quote-none seconds metres e = quoted found.Nothing e seconds metres
 
     module _ (start end : ℕ) (e : lookup p id ≡ found.Plan start end) where
-      pub quote-fit : Fit (part p start end)
+      pub quote-clear : ClearPlan (part p start end)
       unfolding lookup recordShape
-      quote-fit =
-          fit-in p id (held .field) start end (itemsOf p) (items-whole p) (λ y i. held .sound y (subst (List·Memᴰ y) (sym records-are) i)) e
+      quote-clear =
+          clear-in p id (held .field) start end (itemsOf p) (items-whole p) (λ y i. held .sound y (subst (List·Memᴰ y) (sym records-are) i)) e
 
       pub quote-some : (seconds metres : ℕ) → planQuote seconds metres (some (pick plan (treeOf (part p start end))))
           ≡ cleanQuote (pick (fileShape table23 5) (clean.treeOf s)) id seconds metres
@@ -127,7 +117,7 @@ module _ {s p : List ℕ} (k : Sound 5 s) (f : RecordsFrom 5 s p) where
 
 -- the question, by what is found of the ride and of the file
 module _ (s id : List ℕ) (seconds metres : ℕ) where
-  pub quote-long : short seconds metres ≡ false → TooLong ≡ quoteOf s id seconds metres
+  pub quote-long : short seconds metres ≡ false → refused 4 ≡ quoteOf s id seconds metres
   unfolding quoteOf
   quote-long e = rw (quoteOf, e)
 

@@ -1,89 +1,101 @@
--- What a plan's two tallies come to is its quote: each is the fold over its picked segments, and price and charges make the amount.
+-- What a plan's price and its two arrays of segments come to is its quote: the segments of the bytes are the picked ones, there is room for the charges
+-- of both, and price and charges make the amount.
 use mathlib.Core.List.{List}
-use mathlib.Core.Path.{_≡_, sym, ap, _∙_}
-use Prim.Native.Nat.{ℕ, _+_}
+use mathlib.Core.Path.{_≡_, sym, ap, subst, _∙_}
+use Prim.Native.Nat.{ℕ, _+_, _≤_}
 use native.Mathlib.Omega.{arith}
+use lib.ListN.{length}
 use Rattle.notation.specs.Ascii.{bytes}
 use Rattle.limits.specs.Ceilings.{segments}
-use Rattle.json.specs.Tree.{Json}
-use Rattle.walk.specs.Part.{Whole}
-use Rattle.schema.specs.Pick.{pick}
+use Rattle.walk.specs.Part.{treeOf}
+use Rattle.schema.specs.Pick.{Picked, pick}
 use Rattle.schema.specs.Table23 as table
 use Rattle.document.specs.Document.{some, fieldItems}
+use Rattle.fare.specs.declared.Segment.{Segment}
+use Rattle.fare.specs.declared.Segments.{Segments}
 use Rattle.fare.specs.declared.Sum.{Sum}
-use Rattle.fare.specs.declared.Marks.{Marks}
 use Rattle.fare.specs.Charges as charges
 use Rattle.fare.specs.Charges.{minutesOf, kilometresOf}
-use Rattle.fare.specs.Folds.{worth, ofPrice, withCharges, unmarked, withEnds, marked}
-use Rattle.fare.specs.Bounds.{Room}
-use Rattle.fare.proofs.Fold.{amount-summed, tells-start}
-use Rattle.fare.proofs.Bound.{room-price, room-less}
-use Rattle.quote.specs.declared.Tally.the-variants.{Is, Crowded}
+use Rattle.fare.specs.Folds.{worth, ofPrice, withCharges, Fills, withAll}
+use Rattle.fare.specs.Bounds.{mostRide, Room, Modest, Chargeable}
+use Rattle.fare.proofs.Fold.{amount-summed}
+use Rattle.fare.proofs.Bound.{room-price, room-less, room-charges}
 use Rattle.quote.specs.Plan.{priceAt, perMinute, perKilometre, sum, pastMinutes, pastKilometres}
 use Rattle.fields.specs.Values.{memberOf, arrayBy}
-use Rattle.quote.specs.Values.{priceBy}
-use Rattle.quote.specs.Tally.{tally, Few}
+use Rattle.quote.specs.Values.{priceBy, segmentsBy}
+use Rattle.quote.specs.Clear.{ClearPlan}
 use Rattle.quote.specs.Quote.{fareOf, planQuote}
-use Rattle.quote.proofs.Fields.{plan-price, plan-minutes, plan-kilometres}
-use Rattle.quote.proofs.Tallying.{price-most, tally-picked}
+use Rattle.quote.proofs.Fields.{plan-price, plan-minutes, plan-kilometres, minutes-clear, kilometres-clear}
+use Rattle.quote.proofs.Segments.{price-most, segments-modest, segments-few, segments-picked}
 
--- the bytes of a plan's price and of its two arrays
-abbrev pub priceBytes : List ℕ → List ℕ
-priceBytes p = memberOf p (bytes "price")
+-- price and segments by the bytes of a plan
+abbrev pub price : List ℕ → Sum
+price p = ofPrice (priceBy (memberOf p (bytes "price")))
 
-abbrev pub minuteBytes : List ℕ → List ℕ
+abbrev minuteBytes : List ℕ → List ℕ
 minuteBytes p = arrayBy (memberOf p (bytes "per_min_pricing"))
 
-abbrev pub kilometreBytes : List ℕ → List ℕ
+abbrev kilometreBytes : List ℕ → List ℕ
 kilometreBytes p = arrayBy (memberOf p (bytes "per_km_pricing"))
 
--- room, whatever the bytes are
-pub price-room : (q : List ℕ) → Room (segments + segments) (ofPrice (priceBy q))
-price-room q = room-less (segments + segments) (omega arith) (room-price (priceBy q) (price-most q))
+abbrev pub byMinute : List ℕ → List Segment
+byMinute p = segmentsBy (minuteBytes p)
 
-is-both : {a b : Sum} {m n : Marks} → Is a m ≡ Is b n → (a ≡ b) × (m ≡ n)
-is-both e = (cc, cc)
+abbrev pub byKilometre : List ℕ → List Segment
+byKilometre p = segmentsBy (kilometreBytes p)
 
-pub no-tally : {A : Type 0} {a : Sum} {m : Marks} → Crowded ≡ Is a m → A
-no-tally e = let z : _≡_ {A = ℕ} 0 1 = cc in absurd (omega arith)
+-- places that these segments fill can be charged
+chargeable : {l : Segments} {s : List Segment} {sum : Sum} {ride : ℕ} → Fills l s → length s ≤ segments → Modest s → Room (length s) sum → ride ≤ mostRide → Chargeable sum l ride
+chargeable {l} {s} {sum} f few modest room short =
+    record {
+      few = omega (arith, f .count);
+      filled = f .count ∙ ap length (sym (f .are));
+      room = subst (λ (n : ℕ). Room n sum) (sym (f .count)) room;
+      modest = subst Modest (sym (f .are)) modest;
+      short = short;
+    }
 
-module _ {p : List ℕ} {x : Json} (w : Whole p x) (few : Few (pick table.plan x)) where
-  pub tally-minutes : (start : Sum) (ride : ℕ)
-      → tally (minuteBytes p) start ride ≡ Is (withCharges start (perMinute (pick table.plan x)) ride) (withEnds unmarked (perMinute (pick table.plan x)))
+module _ {p : List ℕ} (c : ClearPlan p) where
+  abbrev plan : Picked
+  plan = pick table.plan (treeOf p)
+
+  minutes-are : byMinute p ≡ perMinute plan
   unfolding perMinute
-  tally-minutes start ride = tally-picked 62 (minuteBytes p) start ride (fieldItems 61 (pick table.plan x)) (plan-minutes w) (few .minutes)
+  minutes-are = segments-picked 62 (minuteBytes p) (fieldItems 61 plan) (plan-minutes (c .whole))
 
-  pub tally-kilometres : (start : Sum) (ride : ℕ)
-      → tally (kilometreBytes p) start ride ≡ Is (withCharges start (perKilometre (pick table.plan x)) ride) (withEnds unmarked (perKilometre (pick table.plan x)))
+  kilometres-are : byKilometre p ≡ perKilometre plan
   unfolding perKilometre
-  tally-kilometres start ride = tally-picked 57 (kilometreBytes p) start ride (fieldItems 56 (pick table.plan x)) (plan-kilometres w) (few .kilometres)
+  kilometres-are = segments-picked 57 (kilometreBytes p) (fieldItems 56 plan) (plan-kilometres (c .whole))
 
-  module _ (seconds metres : ℕ) (timed all : Sum) (ends far : Marks)
-      (first : tally (minuteBytes p) (ofPrice (priceBy (priceBytes p))) (minutesOf seconds .count) ≡ Is timed ends)
-      (second : tally (kilometreBytes p) timed (kilometresOf metres .count) ≡ Is all far) where
-    timed-is : (timed ≡ withCharges (ofPrice (priceAt (pick table.plan x))) (perMinute (pick table.plan x)) (minutesOf seconds .count))
-        × (ends ≡ withEnds unmarked (perMinute (pick table.plan x)))
-    timed-is =
-        let b = is-both (sym first ∙ tally-minutes (ofPrice (priceBy (priceBytes p))) (minutesOf seconds .count)) in
-        (b .0 ∙ ap (λ a. withCharges (ofPrice a) (perMinute (pick table.plan x)) (minutesOf seconds .count)) (plan-price w), b .1)
+  few-minutes : length (byMinute p) ≤ segments
+  few-minutes = segments-few (minuteBytes p) (minutes-clear c)
 
-    all-is : (all ≡ withCharges timed (perKilometre (pick table.plan x)) (kilometresOf metres .count)) × (far ≡ withEnds unmarked (perKilometre (pick table.plan x)))
-    all-is = is-both (sym second ∙ tally-kilometres timed (kilometresOf metres .count))
+  few-kilometres : length (byKilometre p) ≤ segments
+  few-kilometres = segments-few (kilometreBytes p) (kilometres-clear c)
 
-    worth-is : worth all ≡ sum (pick table.plan x) seconds metres
+  -- room for the per-minute segments, and behind them for the others
+  price-room : Room (segments + segments) (price p)
+  price-room = room-less (segments + segments) (omega arith) (room-price (priceBy (memberOf p (bytes "price"))) (price-most (memberOf p (bytes "price"))))
+
+  pub minutes-chargeable : {l : Segments} → Fills l (byMinute p) → (ride : ℕ) → ride ≤ mostRide → Chargeable (price p) l ride
+  minutes-chargeable f ride h =
+      chargeable f few-minutes (segments-modest (minuteBytes p)) (room-less (length (byMinute p)) (omega (arith, few-minutes)) price-room) h
+
+  pub kilometres-chargeable : {l : Segments} → Fills l (byKilometre p) → (ride far : ℕ) → ride ≤ mostRide → far ≤ mostRide → Chargeable (withCharges (price p) (byMinute p) ride) l far
+  kilometres-chargeable f ride far h k =
+      let modest = segments-modest (minuteBytes p) in
+      let room = room-less (length (byKilometre p) + length (byMinute p)) (omega (arith, few-minutes, few-kilometres)) price-room in
+      chargeable f few-kilometres (segments-modest (kilometreBytes p)) (room-charges (length (byKilometre p)) (byMinute p) (price p) ride modest h room) k
+
+  module _ (seconds metres : ℕ) where
+    worth-is : worth (withCharges (withCharges (price p) (byMinute p) (minutesOf seconds .count)) (byKilometre p) (kilometresOf metres .count)) ≡ sum plan seconds metres
     unfolding sum
     worth-is =
-        ap worth (all-is .0 ∙ ap (λ (s : Sum). withCharges s (perKilometre (pick table.plan x)) (kilometresOf metres .count)) (timed-is .0))
-        ∙ amount-summed (priceAt (pick table.plan x)) (perMinute (pick table.plan x)) (perKilometre (pick table.plan x)) (minutesOf seconds) (kilometresOf metres)
+        rw (minutes-are, kilometres-are, plan-price (c .whole))
+        (amount-summed (priceAt plan) (perMinute plan) (perKilometre plan) (minutesOf seconds) (kilometresOf metres))
 
-    minutes-marked : marked ends (minutesOf seconds .count) ≡ pastMinutes (pick table.plan x) seconds
-    unfolding pastMinutes
-    minutes-marked = ap (λ (m : Marks). marked m (minutesOf seconds .count)) (timed-is .1) ∙ tells-start (perMinute (pick table.plan x)) (minutesOf seconds .count)
-
-    kilometres-marked : marked far (kilometresOf metres .count) ≡ pastKilometres (pick table.plan x) metres
-    unfolding pastKilometres
-    kilometres-marked = ap (λ (m : Marks). marked m (kilometresOf metres .count)) (all-is .1) ∙ tells-start (perKilometre (pick table.plan x)) (kilometresOf metres .count)
-
-    pub plan-quoted : fareOf (charges.total (worth all)) (marked ends (minutesOf seconds .count)) (marked far (kilometresOf metres .count))
-        ≡ planQuote seconds metres (some (pick table.plan x))
-    plan-quoted = rw (worth-is, minutes-marked, kilometres-marked)
+    pub plan-quoted : let timed = withAll (price p) (byMinute p) (minutesOf seconds .count) in let all = withAll (timed .sum) (byKilometre p) (kilometresOf metres .count) in
+        fareOf (charges.total (worth (all .sum))) (timed .past) (all .past) ≡ planQuote seconds metres (some plan)
+    unfolding pastMinutes pastKilometres
+    plan-quoted =
+        rw (worth-is, ap (λ (l : List Segment). charges.past l (minutesOf seconds .count)) minutes-are, ap (λ (l : List Segment). charges.past l (kilometresOf metres .count)) kilometres-are)

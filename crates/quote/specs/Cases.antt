@@ -14,11 +14,8 @@ use Rattle.document.specs.Document as document
 use Rattle.fare.specs.Cases.{charging}
 use Rattle.judge.specs.Cases.{judging}
 use Rattle.clean.specs.Clean.{treeOf, idField, recordsOf, usedBefore, repeatedId, repeatsFrom, repeats, cleanOf}
-use Rattle.quote.specs.declared.Quote.{Quote}
-use Rattle.quote.specs.declared.Quote.the-variants.{TooLong, NotClean, NoPlan, Outside, Fare}
 use Rattle.quote.specs.Plan.{priceAt, segment, perKilometre, perMinute, planOf, plans, sum, pastMinutes, pastKilometres}
-use Rattle.word.specs.Word.{noParts}
-use Rattle.quote.specs.Quote.{answer, cleanQuote, short, quoteOf}
+use Rattle.quote.specs.Quote.{Answer, refused, unclean, priced, cleanQuote, short, quoteOf}
 
 -- opens every definition of a quote
 unfoldable pub quoting : Unit {0}
@@ -37,15 +34,15 @@ plan id s =
     bytes "{'plan_id':'" ++ bytes id ++ bytes "','name':'n','currency':'USD','is_taxable':false,'description':'d','price':" ++ bytes s ++ bytes "}"
 
 -- what a plan quotes for rides of so many seconds that go nowhere
-unfoldable quotes : String → List ℕ → List Quote
+unfoldable quotes : String → List ℕ → List Answer
 quotes s rides = map (λ seconds. quoteOf (file (plan "p" s)) (bytes "p") seconds 0) rides
 
 -- an amount without a mark; one past the minutes
-abbrev fare : ℕ → Quote
-fare n = Fare (pos n) false false
+abbrev fare : ℕ → Answer
+fare n = priced (pos n) false false
 
-abbrev endedFare : ℕ → Quote
-endedFare n = Fare (pos n) true false
+abbrev endedFare : ℕ → Answer
+endedFare n = priced (pos n) true false
 
 -- document 01; its (f) is document 002's first plan, which goes on to 150 and 600 seconds
 
@@ -54,7 +51,7 @@ f : quotes "2,'per_min_pricing':[{'start':1,'rate':1,'interval':1},{'start':2,'r
 unfolding quoting file plan quotes
 f = refl
 
-g : quotes "0,'per_min_pricing':[{'start':10,'rate':-0.5,'interval':0}]" (599 ∷ 600 ∷ []) ≡ fare 0 ∷ Fare (negℤ (pos 5000)) false false ∷ []
+g : quotes "0,'per_min_pricing':[{'start':10,'rate':-0.5,'interval':0}]" (599 ∷ 600 ∷ []) ≡ fare 0 ∷ priced (negℤ (pos 5000)) false false ∷ []
 unfolding quoting file plan quotes
 g = refl
 
@@ -74,32 +71,29 @@ by-both = refl
 
 -- refusals
 
-numbers : map (λ (q : Quote). answer q .number) (TooLong ∷ NotClean noParts ∷ NoPlan ∷ Outside ∷ fare 0 ∷ []) ≡ 4 ∷ 5 ∷ 6 ∷ 7 ∷ 0 ∷ []
-numbers = refl
-
 too-long-first : map (λ seconds. quoteOf (bytes "[") (bytes "p") seconds 1_000_000) (2_678_400 ∷ 2_678_401 ∷ [])
-    ≡ NotClean (record { file = 5; kind = 2; field = 0; «record» = 0; sub = 0; offset = 1 }) ∷ TooLong ∷ []
+    ≡ unclean (record { file = 5; kind = 2; field = 0; «record» = 0; sub = 0; offset = 1 }) ∷ refused 4 ∷ []
 unfolding quoting
 too-long-first = refl
 
-too-far : quoteOf (bytes "[") (bytes "p") 0 1_000_001 ≡ TooLong
+too-far : quoteOf (bytes "[") (bytes "p") 0 1_000_001 ≡ refused 4
 unfolding quoting
 too-far = refl
 
-not-clean : quotes "-1" (0 ∷ []) ≡ NotClean (record { file = 5; kind = 9; field = 53; «record» = 1; sub = 0; offset = 0 }) ∷ []
+not-clean : quotes "-1" (0 ∷ []) ≡ unclean (record { file = 5; kind = 9; field = 53; «record» = 1; sub = 0; offset = 0 }) ∷ []
 unfolding quoting file plan quotes
 not-clean = refl
 
-id-twice : quoteOf (file (plan "p" "1" ++ bytes "," ++ plan "p" "2")) (bytes "p") 0 0 ≡ NotClean (record { file = 5; kind = 12; field = 50; «record» = 2; sub = 0; offset = 0 })
+id-twice : quoteOf (file (plan "p" "1" ++ bytes "," ++ plan "p" "2")) (bytes "p") 0 0 ≡ unclean (record { file = 5; kind = 12; field = 50; «record» = 2; sub = 0; offset = 0 })
 unfolding quoting file plan
 id-twice = refl
 
-absent : quoteOf [] (bytes "p") 0 0 ≡ NoPlan
+absent : quoteOf [] (bytes "p") 0 0 ≡ refused 6
 unfolding quoting
 absent = refl
 
 -- an id is asked for as a whole, and found however the file spells it
 by-id : map (λ id. quoteOf (file (plan "p" "1" ++ bytes "," ++ plan "\\u0070q" "2")) id 0 0) (bytes "p" ∷ bytes "pq" ∷ bytes "" ∷ bytes "pqr" ∷ [])
-    ≡ fare 10000 ∷ fare 20000 ∷ NoPlan ∷ NoPlan ∷ []
+    ≡ fare 10000 ∷ fare 20000 ∷ refused 6 ∷ refused 6 ∷ []
 unfolding quoting file plan
 by-id = refl

@@ -2,5 +2,5 @@ pub mod Plan
 pub mod Quote
 pub mod Values
 pub mod Lookup
-pub mod Tally
+pub mod Clear
 pub mod Cases

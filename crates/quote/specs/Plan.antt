@@ -20,7 +20,7 @@ use Rattle.fields.specs.Values.{integerIn}
 use Rattle.fare.specs.declared.Segment.{Segment}
 use Rattle.fare.specs.Charges.{minutesOf, kilometresOf, amount, past}
 
--- zero, for what a sound plan always has
+-- zero, for what a sound plan always has: a definition for every tree needs it, and no quote is made of it
 abbrev pub nothing : Amount
 nothing = record { negative = false; size = 0 }
 
@@ -28,24 +28,24 @@ abbrev pub amountIn : Money → Amount
 amountIn (money.Is a) = a
 amountIn money.Outside = nothing
 
-abbrev pub amountOf : Number → Amount
-amountOf (number.Value d) = amountIn (moneyOf d)
-amountOf number.Unformed = nothing
+abbrev pub numberAmount : Number → Amount
+numberAmount (number.Value d) = amountIn (moneyOf d)
+numberAmount number.Unformed = nothing
 
-abbrev pub priced : Price → Amount
-priced (price.Value d) = amountIn (moneyOf d)
-priced price.Unformed = nothing
-priced price.NoNumber = nothing
+abbrev pub priceAmount : Price → Amount
+priceAmount (price.Value d) = amountIn (moneyOf d)
+priceAmount price.Unformed = nothing
+priceAmount price.NoNumber = nothing
 
 -- money of a field
 abbrev pub moneyIn : Maybe (List ℕ) → Amount
 moneyIn none = nothing
-moneyIn (some s) = amountOf (numberOf s)
+moneyIn (some s) = numberAmount (numberOf s)
 
 -- the price: a number, or a string that spells one
 abbrev pub priceIn : Maybe (List ℕ) → Maybe (List ℕ) → Amount
-priceIn (some s) t = amountOf (numberOf s)
-priceIn none (some t) = priced (priceOf t)
+priceIn (some s) t = numberAmount (numberOf s)
+priceIn none (some t) = priceAmount (priceOf t)
 priceIn none none = nothing
 
 unfoldable pub priceAt : Picked → Amount

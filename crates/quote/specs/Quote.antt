@@ -1,4 +1,5 @@
--- The question "quote" of document 01. Where an answer has no amount, mark or parts, zero and false stand in.
+-- The question "quote" of document 01, "Questions and their numbers", in that table's numbers and order of checking. An amount, a mark or parts that an
+-- answer does not give are zero or no.
 use mathlib.Core.Bool.{Bool, false}
 use mathlib.Core.List.{List}
 use Prim.Native.Nat.{ℕ}
@@ -36,38 +37,51 @@ pub record Answer : Type 0 where
   pub pastMinutes : Bool
   pub pastKilometres : Bool
 
+-- a refusal; that of a file that is not clean, with its word's parts; and a price
+abbrev pub refused : ℕ → Answer
+refused n = record { number = n; parts = noParts; amount = pos 0; pastMinutes = false; pastKilometres = false }
+
+abbrev pub unclean : Parts → Answer
+unclean p = record { number = 5; parts = p; amount = pos 0; pastMinutes = false; pastKilometres = false }
+
+abbrev pub priced : ℤ → Bool → Bool → Answer
+priced z m k = record { number = 0; parts = noParts; amount = z; pastMinutes = m; pastKilometres = k }
+
+-- what each case of the code's answer says
 abbrev pub answer : Quote → Answer
-answer TooLong = record { number = 4; parts = noParts; amount = pos 0; pastMinutes = false; pastKilometres = false }
-answer (NotClean p) = record { number = 5; parts = p; amount = pos 0; pastMinutes = false; pastKilometres = false }
-answer NoPlan = record { number = 6; parts = noParts; amount = pos 0; pastMinutes = false; pastKilometres = false }
-answer Outside = record { number = 7; parts = noParts; amount = pos 0; pastMinutes = false; pastKilometres = false }
-answer (Fare amount m k) = record { number = 0; parts = noParts; amount = amount; pastMinutes = m; pastKilometres = k }
+answer TooLong = refused 4
+answer (NotClean p) = unclean p
+answer NoPlan = refused 6
+answer Outside = refused 7
+answer (Fare z m k) = priced z m k
 
--- a plan's quote
-abbrev pub fareOf : Total → Bool → Bool → Quote
-fareOf (total.Is amount) m k = Fare amount m k
-fareOf total.Outside m k = Outside
+-- a total with its marks: 7 where the amount is outside signed 64 bits
+abbrev pub fareOf : Total → Bool → Bool → Answer
+fareOf (total.Is amount) m k = priced amount m k
+fareOf total.Outside m k = refused 7
 
-abbrev pub planQuote : ℕ → ℕ → Maybe Picked → Quote
-planQuote seconds metres none = NoPlan
+-- 6 where there is no such plan
+abbrev pub planQuote : ℕ → ℕ → Maybe Picked → Answer
+planQuote seconds metres none = refused 6
 planQuote seconds metres (some plan) =
     fareOf (charges.total (sum plan seconds metres)) (pastMinutes plan seconds) (pastKilometres plan metres)
 
 -- of a clean file of plans
-unfoldable pub cleanQuote : Picked → List ℕ → ℕ → ℕ → Quote
+unfoldable pub cleanQuote : Picked → List ℕ → ℕ → ℕ → Answer
 cleanQuote file id seconds metres = planQuote seconds metres (planOf (plans file) id)
 
 -- a ride that is short enough
 unfoldable pub short : ℕ → ℕ → Bool
 short seconds metres = leb seconds mostSeconds and leb metres mostMetres
 
-abbrev pub ofClean : Cleanness → Quote → Quote
+-- 5 where the file is not clean
+abbrev pub ofClean : Cleanness → Answer → Answer
 ofClean Clean next = next
-ofClean (Broken p) next = NotClean p
+ofClean (Broken p) next = unclean p
 
--- of the bytes s of file 5
-unfoldable pub quoteOf : (s id : List ℕ) → (seconds metres : ℕ) → Quote
+-- of the bytes s of file 5, and of an id: 4 where the ride is too long, before all else
+unfoldable pub quoteOf : (s id : List ℕ) → (seconds metres : ℕ) → Answer
 quoteOf s id seconds metres =
     short seconds metres ⇒
     ofClean (cleanOf 5 s) (cleanQuote (pick (fileShape table23 5) (treeOf s)) id seconds metres)
-    else TooLong
+    else refused 4

@@ -1,7 +1,8 @@
 -- What the bytes of a plan's values say, as the code reads them.
-use mathlib.Core.List.{List}
+use mathlib.Core.List.{List, map}
 use Prim.Native.Nat.{ℕ}
 use Rattle.notation.specs.Ascii.{bytes}
+use Rattle.walk.specs.Walk.{part, itemsOf}
 use Rattle.decimal.specs.declared.Amount.{Amount}
 use Rattle.fields.specs.Values.{memberOf, spelledBy, textBy, thereBy, integerIn}
 use Rattle.fare.specs.declared.Segment.{Segment}
@@ -20,3 +21,7 @@ segmentBy p =
       ended = thereBy (memberOf p (bytes "end"));
       end = integerIn (spelledBy (memberOf p (bytes "end")));
     }
+
+-- the segments in an array
+unfoldable pub segmentsBy : List ℕ → List Segment
+segmentsBy p = map (λ m. segmentBy (part p (m .value) (m .«value_end»))) (itemsOf p)

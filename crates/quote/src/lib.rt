@@ -5,10 +5,6 @@ use clean::Cleanness;
 use clean::check_clean;
 use document::cut;
 use document::records_from;
-use fare::Kilometres;
-use fare::Marks;
-use fare::Minutes;
-use fare::Sum;
 use word::Parts;
 ghost use mathlib.Core.Path.{_≡_};
 ghost use Prim.Native.Nat.{_≤_};
@@ -17,9 +13,9 @@ ghost use Rattle.schema.specs.Table23.{table23};
 ghost use Rattle.schema.specs.Pick.{pick};
 ghost use Rattle.clean.specs.declared.Cleanness.the-variants.{Clean};
 ghost use Rattle.clean.specs.Clean.{treeOf, cleanOf};
-ghost use Rattle.quote.specs.Quote.{mostSeconds, mostMetres, short, cleanQuote, quoteOf};
+ghost use Rattle.quote.specs.Quote.{mostSeconds, mostMetres, answer, short, cleanQuote, quoteOf};
 
-mod money;
+mod numbers;
 mod plans;
 mod segment;
 mod trip;
@@ -38,18 +34,6 @@ pub enum Quote {
 pub enum Lookup {
     Plan(usize, usize),
     Nothing,
-}
-
-// A ride's length in one of the two measures.
-pub enum Ride {
-    InMinutes(Minutes),
-    InKilometres(Kilometres),
-}
-
-// Sum and mark of the segments of one sort; or there are more than a plan may have.
-pub enum Tally {
-    Is(Sum, Marks),
-    Crowded,
 }
 
 impl Quote {
@@ -75,7 +59,7 @@ fn is_short(seconds: u64, metres: u64) -> bool
 // The quote of a plan out of a clean file of plans, for a ride that is short enough.
 fn quote_clean(s: &[u8], id: &[u8], seconds: u64, metres: u64) -> Quote
     requires { ⌜ (cleanOf 5 (now s) ≡ Clean) × (seconds ≤ mostSeconds) × (metres ≤ mostMetres) ⌝ }
-    ensures { λ r. ⌜ r ≡ cleanQuote (pick (fileShape table23 5) (treeOf (now (s .entry)))) (now (id .entry)) seconds metres ⌝ }
+    ensures { λ r. ⌜ answer r ≡ cleanQuote (pick (fileShape table23 5) (treeOf (now (s .entry)))) (now (id .entry)) seconds metres ⌝ }
 {
     if s.len() == 0 {
         return Quote::NoPlan;
@@ -92,7 +76,7 @@ fn quote_clean(s: &[u8], id: &[u8], seconds: u64, metres: u64) -> Quote
 // Shut out: a file's faults, or an amount, told of a ride that is too long; a plan quoted from a file that only stage A passes; the first plan of the
 // file taken where none has the id.
 pub fn quote_trip(s: &[u8], id: &[u8], seconds: u64, metres: u64) -> Quote
-    ensures { λ r. ⌜ r ≡ quoteOf (now (s .entry)) (now (id .entry)) seconds metres ⌝ }
+    ensures { λ r. ⌜ answer r ≡ quoteOf (now (s .entry)) (now (id .entry)) seconds metres ⌝ }
 {
     if !is_short(seconds, metres) {
         return Quote::TooLong;

@@ -1,27 +1,36 @@
-// The segments of a plan: read one by one, charged and marked.
-use crate::Ride;
-use crate::Tally;
-use crate::money::money_in;
-use fare::Marks;
+// The segments of a plan: read one by one, each into its place.
+use crate::numbers::integer_in;
+use crate::numbers::money_in;
+use decimal::Amount;
 use fare::Segment;
-use fare::Sum;
-use fields::integer_in;
+use fare::Segments;
 use fields::member;
-use limits::Limits;
 use walk::ItemStep;
 use walk::next_item;
+ghost use mathlib.Core.List.{[]};
+ghost use mathlib.Core.Logic.{_⊎_};
 ghost use mathlib.Core.Path.{_≡_};
-ghost use Prim.Native.Nat.{_≤_};
-ghost use Rattle.limits.specs.Ceilings.{segments};
-ghost use Rattle.walk.specs.Part.{Whole, treeOf};
-ghost use Rattle.fare.specs.Folds.{withCharge};
-ghost use Rattle.fare.specs.Bounds.{mostRide, Payable, Room};
-ghost use Rattle.quote.specs.Values.{segmentBy};
-ghost use Rattle.quote.specs.Tally.{lengthOf, tally as tallyOf};
+ghost use Rattle.schema.specs.Shape.{integer};
+ghost use Rattle.fare.specs.Folds.{Fills};
+ghost use Rattle.fields.specs.Values.{spelledBy, integerIn};
+ghost use Rattle.quote.specs.Values.{segmentBy, segmentsBy};
+ghost use Rattle.quote.specs.Clear.{ClearValue, ClearSegment, ClearSegments};
+
+// An end: 0 stands beside the mark that there is none.
+fn end_in(q: &[u8]) -> u64
+    requires { ⌜ (now q ≡ []) ⊎ ClearValue integer (now q) ⌝ }
+    ensures { λ r. ⌜ r ≡ integerIn (spelledBy (now (q .entry))) ⌝ }
+{
+    if q.len() == 0 {
+        return 0;
+    }
+    integer_in(q)
+}
 
 // The segment that an object is.
+// Shut out: an end of a single digit taken for none; the start read for the interval.
 fn segment_in(p: &[u8]) -> Segment
-    requires { ⌜ Whole (now p) (treeOf (now p)) ⌝ }
+    requires { ⌜ ClearSegment (now p) ⌝ }
     ensures { λ r. ⌜ r ≡ segmentBy (now (p .entry)) ⌝ }
 {
     let end = member(p, b"end");
@@ -30,45 +39,45 @@ fn segment_in(p: &[u8]) -> Segment
         rate: money_in(member(p, b"rate")),
         interval: integer_in(member(p, b"interval")),
         ended: 0 < end.len(),
-        end: integer_in(end),
+        end: end_in(end),
     }
 }
 
-// With a segment's charge, in the ride's measure.
-fn charge(sum: Sum, s: Segment, ride: Ride) -> Sum
-    requires { ⌜ Payable sum s (lengthOf ride) ⌝ }
-    ensures { λ r. ⌜ r ≡ withCharge sum s (lengthOf ride) ⌝ }
-{
-    match ride {
-        Ride::InMinutes(minutes) => sum.with_minutes(s, minutes),
-        Ride::InKilometres(kilometres) => sum.with_kilometres(s, kilometres),
+// What stands in a place that no segment has filled.
+fn unfilled() -> Segment {
+    let rate = Amount {
+        negative: false,
+        size: 0,
+    };
+    Segment {
+        start: 0,
+        rate,
+        interval: 0,
+        ended: false,
+        end: 0,
     }
 }
 
-// The segments in the array `p`, added to a sum that has room for them.
-pub fn tally(p: &[u8], start: Sum, ride: Ride) -> Tally
-    requires { ⌜ Room segments start × (lengthOf ride ≤ mostRide) ⌝ }
-    ensures { λ r. ⌜ r ≡ tallyOf (now (p .entry)) start (lengthOf ride) ⌝ }
+// The segments in the array `p`.
+// Shut out: the last segment left out; one that is put over another.
+pub fn segments_in(p: &[u8]) -> Segments
+    requires { ⌜ ClearSegments (now p) ⌝ }
+    ensures { λ r. ⌜ Fills r (segmentsBy (now (p .entry))) ⌝ }
 {
-    let mut sum = start;
-    let mut marks = Marks::none();
-    let mut left = Limits::SEGMENTS;
+    let none = unfilled();
+    let mut list: [Segment; Segments::PLACES] = [none; Segments::PLACES];
+    let mut count: usize = 0;
     let mut at: usize = 1;
     loop {
         match next_item(p, at) {
             ItemStep::End => {
-                return Tally::Is(sum, marks);
+                return Segments { list, count };
             }
             ItemStep::Found(m) => {
-                if left == 0 {
-                    return Tally::Crowded;
-                }
                 let from = m.value;
                 let upto = m.value_end;
-                let s = segment_in(&p[from..upto]);
-                sum = charge(sum, s, ride);
-                marks = marks.with(s);
-                left -= 1;
+                list[count] = segment_in(&p[from..upto]);
+                count += 1;
                 at = m.next;
             }
         }

@@ -8,18 +8,18 @@ use borrow.Author.Tests.{eq-eqb, ne-eqb}
 use Rattle.word.specs.declared.Parts.{Parts}
 use Rattle.word.specs.declared.Reading.the-variants.{NoWord, Word}
 use Rattle.word.specs.Form.{Form}
-use Rattle.word.specs.Word.{partsOf, keeps, judged}
+use Rattle.word.specs.Word.{partsOf, keeps, answer, judged}
 
 module _ (φ : Form) (v : List ℕ) where
-  pub other-form : (getD v 0 0 ≡ φ .number → ⊥) → NoWord ≡ judged φ v
+  pub other-form : (getD v 0 0 ≡ φ .number → ⊥) → answer NoWord ≡ judged φ v
   unfolding judged
   other-form n = rw (ne-eqb _ _ n)
 
   module _ (f : getD v 0 0 ≡ φ .number) (p : Parts) (e : p ≡ partsOf v) where
-    pub word : keeps φ p ≡ true → Word p ≡ judged φ v
+    pub word : keeps φ p ≡ true → answer (Word p) ≡ judged φ v
     unfolding judged
     word k = rw (eq-eqb _ _ f, ← e, k)
 
-    pub broken : keeps φ p ≡ false → NoWord ≡ judged φ v
+    pub broken : keeps φ p ≡ false → answer NoWord ≡ judged φ v
     unfolding judged
     broken k = rw (eq-eqb _ _ f, ← e, k)

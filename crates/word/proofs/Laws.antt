@@ -13,10 +13,9 @@ use Rattle.radix.specs.Radix.{digits}
 use Rattle.radix.specs.Fields.{bases, bits, bytesNumber, unpacked, Bytes}
 use Rattle.radix.proofs.Packing.{digits-fit, digits-length, packed-length, unpacked-packed, packed-unpacked}
 use Rattle.word.specs.declared.Parts.{Parts}
-use Rattle.word.specs.declared.Reading.{Reading}
 use Rattle.word.specs.declared.Reading.the-variants.{NoWord, Word}
 use Rattle.word.specs.Form.{Form, form1}
-use Rattle.word.specs.Word.{valuesOf, partsOf, keeps, wordOf, IsWord, judged, read}
+use Rattle.word.specs.Word.{valuesOf, partsOf, keeps, wordOf, IsWord, Answer, answer, judged, read}
 
 -- a form's seven fields fill its bytes
 pub record Full (φ : Form) : Type 0 where
@@ -27,9 +26,9 @@ pub full1 : Full form1
 unfolding bits
 full1 = record { seven = refl; filled = refl }
 
-chosen : (t : Bool) (r : Reading) (p : Parts) → (t ⇒ r else NoWord) ≡ Word p → (t ≡ true) × (r ≡ Word p)
+chosen : (t : Bool) (r : Answer) (p : Parts) → (t ⇒ r else answer NoWord) ≡ answer (Word p) → (t ≡ true) × (r ≡ answer (Word p))
 chosen true r p e = (refl, e)
-chosen false r p e = let z : _≡_ {A = ℕ} 0 1 = cc in absurd (omega arith)
+chosen false r p e = let z : _≡_ {A = ℕ} 3 0 = ap (λ (a : Answer). a .number) e in absurd (omega arith)
 
 both : (a b : Bool) → (a and b) ≡ true → (a ≡ true) × (b ≡ true)
 both true b e = (refl, e)
@@ -62,7 +61,7 @@ unpacked-length ws s = digits-length (bases ws) _ ∙ bases-length ws
 
 module _ (φ : Form) (full : Full φ) where
   -- a word reads back as the parts that it was packed from
-  pub word-read : (p : Parts) (s : List ℕ) → IsWord φ p s → read φ s ≡ Word p
+  pub word-read : (p : Parts) (s : List ℕ) → IsWord φ p s → read φ s ≡ answer (Word p)
   unfolding read judged wordOf
   word-read p s w =
       rw (
@@ -75,14 +74,14 @@ module _ (φ : Form) (full : Full φ) where
       )
 
   -- bytes that read as parts are their word: packed again, the parts give the same bytes
-  pub read-word : (p : Parts) (s : List ℕ) → Bytes s → read φ s ≡ Word p → IsWord φ p s
+  pub read-word : (p : Parts) (s : List ℕ) → Bytes s → read φ s ≡ answer (Word p) → IsWord φ p s
   unfolding read judged wordOf
   read-word p s bytes e =
       let v : List ℕ = unpacked (φ .widths) s in
       let sized = chosen (eqb (length s) (φ .size)) (judged φ v) p e in
-      let word = chosen (eqb (getD v 0 0) (φ .number) and keeps φ (partsOf v)) (Word (partsOf v)) p (sized .1) in
+      let word = chosen (eqb (getD v 0 0) (φ .number) and keeps φ (partsOf v)) (answer (Word (partsOf v))) p (sized .1) in
       let tests = both (eqb (getD v 0 0) (φ .number)) (keeps φ (partsOf v)) (word .0) in
-      let same : partsOf v ≡ p = cc in
+      let same : partsOf v ≡ p = ap (λ (a : Answer). a .parts) (word .1) in
       let values = values-parts φ v (unpacked-length (φ .widths) s ∙ full .seven) (eqb-true _ _ (tests .0)) in
       record {
         fits = rw (← same, values) (unfold unpacked in digits-fit (φ .widths) (bytesNumber s));
@@ -91,9 +90,14 @@ module _ (φ : Form) (full : Full φ) where
       }
 
   -- bytes that are no word are refused
-  pub no-word : (s : List ℕ) → Bytes s → ((p : Parts) → IsWord φ p s → ⊥) → read φ s ≡ NoWord
-  no-word s bytes none = go (read φ s) refl
+  pub no-word : (s : List ℕ) → Bytes s → ((p : Parts) → IsWord φ p s → ⊥) → read φ s ≡ answer NoWord
+  unfolding read judged
+  no-word s bytes none = go (eqb (length s) (φ .size)) (eqb (getD v 0 0) (φ .number) and keeps φ (partsOf v)) refl refl
     where
-      go : (r : Reading) → read φ s ≡ r → r ≡ NoWord
-      go NoWord e = refl
-      go (Word p) e = absurd (none p (read-word p s bytes e))
+      v : List ℕ
+      v = unpacked (φ .widths) s
+
+      go : (t u : Bool) → eqb (length s) (φ .size) ≡ t → (eqb (getD v 0 0) (φ .number) and keeps φ (partsOf v)) ≡ u → read φ s ≡ answer NoWord
+      go false u e i = rw (e)
+      go true false e i = rw (e, i)
+      go true true e i = absurd (none (partsOf v) (read-word (partsOf v) s bytes (rw (e, i))))

@@ -8,7 +8,7 @@ use Rattle.word.specs.declared.Parts.{Parts}
 use Rattle.word.specs.declared.Reading.{Reading}
 use Rattle.word.specs.declared.Reading.the-variants.{NoWord, Word}
 use Rattle.word.specs.Form.{form1}
-use Rattle.word.specs.Word.{keeps, wordOf, judged, read}
+use Rattle.word.specs.Word.{keeps, wordOf, answer, judged, read}
 
 abbrev parts : (file kind field rec sub offset : ℕ) → Parts
 parts file kind field rec sub offset =
@@ -29,7 +29,7 @@ written : map (λ w. wordOf form1 (w .1)) words ≡ map (λ w. w .0) words
 unfolding weight numberFrom number digits packed wordOf
 written = refl
 
-read-back : map (λ w. read form1 (w .0)) words ≡ map (λ w. Word (w .1)) words
+read-back : map (λ w. read form1 (w .0)) words ≡ map (λ (w : List ℕ × Parts). answer (Word (w .1))) words
 unfolding weight numberFrom number digits bytesNumber unpacked keeps judged read
 read-back = refl
 
@@ -51,6 +51,6 @@ others =
     (0x14 ∷ 0x52 ∷ 0x80 ∷ 0x03 ∷ 0 ∷ 0 ∷ 0 ∷ 1 ∷ []) ∷
     []
 
-refused : map (read form1) others ≡ map (λ s. NoWord) others
+refused : map (read form1) others ≡ map (λ (s : List ℕ). answer NoWord) others
 unfolding weight numberFrom number digits bytesNumber unpacked keeps judged read
 refused = refl

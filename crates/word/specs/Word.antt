@@ -59,24 +59,26 @@ pub record IsWord (φ : Form) (p : Parts) (s : List ℕ) : Type 0 where
   pub kept : keeps φ p ≡ true
   pub packs : wordOf φ p ≡ s
 
--- what the values of a word's fields say
-unfoldable pub judged : Form → List ℕ → Reading
-judged φ v = eqb (getD v 0 0) (φ .number) and keeps φ (partsOf v) ⇒ Word (partsOf v) else NoWord
-
--- what a byte string says
-unfoldable pub read : Form → List ℕ → Reading
-read φ s = eqb (length s) (φ .size) ⇒ judged φ (unpacked (φ .widths) s) else NoWord
-
--- The row "read a word" of the table of questions: the number and the values of each answer. Parts that are not given are zero.
+-- The row "read a word" of the table of questions: an answer's number and values. Parts that are not given are zero.
 pub record Answer : Type 0 where
   pub number : ℕ
   pub parts : Parts
 
+abbrev pub refused : ℕ → Answer
+refused n = record { number = n; parts = noParts }
+
 abbrev pub answer : Reading → Answer
-answer NoWord =
-    record { number = 3; parts = noParts }
+answer NoWord = refused 3
 answer (Word p) = record { number = 0; parts = p }
+
+-- what the values of a word's fields say
+unfoldable pub judged : Form → List ℕ → Answer
+judged φ v = eqb (getD v 0 0) (φ .number) and keeps φ (partsOf v) ⇒ record { number = 0; parts = partsOf v } else refused 3
+
+-- what a byte string says: 3 where it is no word, 0 and its parts where it is
+unfoldable pub read : Form → List ℕ → Answer
+read φ s = eqb (length s) (φ .size) ⇒ judged φ (unpacked (φ .widths) s) else refused 3
 
 -- the question "read a word" of form 1
 unfoldable pub readWord : List ℕ → Answer
-readWord s = answer (read form1 s)
+readWord s = read form1 s

@@ -99,7 +99,7 @@ impl Word {
 
     // What the word of this number says.
     fn judge(n: u64) -> Reading
-        ensures { λ r. ⌜ r ≡ judged form1 (digits (bases (form1 .widths)) n) ⌝ }
+        ensures { λ r. ⌜ answer r ≡ judged form1 (digits (bases (form1 .widths)) n) ⌝ }
     {
         if radix::field_of(n, 64 - Word::FORM_BITS, Word::FORM_BITS) != Word::FORM {
             return Reading::NoWord;

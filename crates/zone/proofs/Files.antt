@@ -21,7 +21,7 @@ use Rattle.clean.proofs.Cleans.{Sound, clean-held}
 use Rattle.clean.proofs.Repeated.{Held}
 use Rattle.zone.specs.declared.Ruling.the-variants.{NoRule}
 use Rattle.zone.specs.Zone.{rules, firstFor, ruleAt}
-use Rattle.zone.specs.Answer.{ruling}
+use Rattle.zone.specs.Values.{ruling}
 use Rattle.zone.specs.Clean.{CleanZones}
 
 module _ (q : Point) (type : List ℕ) (moment : ℕ) where

@@ -14,8 +14,8 @@ use Rattle.fields.specs.Values.{isId}
 use Rattle.zone.specs.declared.Ruling.{Ruling}
 use Rattle.zone.specs.declared.Ruling.the-variants.{NoRule, Is}
 use Rattle.zone.specs.Zone.{ringsHold, polygonsHold, anyText, applies, zoneRules, rules, firstFor}
-use Rattle.zone.specs.Answer.{values, ruling}
-use Rattle.zone.specs.Values.{isRule}
+use Rattle.zone.specs.Answer.{answer, values, ofRule}
+use Rattle.zone.specs.Values.{ruling, isRule}
 use Rattle.zone.specs.Clean.{Faultless}
 use Rattle.zone.proofs.Searching.{Search}
 
@@ -196,3 +196,8 @@ module _ (q : Point) where
         Fit = λ l. (n : ℕ) × (polygonsFound n l ≡ []);
         rest = polygons-rest;
       }
+
+-- what the code answers for a rule is the table's answer
+pub rule-answered : (x : Maybe Picked) → answer (ruling x) ≡ ofRule x
+rule-answered none = refl
+rule-answered (some x) = refl

@@ -21,8 +21,7 @@ use Rattle.fields.proofs.Values.{Holds, member-holds}
 use Rattle.fields.proofs.Fields.{field-spelled, rowOf, listed}
 use Rattle.zone.specs.declared.Ruling.the-variants.{NoRule}
 use Rattle.zone.specs.Zone.{integer, begun, unended, counts, polygonsHold, zoneRules, firstFor}
-use Rattle.zone.specs.Answer.{ruling}
-use Rattle.zone.specs.Values.{countsBy}
+use Rattle.zone.specs.Values.{countsBy, ruling}
 use Rattle.zone.proofs.Fields.{nothing-in, parts-field, parts-inside}
 
 -- the bytes of a zone's polygons, of its properties, and of the rules in them

@@ -32,11 +32,19 @@ pub record Answer : Type 0 where
   pub parts : Parts
   pub rule : Rule
 
+-- a refusal, which gives no rule
+abbrev pub refused : ℕ → Parts → Answer
+refused number p = record { number = number; parts = p; rule = noRule }
+
+-- a rule's values
+abbrev pub found : Rule → Answer
+found rule = record { number = 0; parts = noParts; rule = rule }
+
 abbrev pub answer : Ruling → Answer
-answer OffMap = record { number = 8; parts = noParts; rule = noRule }
-answer (NotClean p) = record { number = 5; parts = p; rule = noRule }
-answer NoRule = record { number = 9; parts = noParts; rule = noRule }
-answer (Is r) = record { number = 0; parts = noParts; rule = r }
+answer OffMap = refused 8 noParts
+answer (NotClean p) = refused 5 p
+answer NoRule = refused 9 noParts
+answer (Is rule) = found rule
 
 -- a boolean, no where it is not given
 abbrev pub yes : Maybe Bool → Bool
@@ -55,21 +63,24 @@ values x =
       parking = yes (truth 82 x);
     }
 
-abbrev pub ruling : Maybe Picked → Ruling
-ruling none = NoRule
-ruling (some x) = Is (values x)
-
 -- a point whose lon and lat are in their ranges
 unfoldable pub onMap : Point → Bool
 onMap q =
     leZ (negℤ (pos 180_000_000)) (q .lon) and leZ (q .lon) (pos 180_000_000) and
     leZ (negℤ (pos 90_000_000)) (q .lat) and leZ (q .lat) (pos 90_000_000)
 
-abbrev pub ofClean : Cleanness → Ruling → Ruling
-ofClean Clean next = next
-ofClean (Broken p) next = NotClean p
+-- of a clean file: no rule applies, or the values of the one that does
+abbrev pub ofRule : Maybe Picked → Answer
+ofRule none = refused 9 noParts
+ofRule (some rule) = found (values rule)
 
--- of the bytes of file 6, a point, a type and a moment
-unfoldable pub rulingOf : List ℕ → Point → List ℕ → ℕ → Ruling
+abbrev pub ofClean : Cleanness → Answer → Answer
+ofClean Clean next = next
+ofClean (Broken p) next = refused 5 p
+
+-- of the bytes s of file 6, a point, a type and a moment
+unfoldable pub rulingOf : (s : List ℕ) → Point → (type : List ℕ) → (moment : ℕ) → Answer
 rulingOf s q type moment =
-    onMap q ⇒ ofClean (cleanOf 6 s) (ruling (ruleAt (pick (fileShape table23 6) (treeOf s)) q type moment)) else OffMap
+    onMap q ⇒
+    ofClean (cleanOf 6 s) (ofRule (ruleAt (pick (fileShape table23 6) (treeOf s)) q type moment))
+    else refused 8 noParts

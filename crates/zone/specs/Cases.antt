@@ -14,11 +14,9 @@ use Rattle.geometry.specs.Ring.{Point}
 use Rattle.document.specs.Document as document
 use Rattle.judge.specs.Cases.{judging}
 use Rattle.clean.specs.Clean as clean
-use Rattle.zone.specs.declared.Ruling.{Ruling}
-use Rattle.zone.specs.declared.Ruling.the-variants.{OffMap, NotClean, NoRule, Is}
 use Rattle.zone.specs.Zone.{counts, ringsHold, polygonsHold, anyText, applies, zoneRules, rules, firstFor, ruleAt}
 use Rattle.word.specs.Word.{noParts}
-use Rattle.zone.specs.Answer.{answer, values, onMap, rulingOf}
+use Rattle.zone.specs.Answer.{Answer, refused, found, values, onMap, rulingOf}
 
 -- opens every definition of this layer
 unfoldable pub ruled : Unit {0}
@@ -60,30 +58,29 @@ forAll = "{'ride_allowed':true,'ride_through_allowed':false}"
 abbrev degrees : ℕ → ℕ → Point
 degrees x y = record { lon = pos (x * 1_000_000); lat = pos (y * 1_000_000) }
 
-abbrev at : List ℕ → List Point → List Ruling
+abbrev at : List ℕ → List Point → List Answer
 at s points = map (λ q. rulingOf s q (bytes "t") 0) points
 
-abbrev for : List ℕ → List String → List Ruling
+abbrev for : List ℕ → List String → List Answer
 for s types = map (λ t. rulingOf s (degrees 1 1) (bytes t) 0) types
 
-abbrev when : List ℕ → List ℕ → List Ruling
+abbrev when : List ℕ → List ℕ → List Answer
 when s moments = map (rulingOf s (degrees 1 1) (bytes "t")) moments
 
--- a rule without a speed and without a word on parking
-abbrev bare : Bool → Bool → Ruling
-bare ride through = Is (record { ride = ride; through = through; limited = false; speed = 0; parks = false; parking = false })
+-- no rule applies; a rule without a speed and without a word on parking
+abbrev none : Answer
+none = refused 9 noParts
 
-j-held : at (file (zone square "" forAll)) (degrees 1 1 ∷ degrees 2 2 ∷ degrees 3 1 ∷ []) ≡ bare true false ∷ bare true false ∷ NoRule ∷ []
+abbrev bare : Bool → Bool → Answer
+bare ride through = found (record { ride = ride; through = through; limited = false; speed = 0; parks = false; parking = false })
+
+j-held : at (file (zone square "" forAll)) (degrees 1 1 ∷ degrees 2 2 ∷ degrees 3 1 ∷ []) ≡ bare true false ∷ bare true false ∷ none ∷ []
 unfolding ruled
 j-held = refl
 
-j-reversed : at (file (zone reversed "" forAll)) (degrees 3 1 ∷ degrees 2 1 ∷ degrees 1 1 ∷ []) ≡ bare true false ∷ bare true false ∷ NoRule ∷ []
+j-reversed : at (file (zone reversed "" forAll)) (degrees 3 1 ∷ degrees 2 1 ∷ degrees 1 1 ∷ []) ≡ bare true false ∷ bare true false ∷ none ∷ []
 unfolding ruled
 j-reversed = refl
-
--- refusals and answers by number
-numbers : map (λ (r : Ruling). answer r .number) (OffMap ∷ NotClean noParts ∷ NoRule ∷ bare true true ∷ []) ≡ 8 ∷ 5 ∷ 9 ∷ 0 ∷ []
-numbers = refl
 
 -- a point past its range is told before the file is asked, and a file that is not clean before any rule
 abbrev past : List Point
@@ -94,21 +91,21 @@ past =
     record { lon = pos 0; lat = negsuc 90_000_000 } ∷
     []
 
-off-the-map : at (bytes "7") past ≡ OffMap ∷ OffMap ∷ OffMap ∷ OffMap ∷ []
+off-the-map : at (bytes "7") past ≡ map (λ (q : Point). refused 8 noParts) past
 unfolding ruled
 off-the-map = refl
 
 not-clean : at (bytes "7") (record { lon = negsuc 179_999_999; lat = pos 90_000_000 } ∷ [])
-    ≡ NotClean (record { file = 6; kind = 7; field = 0; «record» = 0; sub = 0; offset = 0 }) ∷ []
+    ≡ refused 5 (record { file = 6; kind = 7; field = 0; «record» = 0; sub = 0; offset = 0 }) ∷ []
 unfolding ruled
 not-clean = refl
 
-absent : at [] (degrees 1 1 ∷ []) ≡ NoRule ∷ []
+absent : at [] (degrees 1 1 ∷ []) ≡ none ∷ []
 unfolding ruled
 absent = refl
 
 -- from its start on a zone counts, and no more at its end
-window : when (file (zone square "'start':5,'end':9," forAll)) (4 ∷ 5 ∷ 8 ∷ 9 ∷ []) ≡ NoRule ∷ bare true false ∷ bare true false ∷ NoRule ∷ []
+window : when (file (zone square "'start':5,'end':9," forAll)) (4 ∷ 5 ∷ 8 ∷ 9 ∷ []) ≡ none ∷ bare true false ∷ bare true false ∷ none ∷ []
 unfolding ruled
 window = refl
 
@@ -116,7 +113,7 @@ window = refl
 abbrev named : String → List ℕ
 named ids = file (zone square "" ids)
 
-ids-of-no-type : for (named "{'vehicle_type_id':[],'ride_allowed':true,'ride_through_allowed':true}") ("t" ∷ "" ∷ []) ≡ NoRule ∷ NoRule ∷ []
+ids-of-no-type : for (named "{'vehicle_type_id':[],'ride_allowed':true,'ride_through_allowed':true}") ("t" ∷ "" ∷ []) ≡ none ∷ none ∷ []
 unfolding ruled
 ids-of-no-type = refl
 
@@ -125,7 +122,7 @@ unfolding ruled
 ids-blank = refl
 
 ids-with-blank : for (named "{'vehicle_type_id':['','u'],'ride_allowed':true,'ride_through_allowed':true}") ("t" ∷ "" ∷ "u" ∷ [])
-    ≡ NoRule ∷ bare true true ∷ bare true true ∷ []
+    ≡ none ∷ bare true true ∷ bare true true ∷ []
 unfolding ruled
 ids-with-blank = refl
 
@@ -140,6 +137,6 @@ unfolding ruled
 first-of-two = refl
 
 all-four : for (named "{'ride_allowed':false,'ride_through_allowed':true,'maximum_speed_kph':25,'station_parking':false}") ("t" ∷ [])
-    ≡ Is (record { ride = false; through = true; limited = true; speed = 25; parks = true; parking = false }) ∷ []
+    ≡ found (record { ride = false; through = true; limited = true; speed = 25; parks = true; parking = false }) ∷ []
 unfolding ruled
 all-four = refl

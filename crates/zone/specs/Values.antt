@@ -5,13 +5,14 @@ use Prim.Native.Nat.{ℕ}
 use Rattle.notation.specs.Ascii.{bytes}
 use Rattle.notation.specs.Choice.{_and_}
 use Rattle.schema.specs.Shape.{Shape, Sort, scalar}
+use Rattle.schema.specs.Pick.{Picked}
 use Rattle.fields.specs.Values.{memberOf, spelledBy, truthBy, integerIn}
-use Rattle.document.specs.Document.{given}
+use Rattle.document.specs.Document.{Maybe, none, some, given}
 use Rattle.zone.specs.declared.Rule.{Rule}
 use Rattle.zone.specs.declared.Ruling.{Ruling}
 use Rattle.zone.specs.declared.Ruling.the-variants.{OffMap, NotClean, NoRule, Is}
 use Rattle.zone.specs.Zone.{integer, begun, unended}
-use Rattle.zone.specs.Answer.{yes}
+use Rattle.zone.specs.Answer.{yes, values}
 
 -- an id among those of a rule
 abbrev pub idShape : Shape
@@ -34,6 +35,11 @@ valuesBy p =
       parks = given (truthBy (memberOf p (bytes "station_parking")));
       parking = yes (truthBy (memberOf p (bytes "station_parking")));
     }
+
+-- what is answered for the rule that is chosen, or for none
+abbrev pub ruling : Maybe Picked → Ruling
+ruling none = NoRule
+ruling (some rule) = Is (values rule)
 
 -- a rule was found
 abbrev pub isRule : Ruling → Bool

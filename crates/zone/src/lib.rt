@@ -7,7 +7,7 @@ use clean::check_clean;
 use geometry::Position;
 use word::Parts;
 ghost use mathlib.Core.Path.{_≡_};
-ghost use Rattle.zone.specs.Answer.{rulingOf};
+ghost use Rattle.zone.specs.Answer.{answer, rulingOf};
 
 mod area;
 mod point;
@@ -41,7 +41,7 @@ impl Ruling {
 // The rule at a point, in millionths of a degree, for a type at a moment, by the bytes of the file of zones.
 // Shut out: a zone that still counts at its end; an empty field 78 read as everybody.
 pub fn zone_rule(s: &[u8], lon: i64, lat: i64, type_id: &[u8], moment: u64) -> Ruling
-    ensures { λ r. ⌜ r ≡ rulingOf (now (s .entry)) (record { lon = lon; lat = lat }) (now («type_id» .entry)) moment ⌝ }
+    ensures { λ r. ⌜ answer r ≡ rulingOf (now (s .entry)) (record { lon = lon; lat = lat }) (now («type_id» .entry)) moment ⌝ }
 {
     if !on_map(lon, lat) {
         return Ruling::OffMap;

@@ -17,8 +17,8 @@ ghost use Rattle.rings.specs.Parts.{Listing, partsOf};
 ghost use Rattle.document.specs.Document.{given};
 ghost use Rattle.fields.specs.Values.{truthBy, spelledBy};
 ghost use Rattle.zone.specs.Zone.{anyText, applies as appliesTo, firstFor};
-ghost use Rattle.zone.specs.Answer.{yes, ruling};
-ghost use Rattle.zone.specs.Values.{idShape, valuesBy};
+ghost use Rattle.zone.specs.Answer.{yes};
+ghost use Rattle.zone.specs.Values.{idShape, valuesBy, ruling};
 
 // The kind of truths.
 const BOOLEAN: u8 = 1;

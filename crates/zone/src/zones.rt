@@ -19,8 +19,7 @@ ghost use Rattle.rings.specs.Parts.{partsOf};
 ghost use Rattle.clean.specs.declared.Cleanness.the-variants.{Clean};
 ghost use Rattle.clean.specs.Clean.{treeOf as fileTree, cleanOf};
 ghost use Rattle.zone.specs.Zone.{zoneRules, rules, firstFor, ruleAt};
-ghost use Rattle.zone.specs.Answer.{ruling};
-ghost use Rattle.zone.specs.Values.{isRule};
+ghost use Rattle.zone.specs.Values.{ruling, isRule};
 ghost use Rattle.zone.specs.Clean.{CleanZone, CleanZones};
 
 // Whether a rule was found.

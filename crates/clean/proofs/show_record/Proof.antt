@@ -3,40 +3,40 @@ use borrow.Author.Needs.{needs}
 use mathlib.Core.Path.{_≡_, sym, ap, _∙_}
 use native.Mathlib.Omega.{arith}
 use Rattle.clean.specs.declared.Cleanness.the-variants.{Clean, Broken}
-use Rattle.clean.specs.Show.{recordShown, shownOf}
+use Rattle.clean.specs.Show.{ofSpan, shownOf}
 use Rattle.clean.proofs.Judged.{shown-none, shown-of}
 use Rattle.clean.proofs.Shows.{listed}
 use Rattle.clean.proofs.show_record.Statement.{statement}
 use Rattle.clean.proofs.show_record.Tie as tie
 
 returns : tie.Need-returns
-returns c = let a = c .before .before .args in shown-none (a .f) (a .n) (a .s .now) (λ h i. omega arith)
+returns c = let a = c .before .before .args in shown-none (a .file) (a .«record») (a .s .now) (λ h i. omega arith)
 
 returns-2 : tie.Need-returns-2
-returns-2 c = let a = c .before .before .before .args in shown-none (a .f) (a .n) (a .s .now) (λ h i. omega arith)
+returns-2 c = let a = c .before .before .before .args in shown-none (a .file) (a .«record») (a .s .now) (λ h i. omega arith)
 
 returns-3 : tie.Need-returns-3
 returns-3 c =
     let d = c .before in let k = d .before .before in let a = k .before .before .before .before .args in
-    shown-of (a .f) (a .n) (a .s .now) (omega arith) (omega arith) (Broken (d .p .given .0 .0)) (sym (d .p .given .1) ∙ k .check-clean .ensures)
+    shown-of (a .file) (a .«record») (a .s .now) (omega arith) (omega arith) (Broken (d .p .given .0 .0)) (sym (d .p .given .1) ∙ k .check-clean .ensures)
 
 -- of a clean file, by its record's span
 cleanly : (c : tie.After-record-span) → let k = c .before .before .before in let a = k .before .before .before .before .args in
-    recordShown (c .record-span .result) ≡ shownOf (a .f) (a .n) (a .s .now)
+    ofSpan (c .record-span .result) ≡ shownOf (a .file) (a .«record») (a .s .now)
 cleanly c =
     let t = c .before in let k = t .before .before in let a = k .before .before .before .before .args in
     let e = sym (t .enum-told .given .1) ∙ k .check-clean .ensures in
-    ap recordShown (c .record-span .ensures (listed (a .f) (a .s .now) (omega arith) (omega arith) (sym e)))
-    ∙ shown-of (a .f) (a .n) (a .s .now) (omega arith) (omega arith) Clean e
+    ap ofSpan (c .record-span .ensures (listed (a .file) (a .s .now) (omega arith) (omega arith) (sym e)))
+    ∙ shown-of (a .file) (a .«record») (a .s .now) (omega arith) (omega arith) Clean e
 
 returns-4 : tie.Need-returns-4
-returns-4 c = let r = c .before .before in ap recordShown (sym (c .enum-told2 .given .1)) ∙ cleanly r
+returns-4 c = let r = c .before .before in ap ofSpan (sym (c .enum-told2 .given .1)) ∙ cleanly r
 
 returns-5 : tie.Need-returns-5
-returns-5 c = let d = c .before in let r = d .before .before in ap recordShown (sym (d .from .given .1)) ∙ cleanly r
+returns-5 c = let d = c .before in let r = d .before .before in ap ofSpan (sym (d .from .given .1)) ∙ cleanly r
 
 pub show-record-spec : {M : Type 1} → statement M
 show-record-spec =
     tie.close
-    (tie.spec returns returns-2 (λ c κs. search needs) (λ c. search needs) returns-3 (λ c. search needs) (λ c κs. search needs) (λ c. search needs) returns-4
+    (tie.spec returns returns-2 (λ c. omega arith) (λ c κs. search needs) (λ c. search needs) returns-3 (λ c. search needs) (λ c κs. search needs) (λ c. search needs) returns-4
     (λ c. search needs) returns-5)

@@ -11,7 +11,7 @@ use Rattle.gbfs.proofs.verdict.Statement.{statement}
 use Rattle.gbfs.proofs.verdict.Tie as tie
 
 returns : tie.Need-returns
-returns c = answer-short _ _ (c .if1 .taken)
+returns c = answer-short _ _ (omega arith)
 
 put-requires : tie.Need-put-requires
 put-requires c κs =

@@ -6,9 +6,9 @@ use Rattle.schema.specs.Pick.{pick}
 use Rattle.schema.specs.Table23.{plan}
 use Rattle.document.specs.Document.{some}
 use Rattle.clean.proofs.Cleans.{Sound, clean-sound}
-use Rattle.quote.specs.Tally.{Fit}
+use Rattle.quote.specs.Clear.{ClearPlan}
 use Rattle.quote.specs.Quote.{planQuote}
-use Rattle.quote.proofs.Files.{quote-absent, plans-along, quote-none, quote-fit, quote-some}
+use Rattle.quote.proofs.Files.{quote-absent, plans-along, quote-none, quote-clear, quote-some}
 use Rattle.quote.proofs.quote_clean.Statement.{statement}
 use Rattle.quote.proofs.quote_clean.Tie as tie
 
@@ -32,8 +32,8 @@ quote-plan-requires c κs =
     let d = c .before .before in let f = d .before .before in let r = f .before in let s = r .before .before .before .before in (
       s .pre .1,
       s .pre .2,
-      subst Fit (sym (c .cut .ensures))
-          (quote-fit (sound (r .before)) (r .records-from .ensures) (s .args .id .now) (d .start .given .0 .0) (d .start .given .0 .1 .0)
+      subst ClearPlan (sym (c .cut .ensures))
+          (quote-clear (sound (r .before)) (r .records-from .ensures) (s .args .id .now) (d .start .given .0 .0) (d .start .given .0 .1 .0)
           (sym (f .find-plan .ensures) ∙ d .start .given .1)),
     )
 

@@ -1,6 +1,4 @@
--- `answer_all` is safe and ends: the line keeps its length, and the turns that are left fall. The loop is left by its test or by the break; either way the
--- length is the first.
-use mathlib.Core.Logic.{⊎-elim}
+-- `answer_all` is safe and ends: the line keeps its length, and the turns that are left fall.
 use mathlib.Core.Path.{_≡_}
 use borrow.Author.Needs.{needs}
 use lib.ListN.{length}
@@ -12,9 +10,6 @@ Inv-loop line₀ count₀ turns₀ line count turns = length line ≡ length lin
 
 abbrev μ-loop : tie.MeasureT-loop
 μ-loop line₀ count₀ turns₀ line count turns = turns
-
-same-length : tie.Need-same-length Inv-loop μ-loop
-same-length c = ⊎-elim (λ w. search needs) (λ w. search needs) (c .before .before .loop-test .came)
 
 pub answer-all-spec : {M : Type 1} → statement M
 answer-all-spec =
@@ -28,7 +23,12 @@ answer-all-spec =
     (λ c. search needs)
     (λ c. search needs)
     (λ c. search needs)
-    (λ c. search needs)
     (λ c κs. search needs)
-    same-length
+    (λ c. search needs)
+    (λ c. search needs)
+    (λ c. search needs)
+    (λ c. search needs)
+    (λ c. search needs)
+    (λ c. search needs)
+    (λ c. search needs)
     (λ c. search needs))

@@ -6,7 +6,7 @@ use Rattle.std.proofs.num.Nearest.{Turned, plain, turn}
 use Rattle.answers.proofs.print.amount.Statement.{statement}
 use Rattle.answers.proofs.print.amount.Tie as tie
 
-below : (c : tie.After-write-all) → Turned w64 (c .before .before .before .args .n)
+below : (c : tie.After-put) → Turned w64 (c .before .before .before .args .n)
 below c = let e = c .before .before in turn w64 (e .before .args .n) (lit≤ tt) (e .before .fits .n) (e .if1 .left)
 
 pub amount-spec : {M : Type 1} → statement M

@@ -1,46 +1,64 @@
--- `read_all` ends, and the files stand in order: each turn puts one file more behind those before it.
-use mathlib.Core.Path.{_≡_, refl, subst}
+-- `read_all` ends, and the files stand in order: each turn puts one file more behind those before it, and goes on only where that file ended.
+use mathlib.Core.Path.{_≡_, refl, sym, subst}
 use Prim.Native.Nat.{ℕ, _≤_, _-_}
 use native.Mathlib.Omega.{arith}
 use borrow.Author.Needs.{needs}
-use lib.ListN.{length}
+use lib.ListN.{length, getD}
 use lib.Seq.{getD-set-same}
+use Rattle.folder.specs.declared.reading.Taken.the-variants.{Unread, Full, To}
+use Rattle.folder.specs.declared.reading.Turn.{Turn}
+use Rattle.folder.specs.declared.reading.Turn.the-variants.{Ended}
+use Rattle.folder.specs.Reading.{turnOf, Decides}
 use Rattle.folder.specs.Places.{InOrder}
+use Rattle.folder.specs.Desk.{most}
 use Rattle.folder.proofs.Placing.{Standing, standing-next}
+use Rattle.folder.proofs.Turns.{decided-as, whole}
 use Rattle.folder.proofs.files.read_all.Statement.{statement}
 use Rattle.folder.proofs.files.read_all.Tie as tie
 
 abbrev Inv-loop : tie.InvT-loop
-Inv-loop bytes₀ places₀ i₀ bytes places i = (i ≤ 6) × (length bytes ≡ length bytes₀) × (length places ≡ 7) × Standing i (length bytes₀) places
+Inv-loop bytes₀ places₀ left₀ i₀ bytes places left i =
+    (i ≤ 6) × (length bytes ≡ length bytes₀) × (length places ≡ 7) × Standing i most places × (turnOf left ≡ Ended)
 
 abbrev μ-loop : tie.MeasureT-loop
-μ-loop bytes₀ places₀ i₀ bytes places i = 6 - i
+μ-loop bytes₀ places₀ left₀ i₀ bytes places left i = 6 - i
 
 loop-holds : tie.Need-loop-holds Inv-loop μ-loop
 loop-holds c =
     let a = c .before .args in
-    (omega arith, refl, search needs, (rw (getD-set-same (a .places .now) 0 0 0 (omega arith)) (omega arith), λ i k. absurd (omega arith)))
+    (omega arith, refl, search needs, (rw (getD-set-same (a .places .now) 0 0 0 (omega arith)) (omega arith), λ i k. absurd (omega arith)), refl)
 
 returns : tie.Need-returns Inv-loop μ-loop
-returns c z = let w : _≡_ {A = ℕ} 0 1 = cc in absurd (omega arith)
+returns c =
+    let r = c .before .before .before .before .read-file in
+    (decided-as Unread (turnOf (r .last .1 .1 .1 .0)) (c .enum-told .given .1) (r .ensures .0), tt)
+
+returns-2 : tie.Need-returns-2 Inv-loop μ-loop
+returns-2 c =
+    let r = c .before .before .before .before .read-file in
+    (decided-as Full (turnOf (r .last .1 .1 .1 .0)) (c .enum-told2 .given .1) (r .ensures .0), tt)
 
 loop-again : tie.Need-loop-again Inv-loop μ-loop
 loop-again c =
     let r = c .before .before .before .before .before in
-    let l = r .before .before .before .before .loop in
+    let l = r .before .before .before .before .before .loop in
     let i = l .inv in
-    let end = c .before .end .given in (
+    let end = c .before .end .given in
+    let left = turnOf (r .read-file .last .1 .1 .1 .0) in (
       omega arith,
       omega arith,
       search needs,
-      standing-next (l .i) _ (l .places) (omega arith) _ (l .bytes) _ _ (i .1) (end .1) (r .read-file .ensures) (i .3),
+      standing-next (l .i) _ (l .places) (omega arith) most (l .bytes) _ _ (omega (arith, i .1)) (end .1) (r .read-file .ensures .1) (i .3),
+      whole left (end .0 .0) (decided-as (To (end .0 .0)) left (end .1) (r .read-file .ensures .0)),
     )
 
-returns-2 : tie.Need-returns-2 Inv-loop μ-loop
-returns-2 c z =
-    let l = c .before .loop in
-    let bytes = c .before .before .before .args .bytes .now in
-    subst (λ (n : ℕ). InOrder n (length bytes) (l .places)) (omega arith) (l .inv .3 .1)
+returns-3 : tie.Need-returns-3 Inv-loop μ-loop
+returns-3 c =
+    let l = c .before .before .loop in
+    let six : l .i ≡ 6 = omega arith in (
+      subst (λ (t : Turn). Decides t (To (getD (l .places) 6 0))) (sym (l .inv .4)) refl,
+      subst (λ (n : ℕ). InOrder n most (l .places)) six (l .inv .3 .1),
+    )
 
 pub read-all-spec : {M : Type 1} → statement M
 read-all-spec =
@@ -55,12 +73,16 @@ read-all-spec =
     (λ c κs. search needs)
     (λ c. search needs)
     (λ c. search needs)
-    (λ c. search needs)
     returns
+    (λ c. search needs)
+    (λ c. search needs)
+    returns-2
+    (λ c. search needs)
     (λ c. search needs)
     (λ c. search needs)
     (λ c. search needs)
     (λ c. search needs)
     loop-again
     (λ c. search needs)
-    returns-2)
+    (λ c. search needs)
+    returns-3)

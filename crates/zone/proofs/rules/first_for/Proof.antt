@@ -11,7 +11,7 @@ use Rattle.schema.specs.Table23.{rule}
 use Rattle.rings.specs.Parts.{picked, partsOf}
 use Rattle.zone.specs.declared.Ruling.the-variants.{Is}
 use Rattle.zone.specs.Zone.{applies, firstFor}
-use Rattle.zone.specs.Answer.{ruling}
+use Rattle.zone.specs.Values.{ruling}
 use Rattle.zone.proofs.Fields.{rule-values}
 use Rattle.zone.proofs.Searching.{Searches, searches-start, searches-end, searches-whole, searches-here, searches-later}
 use Rattle.zone.proofs.Searched.{rulesFor}

@@ -9,8 +9,7 @@ use Rattle.geometry.specs.Shifted.{point}
 use Rattle.rings.specs.Parts.{Listing, partsOf}
 use Rattle.fields.specs.Values.{memberOf, arrayBy}
 use Rattle.zone.specs.Zone.{firstFor}
-use Rattle.zone.specs.Answer.{ruling}
-use Rattle.zone.specs.Values.{countsBy}
+use Rattle.zone.specs.Values.{countsBy, ruling}
 use Rattle.zone.proofs.Fields.{member-listing}
 use Rattle.zone.proofs.Cleared.{properties-whole}
 use Rattle.zone.proofs.Zoned.{propertyBytes, zone-off, zone-past, zone-first}

@@ -10,8 +10,7 @@ use Rattle.schema.specs.Table23.{zone}
 use Rattle.geometry.specs.Shifted.{point}
 use Rattle.rings.specs.Parts.{picked, partsOf}
 use Rattle.zone.specs.Zone.{zoneRules, rules, firstFor}
-use Rattle.zone.specs.Answer.{ruling}
-use Rattle.zone.specs.Values.{isRule}
+use Rattle.zone.specs.Values.{ruling, isRule}
 use Rattle.zone.proofs.Cleared.{item-short}
 use Rattle.zone.proofs.Searching.{Searches, searches-along, searches-end, searches-whole, searches-fit, searches-here, searches-later}
 use Rattle.zone.proofs.Searched.{zones}

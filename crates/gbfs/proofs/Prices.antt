@@ -1,0 +1,216 @@
+-- Demand 2 on prices. A quote asks in order whether the ride is short, the file clean and the plan there; one that gives a price has passed all three, and its
+-- total is the plan's sum itself. A ride past the ends is quoted as the shortest that is, which passes them too.
+use mathlib.Core.Bool.{Bool, true, false}
+use mathlib.Core.List.{List, [], _∷_, List·Memᴰ, List·Memᴰ·head, List·Memᴰ·tail, List·Memᴰ·not-nil, List·Memᴰ·cases-cons}
+use mathlib.Core.Logic.{⊎-elim}
+use mathlib.Core.Path.{_≡_, refl, sym, ap, _∙_}
+use Prim.Native.Nat.{ℕ, _*_, _/_, _^_, _≤_, _<_}
+use native.Mathlib.Omega.{arith}
+use lib.Dec.{leb, ltb}
+use lib.IntN.{ℤ}
+use lib.Signed.{mag}
+use borrow.Author.Tests.{leb-true, le-leb, lt-ltb}
+use Rattle.notation.specs.Choice.{_⇒_else_}
+use Rattle.schema.specs.Shape.{fileShape}
+use Rattle.schema.specs.Table23.{table23}
+use Rattle.schema.specs.Pick.{Picked, pick}
+use Rattle.schema.proofs.Tests.{and-left, and-right}
+use Rattle.document.specs.Document.{Maybe, none, some}
+use Rattle.fare.specs.declared.Segment.{Segment}
+use Rattle.fare.specs.declared.Total.{Total}
+use Rattle.fare.specs.declared.Total.the-variants as total
+use Rattle.fare.specs.Charges as charges
+use Rattle.fare.proofs.Past as ends
+use Rattle.fault.proofs.Order.{true-false}
+use Rattle.fare.specs.Charges.{amount, allEnded, greatestEnd}
+use Rattle.clean.specs.declared.Cleanness.{Cleanness}
+use Rattle.clean.specs.declared.Cleanness.the-variants.{Clean, Broken}
+use Rattle.clean.specs.Clean.{treeOf, cleanOf}
+use Rattle.quote.specs.Plan.{perMinute, perKilometre, sum, pastMinutes, pastKilometres}
+use Rattle.quote.specs.Quote.{Answer, refused, priced, fareOf, planQuote, cleanQuote, short, ofClean, quoteOf, mostSeconds, mostMetres}
+use Rattle.quote.proofs.Past as past
+use Rattle.quote.proofs.Past.{ended-minutes, ended-kilometres}
+use Rattle.gbfs.specs.Demand2.{planIn, fare, PastEnds}
+
+-- a total that is given is the sum
+priced-total : (z : ℤ) (m k : Bool) → fareOf (charges.total z) m k .number ≡ 0 → fareOf (charges.total z) m k ≡ priced z m k
+unfolding charges.total
+priced-total z m k e = go (ltb (mag z) (2 ^ 63)) e
+  where
+    go : (t : Bool) → fareOf (t ⇒ total.Is z else total.Outside) m k .number ≡ 0 → fareOf (t ⇒ total.Is z else total.Outside) m k ≡ priced z m k
+    go true e = refl
+    go false e = absurd (omega arith)
+
+total-priced : (z : ℤ) (m k : Bool) → mag z < 2 ^ 63 → fareOf (charges.total z) m k ≡ priced z m k
+unfolding charges.total
+total-priced z m k h = ap (λ (t : Bool). fareOf (t ⇒ total.Is z else total.Outside) m k) (lt-ltb (mag z) (2 ^ 63) h)
+
+marked-minutes : (t : Total) (k : Bool) → fareOf t true k .number ≡ 0 → fareOf t true k .pastMinutes ≡ true
+marked-minutes (total.Is z) k e = refl
+marked-minutes total.Outside k e = absurd (omega arith)
+
+marked-kilometres : (t : Total) (m : Bool) → fareOf t m true .number ≡ 0 → fareOf t m true .pastKilometres ≡ true
+marked-kilometres (total.Is z) m e = refl
+marked-kilometres total.Outside m e = absurd (omega arith)
+
+-- what a quote asks, in order
+abbrev asked : Bool → Cleanness → Maybe Picked → (seconds metres : ℕ) → Answer
+asked t c m seconds metres = t ⇒ ofClean c (planQuote seconds metres m) else refused 4
+
+record Passed (t : Bool) (c : Cleanness) (m : Maybe Picked) : Type 0 where
+  brief : t ≡ true
+  clean : c ≡ Clean
+  plan : Picked
+  found : m ≡ some plan
+
+passed : (t : Bool) (c : Cleanness) (m : Maybe Picked) (seconds metres : ℕ) → asked t c m seconds metres .number ≡ 0 → Passed t c m
+passed false c m seconds metres e = absurd (omega arith)
+passed true (Broken p) m seconds metres e = absurd (omega arith)
+passed true Clean none seconds metres e = absurd (omega arith)
+passed true Clean (some plan) seconds metres e = record { brief = refl; clean = refl; plan = plan; found = refl }
+
+-- a mark that a quote gives is its plan's
+given-mark : (t : Total) (m k : Bool) → fareOf t m k .pastMinutes ≡ true → m ≡ true
+given-mark (total.Is z) m k e = e
+given-mark total.Outside m k e = true-false e refl
+
+given-far-mark : (t : Total) (m k : Bool) → fareOf t m k .pastKilometres ≡ true → k ≡ true
+given-far-mark (total.Is z) m k e = e
+given-far-mark total.Outside m k e = true-false e refl
+
+module _ (seconds metres : ℕ) (plan : Picked) where
+  asked-minutes : (t : Bool) (c : Cleanness) (m : Maybe Picked) → m ≡ some plan → asked t c m seconds metres .pastMinutes ≡ true → pastMinutes plan seconds ≡ true
+  asked-minutes false c m f e = true-false e refl
+  asked-minutes true (Broken p) m f e = true-false e refl
+  asked-minutes true Clean none f e = true-false e refl
+  asked-minutes true Clean (some x) f e =
+      let p : x ≡ plan = cc in ap (λ (y : Picked). pastMinutes y seconds) (sym p) ∙ given-mark (charges.total (sum x seconds metres)) (pastMinutes x seconds) (pastKilometres x metres) e
+
+  asked-kilometres : (t : Bool) (c : Cleanness) (m : Maybe Picked) → m ≡ some plan → asked t c m seconds metres .pastKilometres ≡ true → pastKilometres plan metres ≡ true
+  asked-kilometres false c m f e = true-false e refl
+  asked-kilometres true (Broken p) m f e = true-false e refl
+  asked-kilometres true Clean none f e = true-false e refl
+  asked-kilometres true Clean (some x) f e =
+      let p : x ≡ plan = cc in ap (λ (y : Picked). pastKilometres y metres) (sym p) ∙ given-far-mark (charges.total (sum x seconds metres)) (pastMinutes x seconds) (pastKilometres x metres) e
+
+-- segments that have all ended
+all-ended : (l : List Segment) → ((x : Segment) → List·Memᴰ x l → x .ended ≡ true) → allEnded l ≡ true
+unfolding allEnded
+all-ended [] h = refl
+all-ended (x ∷ l) h = rw (h x (List·Memᴰ·head refl), allEnded) (all-ended l (λ y m. h y (List·Memᴰ·tail m)))
+
+greatest-end : (l : List Segment) (ride : ℕ) → ((x : Segment) → List·Memᴰ x l → x .end ≤ ride) → greatestEnd l ≤ ride
+unfolding greatestEnd
+greatest-end [] ride h = omega arith
+greatest-end (x ∷ l) ride h =
+    let a = h x (List·Memᴰ·head refl) in let b = greatest-end l ride (λ y m. h y (List·Memᴰ·tail m)) in omega arith
+
+past-ends : (l : List Segment) (ride : ℕ) → PastEnds l ride → past.Ended l ride
+past-ends [] ride e = absurd (e .there refl)
+past-ends (x ∷ l) ride e = record { first = x; others = l; are = refl; ended = all-ended (x ∷ l) (e .ended); late = greatest-end (x ∷ l) ride (e .over) }
+
+-- a mark is set at and past every end of segments that all end
+ended-each : (l : List Segment) → allEnded l ≡ true → (x : Segment) → List·Memᴰ x l → x .ended ≡ true
+unfolding allEnded
+ended-each [] e x m = absurd (List·Memᴰ·not-nil m)
+ended-each (y ∷ l) e x m =
+    let rest = ended-each l (and-right (y .ended) (allEnded l) e) x in
+    ⊎-elim (λ (p : x ≡ y). ap (λ (z : Segment). z .ended) p ∙ and-left (y .ended) (allEnded l) e) rest (List·Memᴰ·cases-cons m)
+
+end-most : (l : List Segment) (x : Segment) → List·Memᴰ x l → x .end ≤ greatestEnd l
+unfolding greatestEnd
+end-most [] x m = absurd (List·Memᴰ·not-nil m)
+end-most (y ∷ l) x m =
+    let rest = end-most l x in
+    ⊎-elim (λ (p : x ≡ y). let q = ap (λ (z : Segment). z .end) p in omega arith) (λ (k : List·Memᴰ x l). let h = rest k in omega arith) (List·Memᴰ·cases-cons m)
+
+some-marked : (l : List Segment) (ride : ℕ) → charges.past l ride ≡ true → l ≡ [] → ⊥
+unfolding charges.past
+some-marked [] ride e p = true-false e refl
+some-marked (x ∷ l) ride e p = let z : _≡_ {A = ℕ} 0 1 = cc in omega arith
+
+marked-ends : (l : List Segment) (ride : ℕ) → charges.past l ride ≡ true → PastEnds l ride
+marked-ends l ride e =
+    let k = ends.past-ends l ride e in
+    record {
+      there = some-marked l ride e;
+      ended = ended-each l (k .0);
+      over = λ x m. let h = end-most l x m in omega (arith, k .1);
+    }
+
+-- the same of a ride of another length that is past the ends
+ended-at : {l : List Segment} {a : ℕ} (b : ℕ) → greatestEnd l ≤ b → past.Ended l a → past.Ended l b
+ended-at b h e = record { first = e .first; others = e .others; are = e .are; ended = e .ended; late = h }
+
+module _ (s id : List ℕ) where
+  -- the picked file
+  abbrev file : Picked
+  file = pick (fileShape table23 5) (treeOf s)
+
+  quote-clean : (seconds metres : ℕ) → short seconds metres ≡ true → cleanOf 5 s ≡ Clean → quoteOf s id seconds metres ≡ cleanQuote file id seconds metres
+  unfolding quoteOf
+  quote-clean seconds metres h c = rw (h, c)
+
+  pub price : (seconds metres : ℕ) (plan : Picked) → seconds ≤ mostSeconds → metres ≤ mostMetres → cleanOf 5 s ≡ Clean
+      → planIn s id ≡ some plan → mag (fare plan seconds metres .amount) < 2 ^ 63 → quoteOf s id seconds metres ≡ fare plan seconds metres
+  unfolding short cleanQuote sum amount pastMinutes pastKilometres
+  price seconds metres plan a b c found h =
+      let brief : short seconds metres ≡ true = rw (le-leb seconds mostSeconds a, le-leb metres mostMetres b, short) in
+      quote-clean seconds metres brief c
+      ∙ ap (planQuote seconds metres) found
+      ∙ total-priced (sum plan seconds metres) (pastMinutes plan seconds) (pastKilometres plan metres) h
+
+  pub marked-minutes-ends : (seconds metres : ℕ) (plan : Picked) → planIn s id ≡ some plan → quoteOf s id seconds metres .pastMinutes ≡ true → PastEnds (perMinute plan) (seconds / 60)
+  unfolding quoteOf cleanQuote pastMinutes
+  marked-minutes-ends seconds metres plan found e =
+      marked-ends (perMinute plan) (seconds / 60) (asked-minutes seconds metres plan (short seconds metres) (cleanOf 5 s) (planIn s id) found e)
+
+  pub marked-kilometres-ends : (seconds metres : ℕ) (plan : Picked) → planIn s id ≡ some plan → quoteOf s id seconds metres .pastKilometres ≡ true → PastEnds (perKilometre plan) (metres / 1000)
+  unfolding quoteOf cleanQuote pastKilometres
+  marked-kilometres-ends seconds metres plan found e =
+      marked-ends (perKilometre plan) (metres / 1000) (asked-kilometres seconds metres plan (short seconds metres) (cleanOf 5 s) (planIn s id) found e)
+
+  module _ (seconds metres : ℕ) (e : quoteOf s id seconds metres .number ≡ 0) where
+    through : Passed (short seconds metres) (cleanOf 5 s) (planIn s id)
+    unfolding quoteOf cleanQuote
+    through = passed (short seconds metres) (cleanOf 5 s) (planIn s id) seconds metres e
+
+    by-plan : quoteOf s id seconds metres ≡ cleanQuote file id seconds metres
+    by-plan = quote-clean seconds metres (through .brief) (through .clean)
+
+    pub price-given : (seconds ≤ mostSeconds) × (metres ≤ mostMetres) × (cleanOf 5 s ≡ Clean)
+        × (plan : Picked) × (planIn s id ≡ some plan) × (quoteOf s id seconds metres ≡ fare plan seconds metres)
+    unfolding short cleanQuote sum amount pastMinutes pastKilometres
+    price-given =
+        let a = leb-true seconds mostSeconds (and-left (leb seconds mostSeconds) _ (through .brief)) in
+        let b = leb-true metres mostMetres (and-right (leb seconds mostSeconds) _ (through .brief)) in
+        let plan = through .plan in
+        let is : quoteOf s id seconds metres ≡ planQuote seconds metres (some plan) = by-plan ∙ ap (planQuote seconds metres) (through .found) in
+        (a, b, through .clean, plan, through .found, is ∙ priced-total (sum plan seconds metres) (pastMinutes plan seconds) (pastKilometres plan metres) (ap (λ (a : Answer). a .number) (sym is) ∙ e))
+
+    module _ (plan : Picked) (found : planIn s id ≡ some plan) where
+      pub past-minutes : PastEnds (perMinute plan) (seconds / 60)
+          → (quoteOf s id seconds metres ≡ quoteOf s id (greatestEnd (perMinute plan) * 60) metres) × (quoteOf s id seconds metres .pastMinutes ≡ true)
+      unfolding short
+      past-minutes over =
+          let last = greatestEnd (perMinute plan) * 60 in
+          let p = past-ends (perMinute plan) (seconds / 60) over in let late = p .late in
+          let a = leb-true seconds mostSeconds (and-left (leb seconds mostSeconds) _ (through .brief)) in
+          let brief : short last metres ≡ true = rw (le-leb last mostSeconds (omega arith), short) (and-right (leb seconds mostSeconds) _ (through .brief)) in
+          let one = by-plan ∙ ended-minutes file id found seconds metres p in
+          let two = quote-clean last metres brief (through .clean) ∙ ended-minutes file id found last metres (ended-at (last / 60) (omega arith) p) in
+          let t = charges.total (sum plan last metres) in let k = pastKilometres plan metres in
+          (one ∙ sym two, ap (λ (x : Answer). x .pastMinutes) one ∙ marked-minutes t k (ap (λ (x : Answer). x .number) (sym one) ∙ e))
+
+      pub past-kilometres : PastEnds (perKilometre plan) (metres / 1000)
+          → (quoteOf s id seconds metres ≡ quoteOf s id seconds (greatestEnd (perKilometre plan) * 1000)) × (quoteOf s id seconds metres .pastKilometres ≡ true)
+      unfolding short
+      past-kilometres over =
+          let last = greatestEnd (perKilometre plan) * 1000 in
+          let p = past-ends (perKilometre plan) (metres / 1000) over in let late = p .late in
+          let a = leb-true metres mostMetres (and-right (leb seconds mostSeconds) _ (through .brief)) in
+          let brief : short seconds last ≡ true = rw (and-left (leb seconds mostSeconds) _ (through .brief), short) (le-leb last mostMetres (omega arith)) in
+          let one = by-plan ∙ ended-kilometres file id found seconds metres p in
+          let two = quote-clean seconds last brief (through .clean) ∙ ended-kilometres file id found seconds last (ended-at (last / 1000) (omega arith) p) in
+          let t = charges.total (sum plan seconds last) in let m = pastMinutes plan seconds in
+          (one ∙ sym two, ap (λ (x : Answer). x .pastKilometres) one ∙ marked-kilometres t m (ap (λ (x : Answer). x .number) (sym one) ∙ e))
