@@ -4,3 +4,4 @@ pub mod Fold
 pub mod Bound
 pub mod Ends
 pub mod Past
+pub mod Amounts
