@@ -13,7 +13,7 @@ ghost use mathlib.Core.Path.{_≡_};
 ghost use Prim.Native.Nat.{_+_, _^_, _≤_, _<_};
 ghost use lib.ListN.{length};
 ghost use Rattle.signed.specs.Signed.{difference};
-ghost use Rattle.fare.specs.Charges.{moments, total as totalOf};
+ghost use Rattle.fare.specs.Charges.{moments, clamped, total as totalOf};
 ghost use Rattle.fare.specs.Folds.{boundOf, withAmount, ofPrice, withCharge, marked, listed, charged};
 ghost use Rattle.fare.specs.Bounds.{mostRide, Payable, Chargeable};
 
@@ -138,20 +138,17 @@ impl Sum {
         return self.with_all(l, ride.count);
     }
 
-    // The amount, of any two sums. Below zero the size is counted from -1 down, so that the least number of 64 bits needs no case.
+    // The amount, of any two sums: nothing where no more is added than taken off.
+    // Shut out: a credit to the rider where discounts outweigh the price; the size of a negative sum.
     pub fn total(self) -> Total
-        ensures { λ r. ⌜ r ≡ totalOf (difference (self .added) (self .taken)) ⌝ }
+        ensures { λ r. ⌜ r ≡ totalOf (clamped (difference (self .added) (self .taken))) ⌝ }
     {
-        if self.taken <= self.added {
-            let above = self.added - self.taken;
-            if above < 0x8000_0000_0000_0000 {
-                return Total::Is(above as i64);
-            }
-            return Total::Outside;
+        if self.added <= self.taken {
+            return Total::Is(0);
         }
-        let below = self.taken - self.added - 1;
-        if below < 0x8000_0000_0000_0000 {
-            return Total::Is(-1 - (below as i64));
+        let amount = self.added - self.taken;
+        if amount < 0x8000_0000_0000_0000 {
+            return Total::Is(amount as i64);
         }
         return Total::Outside;
     }

@@ -4,9 +4,9 @@ use mathlib.Core.Bool.{true, false}
 use mathlib.Core.List.{List, [], _∷_, _++_, map, List·Memᴰ}
 use mathlib.Core.Path.{_≡_}
 use Prim.Native.Nat.{ℕ, _*_, _/_, _^_, _≤_, _<_}
-use lib.IntN.{_+ℤ_}
+use lib.IntN.{pos, _+ℤ_}
 use lib.ListN.{length, take}
-use lib.Signed.{mag}
+use lib.Signed.{leZ, mag}
 use Rattle.radix.specs.Fields.{Bytes}
 use Rattle.word.specs.declared.Parts.{Parts}
 use Rattle.word.specs.Form.{form1}
@@ -17,7 +17,7 @@ use Rattle.schema.specs.Pick.{Picked, pick}
 use Rattle.document.specs.Document.{Maybe, none, some, elements, elementsOf, field, fieldItems, along}
 use Rattle.decimal.specs.Exact.{tenThousandths}
 use Rattle.fare.specs.declared.Segment.{Segment}
-use Rattle.fare.specs.Charges.{charges, greatestEnd, past}
+use Rattle.fare.specs.Charges.{charges, clamped, greatestEnd, past}
 use Rattle.geometry.specs.Ring.{Point}
 use Rattle.geometry.specs.Held.{holds}
 use Rattle.rings.specs.Rings.{position}
@@ -46,13 +46,14 @@ pub record Says (s : Feeds) (number : ℕ) (p : Parts) : Type 0 where
 abbrev pub planIn : (s id : List ℕ) → Maybe Picked
 planIn s id = planOf (plans (pick (fileShape table23 5) (treeOf s))) id
 
--- a plan's price and the charges of its segments, by whole minutes and kilometres; and whether the ride is past the ends
+-- a plan's price and the charges of its segments, by whole minutes and kilometres, and zero where that sum is negative; and whether the ride is past the
+-- ends
 abbrev pub fare : Picked → (seconds metres : ℕ) → quote.Answer
 fare plan seconds metres =
     record {
       number = 0;
       parts = noParts;
-      amount = tenThousandths (priceAt plan) +ℤ charges (perMinute plan) (seconds / 60) +ℤ charges (perKilometre plan) (metres / 1000);
+      amount = clamped (tenThousandths (priceAt plan) +ℤ charges (perMinute plan) (seconds / 60) +ℤ charges (perKilometre plan) (metres / 1000));
       pastMinutes = past (perMinute plan) (seconds / 60);
       pastKilometres = past (perKilometre plan) (metres / 1000);
     }
@@ -126,6 +127,9 @@ pub record Demand2 : Type 0 where
       → planIn s id ≡ some plan → mag (fare plan seconds metres .amount) < 2 ^ 63 → quoteOf s id seconds metres ≡ fare plan seconds metres
   pub priced : (s id : List ℕ) (seconds metres : ℕ) → quoteOf s id seconds metres .number ≡ 0
       → (plan : Picked) × (planIn s id ≡ some plan) × (quoteOf s id seconds metres ≡ fare plan seconds metres)
+  -- No amount is negative.
+  -- Shut out: a credit where discounts outweigh the price.
+  pub noCredit : (s id : List ℕ) (seconds metres : ℕ) → leZ (pos 0) (quoteOf s id seconds metres .amount) ≡ true
   -- At and past the greatest end of a plan's segments per minute, where all end, every ride costs what it costs at that end, and the mark says so;
   -- and likewise per kilometre.
   -- Shut out: a charge at the end minute, or past it; a price past the ends without its mark.
