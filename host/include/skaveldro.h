@@ -8,17 +8,20 @@
  * prints or calls back. What each answers is proved for every input; see docs/GUIDE.md.
  *
  * What the caller sees to:
- * - Each pointer is not NULL and is good for its length, also when the length is 0. For an absent file pass a pointer to any byte, with
- *   the length 0: SKAVELDRO_ABSENT stands for both arguments.
+ * - Each pointer is good for the length that comes with it. With the length 0 it may be NULL, be it that of a file, of an id or of a
+ *   buffer: SKAVELDRO_ABSENT stands for NULL and 0.
  * - No length is over PTRDIFF_MAX.
  * - The buffer that is written lies apart from all bytes that are read, and nobody else reads or writes it during the call.
  * - Nobody writes the bytes that are read during the call. Bytes of a mapped file are copied first unless nobody can change the file.
  * - The thread has SKAVELDRO_STACK bytes of stack left.
  *
  * Answers: the number returned says which answer it is. Its values are in the buffer as unsigned numbers of 8 bytes each, the least
- * significant byte first, so that `skaveldro_value(answer, i)` is the value at index i. An answer writes all the values of its
- * function, 0 where it does not give one, and no byte past them. A buffer that has no room for them is left alone, and the number is
- * SKAVELDRO_NO_ROOM.
+ * significant byte first, so that `skaveldro_value(answer, i)` is the value at index i.
+ * - SKAVELDRO_ANSWERED and SKAVELDRO_NOT_CLEAN write all the values of their function, 0 where they do not give one, and no byte past
+ *   them.
+ * - Every other number but the verdict's two is a refusal: it writes nothing and needs no room, so that it is answered into a buffer of
+ *   any length.
+ * - SKAVELDRO_NO_ROOM is answered where there are values to write and the buffer has no room for them; nothing is written.
  */
 #ifndef SKAVELDRO_H
 #define SKAVELDRO_H
@@ -37,9 +40,9 @@ extern "C" {
 #define SKAVELDRO_STACK (512 * 1024)
 
 /* An absent file, or an empty id: two arguments, pointer and length. */
-#define SKAVELDRO_ABSENT ((const uint8_t *)""), 0
+#define SKAVELDRO_ABSENT NULL, 0
 
-/* Bytes of the buffers. */
+/* Bytes of the buffers: the room that an answer with values needs. */
 #define SKAVELDRO_WORD_BYTES 8
 #define SKAVELDRO_READ_WORD_BYTES (6 * 8)
 #define SKAVELDRO_QUOTE_BYTES (9 * 8)
@@ -48,18 +51,18 @@ extern "C" {
 
 /* Numbers that are returned. */
 enum {
-    SKAVELDRO_ACCEPTED = 0,
-    SKAVELDRO_NOT_ACCEPTED = 1,
-    SKAVELDRO_ANSWERED = 0,
-    SKAVELDRO_NO_ROOM = 2,
-    SKAVELDRO_NO_WORD = 3,
-    SKAVELDRO_RIDE_TOO_LONG = 4,
-    SKAVELDRO_NOT_CLEAN = 5,
-    SKAVELDRO_NO_PLAN = 6,
-    SKAVELDRO_AMOUNT_OUTSIDE = 7,
-    SKAVELDRO_POINT_OFF_MAP = 8,
-    SKAVELDRO_NO_RULE = 9,
-    SKAVELDRO_NO_RECORD = 10
+    SKAVELDRO_ACCEPTED = 0,       /* verdict: the set keeps every rule; the word is written */
+    SKAVELDRO_NOT_ACCEPTED = 1,   /* verdict: it breaks one; the word, which names the first, is written */
+    SKAVELDRO_ANSWERED = 0,       /* any other question: the values are written */
+    SKAVELDRO_NO_ROOM = 2,        /* any question: there is a word or values to write and no room for them; nothing is written */
+    SKAVELDRO_NO_WORD = 3,        /* read word: the bytes are no word; nothing is written */
+    SKAVELDRO_RIDE_TOO_LONG = 4,  /* quote: over 2,678,400 seconds or 1,000,000 metres; nothing is written */
+    SKAVELDRO_NOT_CLEAN = 5,      /* quote, zone rule, show record: the file breaks a rule; its parts are written, 0 for all further values */
+    SKAVELDRO_NO_PLAN = 6,        /* quote: no plan has the id; nothing is written */
+    SKAVELDRO_AMOUNT_OUTSIDE = 7, /* quote: the amount is no signed number of 64 bits; nothing is written */
+    SKAVELDRO_POINT_OFF_MAP = 8,  /* zone rule: past 180 degrees of longitude or 90 of latitude; nothing is written */
+    SKAVELDRO_NO_RULE = 9,        /* zone rule: none applies; nothing is written */
+    SKAVELDRO_NO_RECORD = 10      /* show record: there is no such file or record; nothing is written */
 };
 
 /* Indices of the values that every answer but the verdict's begins with: the parts of a verdict word. All are 0 for an accepted set. */
@@ -98,7 +101,7 @@ enum {
 /*
  * The verdict on a feed set. Returns SKAVELDRO_NO_ROOM if the buffer has fewer than 8 bytes; SKAVELDRO_ACCEPTED if the set keeps every
  * rule; SKAVELDRO_NOT_ACCEPTED otherwise. With the last two the first 8 bytes of the buffer are the verdict word, the most significant
- * byte first: it names the first broken rule, and can be kept and read back with skaveldro_read_word.
+ * byte first: it names the first broken rule, and can be kept and read back with skaveldro_read_word. The rest of the buffer stays.
  */
 uint8_t skaveldro_verdict(const uint8_t *types, size_t types_length,
                           const uint8_t *stations, size_t stations_length,
@@ -109,7 +112,8 @@ uint8_t skaveldro_verdict(const uint8_t *types, size_t types_length,
                           uint8_t *buffer, size_t buffer_length);
 
 /*
- * Reads any bytes as a verdict word. Returns SKAVELDRO_NO_WORD if they are none, else SKAVELDRO_ANSWERED. Six values: the parts.
+ * Reads any bytes as a verdict word. Returns, in this order of checking: SKAVELDRO_NO_WORD if they are none; SKAVELDRO_NO_ROOM under 48
+ * bytes; SKAVELDRO_ANSWERED. Six values: the parts.
  */
 uint8_t skaveldro_read_word(const uint8_t *word, size_t word_length,
                             uint8_t *answer, size_t answer_length);
@@ -118,7 +122,8 @@ uint8_t skaveldro_read_word(const uint8_t *word, size_t word_length,
  * What a ride costs under the plan of that id, by the bytes of file 5. Returns, in this order of checking: SKAVELDRO_RIDE_TOO_LONG over
  * 2,678,400 seconds or 1,000,000 metres; SKAVELDRO_NOT_CLEAN if the file is not sound by itself, with the parts of its word;
  * SKAVELDRO_NO_PLAN; SKAVELDRO_AMOUNT_OUTSIDE if the amount is no signed number of 64 bits; SKAVELDRO_ANSWERED with amount and marks.
- * Nine values: the parts, amount, past minutes, past kilometres.
+ * In place of the two that write values, SKAVELDRO_NO_ROOM under 72 bytes. Nine values: the parts, amount, past minutes, past
+ * kilometres.
  */
 uint8_t skaveldro_quote(const uint8_t *plans, size_t plans_length,
                         const uint8_t *id, size_t id_length,
@@ -128,8 +133,9 @@ uint8_t skaveldro_quote(const uint8_t *plans, size_t plans_length,
 /*
  * The rule that holds at a point, in millionths of a degree, longitude first, for a vehicle type at a moment, in seconds since 1970, by
  * the bytes of file 6. Returns, in this order of checking: SKAVELDRO_POINT_OFF_MAP past 180 or 90 degrees; SKAVELDRO_NOT_CLEAN if the
- * file is not sound by itself, with the parts of its word; SKAVELDRO_NO_RULE; SKAVELDRO_ANSWERED with the rule. Twelve values: the
- * parts, ride, through, whether a speed is given, the speed, whether parking is given, parking.
+ * file is not sound by itself, with the parts of its word; SKAVELDRO_NO_RULE; SKAVELDRO_ANSWERED with the rule. In place of the two
+ * that write values, SKAVELDRO_NO_ROOM under 96 bytes. Twelve values: the parts, ride, through, whether a speed is given, the speed,
+ * whether parking is given, parking.
  */
 uint8_t skaveldro_zone_rule(const uint8_t *zones, size_t zones_length,
                             int64_t lon, int64_t lat,
@@ -140,9 +146,10 @@ uint8_t skaveldro_zone_rule(const uint8_t *zones, size_t zones_length,
 /*
  * Where the record of that number, from 1, stands in the bytes of that file. Returns, in this order of checking: SKAVELDRO_NO_RECORD if
  * the file is not 1 to 6; SKAVELDRO_NOT_CLEAN if it is not sound by itself, with the parts of its word; SKAVELDRO_NO_RECORD if it has
- * no such record; SKAVELDRO_ANSWERED with the place. Eight values: the parts, from, upto.
+ * no such record; SKAVELDRO_ANSWERED with the place. In place of the two that write values, SKAVELDRO_NO_ROOM under 64 bytes. Eight
+ * values: the parts, from, upto.
  */
-uint8_t skaveldro_show_record(uint8_t file, uint64_t record,
+uint8_t skaveldro_show_record(uint64_t file, uint64_t record,
                               const uint8_t *bytes, size_t bytes_length,
                               uint8_t *answer, size_t answer_length);
 

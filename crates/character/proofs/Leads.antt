@@ -9,16 +9,16 @@ use Rattle.lexeme.specs.Character.Surrogates.{paired}
 use Rattle.lexeme.specs.Character.{byte, Lead, lead, char1, escape, nextBy, next}
 use Rattle.character.proofs.Ranges.{NoneOf}
 
-pub class-plain : (c : ℕ) → c < 8 → leadOf c ≡ Lead.plain
+pub class-plain : (c : ℕ) → c < 14 → leadOf c ≡ Lead.plain
 unfolding leadOf
-class-plain c h = rw (lt-ltb c 8 h, leadOf)
+class-plain c h = rw (lt-ltb c 14 h, leadOf)
 
-pub class-wrong : (c : ℕ) → 8 ≤ c → NoneOf (18 ∷ 17 ∷ 16 ∷ 15 ∷ 14 ∷ 13 ∷ 12 ∷ 9 ∷ 8 ∷ []) c → leadOf c ≡ Lead.wrong
+pub class-wrong : (c : ℕ) → 14 ≤ c → NoneOf (32 ∷ 30 ∷ 28 ∷ 26 ∷ 24 ∷ 22 ∷ 20 ∷ 16 ∷ 14 ∷ []) c → leadOf c ≡ Lead.wrong
 unfolding leadOf
 class-wrong c h (((((((((z, n1), n2), n3), n4), n5), n6), n7), n8), n9) = simp (le-ltb, ne-eqb, leadOf)
 
 module _ (l : List ℕ) {c : ℕ} where
-  pub by-plain : {b : ℕ} → c < 8 → b ≡ byte l 0 → char1 b 0 ≡ nextBy paired l (leadOf c)
+  pub by-plain : {b : ℕ} → c < 14 → b ≡ byte l 0 → char1 b 0 ≡ nextBy paired l (leadOf c)
   unfolding nextBy
   by-plain h e = rw (class-plain c h, e, nextBy)
 

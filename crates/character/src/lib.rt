@@ -11,7 +11,8 @@ use escape::escape;
 use lexeme::Char;
 use lexeme::Next;
 use lexeme::class::Class;
-use lexeme::class::class_of;
+use lexeme::class::class_by;
+use lexeme::class::class_table;
 use lexeme::front::first;
 use utf8::utf2;
 use utf8::utf3;
@@ -21,11 +22,12 @@ ghost use mathlib.Core.Path.{_≡_};
 ghost use lib.ListN.{drop};
 ghost use Rattle.lexeme.specs.Character as spec;
 ghost use Rattle.lexeme.specs.Character.{paired};
-ghost use Rattle.lexeme.specs.Class.{leadOf};
+ghost use Rattle.lexeme.specs.Class.{leadOf, Classifies};
 
 // What stands at `at`, inside a string, where the first byte has the class.
 // Shut out: an overlong form, a surrogate or a number past 10FFFF let through as UTF-8; a control character taken for a plain one.
-pub fn next_by(s: &[u8], at: usize, class: u8) -> Next
+pub fn next_by(table: &[u8; 256], s: &[u8], at: usize, class: u8) -> Next
+    requires { ⌜ Classifies (now table) ⌝ }
     ensures { λ r. ⌜ r ≡ spec.nextBy paired (drop at (now (s .entry))) (leadOf class) ⌝ }
 {
     if class < Class::QUOTE {
@@ -46,25 +48,25 @@ pub fn next_by(s: &[u8], at: usize, class: u8) -> Next
             return escape(s, at);
         }
         Class::TWO => {
-            return utf2(s, at);
+            return utf2(table, s, at);
         }
         Class::THREE_E0 => {
-            return utf3(s, at, 0xa0, 0xbf);
+            return utf3(table, s, at, Class::TAIL_A0, Class::TAIL_A0);
         }
         Class::THREE => {
-            return utf3(s, at, 0x80, 0xbf);
+            return utf3(table, s, at, Class::TAIL_80, Class::TAIL_A0);
         }
         Class::THREE_ED => {
-            return utf3(s, at, 0x80, 0x9f);
+            return utf3(table, s, at, Class::TAIL_80, Class::TAIL_90);
         }
         Class::FOUR_F0 => {
-            return utf4(s, at, 0x90, 0xbf);
+            return utf4(table, s, at, Class::TAIL_90, Class::TAIL_A0);
         }
         Class::FOUR => {
-            return utf4(s, at, 0x80, 0xbf);
+            return utf4(table, s, at, Class::TAIL_80, Class::TAIL_A0);
         }
         Class::FOUR_F4 => {
-            return utf4(s, at, 0x80, 0x8f);
+            return utf4(table, s, at, Class::TAIL_80, Class::TAIL_80);
         }
         _ => {
             return Next::Fault(Kind::NOT_JSON, 0);
@@ -81,5 +83,6 @@ pub fn next_char(s: &[u8], at: usize) -> Next
     if b == b'\\' {
         return escape(s, at);
     }
-    next_by(s, at, class_of(b))
+    let table = class_table();
+    next_by(&table, s, at, class_by(&table, b))
 }

@@ -1,8 +1,10 @@
-// Numbers between two bounds.
+// Numbers and classes between two bounds.
+use lexeme::class::class_by;
 use lexeme::front::byte_at;
 ghost use mathlib.Core.Path.{_≡_};
 ghost use lib.ListN.{drop};
 ghost use Rattle.lexeme.specs.Character as spec;
+ghost use Rattle.lexeme.specs.Class.{leastOf, mostOf, Tails, Classifies};
 
 // Whether b lies between lo and hi.
 pub fn within(lo: u32, hi: u32, b: u32) -> bool
@@ -14,9 +16,14 @@ pub fn within(lo: u32, hi: u32, b: u32) -> bool
     return false;
 }
 
-// Whether the byte at k places from `at` lies between lo and hi.
-pub fn byte_within(s: &[u8], at: usize, k: usize, lo: u32, hi: u32) -> bool
-    ensures { λ r. ⌜ r ≡ spec.within lo hi (spec.byte (drop at (now (s .entry))) k) ⌝ }
+// Whether the byte at k places from `at` is one of the tail classes from lo to hi.
+pub fn tail_within(table: &[u8; 256], s: &[u8], at: usize, k: usize, lo: u8, hi: u8) -> bool
+    requires { ⌜ Classifies (now table) × Tails lo hi ⌝ }
+    ensures { λ r. ⌜ r ≡ spec.within (leastOf lo) (mostOf hi) (spec.byte (drop at (now (s .entry))) k) ⌝ }
 {
-    within(lo, hi, byte_at(s, at, k) as u32)
+    let class = class_by(table, byte_at(s, at, k));
+    if lo <= class {
+        return class <= hi;
+    }
+    return false;
 }

@@ -1,18 +1,21 @@
 // Characters as UTF-8: read as they stand, and made of a code point.
-use super::range::byte_within;
+use super::range::tail_within;
 use lexeme::Char;
 use lexeme::Next;
+use lexeme::class::Class;
 use lexeme::front::byte_at;
 use word::kind::Kind;
 ghost use mathlib.Core.Path.{_≡_};
 ghost use lib.ListN.{drop};
 ghost use Rattle.lexeme.specs.Character as spec;
+ghost use Rattle.lexeme.specs.Class.{leastOf, mostOf, Tails, Classifies};
 
-// UTF-8 of two, three and four bytes; after some first bytes the second has a narrower range, from lo to hi.
-pub fn utf2(s: &[u8], at: usize) -> Next
+// UTF-8 of two, three and four bytes, by the classes of those after the first; some first bytes narrow the second to the classes from lo to hi.
+pub fn utf2(table: &[u8; 256], s: &[u8], at: usize) -> Next
+    requires { ⌜ Classifies (now table) ⌝ }
     ensures { λ r. ⌜ r ≡ spec.utf2 (drop at (now (s .entry))) ⌝ }
 {
-    if byte_within(s, at, 1, 0x80, 0xbf) {
+    if tail_within(table, s, at, 1, Class::TAIL_80, Class::TAIL_A0) {
         return Next::Character(Char {
             b0: byte_at(s, at, 0),
             b1: byte_at(s, at, 1),
@@ -25,13 +28,14 @@ pub fn utf2(s: &[u8], at: usize) -> Next
     return Next::Fault(Kind::NOT_JSON, 1);
 }
 
-pub fn utf3(s: &[u8], at: usize, lo: u32, hi: u32) -> Next
-    ensures { λ r. ⌜ r ≡ spec.utf3 lo hi (drop at (now (s .entry))) ⌝ }
+pub fn utf3(table: &[u8; 256], s: &[u8], at: usize, lo: u8, hi: u8) -> Next
+    requires { ⌜ Classifies (now table) × Tails lo hi ⌝ }
+    ensures { λ r. ⌜ r ≡ spec.utf3 (leastOf lo) (mostOf hi) (drop at (now (s .entry))) ⌝ }
 {
-    if !byte_within(s, at, 1, lo, hi) {
+    if !tail_within(table, s, at, 1, lo, hi) {
         return Next::Fault(Kind::NOT_JSON, 1);
     }
-    if !byte_within(s, at, 2, 0x80, 0xbf) {
+    if !tail_within(table, s, at, 2, Class::TAIL_80, Class::TAIL_A0) {
         return Next::Fault(Kind::NOT_JSON, 2);
     }
     return Next::Character(Char {
@@ -44,16 +48,17 @@ pub fn utf3(s: &[u8], at: usize, lo: u32, hi: u32) -> Next
     });
 }
 
-pub fn utf4(s: &[u8], at: usize, lo: u32, hi: u32) -> Next
-    ensures { λ r. ⌜ r ≡ spec.utf4 lo hi (drop at (now (s .entry))) ⌝ }
+pub fn utf4(table: &[u8; 256], s: &[u8], at: usize, lo: u8, hi: u8) -> Next
+    requires { ⌜ Classifies (now table) × Tails lo hi ⌝ }
+    ensures { λ r. ⌜ r ≡ spec.utf4 (leastOf lo) (mostOf hi) (drop at (now (s .entry))) ⌝ }
 {
-    if !byte_within(s, at, 1, lo, hi) {
+    if !tail_within(table, s, at, 1, lo, hi) {
         return Next::Fault(Kind::NOT_JSON, 1);
     }
-    if !byte_within(s, at, 2, 0x80, 0xbf) {
+    if !tail_within(table, s, at, 2, Class::TAIL_80, Class::TAIL_A0) {
         return Next::Fault(Kind::NOT_JSON, 2);
     }
-    if !byte_within(s, at, 3, 0x80, 0xbf) {
+    if !tail_within(table, s, at, 3, Class::TAIL_80, Class::TAIL_A0) {
         return Next::Fault(Kind::NOT_JSON, 3);
     }
     return Next::Character(Char {

@@ -1,3 +1,4 @@
 pub mod Clean
 pub mod Show
 pub mod ShowTree
+pub mod Cases

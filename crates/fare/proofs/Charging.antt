@@ -11,7 +11,7 @@ use Rattle.fare.specs.declared.Segments.{Segments}
 use Rattle.fare.specs.declared.Sum.{Sum}
 use Rattle.fare.specs.declared.Marks.{Marks}
 use Rattle.fare.specs.declared.Charged.{Charged}
-use Rattle.fare.specs.Folds.{withCharge, withCharges, unmarked, withEnd, withEnds, marked, listed, charged}
+use Rattle.fare.specs.Folds.{withCharge, withCharges, unmarked, withEnd, withEnds, marked, listed, withAll}
 use Rattle.fare.specs.Bounds.{mostRide, Room, Payable, Modest, Chargeable}
 use Rattle.fare.proofs.Fold.{tells-start}
 use Rattle.fare.proofs.Bound.{room-less, room-next, payable}
@@ -24,7 +24,7 @@ pub record Going (list : List Segment) (count ride : ℕ) (sum : Sum) (marks : M
   pub summed : withCharges sum (drop i (take count list)) ride ≡ r .sum
   pub told : marked (withEnds marks (drop i (take count list))) ride ≡ r .past
 
-pub going-start : {sum : Sum} {l : Segments} {ride : ℕ} → Chargeable sum l ride → Going (l .list) (l .count) ride sum unmarked 0 (charged sum (listed l) ride)
+pub going-start : {sum : Sum} {l : Segments} {ride : ℕ} → Chargeable sum l ride → Going (l .list) (l .count) ride sum unmarked 0 (withAll sum (listed l) ride)
 going-start {sum} {l} {ride} c =
     record { within = omega arith; filled = c .filled; modest = c .modest; room = room-less (l .count - 0) (omega arith) (c .room); summed = refl; told = tells-start (listed l) ride }
 

@@ -64,8 +64,8 @@ marked m ride = m .some and m .ended and leb (m .end) ride
 abbrev pub listed : Segments → List Segment
 listed l = take (l .count) (l .list)
 
-abbrev pub charged : Sum → List Segment → ℕ → Charged
-charged sum l ride = record { sum = withCharges sum l ride; past = past l ride }
+abbrev pub withAll : Sum → List Segment → ℕ → Charged
+withAll sum l ride = record { sum = withCharges sum l ride; past = past l ride }
 
 -- the places from the first on hold just these segments
 pub record Fills (l : Segments) (s : List Segment) : Type 0 where

@@ -14,7 +14,7 @@ ghost use Prim.Native.Nat.{_+_, _^_, _≤_, _<_};
 ghost use lib.ListN.{length};
 ghost use Rattle.signed.specs.Signed.{difference};
 ghost use Rattle.fare.specs.Charges.{moments, clamped, total as totalOf};
-ghost use Rattle.fare.specs.Folds.{boundOf, withAmount, ofPrice, withCharge, marked, listed, charged};
+ghost use Rattle.fare.specs.Folds.{boundOf, withAmount, ofPrice, withCharge, marked, listed, withAll};
 ghost use Rattle.fare.specs.Bounds.{mostRide, Payable, Chargeable};
 
 impl Segment {
@@ -104,7 +104,7 @@ impl Sum {
     // Shut out: a segment left out of the sum, or out of the mark.
     fn with_all(self, l: Segments, ride: u64) -> Charged
         requires { ⌜ Chargeable self l ride ⌝ }
-        ensures { λ r. ⌜ r ≡ charged self (listed l) ride ⌝ }
+        ensures { λ r. ⌜ r ≡ withAll self (listed l) ride ⌝ }
     {
         let list = l.list;
         let count = l.count;
@@ -126,14 +126,14 @@ impl Sum {
     // With the charges of the per-minute segments, and of the per-kilometre segments.
     pub fn with_minutes(self, l: Segments, ride: Minutes) -> Charged
         requires { ⌜ Chargeable self l (ride .count) ⌝ }
-        ensures { λ r. ⌜ r ≡ charged self (listed l) (ride .count) ⌝ }
+        ensures { λ r. ⌜ r ≡ withAll self (listed l) (ride .count) ⌝ }
     {
         return self.with_all(l, ride.count);
     }
 
     pub fn with_kilometres(self, l: Segments, ride: Kilometres) -> Charged
         requires { ⌜ Chargeable self l (ride .count) ⌝ }
-        ensures { λ r. ⌜ r ≡ charged self (listed l) (ride .count) ⌝ }
+        ensures { λ r. ⌜ r ≡ withAll self (listed l) (ride .count) ⌝ }
     {
         return self.with_all(l, ride.count);
     }

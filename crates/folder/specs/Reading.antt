@@ -1,7 +1,7 @@
 -- What opening and reading a file come to, by the numbers that the calls leave: document 01, "Length 0 means the file is absent". A call that fails is
 -- never taken for the file's end.
 use mathlib.Core.Path.{_≡_}
-use Prim.Native.Nat.{ℕ, zero, suc, _+_, _≤_, _<_}
+use Prim.Native.Nat.{ℕ, zero, suc}
 use lib.Dec.{eqb}
 use lib.IntN.{ℤ, pos, negsuc}
 use Rattle.notation.specs.Choice.{_⇒_else_}

@@ -3,7 +3,7 @@ use crate::reading::Taken;
 use crate::reading::read_named;
 use crate::text::put;
 ghost use mathlib.Core.Path.{_≡_};
-ghost use Prim.Native.Nat.{_≤_, _<_};
+ghost use Prim.Native.Nat.{_<_};
 ghost use lib.ListN.{length};
 ghost use Rattle.folder.specs.Reading.{turnOf, Decides};
 ghost use Rattle.folder.specs.Places.{Appended, Placed};
@@ -18,7 +18,7 @@ const NAME: usize = 32;
 // Shut out: a file that can't be read passed over; a set judged that fills the buffer.
 pub fn read_all(bytes: &mut [u8], places: &mut [usize; 7], left: &mut isize) -> Taken
     requires { ⌜ (length (now bytes) ≡ room) × (length (now places) ≡ 7) ⌝ }
-    ensures { λ r. ⌜ Placed most (now (places .exit)) r × Decides (turnOf (now (left .exit))) r ⌝ }
+    ensures { λ r. ⌜ Decides (turnOf (now (left .exit))) r × Placed most (now (places .exit)) r ⌝ }
 {
     *left = 0;
     places[0] = 0;
@@ -43,7 +43,7 @@ pub fn read_all(bytes: &mut [u8], places: &mut [usize; 7], left: &mut isize) -> 
 // Reads a file by its place in the set, counted from 0.
 fn read_file(i: usize, bytes: &mut [u8], from: usize, left: &mut isize) -> Taken
     requires { ⌜ (i < 6) × (from < length (now bytes)) ⌝ }
-    ensures { λ r. ⌜ Appended from (now (bytes .entry)) (now (bytes .exit)) r × Decides (turnOf (now (left .exit))) r ⌝ }
+    ensures { λ r. ⌜ Decides (turnOf (now (left .exit))) r × Appended from (now (bytes .entry)) (now (bytes .exit)) r ⌝ }
 {
     let mut name = [0u8; NAME];
     let n = put_name(i, &mut name);

@@ -26,7 +26,7 @@ pub enum Turn {
 // why.
 pub fn read_named(name: &[u8], bytes: &mut [u8], from: usize, left: &mut isize) -> Taken
     requires { ⌜ from < length (now bytes) ⌝ }
-    ensures { λ r. ⌜ Appended from (now (bytes .entry)) (now (bytes .exit)) r × Decides (turnOf (now (left .exit))) r ⌝ }
+    ensures { λ r. ⌜ Decides (turnOf (now (left .exit))) r × Appended from (now (bytes .entry)) (now (bytes .exit)) r ⌝ }
 {
     let fd = os::open_read(name);
     let opened = opening(fd, os::errno());
@@ -48,7 +48,7 @@ pub fn read_named(name: &[u8], bytes: &mut [u8], from: usize, left: &mut isize) 
 // The same of an open file, which is closed then.
 fn read_open(fd: i32, name: &[u8], bytes: &mut [u8], from: usize, left: &mut isize) -> Taken
     requires { ⌜ from < length (now bytes) ⌝ }
-    ensures { λ r. ⌜ Appended from (now (bytes .entry)) (now (bytes .exit)) r × Decides (turnOf (now (left .exit))) r ⌝ }
+    ensures { λ r. ⌜ Decides (turnOf (now (left .exit))) r × Appended from (now (bytes .entry)) (now (bytes .exit)) r ⌝ }
 {
     let taken = read_to_end(fd, name, bytes, from, left);
     libc::close(fd);
@@ -59,7 +59,7 @@ fn read_open(fd: i32, name: &[u8], bytes: &mut [u8], from: usize, left: &mut isi
 // Shut out: a read that failed taken for the file's end; a full buffer taken for it.
 fn read_to_end(fd: i32, name: &[u8], bytes: &mut [u8], from: usize, left: &mut isize) -> Taken
     requires { ⌜ from < length (now bytes) ⌝ }
-    ensures { λ r. ⌜ Appended from (now (bytes .entry)) (now (bytes .exit)) r × Decides (turnOf (now (left .exit))) r ⌝ }
+    ensures { λ r. ⌜ Decides (turnOf (now (left .exit))) r × Appended from (now (bytes .entry)) (now (bytes .exit)) r ⌝ }
 {
     let mut to = from;
     while to < bytes.len() {

@@ -15,6 +15,7 @@ use Rattle.gbfs.specs.Demand2.{First, Demand2}
 use Rattle.gbfs.proofs.First.{broken-parts, accepted, accepted-only, refused-first}
 use Rattle.gbfs.proofs.Only.{first-refused}
 use Rattle.gbfs.proofs.Says.{says}
+use Rattle.gbfs.proofs.Moments.{charge-due}
 use Rattle.gbfs.proofs.Prices.{price, price-given, no-credit, past-minutes, past-kilometres}
 use Rattle.gbfs.proofs.Zones.{rule, no-rule, ruled, unruled}
 
@@ -42,6 +43,7 @@ demand-2 =
       word = λ s p w. word-read form1 full1 p s w;
       isWord = is-word;
       noWord = λ s bytes none. no-word form1 full1 s bytes none;
+      charged = charge-due;
       price = price;
       priced = price-given;
       noCredit = no-credit;

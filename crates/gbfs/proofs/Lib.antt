@@ -10,6 +10,7 @@ pub mod Staging
 pub mod InWord
 pub mod ReadBack
 pub mod Says
+pub mod Moments
 pub mod Prices
 pub mod Zones
 pub mod Demand2

@@ -18,6 +18,7 @@ use Rattle.json.specs.Tree.{Json}
 use Rattle.json.specs.Text.{text, syntaxOf}
 use Rattle.json.specs.Cases.{reading}
 use Rattle.json.specs.Grammar.{IsText}
+use Rattle.json.proofs.Passed.{grammar-reads}
 use Rattle.json.proofs.Spellings.{sound-spells}
 use Rattle.schema.specs.Shape.{fileShape}
 use Rattle.schema.specs.Table23.{table23}
@@ -54,7 +55,7 @@ no-text zero x e = bad-done e
 no-text (suc d) x e = bad-done e
 
 text-some : (s : List ℕ) → IsText s → length s ≡ 0 → ⊥
-text-some [] t e = no-text (t .levels) (t .tree) (t .reads)
+text-some [] t e = let g = grammar-reads t in no-text (g .0) (g .1) (g .2)
 text-some (b ∷ s) t e = omega arith
 
 -- a file of another version that stage A passes

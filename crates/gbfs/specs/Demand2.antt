@@ -3,8 +3,8 @@
 use mathlib.Core.Bool.{true, false}
 use mathlib.Core.List.{List, [], _∷_, _++_, map, List·Memᴰ}
 use mathlib.Core.Path.{_≡_}
-use Prim.Native.Nat.{ℕ, _*_, _/_, _^_, _≤_, _<_}
-use lib.IntN.{pos, _+ℤ_}
+use Prim.Native.Nat.{ℕ, _+_, _*_, _/_, _^_, _≤_, _<_}
+use lib.IntN.{pos, _+ℤ_, _*ℤ_}
 use lib.ListN.{length, take}
 use lib.Signed.{leZ, mag}
 use Rattle.radix.specs.Fields.{Bytes}
@@ -14,10 +14,11 @@ use Rattle.word.specs.Word.{noParts, wordOf, IsWord, readWord}
 use Rattle.schema.specs.Shape.{fileShape}
 use Rattle.schema.specs.Table23.{table23}
 use Rattle.schema.specs.Pick.{Picked, pick}
-use Rattle.document.specs.Document.{Maybe, none, some, elements, elementsOf, field, fieldItems, along}
+use Rattle.document.specs.Document as document
+use Rattle.document.specs.Document.{Maybe, some, elements, elementsOf, field, fieldItems, along}
 use Rattle.decimal.specs.Exact.{tenThousandths}
 use Rattle.fare.specs.declared.Segment.{Segment}
-use Rattle.fare.specs.Charges.{charges, clamped, greatestEnd, past}
+use Rattle.fare.specs.Charges.{charge, charges, clamped, greatestEnd, past}
 use Rattle.geometry.specs.Ring.{Point}
 use Rattle.geometry.specs.Held.{holds}
 use Rattle.rings.specs.Rings.{position}
@@ -42,7 +43,28 @@ pub record Says (s : Feeds) (number : ℕ) (p : Parts) : Type 0 where
   pub written : (b : List ℕ) → 8 ≤ length b → take 8 (bufferOf s b) ≡ wordOf form1 p
   pub readBack : (b : List ℕ) → 8 ≤ length b → readWord (take 8 (bufferOf s b)) ≡ record { number = 0; parts = p }
 
--- The price: the plan of an id, of the bytes of file 5.
+-- The price: a segment charges a ride of this length at the moment t, which is its start or some intervals later, is no later than the ride's end, and comes
+-- before the segment's end where it has one.
+pub record Due (x : Segment) (ride t : ℕ) : Type 0 where
+  pub intervals : ℕ
+  pub at : t ≡ x .start + intervals * x .interval
+  pub within : t ≤ ride
+  pub unended : x .ended ≡ true → t < x .end
+
+-- each is less than all after it
+pub data Rising : List ℕ → Type 0 where
+  none : Rising []
+  more : {t : ℕ} {l : List ℕ} → ((u : ℕ) → List·Memᴰ u l → t < u) → Rising l → Rising (t ∷ l)
+
+-- what a segment charges: its rate at every moment that is due, once at each
+pub record Charged (x : Segment) (ride : ℕ) : Type 0 where
+  pub moments : List ℕ
+  pub once : Rising moments
+  pub due : (t : ℕ) → List·Memᴰ t moments → Due x ride t
+  pub all : (t : ℕ) → Due x ride t → List·Memᴰ t moments
+  pub sum : charge x ride ≡ tenThousandths (x .rate) *ℤ pos (length moments)
+
+-- the plan of an id, of the bytes of file 5
 abbrev pub planIn : (s id : List ℕ) → Maybe Picked
 planIn s id = planOf (plans (pick (fileShape table23 5) (treeOf s))) id
 
@@ -74,7 +96,7 @@ unfoldable pub everyRule : List Picked → List ZoneRule
 everyRule [] = []
 everyRule (z ∷ zs) =
     elim (field 74 z) [
-      | none ↦ everyRule zs
+      | document.none ↦ everyRule zs
       | some p ↦ map (λ r. record { zone = z; properties = p; rule = r }) (fieldItems 77 p) ++ everyRule zs
     ]
 
@@ -120,8 +142,11 @@ pub record Demand2 : Type 0 where
   pub word : (s : List ℕ) (p : Parts) → IsWord form1 p s → readWord s ≡ record { number = 0; parts = p }
   pub isWord : (s : List ℕ) → Bytes s → readWord s .number ≡ 0 → IsWord form1 (readWord s .parts) s
   pub noWord : (s : List ℕ) → Bytes s → ((p : Parts) → IsWord form1 p s → ⊥) → readWord s ≡ record { number = 3; parts = noParts }
-  -- A ride within the limits, on a plan of a clean file, costs the plan's price and all charges of its segments, where signed 64 bits hold the amount;
-  -- and no other quote gives a price.
+  -- A segment charges its rate at start, start + interval and so on, up to the ride's length and before the segment's end.
+  -- Shut out: a charge at the end minute, or past it; one at the start missed.
+  pub charged : (x : Segment) (ride : ℕ) → Charged x ride
+  -- A ride within the limits, on a plan of a clean file, costs the plan's price and all charges of its segments, or nothing where that sum is negative, if
+  -- signed 64 bits hold the amount; and no other quote gives a price.
   -- Shut out: one amount for everything; a ride rounded up to the next minute; a quote that always refuses.
   pub price : (s id : List ℕ) (seconds metres : ℕ) (plan : Picked) → seconds ≤ mostSeconds → metres ≤ mostMetres → cleanOf 5 s ≡ Clean
       → planIn s id ≡ some plan → mag (fare plan seconds metres .amount) < 2 ^ 63 → quoteOf s id seconds metres ≡ fare plan seconds metres
@@ -132,7 +157,7 @@ pub record Demand2 : Type 0 where
   pub noCredit : (s id : List ℕ) (seconds metres : ℕ) → leZ (pos 0) (quoteOf s id seconds metres .amount) ≡ true
   -- At and past the greatest end of a plan's segments per minute, where all end, every ride costs what it costs at that end, and the mark says so;
   -- and likewise per kilometre.
-  -- Shut out: a charge at the end minute, or past it; a price past the ends without its mark.
+  -- Shut out: a price that goes on rising past the ends, or has no mark there.
   pub endedMinutes : (s id : List ℕ) (seconds metres : ℕ) (plan : Picked) → quoteOf s id seconds metres .number ≡ 0 → planIn s id ≡ some plan
       → PastEnds (perMinute plan) (seconds / 60)
       → (quoteOf s id seconds metres ≡ quoteOf s id (greatestEnd (perMinute plan) * 60) metres) × (quoteOf s id seconds metres .pastMinutes ≡ true)

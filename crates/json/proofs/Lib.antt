@@ -11,8 +11,13 @@ pub mod Values
 pub mod Texts
 pub mod Faults
 pub mod Verdict
-pub mod Prefix
-pub mod Least
+pub mod Leads
+pub mod Numerals
+pub mod Chars
+pub mod Found
 pub mod Characters
 pub mod Spelled
 pub mod Spellings
+pub mod Passed
+pub mod Prefix
+pub mod Least

@@ -15,6 +15,7 @@ use Rattle.json.specs.Text.{text, syntaxOf}
 use Rattle.json.specs.Grammar.{Begins, Longest}
 use Rattle.json.proofs.Goes.{text-goes-surrogates, text-goes-depth, ends-too, faults-too}
 use Rattle.json.proofs.Faults.{text-faults}
+use Rattle.json.proofs.Passed.{grammar-reads, reads-grammar}
 use Rattle.json.proofs.Verdict.{met}
 
 -- what stands before the rest, and that with one byte more
@@ -35,14 +36,14 @@ module _ (s r : List ℕ) (e : text paired depth s ≡ bad notJson r) where
 
   none-longer : (b : ℕ) (w : List ℕ) → r ≡ b ∷ w → Begins (take (length s - length (b ∷ w) + 1) s) → ⊥
   none-longer b w i g =
-      let t = g .whole in
-      let d = depth + t .levels in
+      let t = grammar-reads (g .whole) in
+      let d = depth + t .0 in
       let u = text-faults d s r (by-grammar d (omega arith)) in
       let v = g .rest in
       let more = before-more s (u .part) b w (u .splits ∙ ap (λ (m : List ℕ). u .part ++ m) i) in
       let same : take (length s - length (b ∷ w) + 1) s ++ v ≡ u .part ++ (b ∷ v) = ap (λ (m : List ℕ). m ++ v) more ∙ append-assoc (u .part) (b ∷ []) v in
-      let whole : text lone d (u .part ++ (b ∷ v)) ≡ done (t .tree) [] =
-      ends-too (text-goes-depth lone {d = t .levels} {e = d} (omega arith) _) (ap (text lone (t .levels)) (sym same) ∙ t .reads) in
+      let whole : text lone d (u .part ++ (b ∷ v)) ≡ done (t .1) [] =
+      ends-too (text-goes-depth lone {d = t .0} {e = d} (omega arith) _) (ap (text lone (t .0)) (sym same) ∙ t .2) in
       bad-done (sym (u .dead b w i v) ∙ whole)
 
   pub prefix : Longest s (length s - length r)
@@ -53,7 +54,7 @@ module _ (s r : List ℕ) (e : text paired depth s ≡ bad notJson r) where
         begins =
             record {
               rest = u .ending;
-              whole = record { levels = depth; tree = u .what; reads = ap (λ (m : List ℕ). text lone depth (m ++ u .ending)) (before s (u .part) r (u .splits)) ∙ u .alive };
+              whole = reads-grammar depth (u .what) _ (ap (λ (m : List ℕ). text lone depth (m ++ u .ending)) (before s (u .part) r (u .splits)) ∙ u .alive);
             };
         ends = ends r refl;
       }

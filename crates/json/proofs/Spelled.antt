@@ -9,7 +9,7 @@ use lib.Dec.{eqb}
 use borrow.Author.Tests.{eqb-true, eq-eqb}
 use Rattle.lexeme.specs.Read.{Read, made}
 use Rattle.lexeme.specs.Read.Read.{done}
-use Rattle.lexeme.specs.Character.{paired}
+use Rattle.lexeme.specs.Character.{Surrogates, paired}
 use Rattle.lexeme.specs.Strings as Strings
 use Rattle.lexeme.specs.Numbers as Numbers
 use Rattle.lexeme.specs.Tokens.{blank, blanks, Start, start}
@@ -31,23 +31,23 @@ use Rattle.json.proofs.Faults.{Closing, square, curly}
 use Rattle.json.proofs.Characters.{characters-read}
 
 -- blanks are passed over, and go on with no number
-skipped : {w : List ℕ} → Blanks w → (l : List ℕ) → blanks (w ++ l) ≡ blanks l
+pub skipped : {w : List ℕ} → Blanks w → (l : List ℕ) → blanks (w ++ l) ≡ blanks l
 skipped Blanks.none l = refl
 skipped (Blanks.some {b} {w} h k) l = blanks-pass b (w ++ l) h ∙ skipped k l
 
-before-stops : {w : List ℕ} → Blanks w → (l : List ℕ) → Stops l → Stops (w ++ l)
+pub before-stops : {w : List ℕ} → Blanks w → (l : List ℕ) → Stops l → Stops (w ++ l)
 before-stops Blanks.none l h = h
 before-stops (Blanks.some {b} e k) l h = blank-stops b e
 
 -- a text that begins as a value does: with no blank, and with no byte that begins none
-abbrev Begun : List ℕ → Type 0
+abbrev pub Begun : List ℕ → Type 0
 Begun [] = ⊥
 Begun (b ∷ r) = begun (start b) ≡ true
 
 no-other : (b : ℕ) → begun (start b) ≡ true → start b ≡ Start.other → ⊥
 no-other b h e = true-false h (ap begun e)
 
-begun-solid : (s q : List ℕ) → Begun s → blanks (s ++ q) ≡ s ++ q
+pub begun-solid : (s q : List ℕ) → Begun s → blanks (s ++ q) ≡ s ++ q
 begun-solid [] q h = absurd h
 begun-solid (b ∷ s) q h = by-test (blank b) (λ e. absurd (no-other b h (blank-other b e))) (λ e. blanks-stop b (s ++ q) e)
 
@@ -62,20 +62,20 @@ begun-open close element other (b ∷ s) q h =
     by-test (eqb b close) (λ e. absurd (no-other b h (ap start (eqb-true b close e) ∙ other))) (λ e. contents-some close element b (s ++ q) e)
 
 -- f reads x off s, before anything that does not go on with a number
-abbrev Reads : {A : Type 0} → (List ℕ → Read A) → A → List ℕ → Type 0
+abbrev pub Reads : {A : Type 0} → (List ℕ → Read A) → A → List ℕ → Type 0
 Reads f x s = (q : List ℕ) → Stops q → f (s ++ q) ≡ done x q
 
 -- f reads every spelling in S, and each begins as a value does
-record Accepts {A : Type 0} (f : List ℕ → Read A) (S : A → List ℕ → Type 0) : Type 0 where
-  eats : Eats f
-  begins : (x : A) (s : List ℕ) → S x s → Begun s
-  reads : (x : A) (s : List ℕ) → S x s → Reads f x s
+pub record Accepts {A : Type 0} (f : List ℕ → Read A) (S : A → List ℕ → Type 0) : Type 0 where
+  pub eats : Eats f
+  pub begins : (x : A) (s : List ℕ) → S x s → Begun s
+  pub reads : (x : A) (s : List ℕ) → S x s → Reads f x s
 
 -- two tokens with a sign between them, and blanks around that
-between-begun : (v w c u s : List ℕ) → Begun v → Begun (v ++ w ++ c ++ u ++ s)
+pub between-begun : (v w c u s : List ℕ) → Begun v → Begun (v ++ w ++ c ++ u ++ s)
 between-begun v w c u s h = simp append-assoc (begun-further v (w ++ (c ++ (u ++ s))) h)
 
-between-more : (v w c u s q : List ℕ) → (v ++ w ++ c ++ u ++ s) ++ q ≡ v ++ (w ++ (c ++ (u ++ (s ++ q))))
+pub between-more : (v w c u s q : List ℕ) → (v ++ w ++ c ++ u ++ s) ++ q ≡ v ++ (w ++ (c ++ (u ++ (s ++ q))))
 between-more v w c u s q = simp append-assoc
 
 comma-stops : numeric 0x2c ≡ false
@@ -86,7 +86,7 @@ comma-solid : blank 0x2c ≡ false
 unfolding reading
 comma-solid = refl
 
-colon-solid : blank 0x3a ≡ false
+pub colon-solid : blank 0x3a ≡ false
 unfolding reading
 colon-solid = refl
 
@@ -109,7 +109,7 @@ module _ {A : Type 0} {close : ℕ} (c : Closing close) {element : List ℕ → 
       ∙ ap more (skipped b (t ++ rest) ∙ begun-solid t rest (listed-begun ys)))
       ∙ made-reads (λ xs. x ∷ xs) (listed-read ys d q)
 
-  enclosed-read : {xs : List A} {s : List ℕ} → Enclosed S xs s → (q : List ℕ) → bracketed close element (s ++ (close ∷ q)) ≡ done xs q
+  pub enclosed-read : {xs : List A} {s : List ℕ} → Enclosed S xs s → (q : List ℕ) → bracketed close element (s ++ (close ∷ q)) ≡ done xs q
   unfolding bracketed
   enclosed-read (Enclosed.nothing w) q =
       ap (contents close element) (skipped w (close ∷ q) ∙ blanks-stop close q (c .solid)) ∙ contents-none close element close q (eq-eqb close close refl)
@@ -147,22 +147,23 @@ members {f} {S} k = record { eats = member-eats paired f (k .eats); begins = fir
         ∙ made-reads (λ t. (name, t)) (ap f (skipped b (v ++ q) ∙ begun-solid v q (k .begins x v z)) ∙ k .reads x v z q h)
 
 -- values without brackets, at any level
-plain-value : (d : ℕ) (l : List ℕ) {o : Read Json} → ((arrays objects : List ℕ → Read Json) → valueBy paired arrays objects l ≡ o) → value paired d l ≡ o
+pub plain-value : (ρ : Surrogates) (d : ℕ) (l : List ℕ) {o : Read Json} → ((arrays objects : List ℕ → Read Json) → valueBy ρ arrays objects l ≡ o)
+    → value ρ d l ≡ o
 unfolding value
-plain-value zero l h = h _ _
-plain-value (suc d) l h = h _ _
+plain-value ρ zero l h = h _ _
+plain-value ρ (suc d) l h = h _ _
 
-number-reads : (d : ℕ) (n : List ℕ) → Numbers.number n ≡ done n [] → Reads (value paired d) (Json.number n) n
+pub number-reads : (ρ : Surrogates) (d : ℕ) (n : List ℕ) → Numbers.number n ≡ done n [] → Reads (value ρ d) (Json.number n) n
 unfolding valueBy valueAt
-number-reads d [] e q h = absurd (omega (arith, number-eats [] [] [] e))
-number-reads d (b ∷ l) e q h =
+number-reads ρ d [] e q h = absurd (omega (arith, number-eats [] [] [] e))
+number-reads ρ d (b ∷ l) e q h =
     let t = number-takes (b ∷ l) [] (b ∷ l) e in
     let own : b ∷ l ≡ t .part = t .splits ∙ append-nil (t .part) in
     let s = number-starts b l _ _ e in
-    plain-value d (b ∷ (l ++ q)) (λ arrays objects. rw (s, valueBy, valueAt)
+    plain-value ρ d (b ∷ (l ++ q)) (λ arrays objects. rw (s, valueBy, valueAt)
     (made-reads Json.number (ap (λ (m : List ℕ). Numbers.number (m ++ q)) own ∙ t .frame q (stops h))))
 
-number-begun : (n : List ℕ) → Numbers.number n ≡ done n [] → Begun n
+pub number-begun : (n : List ℕ) → Numbers.number n ≡ done n [] → Begun n
 number-begun [] e = omega (arith, number-eats [] [] [] e)
 number-begun (b ∷ l) e = ap begun (number-starts b l _ _ e)
 
@@ -177,24 +178,26 @@ plain-begun (Plain.string k) = quoted-begun k
 string-reads : (d : ℕ) {y s : List ℕ} → Quoted y s → Reads (value paired d) (Json.string y) s
 unfolding valueBy valueAt start
 string-reads d (Quoted.quoted {s = s} k) q h =
-    plain-value d _ (λ arrays objects. made-reads Json.string (ap (Strings.string paired 0) (append-assoc s (0x22 ∷ []) q) ∙ characters-read k q))
+    plain-value paired d _ (λ arrays objects. made-reads Json.string (ap (Strings.string paired 0) (append-assoc s (0x22 ∷ []) q) ∙ characters-read k q))
 
 plain-reads : (d : ℕ) {x : Json} {s : List ℕ} → Plain x s → Reads (value paired d) x s
 unfolding reading
-plain-reads d Plain.null q h = plain-value d _ (λ arrays objects. refl)
-plain-reads d Plain.yes q h = plain-value d _ (λ arrays objects. refl)
-plain-reads d Plain.no q h = plain-value d _ (λ arrays objects. refl)
-plain-reads d (Plain.number {n} e) q h = number-reads d n e q h
+plain-reads d Plain.null q h = plain-value paired d _ (λ arrays objects. refl)
+plain-reads d Plain.yes q h = plain-value paired d _ (λ arrays objects. refl)
+plain-reads d Plain.no q h = plain-value paired d _ (λ arrays objects. refl)
+plain-reads d (Plain.number {n} e) q h = number-reads paired d n e q h
 plain-reads d (Plain.string k) q h = string-reads d k q h
 
 -- a bracket that opens
-array-opens : (d : ℕ) (l : List ℕ) → value paired (suc d) (0x5b ∷ l) ≡ made (λ xs. Json.array (itemsOf xs)) (bracketed 0x5d (value paired d) l)
+pub array-opens : (ρ : Surrogates) (d : ℕ) (l : List ℕ)
+    → value ρ (suc d) (0x5b ∷ l) ≡ made (λ xs. Json.array (itemsOf xs)) (bracketed 0x5d (value ρ d) l)
 unfolding value valueBy valueAt start
-array-opens d l = refl
+array-opens ρ d l = refl
 
-object-opens : (d : ℕ) (l : List ℕ) → value paired (suc d) (0x7b ∷ l) ≡ made (λ ms. Json.object (membersOf ms)) (bracketed 0x7d (member paired (value paired d)) l)
+pub object-opens : (ρ : Surrogates) (d : ℕ) (l : List ℕ)
+    → value ρ (suc d) (0x7b ∷ l) ≡ made (λ ms. Json.object (membersOf ms)) (bracketed 0x7d (member ρ (value ρ d)) l)
 unfolding value valueBy valueAt start
-object-opens d l = refl
+object-opens ρ d l = refl
 
 -- all values, level by level
 nested-begun : {S : Json → List ℕ → Type 0} {x : Json} {s : List ℕ} → Nested S x s → Begun s
@@ -206,9 +209,9 @@ nested-begun (Nested.object ms) = refl
 nested-reads : (d : ℕ) {S : Json → List ℕ → Type 0} {x : Json} {s : List ℕ} → Accepts (value paired d) S → Nested S x s → Reads (value paired (suc d)) x s
 nested-reads d k (Nested.plain y) q h = plain-reads (suc d) y q h
 nested-reads d k (Nested.array {s = s} ys) q h =
-    ap (λ (l : List ℕ). value paired (suc d) (0x5b ∷ l)) (append-assoc s (0x5d ∷ []) q) ∙ array-opens d _ ∙ made-reads _ (enclosed-read square k ys q)
+    ap (λ (l : List ℕ). value paired (suc d) (0x5b ∷ l)) (append-assoc s (0x5d ∷ []) q) ∙ array-opens paired d _ ∙ made-reads _ (enclosed-read square k ys q)
 nested-reads d k (Nested.object {s = s} ms) q h =
-    ap (λ (l : List ℕ). value paired (suc d) (0x7b ∷ l)) (append-assoc s (0x7d ∷ []) q) ∙ object-opens d _ ∙ made-reads _ (enclosed-read curly (members k) ms q)
+    ap (λ (l : List ℕ). value paired (suc d) (0x7b ∷ l)) (append-assoc s (0x7d ∷ []) q) ∙ object-opens paired d _ ∙ made-reads _ (enclosed-read curly (members k) ms q)
 
 values : (d : ℕ) → Accepts (value paired d) (Value d)
 values zero = record { eats = value-eats paired zero; begins = λ x s. plain-begun; reads = λ x s. plain-reads zero }

@@ -13,7 +13,7 @@ use Rattle.word.specs.Kinds.{tooLong}
 use Rattle.notation.specs.Ascii.{bytes}
 use Rattle.lexeme.specs.Read.{Read, placed}
 use Rattle.lexeme.specs.Read.Read.{done, bad}
-use Rattle.lexeme.specs.Character.{paired}
+use Rattle.lexeme.specs.Character.{Surrogates, paired}
 use Rattle.lexeme.specs.Strings as Strings
 use Rattle.lexeme.specs.Numbers as Numbers
 use Rattle.lexeme.specs.Tokens.{blank, blanks, literal, Start, start}
@@ -36,12 +36,12 @@ use Rattle.json.proofs.Characters.{string-characters}
 use Rattle.json.proofs.Spelled.{spelled-read}
 
 -- a spelling at the front of l, and r after it
-record Front (S : List ℕ → Type 0) (l r : List ℕ) : Type 0 where
-  part : List ℕ
-  splits : l ≡ part ++ r
-  spells : S part
+pub record Front (S : List ℕ → Type 0) (l r : List ℕ) : Type 0 where
+  pub part : List ℕ
+  pub splits : l ≡ part ++ r
+  pub spells : S part
 
-blanks-front : (l : List ℕ) → Front Blanks l (blanks l)
+pub blanks-front : (l : List ℕ) → Front Blanks l (blanks l)
 unfolding blanks
 blanks-front [] = record { part = []; splits = refl; spells = Blanks.none }
 blanks-front (b ∷ l) =
@@ -56,7 +56,7 @@ blanks-front (b ∷ l) =
     (λ h. record { part = []; splits = sym (blanks-stop b l h); spells = Blanks.none })
 
 -- the same of texts that are equal
-front-of : {S : List ℕ → Type 0} {l m r q : List ℕ} → l ≡ m → r ≡ q → Front S m r → Front S l q
+pub front-of : {S : List ℕ → Type 0} {l m r q : List ℕ} → l ≡ m → r ≡ q → Front S m r → Front S l q
 front-of e f k = record { part = k .part; splits = e ∙ k .splits ∙ ap (λ (z : List ℕ). k .part ++ z) f; spells = k .spells }
 
 -- blanks, and a byte after them
@@ -64,11 +64,11 @@ sign-front : (l : List ℕ) {b c : ℕ} {r : List ℕ} → blanks l ≡ b ∷ r 
 sign-front l {b} {c} {r} e h = front-of refl (e ∙ ap (λ (z : ℕ). z ∷ r) (eqb-true b c h)) (blanks-front l)
 
 -- two tokens with a sign between them and blanks around that, one after another
-joined : {l m p n : List ℕ} (v w c u s q : List ℕ) → l ≡ v ++ m → m ≡ w ++ (c ++ p) → p ≡ u ++ n → n ≡ s ++ q → l ≡ (v ++ w ++ c ++ u ++ s) ++ q
+pub joined : {l m p n : List ℕ} (v w c u s q : List ℕ) → l ≡ v ++ m → m ≡ w ++ (c ++ p) → p ≡ u ++ n → n ≡ s ++ q → l ≡ (v ++ w ++ c ++ u ++ s) ++ q
 joined v w c u s q e f g h = e ∙ ap (λ (z : List ℕ). v ++ z) (f ∙ ap (λ (z : List ℕ). w ++ (c ++ z)) (g ∙ ap (λ (z : List ℕ). u ++ z) h)) ∙ simp append-assoc
 
 -- what f reads has a spelling in S at the front
-abbrev Finds : {A : Type 0} → (List ℕ → Read A) → (A → List ℕ → Type 0) → Type 0
+abbrev pub Finds : {A : Type 0} → (List ℕ → Read A) → (A → List ℕ → Type 0) → Type 0
 Finds {A} f S = (l r : List ℕ) (x : A) → f l ≡ done x r → Front (S x) l r
 
 -- elements up to their closing bracket
@@ -123,7 +123,7 @@ module _ {A : Type 0} (close : ℕ) {element : List ℕ → Read A} {S : A → L
         Enclosed.elements (Padded.padded k (c .spells) (c .empty)),
       ))
 
-  bracketed-finds : (l r : List ℕ) (xs : List A) → bracketed close element l ≡ done xs r → (s : List ℕ) × (l ≡ s ++ (close ∷ r)) × Enclosed S xs s
+  pub bracketed-finds : (l r : List ℕ) (xs : List A) → bracketed close element l ≡ done xs r → (s : List ℕ) × (l ≡ s ++ (close ∷ r)) × Enclosed S xs s
   unfolding bracketed
   bracketed-finds l r xs e =
       let k = blanks-front l in
@@ -140,7 +140,7 @@ quoted-front l y r e =
       spells = Quoted.quoted (c .2);
     }
 
-expect-done : {A : Type 0} (c : ℕ) (f : List ℕ → Read A) (l r : List ℕ) (x : A) → expect c f l ≡ done x r → (m : List ℕ) × (l ≡ c ∷ m) × (f m ≡ done x r)
+pub expect-done : {A : Type 0} (c : ℕ) (f : List ℕ → Read A) (l r : List ℕ) (x : A) → expect c f l ≡ done x r → (m : List ℕ) × (l ≡ c ∷ m) × (f m ≡ done x r)
 expect-done c f [] r x e = bad-done (sym (expect-end c f) ∙ e)
 expect-done c f (b ∷ l) r x e =
     by-test (eqb b c) (λ h. (l, ap (λ (z : ℕ). z ∷ l) (eqb-true b c h), sym (expect-here c f b l h) ∙ e)) (λ h. bad-done (sym (expect-other c f b l h) ∙ e))
@@ -166,49 +166,53 @@ member-finds {f} {S} finds l r m e =
     (finds (blanks (c .0)) r (t .0) (t .1)))
 
 -- numbers and words
-number-front : (l n r : List ℕ) → Numbers.number l ≡ done n r → Front (Plain (Json.number n)) l r
-number-front l n r e =
+pub number-alone : (l n r : List ℕ) → Numbers.number l ≡ done n r → (l ≡ n ++ r) × (Numbers.number n ≡ done n [])
+number-alone l n r e =
     let t = number-takes l r n e in
     let s = number-spells l r n e in
     let own : t .part ≡ n = append-cancel-right (t .part) n r (sym (t .splits) ∙ s) in
-    record { part = n; splits = s; spells = Plain.number (ap Numbers.number (sym own ∙ sym (append-nil (t .part))) ∙ t .frame [] (stops tt)) }
+    (s, ap Numbers.number (sym own ∙ sym (append-nil (t .part))) ∙ t .frame [] (stops tt))
 
-word-front : (w : List ℕ) (x : Json) (l r : List ℕ) (y : Json) → Plain x w → literal w x l ≡ done y r → Front (Plain y) l r
-word-front w x l r y k e =
-    let p = literal-spells w x l r y e in
-    record { part = w; splits = p .0; spells = subst (λ z. Plain z w) (p .1) k }
-
--- values by their first byte, where arrays and objects are found in S
-module _ (arrays objects : List ℕ → Read Json) (S : Json → List ℕ → Type 0) (plain : (x : Json) (s : List ℕ) → Plain x s → S x s)
+-- Values by their first byte, where what S spells is told case by case: strings, numbers, the three words, and arrays and objects from their bracket on.
+module _ (ρ : Surrogates) (arrays objects : List ℕ → Read Json) (S : Json → List ℕ → Type 0)
+    (string : (l y r : List ℕ) → Strings.string ρ 0 l ≡ done y r → Front (S (Json.string y)) (0x22 ∷ l) r)
+    (number : (n : List ℕ) → Numbers.number n ≡ done n [] → S (Json.number n) n)
+    (yes : S (Json.boolean true) (bytes "true")) (no : S (Json.boolean false) (bytes "false")) (null : S Json.null (bytes "null"))
     (array : (l r : List ℕ) (x : Json) → arrays (0x5b ∷ l) ≡ done x r → Front (S x) (0x5b ∷ l) r)
     (object : (l r : List ℕ) (x : Json) → objects (0x7b ∷ l) ≡ done x r → Front (S x) (0x7b ∷ l) r) where
-  as-plain : {x : Json} {l r : List ℕ} → Front (Plain x) l r → Front (S x) l r
-  as-plain {x} k = record { part = k .part; splits = k .splits; spells = plain x (k .part) (k .spells) }
+  word-front : (w : List ℕ) (x : Json) (l r : List ℕ) (y : Json) → S x w → literal w x l ≡ done y r → Front (S y) l r
+  word-front w x l r y k e =
+      let p = literal-spells w x l r y e in
+      record { part = w; splits = p .0; spells = subst (λ z. S z w) (p .1) k }
 
-  value-by-finds : Finds (valueBy paired arrays objects) S
+  pub value-by-finds : Finds (valueBy ρ arrays objects) S
   unfolding valueBy valueAt
   value-by-finds [] r x e = bad-done e
   value-by-finds (b ∷ l) r x e = go (start b) refl
     where
       go : (t : Start) → start b ≡ t → Front (S x) (b ∷ l) r
       go Start.string h =
-          let m = made-done Json.string (Strings.string paired 0 l) x r (rw (valueBy, valueAt, h) at e) in
-          let k = quoted-front l (m .0) r (m .1) in
-          subst (λ z. Front (S z) (b ∷ l) r) (m .2)
-          (rw (string-byte b h) (as-plain (record { part = k .part; splits = k .splits; spells = Plain.string (k .spells) })))
+          let m = made-done Json.string (Strings.string ρ 0 l) x r (rw (valueBy, valueAt, h) at e) in
+          subst (λ z. Front (S z) (b ∷ l) r) (m .2) (rw (string-byte b h) (string l (m .0) r (m .1)))
       go Start.number h =
           let m = made-done Json.number (Numbers.number (b ∷ l)) x r (rw (valueBy, valueAt, h) at e) in
-          subst (λ z. Front (S z) (b ∷ l) r) (m .2) (as-plain (number-front (b ∷ l) (m .0) r (m .1)))
+          let n = number-alone (b ∷ l) (m .0) r (m .1) in
+          subst (λ z. Front (S z) (b ∷ l) r) (m .2) (record { part = m .0; splits = n .0; spells = number (m .0) (n .1) })
       go Start.array h =
           let i : arrays (b ∷ l) ≡ done x r = rw (valueBy, valueAt, h) at e in
           rw (array-byte b h) (array l r x (rw (array-byte b h) at i))
       go Start.object h =
           let i : objects (b ∷ l) ≡ done x r = rw (valueBy, valueAt, h) at e in
           rw (object-byte b h) (object l r x (rw (object-byte b h) at i))
-      go Start.letterT h = as-plain (word-front (bytes "true") (Json.boolean true) (b ∷ l) r x Plain.yes (rw (valueBy, valueAt, h) at e))
-      go Start.letterF h = as-plain (word-front (bytes "false") (Json.boolean false) (b ∷ l) r x Plain.no (rw (valueBy, valueAt, h) at e))
-      go Start.letterN h = as-plain (word-front (bytes "null") Json.null (b ∷ l) r x Plain.null (rw (valueBy, valueAt, h) at e))
+      go Start.letterT h = word-front (bytes "true") (Json.boolean true) (b ∷ l) r x yes (rw (valueBy, valueAt, h) at e)
+      go Start.letterF h = word-front (bytes "false") (Json.boolean false) (b ∷ l) r x no (rw (valueBy, valueAt, h) at e)
+      go Start.letterN h = word-front (bytes "null") Json.null (b ∷ l) r x null (rw (valueBy, valueAt, h) at e)
       go Start.other h = bad-done (rw (valueBy, valueAt, h) at e)
+
+-- a string as a value
+string-front : {S : Json → List ℕ → Type 0} → ((x : Json) (s : List ℕ) → Plain x s → S x s)
+    → (l y r : List ℕ) → Strings.string paired 0 l ≡ done y r → Front (S (Json.string y)) (0x22 ∷ l) r
+string-front plain l y r e = let k = quoted-front l y r e in record { part = k .part; splits = k .splits; spells = plain _ _ (Plain.string (k .spells)) }
 
 -- brackets around elements that are spelled
 array-front : {S : Json → List ℕ → Type 0} (l r : List ℕ) (xs : List Json) → (s : List ℕ) × (l ≡ s ++ (0x5d ∷ r)) × Enclosed S xs s
@@ -232,11 +236,14 @@ object-front l r ms c =
 -- all values, level by level
 value-finds : (d : ℕ) → Finds (value paired d) (Value d)
 unfolding value
-value-finds zero = value-by-finds _ _ Plain (λ x s k. k) (λ l r x e. bad-done e) (λ l r x e. bad-done e)
+value-finds zero =
+    value-by-finds paired _ _ Plain (string-front {S = Plain} (λ x s k. k)) (λ n. Plain.number) Plain.yes Plain.no Plain.null
+    (λ l r x e. bad-done e) (λ l r x e. bad-done e)
 value-finds (suc d) =
     let ih = value-finds d in
     let eats = value-eats paired d in
-    value-by-finds _ _ (Nested (Value d)) (λ x s k. Nested.plain k)
+    value-by-finds paired _ _ (Nested (Value d)) (string-front {S = Nested (Value d)} (λ x s k. Nested.plain k)) (λ n e. Nested.plain (Plain.number e))
+    (Nested.plain Plain.yes) (Nested.plain Plain.no) (Nested.plain Plain.null)
     (λ l r x e.
     let m = made-done (λ xs. Json.array (itemsOf xs)) (bracketed 0x5d (value paired d) l) x r e in
     subst (λ z. Front (Nested (Value d) z) (0x5b ∷ l) r) (m .2) (array-front l r (m .0) (bracketed-finds 0x5d eats ih l r (m .0) (m .1))))
@@ -248,12 +255,12 @@ value-finds (suc d) =
 pub value-spells : (d : ℕ) (x : Json) (l r : List ℕ) → value paired d l ≡ done x r → (s : List ℕ) × (l ≡ s ++ r) × Value d x s
 value-spells d x l r e = let k = value-finds d l r x e in (k .part, k .splits, k .spells)
 
-finish-done : (y : Json) (l : List ℕ) (x : Json) (r : List ℕ) → finish y l ≡ done x r → (l ≡ []) × (y ≡ x) × ([] ≡ r)
+pub finish-done : (y : Json) (l : List ℕ) (x : Json) (r : List ℕ) → finish y l ≡ done x r → (l ≡ []) × (y ≡ x) × ([] ≡ r)
 unfolding finish
 finish-done y [] x r e = (refl, done-what e, done-rest e)
 finish-done y (b ∷ l) x r e = bad-done e
 
-padded-front : {S : List ℕ → Type 0} {s l m n : List ℕ} → Front Blanks s l → Front S l m → Front Blanks m n → n ≡ [] → Padded S s
+pub padded-front : {S : List ℕ → Type 0} {s l m n : List ℕ} → Front Blanks s l → Front S l m → Front Blanks m n → n ≡ [] → Padded S s
 padded-front {S} {s} w v u e = subst (Padded S) (sym whole) (Padded.padded (w .spells) (v .spells) (u .spells))
   where
     whole : s ≡ w .part ++ v .part ++ u .part

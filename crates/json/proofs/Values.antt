@@ -16,7 +16,6 @@ use Rattle.lexeme.specs.Character.{paired, byte, within}
 use Rattle.lexeme.specs.Class.{startOf, Classed}
 use Rattle.lexeme.specs.Strings as Strings
 use Rattle.lexeme.specs.Numbers as Numbers
-use Rattle.lexeme.specs.Numbers.{digit}
 use Rattle.lexeme.specs.Tokens.{blanks, literal, Start, start}
 use Rattle.lexeme.proofs.Rests.{shows, next-drop}
 use Rattle.lexeme.proofs.Placed.{placed-made}
@@ -80,18 +79,10 @@ start-inside s at t e h = omega (arith, ap length (begins (drop at s) t e h), le
 pub began : (s : List ℕ) (at b c n : ℕ) → b ≡ byte (drop at s) 0 → Classed b c → c ≡ n → start (byte (drop at s) 0) ≡ startOf n
 began s at b c n e k h = ap start (sym e) ∙ sym (k .start) ∙ ap startOf h
 
--- a digit begins a number
-pub digit-starts : (b : ℕ) → digit b ≡ true → start b ≡ Start.number
-unfolding start digit within
-digit-starts b d = rw (start, away 0x22 refl, away 0x5b refl, away 0x7b refl, away 0x2d refl, d)
-  where
-    away : (c : ℕ) → digit c ≡ false → eqb b c ≡ false
-    away c n = ne-eqb b c (λ e. true-false d (ap digit e ∙ n))
-
-pub classless : (c : ℕ) → (c ≡ 2 → ⊥) → (c ≡ 3 → ⊥) → (c ≡ 4 → ⊥) → (c ≡ 5 → ⊥) → (c ≡ 6 → ⊥) → (c ≡ 7 → ⊥) → (c ≡ 8 → ⊥) → startOf c ≡ Start.other
+pub classless : (c : ℕ) → (c ≡ 2 → ⊥) → (c ≡ 4 → ⊥) → (c ≡ 6 → ⊥) → (c ≡ 8 → ⊥) → (c ≡ 10 → ⊥) → (c ≡ 12 → ⊥) → (c ≡ 14 → ⊥) → startOf c ≡ Start.other
 unfolding startOf
-classless c n2 n3 n4 n5 n6 n7 n8 =
-    rw (startOf, ne-eqb _ _ n2, ne-eqb _ _ n3, ne-eqb _ _ n4, ne-eqb _ _ n5, ne-eqb _ _ n6, ne-eqb _ _ n7, ne-eqb _ _ n8)
+classless c n2 n4 n6 n8 n10 n12 n14 =
+    rw (startOf, ne-eqb _ _ n2, ne-eqb _ _ n4, ne-eqb _ _ n6, ne-eqb _ _ n8, ne-eqb _ _ n10, ne-eqb _ _ n12, ne-eqb _ _ n14)
 
 -- a value by its first byte
 module _ (s : List ℕ) (at d : ℕ) where

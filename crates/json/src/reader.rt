@@ -10,8 +10,7 @@ ghost use Rattle.json.specs.Text.{expect, bracketed, member, value, text
 use super::element::Turn;
 use super::element::after_element;
 use lexeme::Scan;
-use lexeme::ascii::is_digit;
-use lexeme::blank::skip_blanks;
+use lexeme::blank::skip_blanks_by;
 use lexeme::class::Class;
 use lexeme::class::class_by;
 use lexeme::class::class_table;
@@ -67,12 +66,12 @@ fn read_array(table: &[u8; 256], s: &[u8], at: usize, levels: u8) -> Scan
     requires { ⌜ Classifies (now table) ⌝ }
     ensures { λ r. ⌜ r ≡ placed (now (s .entry)) (bracketed 0x5d (value paired levels) (drop at (now (s .entry)))) ⌝ }
 {
-    let mut i = skip_blanks(s, at);
+    let mut i = skip_blanks_by(table, s, at);
     if first(s, i) == b']' {
         return Scan::End(i + 1);
     }
     loop {
-        match after_element(s, value_by(table, s, i, levels), b']') {
+        match after_element(table, s, value_by(table, s, i, levels), b']') {
             Turn::Stop(whole) => {
                 return whole;
             }
@@ -88,12 +87,12 @@ fn read_object(table: &[u8; 256], s: &[u8], at: usize, levels: u8) -> Scan
     requires { ⌜ Classifies (now table) ⌝ }
     ensures { λ r. ⌜ r ≡ placed (now (s .entry)) (bracketed 0x7d (member paired (value paired levels)) (drop at (now (s .entry)))) ⌝ }
 {
-    let mut i = skip_blanks(s, at);
+    let mut i = skip_blanks_by(table, s, at);
     if first(s, i) == b'}' {
         return Scan::End(i + 1);
     }
     loop {
-        match after_element(s, read_member(table, s, i, levels), b'}') {
+        match after_element(table, s, read_member(table, s, i, levels), b'}') {
             Turn::Stop(whole) => {
                 return whole;
             }
@@ -114,16 +113,16 @@ fn read_member(table: &[u8; 256], s: &[u8], at: usize, levels: u8) -> Scan
             return Scan::Fault(kind, place);
         }
         Scan::End(next) => {
-            let i = skip_blanks(s, next);
+            let i = skip_blanks_by(table, s, next);
             if first(s, i) != b':' {
                 return Scan::Fault(Kind::NOT_JSON, i);
             }
-            let value = skip_blanks(s, i + 1);
-            let b = first(s, value);
-            if b == b'"' {
+            let value = skip_blanks_by(table, s, i + 1);
+            let class = class_by(table, first(s, value));
+            if class == Class::QUOTE {
                 return string_by(table, s, value);
             }
-            if is_digit(b) {
+            if class == Class::NUMBER {
                 return read_number(s, value);
             }
             return value_by(table, s, value, levels);
@@ -158,12 +157,13 @@ pub fn read_value(s: &[u8], at: usize, levels: u8) -> Scan
 pub fn read_text(s: &[u8], levels: u8) -> Scan
     ensures { λ r. ⌜ r ≡ placed (now (s .entry)) (text paired levels (now (s .entry))) ⌝ }
 {
-    match read_value(s, skip_blanks(s, 0), levels) {
+    let table = class_table();
+    match value_by(&table, s, skip_blanks_by(&table, s, 0), levels) {
         Scan::Fault(kind, place) => {
             return Scan::Fault(kind, place);
         }
         Scan::End(next) => {
-            let end = skip_blanks(s, next);
+            let end = skip_blanks_by(&table, s, next);
             if end < s.len() {
                 return Scan::Fault(Kind::NOT_JSON, end);
             }

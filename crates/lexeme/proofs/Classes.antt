@@ -2,31 +2,32 @@
 -- from which the value is read back.
 use mathlib.Core.Bool.{Bool, true, false}
 use mathlib.Core.List.{List}
-use mathlib.Core.Path.{_≡_, refl}
+use mathlib.Core.Path.{_≡_, refl, sym}
 use Prim.Native.Nat.{ℕ, _<_}
 use lib.Dec.{eqb}
 use lib.ListN.{getD}
 use Rattle.lexeme.specs.Character.{Lead, lead, within}
 use Rattle.lexeme.specs.Character.Lead.{plain, quote, backslash, wrong, two, threeE0, three, threeED, fourF0, four, fourF4}
 use Rattle.notation.specs.Choice.{_⇒_else_}
-use Rattle.lexeme.specs.Class.{leadOf, startOf, blankOf, Classed, Classifies}
+use Rattle.lexeme.specs.Class.{leadOf, startOf, blankOf, Tail, from80, from90, fromA0, leastOf, mostOf, Classed, Classifies}
 use Rattle.lexeme.specs.Numbers.{digit, either}
 use Rattle.lexeme.specs.Tokens.{Start, start, blank}
 use Rattle.lexeme.specs.Tokens.Start.{string, number, array, object, letterT, letterF, letterN, other}
-use Rattle.lexeme.proofs.Table.{table, reads}
+use Rattle.lexeme.proofs.Table.{table, every, at, reads}
+use Rattle.lexeme.proofs.Steps.{true-false}
 
 abbrev leadCode : Lead → ℕ
 leadCode plain = 0
-leadCode quote = 8
-leadCode backslash = 9
-leadCode wrong = 11
-leadCode two = 12
-leadCode threeE0 = 13
-leadCode three = 14
-leadCode threeED = 15
-leadCode fourF0 = 16
-leadCode four = 17
-leadCode fourF4 = 18
+leadCode quote = 14
+leadCode backslash = 16
+leadCode wrong = 18
+leadCode two = 20
+leadCode threeE0 = 22
+leadCode three = 24
+leadCode threeED = 26
+leadCode fourF0 = 28
+leadCode four = 30
+leadCode fourF4 = 32
 
 lead-back : (x : Lead) → leadOf (leadCode x) ≡ x
 unfolding leadOf
@@ -45,12 +46,12 @@ lead-back fourF4 = refl
 abbrev startCode : Start → ℕ
 startCode other = 0
 startCode number = 2
-startCode array = 3
-startCode object = 4
-startCode letterT = 5
-startCode letterF = 6
-startCode letterN = 7
-startCode string = 8
+startCode array = 4
+startCode object = 6
+startCode letterT = 8
+startCode letterF = 10
+startCode letterN = 12
+startCode string = 14
 
 start-back : (x : Start) → startOf (startCode x) ≡ x
 unfolding startOf
@@ -63,31 +64,63 @@ start-back letterF = refl
 start-back letterN = refl
 start-back string = refl
 
-abbrev blankCode : Bool → ℕ
-blankCode true = 1
-blankCode false = 0
+-- a test's outcome is its own value
+abbrev bit : Bool → ℕ
+bit true = 1
+bit false = 0
 
-blank-back : (x : Bool) → blankOf (blankCode x) ≡ x
-unfolding blankOf either
+blank-back : (x : Bool) → blankOf (bit x) ≡ x
+unfolding blankOf
 blank-back true = refl
 blank-back false = refl
 
--- the class of the byte b, by its views: a value's first byte, a blank, or any other
+-- the class of the byte b, by its views: a value's first byte, a blank, a byte after a character's first, or any other
 abbrev classNumber : ℕ → ℕ
 classNumber b =
     elim (start b) [
-      | other ↦ elim (blank b) [ true ↦ (eqb b 0x20 ⇒ 1 else 10) | false ↦ leadCode (lead b) ]
-      | string ↦ 8
+      | other ↦
+          elim (blank b) [
+            | true ↦ (eqb b 0x20 ⇒ 1 else 15)
+            | false ↦
+                within 0x80 0x8f b ⇒ 34 else
+                within 0x90 0x9f b ⇒ 36 else
+                within 0xa0 0xbf b ⇒ 38 else leadCode (lead b)
+          ]
+      | string ↦ 14
       | number ↦ 2
-      | array ↦ 3
-      | object ↦ 4
-      | letterT ↦ 5
-      | letterF ↦ 6
-      | letterN ↦ 7
+      | array ↦ 4
+      | object ↦ 6
+      | letterT ↦ 8
+      | letterF ↦ 10
+      | letterN ↦ 12
     ]
 
 abbrev classes : List ℕ
 classes = table classNumber 256
+
+-- two tests of every entry, by its class and by its byte, that agree throughout
+same-test : (x y : Bool) → eqb (bit x) (bit y) ≡ true → x ≡ y
+same-test true true e = refl
+same-test true false e = true-false refl (sym e)
+same-test false true e = true-false refl (sym e)
+same-test false false e = refl
+
+told : (lo hi least most b : ℕ) → b < 256
+    → every (λ k x. eqb (bit (within lo hi x)) (bit (within least most k))) classes ≡ true → within lo hi (getD classes b 0) ≡ within least most b
+told lo hi least most b h t = same-test _ _ (at (λ k x. eqb (bit (within lo hi x)) (bit (within least most k))) classes t b h)
+
+-- a run of tail classes is the run of their bytes
+tailed : (b : ℕ) → b < 256 → (lo hi : ℕ) → Tail lo → Tail hi → within lo hi (getD classes b 0) ≡ within (leastOf lo) (mostOf hi) b
+unfolding lead start blank digit within either leastOf mostOf
+tailed b h _ _ from80 from80 = told 34 34 0x80 0x8f b h refl
+tailed b h _ _ from80 from90 = told 34 36 0x80 0x9f b h refl
+tailed b h _ _ from80 fromA0 = told 34 38 0x80 0xbf b h refl
+tailed b h _ _ from90 from80 = told 36 34 0x90 0x8f b h refl
+tailed b h _ _ from90 from90 = told 36 36 0x90 0x9f b h refl
+tailed b h _ _ from90 fromA0 = told 36 38 0x90 0xbf b h refl
+tailed b h _ _ fromA0 from80 = told 38 34 0xa0 0x8f b h refl
+tailed b h _ _ fromA0 from90 = told 38 36 0xa0 0x9f b h refl
+tailed b h _ _ fromA0 fromA0 = told 38 38 0xa0 0xbf b h refl
 
 pub classed : (b : ℕ) → b < 256 → Classed b (getD classes b 0)
 unfolding lead leadOf start startOf blank blankOf digit within either
@@ -95,7 +128,8 @@ classed b h =
     record {
       lead = reads leadOf leadCode lead-back lead classes refl b h;
       start = reads startOf startCode start-back start classes refl b h;
-      blank = reads blankOf blankCode blank-back blank classes refl b h;
+      blank = reads blankOf bit blank-back blank classes refl b h;
+      tail = λ lo hi t. tailed b h lo hi (t .from) (t .to);
     }
 
 pub classifies : Classifies classes

@@ -33,10 +33,10 @@ bare-made f (done x r) = refl
 bare-made f (bad k r) = refl
 
 -- a character passes the bytes that it takes
-character-passes : (b : ℕ) (q : List ℕ) (x : Char) → next lone (b ∷ q) ≡ Character x → bare (string lone 0 (b ∷ q)) ≡ bare (string lone (x .more) q)
+pub character-passes : (b : ℕ) (q : List ℕ) (x : Char) → next lone (b ∷ q) ≡ Character x → bare (string lone 0 (b ∷ q)) ≡ bare (string lone (x .more) q)
 character-passes b q x e = ap bare (string-character lone b q e) ∙ bare-made (λ y. bytesOf x ++ y) (string lone (x .more) q)
 
-encoded-passes : (b : ℕ) (q : List ℕ) (v n : ℕ) → next lone (b ∷ q) ≡ encoded v n → bare (string lone 0 (b ∷ q)) ≡ bare (string lone n q)
+pub encoded-passes : (b : ℕ) (q : List ℕ) (v n : ℕ) → next lone (b ∷ q) ≡ encoded v n → bare (string lone 0 (b ∷ q)) ≡ bare (string lone n q)
 encoded-passes b q v n e =
     let c = encoded-char v n in
     character-passes b q (c .char) (e ∙ c .is) ∙ ap (λ k. bare (string lone k q)) (c .takes)
@@ -68,7 +68,7 @@ low-passes : (m : List ℕ) (w : ℕ) → trail m ≡ Low w → bare (string lon
 low-passes [] w e = unfold trail in no-low e
 low-passes (c ∷ m) w e = encoded-passes c m w 5 (low-next (c ∷ m) w e) ∙ ap bare (string-skip lone 5 m)
 
-high-passes : (b : ℕ) (q : List ℕ) (v : ℕ) → next lone (b ∷ q) ≡ high lone v (trail (drop 5 q)) → bare (string lone 0 (b ∷ q)) ≡ bare (string lone 5 q)
+pub high-passes : (b : ℕ) (q : List ℕ) (v : ℕ) → next lone (b ∷ q) ≡ high lone v (trail (drop 5 q)) → bare (string lone 0 (b ∷ q)) ≡ bare (string lone 5 q)
 unfolding high alone
 high-passes b q v e = go (trail (drop 5 q)) refl
   where

@@ -35,7 +35,7 @@ unfolding numeric either digit within
 blank-stops = each-blank (λ b. numeric b ≡ false) refl refl refl refl
 
 -- a number's first byte
-digit-starts : (b : ℕ) → digit b ≡ true → start b ≡ Start.number
+pub digit-starts : (b : ℕ) → digit b ≡ true → start b ≡ Start.number
 unfolding start digit within
 digit-starts b h =
     by-test (eqb b 0x22) (λ e. true-false h (ap digit (eqb-true b 0x22 e)))

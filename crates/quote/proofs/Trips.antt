@@ -16,7 +16,7 @@ use Rattle.fare.specs.declared.Segments.{Segments}
 use Rattle.fare.specs.declared.Sum.{Sum}
 use Rattle.fare.specs.Charges as charges
 use Rattle.fare.specs.Charges.{minutesOf, kilometresOf}
-use Rattle.fare.specs.Folds.{worth, ofPrice, withCharges, Fills, charged}
+use Rattle.fare.specs.Folds.{worth, ofPrice, withCharges, Fills, withAll}
 use Rattle.fare.specs.Bounds.{mostRide, Room, Modest, Chargeable}
 use Rattle.fare.proofs.Fold.{sum-kept}
 use Rattle.fare.proofs.Bound.{room-price, room-less, room-charges}
@@ -94,7 +94,7 @@ module _ {p : List ℕ} (c : ClearPlan p) where
         rw (minutes-are, kilometres-are, plan-price (c .whole))
         (ap charges.clamped (sum-kept (priceAt plan) (perMinute plan) (perKilometre plan) (minutesOf seconds) (kilometresOf metres)))
 
-    pub plan-quoted : let timed = charged (price p) (byMinute p) (minutesOf seconds .count) in let all = charged (timed .sum) (byKilometre p) (kilometresOf metres .count) in
+    pub plan-quoted : let timed = withAll (price p) (byMinute p) (minutesOf seconds .count) in let all = withAll (timed .sum) (byKilometre p) (kilometresOf metres .count) in
         fareOf (charges.total (charges.clamped (worth (all .sum)))) (timed .past) (all .past) ≡ planQuote seconds metres (some plan)
     unfolding pastMinutes pastKilometres
     plan-quoted =

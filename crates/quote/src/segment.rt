@@ -28,6 +28,7 @@ fn end_in(q: &[u8]) -> u64
 }
 
 // The segment that an object is.
+// Shut out: an end of a single digit taken for none; the start read for the interval.
 fn segment_in(p: &[u8]) -> Segment
     requires { ⌜ ClearSegment (now p) ⌝ }
     ensures { λ r. ⌜ r ≡ segmentBy (now (p .entry)) ⌝ }

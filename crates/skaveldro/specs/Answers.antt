@@ -1,8 +1,10 @@
--- What an exported function answers: the number of document 01's table of questions, and the numbers that its buffer holds. What an answer doesn't give is 0.
+-- What an exported function answers: the number of document 01's table of questions, and the numbers that its buffer then holds. Number 0 gives all of its question's
+-- values and number 5 the parts of a word, 0 standing for the values that it doesn't give; every other number is a refusal, gives none and so needs no room.
 use mathlib.Core.Bool.{Bool, true, false}
 use mathlib.Core.List.{List, [], _∷_, _++_}
 use Prim.Native.Nat.{ℕ, suc, _-_, _^_}
 use lib.IntN.{ℤ, pos, negsuc}
+use lib.Dec.{eqb}
 use Rattle.notation.specs.Choice.{_⇒_else_}
 use Rattle.word.specs.declared.Parts.{Parts}
 use Rattle.word.specs.Word as word
@@ -10,14 +12,20 @@ use Rattle.quote.specs.Quote as quote
 use Rattle.zone.specs.declared.Rule.{Rule}
 use Rattle.zone.specs.Answer as zone
 use Rattle.geometry.specs.Ring.{Point}
-use Rattle.clean.specs.declared.Shown.{Shown}
-use Rattle.clean.specs.declared.Shown.the-variants.{NoFile, NotClean, NoRecord, Record}
 use Rattle.clean.specs.Show as show
 use Rattle.skaveldro.specs.Encoding.{holds}
 
 pub record Answer : Type 0 where
   pub number : ℕ
   pub values : List ℕ
+
+-- whether an answer of that number gives values
+abbrev pub gives : ℕ → Bool
+gives n = eqb n 0 ⇒ true else eqb n 5
+
+-- the answer of a number, with its values where it gives any
+unfoldable pub answered : ℕ → List ℕ → Answer
+answered n values = record { number = n; values = gives n ⇒ values else [] }
 
 -- a word's parts
 abbrev pub partValues : Parts → List ℕ
@@ -38,7 +46,7 @@ abbrev pub wordValues : word.Answer → List ℕ
 wordValues a = partValues (a .parts)
 
 unfoldable pub wordAnswer : List ℕ → Answer
-wordAnswer s = let a = word.readWord s in record { number = a .number; values = wordValues a }
+wordAnswer s = let a = word.readWord s in answered (a .number) (wordValues a)
 
 -- quote: parts, amount, past minutes, past kilometres
 abbrev pub quoteValues : quote.Answer → List ℕ
@@ -46,7 +54,7 @@ quoteValues a = partValues (a .parts) ++ (signedBits (a .amount) ∷ bit (a .pas
 
 unfoldable pub quoteAnswer : (plans id : List ℕ) → (seconds metres : ℕ) → Answer
 quoteAnswer plans id seconds metres =
-    let a = quote.answer (quote.quoteOf plans id seconds metres) in record { number = a .number; values = quoteValues a }
+    let a = quote.quoteOf plans id seconds metres in answered (a .number) (quoteValues a)
 
 -- zone rule: parts, then ride and through, the speed and parking, each of these two after whether it is given
 abbrev pub ruleValues : Rule → List ℕ
@@ -57,22 +65,15 @@ zoneValues a = partValues (a .parts) ++ ruleValues (a .rule)
 
 unfoldable pub zoneAnswer : (zones : List ℕ) → Point → (type : List ℕ) → (moment : ℕ) → Answer
 zoneAnswer zones q type moment =
-    let a = zone.answer (zone.rulingOf zones q type moment) in record { number = a .number; values = zoneValues a }
+    let a = zone.rulingOf zones q type moment in answered (a .number) (zoneValues a)
 
 -- show record: parts, then where the record begins and where it ends
-abbrev pub placeValues : Shown → List ℕ
-placeValues NoFile = 0 ∷ 0 ∷ []
-placeValues (NotClean p) = 0 ∷ 0 ∷ []
-placeValues NoRecord = 0 ∷ 0 ∷ []
-placeValues (Record from upto) = from ∷ upto ∷ []
-
-abbrev pub shownValues : List ℕ → Shown → List ℕ
-shownValues s shown = partValues (show.answer s shown .parts) ++ placeValues shown
+abbrev pub shownValues : show.Answer → List ℕ
+shownValues a = partValues (a .parts) ++ (a .from ∷ a .upto ∷ [])
 
 unfoldable pub shownAnswer : (file n : ℕ) → (bytes : List ℕ) → Answer
-shownAnswer file n s =
-    let shown = show.shownOf file n s in record { number = show.answer s shown .number; values = shownValues s shown }
+shownAnswer file n s = let a = show.shownOf file n s in answered (a .number) (shownValues a)
 
--- the number that is answered: 2 where the buffer has no room for the values
+-- the number that is answered: 2 where there are values and the buffer has no room for them
 unfoldable pub told : (buffer : List ℕ) → Answer → ℕ
 told buffer a = holds buffer (a .values) ⇒ a .number else 2

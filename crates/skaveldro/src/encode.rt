@@ -1,10 +1,11 @@
 // Numbers into a buffer that the caller lends: eight bytes a number, the least significant first.
-ghost use mathlib.Core.List.{_++_};
+use word::Parts;
+ghost use mathlib.Core.List.{[], _∷_, _++_};
 ghost use mathlib.Core.Path.{_≡_};
 ghost use Prim.Native.Nat.{_*_, _≤_};
 ghost use lib.ListN.{length, drop};
 ghost use Rattle.skaveldro.specs.Encoding.{encoded, filled};
-ghost use Rattle.skaveldro.specs.Answers.{bit as bitOf, signedBits, told};
+ghost use Rattle.skaveldro.specs.Answers.{answered, bit as bitOf, partValues, signedBits, told};
 
 // A truth as a number.
 pub fn bit(b: bool) -> u64
@@ -23,6 +24,26 @@ pub fn signed_bits(v: i64) -> u64
     v as u64
 }
 
+// The values that begin with the parts of a word and are 0 from there on: what any question gives of a file that is not clean.
+pub fn parts_then_zeros(p: Parts) -> [u64; 12]
+    ensures { λ v. ⌜ v ≡ partValues p ++ (0 ∷ 0 ∷ 0 ∷ 0 ∷ 0 ∷ 0 ∷ []) ⌝ }
+{
+    [
+        p.file as u64,
+        p.kind as u64,
+        p.field as u64,
+        p.record as u64,
+        p.sub as u64,
+        p.offset as u64,
+        0,
+        0,
+        0,
+        0,
+        0,
+        0,
+    ]
+}
+
 // Puts numbers into the first bytes of a buffer that has room for them.
 fn put(values: &[u64], buffer: &mut [u8])
     requires { ⌜ 8 * length (now values) ≤ length (now buffer) ⌝ }
@@ -35,14 +56,30 @@ fn put(values: &[u64], buffer: &mut [u8])
     }
 }
 
-// Answers with a number and these values in the buffer, or with 2 where they have no room.
-pub fn give(number: u8, values: &[u64], buffer: &mut [u8]) -> u8
-    ensures { λ r. ⌜ r ≡ told (now (buffer .entry)) (record { number = number; values = now (values .entry) }) ⌝ }
-    ensures { λ _. ⌜ now (buffer .exit) ≡ filled (now (buffer .entry)) (now (values .entry)) ⌝ }
+// The values that an answer of this number gives: none on a refusal.
+// Shut out: a refusal that gives the zeros of its layout.
+fn given(number: u8, values: &[u64]) -> &[u64]
+    ensures { λ r. ⌜ now r ≡ answered number (now (values .entry)) .values ⌝ }
 {
-    if buffer.len() / 8 < values.len() {
+    if number == 0 {
+        return values;
+    }
+    if number == 5 {
+        return values;
+    }
+    &values[..0]
+}
+
+// Answers with a number, and with the values that it gives in the buffer, or with 2 where these have no room.
+// Shut out: 2 answered for a refusal, which needs no room; a byte past the values written.
+pub fn give(number: u8, values: &[u64], buffer: &mut [u8]) -> u8
+    ensures { λ r. ⌜ r ≡ told (now (buffer .entry)) (answered number (now (values .entry))) ⌝ }
+    ensures { λ _. ⌜ now (buffer .exit) ≡ filled (now (buffer .entry)) (answered number (now (values .entry)) .values) ⌝ }
+{
+    let written = given(number, values);
+    if buffer.len() / 8 < written.len() {
         return 2;
     }
-    put(values, buffer);
+    put(written, buffer);
     number
 }

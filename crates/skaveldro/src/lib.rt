@@ -1,9 +1,10 @@
 // The functions that other languages call: numbers and byte slices in, a number out, and the values in a buffer that the caller lends, eight bytes each, the least
-// significant first. A buffer that is too short for an answer's values is left alone and the number is 2; one that is longer keeps its other bytes.
+// significant first. A refusal gives no values: it needs no room, and the buffer stays as it was. A buffer that is too short for an answer's values is left alone and
+// the number is 2; one that is longer keeps its other bytes.
 use crate::encode::give;
 use word::Word;
 ghost use mathlib.Core.Path.{_≡_};
-ghost use Rattle.gbfs.specs.Verdict.{feeds, number, answerOf, bufferOf};
+ghost use Rattle.gbfs.specs.Verdict.{feeds, numberOf, bufferOf};
 ghost use Rattle.skaveldro.specs.Encoding.{filled};
 ghost use Rattle.skaveldro.specs.Answers.{wordAnswer, quoteAnswer, zoneAnswer, shownAnswer, told};
 
@@ -26,8 +27,12 @@ pub extern "C" fn skaveldro_verdict<'a>(
     zones: &'a [u8],
     buffer: &mut [u8],
 ) -> u8
-    ensures { λ r. ⌜ r ≡ number (answerOf (feeds (now (types .entry)) (now (stations .entry)) (now (statuses .entry)) (now (bikes .entry)) (now (plans .entry)) (now (zones .entry))) (now (buffer .entry))) ⌝ }
-    ensures { λ _. ⌜ now (buffer .exit) ≡ bufferOf (feeds (now (types .entry)) (now (stations .entry)) (now (statuses .entry)) (now (bikes .entry)) (now (plans .entry)) (now (zones .entry))) (now (buffer .entry)) ⌝ }
+    ensures { λ r. ⌜ r ≡ numberOf
+        (feeds (now (types .entry)) (now (stations .entry)) (now (statuses .entry)) (now (bikes .entry)) (now (plans .entry)) (now (zones .entry)))
+        (now (buffer .entry)) ⌝ }
+    ensures { λ _. ⌜ now (buffer .exit) ≡ bufferOf
+        (feeds (now (types .entry)) (now (stations .entry)) (now (statuses .entry)) (now (bikes .entry)) (now (plans .entry)) (now (zones .entry)))
+        (now (buffer .entry)) ⌝ }
 {
     let a = gbfs::verdict(types, stations, statuses, bikes, plans, zones, buffer);
     verdict::number(a)
@@ -41,7 +46,8 @@ pub extern "C" fn skaveldro_read_word(word: &[u8], answer: &mut [u8]) -> u8
     ensures { λ _. ⌜ now (answer .exit) ≡ filled (now (answer .entry)) (wordAnswer (now (word .entry)) .values) ⌝ }
 {
     let r = Word::read(word);
-    give(read_word::number(r), &read_word::values(r), answer)
+    let values = read_word::values(r);
+    give(read_word::number(r), &values[..6], answer)
 }
 
 // The question "quote", of the bytes of file 5. Nine values: the six parts of a word, the amount in two's complement, past minutes, past kilometres.
@@ -58,7 +64,8 @@ pub extern "C" fn skaveldro_quote(
     ensures { λ _. ⌜ now (answer .exit) ≡ filled (now (answer .entry)) (quoteAnswer (now (plans .entry)) (now (id .entry)) seconds metres .values) ⌝ }
 {
     let q = quote::quote_trip(plans, id, seconds, metres);
-    give(quote_trip::number(q), &quote_trip::values(q), answer)
+    let values = quote_trip::values(q);
+    give(quote_trip::number(q), &values[..9], answer)
 }
 
 // The question "zone rule", of the bytes of file 6. Twelve values: the six parts of a word, ride, through, whether a speed is given, the speed, whether parking is
@@ -82,10 +89,10 @@ pub extern "C" fn skaveldro_zone_rule(
 
 // The question "show record", of a file's number and bytes. Eight values: the six parts of a word, where the record begins, where it ends. The record is that part
 // of the caller's own bytes.
-// Shut out: the number of a record shown answered for a file that is not clean; a record's end told for its beginning.
+// Shut out: file 257 taken for file 1; a record's end told for its beginning.
 #[no_mangle]
 pub extern "C" fn skaveldro_show_record(
-    file: u8,
+    file: u64,
     record: u64,
     bytes: &[u8],
     answer: &mut [u8],
@@ -93,10 +100,7 @@ pub extern "C" fn skaveldro_show_record(
     ensures { λ r. ⌜ r ≡ told (now (answer .entry)) (shownAnswer file «record» (now (bytes .entry))) ⌝ }
     ensures { λ _. ⌜ now (answer .exit) ≡ filled (now (answer .entry)) (shownAnswer file «record» (now (bytes .entry)) .values) ⌝ }
 {
-    let shown = clean::show_record(file, record as usize, bytes);
-    give(
-        show_record::number(shown),
-        &show_record::values(shown),
-        answer,
-    )
+    let shown = clean::show_record(file, record, bytes);
+    let values = show_record::values(shown);
+    give(show_record::number(shown), &values[..8], answer)
 }

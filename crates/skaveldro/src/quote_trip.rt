@@ -1,8 +1,10 @@
 // The answer to "quote" in numbers.
 use crate::encode::bit;
+use crate::encode::parts_then_zeros;
 use crate::encode::signed_bits;
 use quote::Quote;
 ghost use mathlib.Core.Path.{_≡_};
+ghost use lib.ListN.{take};
 ghost use Rattle.quote.specs.Quote.{answer};
 ghost use Rattle.skaveldro.specs.Answers.{quoteValues};
 
@@ -19,32 +21,22 @@ pub fn number(q: Quote) -> u8
     }
 }
 
-// Its values: the parts of a fault, the amount and the two marks.
-pub fn values(q: Quote) -> [u64; 9]
-    ensures { λ v. ⌜ v ≡ quoteValues (answer q) ⌝ }
+// The values of its layout: the parts of a fault, the amount and the two marks, then zeros.
+pub fn values(q: Quote) -> [u64; 12]
+    ensures { λ v. ⌜ take 9 v ≡ quoteValues (answer q) ⌝ }
 {
     match q {
         Quote::TooLong => {
-            return [0; 9];
+            return [0; 12];
         }
         Quote::NotClean(p) => {
-            return [
-                p.file as u64,
-                p.kind as u64,
-                p.field as u64,
-                p.record as u64,
-                p.sub as u64,
-                p.offset as u64,
-                0,
-                0,
-                0,
-            ];
+            return parts_then_zeros(p);
         }
         Quote::NoPlan => {
-            return [0; 9];
+            return [0; 12];
         }
         Quote::Outside => {
-            return [0; 9];
+            return [0; 12];
         }
         Quote::Fare(amount, minutes, kilometres) => {
             return [
@@ -57,6 +49,9 @@ pub fn values(q: Quote) -> [u64; 9]
                 signed_bits(amount),
                 bit(minutes),
                 bit(kilometres),
+                0,
+                0,
+                0,
             ];
         }
     }

@@ -1,6 +1,8 @@
 // The answer to "read a word" in numbers.
+use crate::encode::parts_then_zeros;
 use word::Reading;
 ghost use mathlib.Core.Path.{_≡_};
+ghost use lib.ListN.{take};
 ghost use Rattle.word.specs.Word.{answer};
 ghost use Rattle.skaveldro.specs.Answers.{wordValues};
 
@@ -14,23 +16,16 @@ pub fn number(r: Reading) -> u8
     }
 }
 
-// Its values: the parts of the word.
-pub fn values(r: Reading) -> [u64; 6]
-    ensures { λ v. ⌜ v ≡ wordValues (answer r) ⌝ }
+// The values of its layout: the parts of the word, then zeros.
+pub fn values(r: Reading) -> [u64; 12]
+    ensures { λ v. ⌜ take 6 v ≡ wordValues (answer r) ⌝ }
 {
     match r {
         Reading::NoWord => {
-            return [0; 6];
+            return [0; 12];
         }
         Reading::Word(p) => {
-            return [
-                p.file as u64,
-                p.kind as u64,
-                p.field as u64,
-                p.record as u64,
-                p.sub as u64,
-                p.offset as u64,
-            ];
+            return parts_then_zeros(p);
         }
     }
 }

@@ -1,14 +1,14 @@
 // The answer to "show record" in numbers.
+use crate::encode::parts_then_zeros;
 use clean::Shown;
-ghost use mathlib.Core.List.{List};
 ghost use mathlib.Core.Path.{_≡_};
-ghost use Prim.Native.Nat.{ℕ};
+ghost use lib.ListN.{take};
 ghost use Rattle.clean.specs.Show.{answer};
 ghost use Rattle.skaveldro.specs.Answers.{shownValues};
 
-// The number of an answer, whatever the bytes.
+// The number of an answer.
 pub fn number(shown: Shown) -> u8
-    ensures { λ n. ⌜ ((s : List ℕ) → n ≡ answer s shown .number) ⌝ }
+    ensures { λ n. ⌜ n ≡ answer shown .number ⌝ }
 {
     match shown {
         Shown::NoFile => 10,
@@ -18,31 +18,22 @@ pub fn number(shown: Shown) -> u8
     }
 }
 
-// Its values: the parts of a fault, where the record begins and where it ends.
-pub fn values(shown: Shown) -> [u64; 8]
-    ensures { λ v. ⌜ ((s : List ℕ) → v ≡ shownValues s shown) ⌝ }
+// The values of its layout: the parts of a fault, where the record begins and where it ends, then zeros.
+pub fn values(shown: Shown) -> [u64; 12]
+    ensures { λ v. ⌜ take 8 v ≡ shownValues (answer shown) ⌝ }
 {
     match shown {
         Shown::NoFile => {
-            return [0; 8];
+            return [0; 12];
         }
         Shown::NotClean(p) => {
-            return [
-                p.file as u64,
-                p.kind as u64,
-                p.field as u64,
-                p.record as u64,
-                p.sub as u64,
-                p.offset as u64,
-                0,
-                0,
-            ];
+            return parts_then_zeros(p);
         }
         Shown::NoRecord => {
-            return [0; 8];
+            return [0; 12];
         }
         Shown::Record(from, upto) => {
-            return [0, 0, 0, 0, 0, 0, from as u64, upto as u64];
+            return [0, 0, 0, 0, 0, 0, from as u64, upto as u64, 0, 0, 0, 0];
         }
     }
 }

@@ -1,5 +1,6 @@
 // The answer to "zone rule" in numbers.
 use crate::encode::bit;
+use crate::encode::parts_then_zeros;
 use zone::Ruling;
 ghost use mathlib.Core.Path.{_≡_};
 ghost use Rattle.zone.specs.Answer.{answer};
@@ -17,7 +18,7 @@ pub fn number(r: Ruling) -> u8
     }
 }
 
-// Its values: the parts of a fault, and what the rule says.
+// The values of its layout: the parts of a fault, and what the rule says.
 pub fn values(r: Ruling) -> [u64; 12]
     ensures { λ v. ⌜ v ≡ zoneValues (answer r) ⌝ }
 {
@@ -26,20 +27,7 @@ pub fn values(r: Ruling) -> [u64; 12]
             return [0; 12];
         }
         Ruling::NotClean(p) => {
-            return [
-                p.file as u64,
-                p.kind as u64,
-                p.field as u64,
-                p.record as u64,
-                p.sub as u64,
-                p.offset as u64,
-                0,
-                0,
-                0,
-                0,
-                0,
-                0,
-            ];
+            return parts_then_zeros(p);
         }
         Ruling::NoRule => {
             return [0; 12];

@@ -61,7 +61,7 @@ module _ (ρ : Surrogates) where
     at-quote e = ends-at s (i + 1) _ (omega arith) [] (ap (string ρ 0) begins ∙ string-quote ρ _ _ (stands e))
 
     -- the closing quote, by its class
-    pub at-closing : (c : ℕ) → leadOf c ≡ lead (byte s i) → c ≡ 8 → scan.End (i + 1) ≡ end-from s i
+    pub at-closing : (c : ℕ) → leadOf c ≡ lead (byte s i) → c ≡ 14 → scan.End (i + 1) ≡ end-from s i
     unfolding next nextBy leadOf
     at-closing c e p =
         at-quote (ap (nextBy ρ (drop i s)) (ap lead (sym (first-byte s i)) ∙ sym e ∙ ap leadOf p))
@@ -92,11 +92,11 @@ module _ (ρ : Surrogates) where
         }
 
     -- an escape with no fault, by its length and its class
-    pub at-escape : (c n : ℕ) → leadOf c ≡ lead (byte s i) → n ≡ (eqb c 9 ⇒ taken (escape ρ (drop i s)) else 0) → 0 < n → AtEscape s i n
+    pub at-escape : (c n : ℕ) → leadOf c ≡ lead (byte s i) → n ≡ (eqb c 16 ⇒ taken (escape ρ (drop i s)) else 0) → 0 < n → AtEscape s i n
     unfolding next nextBy leadOf
     at-escape c n e f h =
-        by-test (eqb c 9)
-        (λ t. go _ (ap (nextBy ρ (drop i s)) (ap lead (sym (first-byte s i)) ∙ sym e ∙ ap leadOf (eqb-true c 9 t))) (rw t at f)) λ t. absurd (let g : n ≡ 0 = rw t at f in omega arith)
+        by-test (eqb c 16)
+        (λ t. go _ (ap (nextBy ρ (drop i s)) (ap lead (sym (first-byte s i)) ∙ sym e ∙ ap leadOf (eqb-true c 16 t))) (rw t at f)) λ t. absurd (let g : n ≡ 0 = rw t at f in omega arith)
       where
         go : (o : Next) → next ρ (drop i s) ≡ o → n ≡ taken o → AtEscape s i n
         go Quote t u = absurd (omega arith)
@@ -106,7 +106,7 @@ module _ (ρ : Surrogates) where
             let v : i + n ≡ i + 1 + x .more = omega arith in
             record { inside = omega (arith, a .inside); ends = ap (end-from s) v ∙ a .ends }
 
-    pub at-plain : (c : ℕ) → leadOf c ≡ lead (byte s i) → c < 8 → end-from s (i + 1) ≡ end-from s i
+    pub at-plain : (c : ℕ) → leadOf c ≡ lead (byte s i) → c < 14 → end-from s (i + 1) ≡ end-from s i
     unfolding next nextBy
     at-plain c e p =
         let t : lead (byte (drop i s) 0) ≡ Lead.plain = ap lead (sym (first-byte s i)) ∙ sym e ∙ class-plain c p in

@@ -33,7 +33,7 @@ pub fn plain_end(table: &[u8; 256], s: &[u8], at: usize) -> usize
 
 // How many bytes the escape at `at` takes, where the first has the class; 0 where it has a fault, or none stands there.
 fn escape_by(s: &[u8], at: usize, class: u8) -> usize
-    ensures { λ r. ⌜ r ≡ (eqb class 9 ⇒ taken (escape paired (drop at (now (s .entry)))) else 0) ⌝ }
+    ensures { λ r. ⌜ r ≡ (eqb class 16 ⇒ taken (escape paired (drop at (now (s .entry)))) else 0) ⌝ }
 {
     if class == Class::BACKSLASH {
         return escape_length(s, at);
@@ -63,7 +63,7 @@ pub fn read_string(table: &[u8; 256], s: &[u8], at: usize) -> Scan
             i += taken;
             continue;
         }
-        match next_by(s, i, class) {
+        match next_by(table, s, i, class) {
             Next::Quote => {
                 return Scan::End(i + 1);
             }

@@ -1,6 +1,6 @@
 //! Answers of both sides as numbers, the way the library writes them.
 
-/// An answer: its number, and the values that a buffer gets.
+/// An answer: its number, and the values that it writes into a buffer. A refusal has none.
 #[derive(Clone, Debug, PartialEq, Eq, Hash)]
 pub struct Answer {
     pub number: u8,
@@ -13,8 +13,14 @@ impl Answer {
         self.values.iter().flat_map(|value| value.to_le_bytes()).collect()
     }
 
-    fn new(number: u8, values: impl IntoIterator<Item = u64>) -> Answer {
-        Answer { number, values: values.into_iter().collect() }
+    /// An answer that gives values.
+    fn giving(number: u8, parts: [u64; 6], further: &[u64]) -> Answer {
+        Answer { number, values: [&parts, further].concat() }
+    }
+
+    /// An answer that gives none: no byte of a buffer changes, and none is needed.
+    fn refusal(number: u8) -> Answer {
+        Answer { number, values: Vec::new() }
     }
 }
 
@@ -25,48 +31,52 @@ macro_rules! answers_of {
             use super::Answer;
             use $side::{Parts, Quote, Ruling, Shown};
 
-            pub fn parts(parts: Parts) -> [u64; 6] {
+            fn parts(parts: Parts) -> [u64; 6] {
                 let Parts { file, kind, field, record, sub, offset } = parts;
                 [file.into(), kind.into(), field.into(), record.into(), sub.into(), offset.into()]
             }
 
+            /// The value of a verdict is the word, whose first byte is the least significant one of the number.
+            pub fn verdict(number: u8, word: [u8; 8]) -> Answer {
+                Answer { number, values: vec![u64::from_le_bytes(word)] }
+            }
+
             pub fn word(parts_read: Option<Parts>) -> Answer {
                 match parts_read {
-                    Some(read) => Answer::new(0, parts(read)),
-                    None => Answer::new(3, [0; 6]),
+                    Some(read) => Answer::giving(0, parts(read), &[]),
+                    None => Answer::refusal(3),
                 }
             }
 
             pub fn quote(quote: Quote) -> Answer {
-                let blamed = |found| parts(found).into_iter().chain([0; 3]);
                 match quote {
-                    Quote::TooLong => Answer::new(4, [0; 9]),
-                    Quote::NotClean(found) => Answer::new(5, blamed(found)),
-                    Quote::NoPlan => Answer::new(6, [0; 9]),
-                    Quote::Outside => Answer::new(7, [0; 9]),
-                    $fare => Answer::new(0, [0; 6].into_iter().chain($fare_values)),
+                    Quote::TooLong => Answer::refusal(4),
+                    Quote::NotClean(found) => Answer::giving(5, parts(found), &[0; 3]),
+                    Quote::NoPlan => Answer::refusal(6),
+                    Quote::Outside => Answer::refusal(7),
+                    $fare => Answer::giving(0, [0; 6], &$fare_values),
                 }
             }
 
             pub fn ruling(ruling: Ruling) -> Answer {
                 match ruling {
-                    Ruling::OffMap => Answer::new(8, [0; 12]),
-                    Ruling::NotClean(found) => Answer::new(5, parts(found).into_iter().chain([0; 6])),
-                    Ruling::NoRule => Answer::new(9, [0; 12]),
+                    Ruling::OffMap => Answer::refusal(8),
+                    Ruling::NotClean(found) => Answer::giving(5, parts(found), &[0; 6]),
+                    Ruling::NoRule => Answer::refusal(9),
                     Ruling::Is(rule) => {
                         let (ride, through) = (rule.ride.into(), rule.through.into());
-                        let speed = [rule.speed.is_some().into(), rule.speed.unwrap_or(0)];
-                        let parking = [rule.parking.is_some().into(), rule.parking.unwrap_or(false).into()];
-                        Answer::new(0, [0; 6].into_iter().chain([ride, through]).chain(speed).chain(parking))
+                        let (limited, speed) = (rule.speed.is_some().into(), rule.speed.unwrap_or(0));
+                        let (parks, parking) = (rule.parking.is_some().into(), rule.parking.unwrap_or(false).into());
+                        Answer::giving(0, [0; 6], &[ride, through, limited, speed, parks, parking])
                     }
                 }
             }
 
             pub fn shown(shown: Shown) -> Answer {
                 match shown {
-                    Shown::NotClean(found) => Answer::new(5, parts(found).into_iter().chain([0; 2])),
-                    $record => Answer::new(0, [0; 6].into_iter().chain($record_values)),
-                    _ => Answer::new(10, [0; 8]),
+                    Shown::NotClean(found) => Answer::giving(5, parts(found), &[0; 2]),
+                    $record => Answer::giving(0, [0; 6], &$record_values),
+                    _ => Answer::refusal(10),
                 }
             }
         }

@@ -1,11 +1,11 @@
 //! Both sides asked the same.
 
-use crate::answer::{of_library, of_reference, Answer};
+use crate::answer::Answer;
 use crate::case::{Case, Scale};
+use crate::question::{Question, Side};
 use crate::tally::Tally;
 use feeds::questions::{Questions, Ride, Where, Which};
 use feeds::{files, Rng, Set};
-use skaveldro::{raw, Point, Reading};
 
 /// A question on which the two differ.
 #[derive(Debug)]
@@ -32,21 +32,35 @@ pub fn ask(case: Case) -> Held<Tally> {
     let (set, other) = case.sets();
     let mut asked = Asked { case, rng: Rng::new(case.seed.rotate_left(32)), tally: Tally::of_one_set() };
     let mut questions = Questions::about(&set, case.seed);
-    let word = asked.verdict("verdict", &set)?;
-    asked.same("verdict of other bytes", word, asked.verdict_word(&other))?;
-    asked.word(&questions.word(word))?;
+    let verdict = asked.twice(Question::Verdict { files: files(&set) }, Question::Verdict { files: files(&other) })?;
+    let bytes = verdict.bytes().try_into().expect("a verdict's value is its word");
+    asked.held(Question::Word { bytes: &questions.word(bytes) })?;
     for _ in 0..questions_of(case.scale) {
         let ride = questions.ride();
-        let fare = asked.quote(&set[4], &ride)?;
-        asked.same("quote from other bytes", fare, quote(&other[4], &ride))?;
+        asked.twice(quote(&set, &ride), quote(&other, &ride))?;
         let place = questions.place();
-        let ruling = asked.zone(&set[5], &place)?;
-        asked.same("zone rule from other bytes", ruling, zone(&other[5], &place))?;
+        asked.twice(zone(&set, &place), zone(&other, &place))?;
         let which = questions.record();
-        asked.record(&set, which)?;
-        asked.record(&other, which)?;
+        let index = asked.file_for(which);
+        asked.held(show(&set, which, index))?;
+        asked.held(show(&other, which, index))?;
     }
     Ok(asked.tally)
+}
+
+fn quote<'a>(set: &'a Set, ride: &'a Ride) -> Question<'a> {
+    Question::Quote { plans: &set[4], id: &ride.plan, seconds: ride.seconds, metres: ride.metres }
+}
+
+fn zone<'a>(set: &'a Set, place: &'a Where) -> Question<'a> {
+    let Where { lon, lat, vehicle_type, moment } = place;
+    Question::Zone { zones: &set[5], lon: *lon, lat: *lat, type_id: vehicle_type, moment: *moment }
+}
+
+/// A record of that file, out of the bytes of the set's file at an index; no bytes where it has none.
+fn show(set: &Set, which: Which, index: usize) -> Question<'_> {
+    let bytes = set.get(index).map_or(&[][..], Vec::as_slice);
+    Question::Show { file: which.file, record: which.number, bytes }
 }
 
 struct Asked {
@@ -56,105 +70,54 @@ struct Asked {
 }
 
 impl Asked {
-    /// The verdict on a set in a buffer of some length; its word, whatever the buffer.
-    fn verdict(&mut self, question: &'static str, set: &Set) -> Held<[u8; 8]> {
-        let expected = reference::verdict(files(set));
-        let length = if self.rng.chance(80) { 8 } else { self.rng.below(20) };
-        let (mut library, mut reference) = (vec![0xAA; length], vec![0xAA; length]);
-        let number = raw::verdict(files(set), &mut library);
-        let other = reference::write_verdict(&mut reference, files(set));
-        self.same(question, (number, library), (other, reference))?;
-        match number {
-            1 => self.tally.count("verdict refuses, by kind", expected.parts().kind),
-            _ => self.tally.count(question, number),
+    /// Where the bytes of a file stand in a set, or now and then those of another file.
+    fn file_for(&mut self, which: Which) -> usize {
+        match self.rng.chance(95) {
+            true => (which.file as usize).wrapping_sub(1),
+            false => self.rng.below(6),
         }
-        Ok(expected.word())
     }
 
-    fn verdict_word(&self, set: &Set) -> [u8; 8] {
-        skaveldro::verdict(files(set)).word().0
+    /// Holds the library's answer to the reference's, and to its own answer for the same in other bytes.
+    fn twice(&mut self, question: Question, in_other_bytes: Question) -> Held<Answer> {
+        let answer = self.held(question)?;
+        self.same(format!("{question}, in other bytes"), Side::Library.answer(in_other_bytes), answer.clone())?;
+        Ok(answer)
     }
 
-    fn word(&mut self, bytes: &[u8]) -> Held<()> {
-        let parts = match skaveldro::read_word(bytes) {
-            Reading::NoWord => None,
-            Reading::Parts(parts) => Some(parts),
+    /// Holds the library's answer to the reference's, and now and then what it does to a buffer of any length as well.
+    fn held(&mut self, question: Question) -> Held<Answer> {
+        let library = Side::Library.answer(question);
+        self.same(question.to_string(), library.clone(), Side::Reference.answer(question))?;
+        match (question, library.number) {
+            (Question::Verdict { .. }, 1) => self.tally.count("verdict refuses, by kind", library.bytes()[1] >> 4),
+            (_, number) => self.tally.count(question.name(), number),
+        }
+        if self.rng.chance(15) {
+            self.told(question)?;
+        }
+        Ok(library)
+    }
+
+    fn told(&mut self, question: Question) -> Held<()> {
+        let is_short = self.rng.flip();
+        let length = if is_short { self.rng.below(question.room()) } else { question.room() + self.rng.below(12) };
+        let tell = |side: Side| {
+            let mut buffer = vec![0xAA; length];
+            (side.tell(question, &mut buffer), buffer)
         };
-        let library = of_library::word(parts);
-        self.held("word", format!("word {bytes:02x?}"), library, of_reference::word(reference::read_word(bytes)), |buffer| {
-            raw::read_word(bytes, buffer)
-        })
-    }
-
-    fn quote(&mut self, plans: &[u8], ride: &Ride) -> Held<Answer> {
-        let library = quote(plans, ride);
-        let reference = of_reference::quote(reference::quote(plans, &ride.plan, ride.seconds, ride.metres));
-        self.held("quote", format!("{ride:?}"), library.clone(), reference, |buffer| {
-            raw::quote(plans, &ride.plan, ride.seconds, ride.metres, buffer)
-        })?;
-        Ok(library)
-    }
-
-    fn zone(&mut self, zones: &[u8], place: &Where) -> Held<Answer> {
-        let library = zone(zones, place);
-        let Where { lon, lat, vehicle_type, moment } = place;
-        let reference = of_reference::ruling(reference::zone_rule(zones, *lon, *lat, vehicle_type, *moment));
-        self.held("zone", format!("{place:?}"), library.clone(), reference, |buffer| {
-            raw::zone_rule(zones, *lon, *lat, vehicle_type, *moment, buffer)
-        })?;
-        Ok(library)
-    }
-
-    /// A record of a file, or now and then of another file under its number.
-    fn record(&mut self, set: &Set, which: Which) -> Held<()> {
-        let file = which.file as u8;
-        let index = if self.rng.chance(95) { usize::from(file).wrapping_sub(1) } else { self.rng.below(6) };
-        let bytes = set.get(index).map_or(&[][..], Vec::as_slice);
-        let library = of_library::shown(skaveldro::show_record(file, which.number, bytes));
-        let reference = of_reference::shown(reference::show_record(file.into(), which.number, bytes));
-        self.held("show", format!("{which:?} of file {}", index.wrapping_add(1)), library, reference, |buffer| {
-            raw::show_record(file, which.number, bytes, buffer)
-        })
-    }
-
-    /// Holds the library's answer to the reference's, and now and then a buffer of any length to it as well.
-    fn held(
-        &mut self,
-        question: &'static str,
-        asked: String,
-        library: Answer,
-        reference: Answer,
-        write: impl FnOnce(&mut [u8]) -> u8,
-    ) -> Held<()> {
-        self.tally.count(question, library.number);
-        if self.rng.chance(10) {
-            let room = reference.bytes().len();
-            let mut buffer = vec![0xAA; if self.rng.flip() { self.rng.below(room) } else { room + self.rng.below(12) }];
-            let mut expected = buffer.clone();
-            let mut number = 2;
-            if let Some(start) = expected.get_mut(..room) {
-                start.copy_from_slice(&reference.bytes());
-                number = reference.number;
-            }
-            self.same(&format!("{asked}, into {} bytes", buffer.len()), (write(&mut buffer), buffer), (number, expected))?;
+        let library = tell(Side::Library);
+        if is_short {
+            self.tally.count("into a short buffer", library.0);
         }
-        self.same(&asked, library, reference)
+        self.same(format!("{question}, into {length} bytes"), library, tell(Side::Reference))
     }
 
-    fn same<T: PartialEq + std::fmt::Debug>(&self, question: &str, library: T, reference: T) -> Held<()> {
+    fn same<T: PartialEq + std::fmt::Debug>(&self, question: String, library: T, reference: T) -> Held<()> {
         if library == reference {
             return Ok(());
         }
         let (library, reference) = (format!("{library:?}"), format!("{reference:?}"));
-        Err(Difference { case: self.case, question: question.into(), library, reference })
+        Err(Difference { case: self.case, question, library, reference })
     }
-}
-
-fn quote(plans: &[u8], ride: &Ride) -> Answer {
-    of_library::quote(skaveldro::quote(plans, &ride.plan, ride.seconds, ride.metres))
-}
-
-fn zone(zones: &[u8], place: &Where) -> Answer {
-    let point = Point { lon: place.lon, lat: place.lat };
-    of_library::ruling(skaveldro::zone_rule(zones, point, &place.vehicle_type, place.moment))
 }

@@ -148,12 +148,12 @@ impl Questions {
     pub fn record(&mut self) -> Which {
         let rng = &mut self.rng;
         if rng.chance(5) {
-            return Which { file: rng.one_of(&[0, 7, u64::MAX]), number: 1 };
+            return Which { file: rng.one_of(&[0, 7, 256 + 1, (1 << 32) + 1, 1 << 63, u64::MAX]), number: 1 };
         }
         let file = rng.below(6);
         let count = self.records[file] as u64;
         let number = match rng.below(8) {
-            0 => rng.one_of(&[0, count, count + 1, u64::MAX]),
+            0 => rng.one_of(&[0, count, count + 1, (1 << 32) + 1, u64::MAX]),
             _ => 1 + rng.below(count as usize + 1) as u64,
         };
         Which { file: file as u64 + 1, number }

@@ -67,7 +67,7 @@ pub fn zone(path: &str, lat: &str, lon: &str, vehicle_type: &str, moment: &str) 
 pub fn show(path: &str, file: &str, record: &str) -> Result<Report, Failure> {
     let (file, record) = (file_number(file)?, whole("RECORD", record)?);
     let (bytes, note) = files::one(path, file)?;
-    let answer = show_record(file, record, &bytes);
+    let answer = show_record(file.into(), record, &bytes);
     let report = match answer {
         Shown::NoRecord => {
             tell::refused(answer.number(), format!("{} has no record {record}", FILE_NAMES[usize::from(file) - 1]))

@@ -1,7 +1,7 @@
 //! The library's functions as `include/skaveldro.h` declares them, where each is described.
 //!
-//! A slice is a pointer and a length: the pointer is not null and good for so many bytes, and the buffer that is written lies apart from
-//! what is read.
+//! A slice is a pointer and a length: the pointer is good for so many bytes, and the buffer that is written lies apart from what is read.
+//! The safe functions below lend slices of Rust, and a buffer of any length: a refusal, and 2, leave it as it is.
 
 extern "C" {
     pub fn skaveldro_verdict(
@@ -47,7 +47,7 @@ extern "C" {
     ) -> u8;
 
     pub fn skaveldro_show_record(
-        file: u8,
+        file: u64,
         record: u64,
         bytes: *const u8,
         bytes_length: usize,
@@ -113,7 +113,7 @@ pub fn zone_rule(zones: &[u8], lon: i64, lat: i64, type_id: &[u8], moment: u64, 
 }
 
 /// Where a record stands, as eight numbers: 2, 10, 5 or 0.
-pub fn show_record(file: u8, record: u64, bytes: &[u8], answer: &mut [u8]) -> u8 {
+pub fn show_record(file: u64, record: u64, bytes: &[u8], answer: &mut [u8]) -> u8 {
     // SAFETY: as above.
     unsafe { skaveldro_show_record(file, record, bytes.as_ptr(), bytes.len(), answer.as_mut_ptr(), answer.len()) }
 }

@@ -54,7 +54,7 @@ fn fares_f_to_i() {
         assert_eq!(fare("2", f, seconds), (amount, false), "{seconds} s");
     }
     let g = r#"{"start":10,"rate":-0.5,"interval":0}"#;
-    assert_eq!((fare("0", g, 599), fare("0", g, 600)), ((0, false), (-5000, false)));
+    assert_eq!((fare("0", g, 599), fare("0", g, 600)), ((0, false), (0, false)));
     let h = r#"{"start":0,"rate":0.25,"interval":15,"end":45}"#;
     for (seconds, answer) in [(0, (12500, false)), (2699, (17500, false)), (2700, (17500, true))] {
         assert_eq!(fare("1", h, seconds), answer, "{seconds} s");
@@ -114,25 +114,54 @@ fn a_record_is_shown() {
     assert!(bytes[from..upto].starts_with(br#"{"plan_id":"p""#) && bytes[from..upto].ends_with(b"}"));
 }
 
-/// An answer's buffer that is too short stays as it is, and so does the rest of a longer one.
+/// Buffers of every length, for every answer: one that gives values needs room for them and writes no other byte; a refusal needs none and
+/// writes nothing.
 #[test]
 fn buffers_of_every_length() {
-    type Ask<'a> = (&'a str, usize, &'a dyn Fn(&mut [u8]) -> u8);
-    let asks: [Ask; 5] = [
-        ("verdict", 8, &|buffer| raw::verdict([b""; 6], buffer)),
-        ("word", 48, &|buffer| raw::read_word(&[0x10, 0, 0, 0, 0, 0, 0, 0], buffer)),
-        ("quote", 72, &|buffer| raw::quote(b"[", b"", 0, 0, buffer)),
-        ("zone", 96, &|buffer| raw::zone_rule(b"[", 0, 0, b"", 0, buffer)),
-        ("show", 64, &|buffer| raw::show_record(1, 1, b"[", buffer)),
+    type Ask<'a> = (&'a str, u8, usize, &'a dyn Fn(&mut [u8]) -> u8);
+    let (plans, zones) = (&plans("0", ""), &zones(CLOCKWISE, RULE));
+    let asks: [Ask; 18] = [
+        ("verdict", 0, 8, &|buffer| raw::verdict([b"", b"", b"", &file(r#""bikes":[]"#), b"", b""], buffer)),
+        ("verdict", 1, 8, &|buffer| raw::verdict([b""; 6], buffer)),
+        ("word", 0, 48, &|buffer| raw::read_word(&[0x10, 0, 0, 0, 0, 0, 0, 0], buffer)),
+        ("word", 3, 0, &|buffer| raw::read_word(b"", buffer)),
+        ("quote", 0, 72, &|buffer| raw::quote(plans, b"p", 0, 0, buffer)),
+        ("quote", 4, 0, &|buffer| raw::quote(b"[", b"p", 2_678_401, 0, buffer)),
+        ("quote", 5, 72, &|buffer| raw::quote(b"[", b"", 0, 0, buffer)),
+        ("quote", 6, 0, &|buffer| raw::quote(plans, b"q", 0, 0, buffer)),
+        ("zone", 0, 96, &|buffer| raw::zone_rule(zones, 0, 0, b"", 0, buffer)),
+        ("zone", 5, 96, &|buffer| raw::zone_rule(b"[", 0, 0, b"", 0, buffer)),
+        ("zone", 8, 0, &|buffer| raw::zone_rule(b"[", 0, 90_000_001, b"", 0, buffer)),
+        ("zone", 9, 0, &|buffer| raw::zone_rule(zones, -1, 0, b"", 0, buffer)),
+        ("show", 0, 64, &|buffer| raw::show_record(5, 1, plans, buffer)),
+        ("show", 5, 64, &|buffer| raw::show_record(1, 1, b"[", buffer)),
+        ("show", 10, 0, &|buffer| raw::show_record(7, 1, b"[", buffer)),
+        ("show", 10, 0, &|buffer| raw::show_record(256 + 5, 1, plans, buffer)),
+        ("show", 10, 0, &|buffer| raw::show_record((1 << 32) + 5, 1, plans, buffer)),
+        ("show", 10, 0, &|buffer| raw::show_record(5, 2, plans, buffer)),
     ];
-    for (name, room, ask) in asks {
-        for length in 0..room + 9 {
-            let mut buffer = vec![0xAA; length];
-            let number = ask(&mut buffer);
-            assert_eq!(number == 2, length < room, "{name}, {length} bytes");
+    for (name, number, room, ask) in asks {
+        for length in 0..96 + 17 {
+            // Each byte of the buffer differs between the two, so that one of them shows any byte that is written.
+            let [low, high] = [0x55, 0xAA].map(|first| {
+                let mut buffer = vec![first; length];
+                assert_eq!(ask(&mut buffer), if length < room { 2 } else { number }, "{name} {number}, {length} bytes");
+                buffer
+            });
             let written = if length < room { 0 } else { room };
-            assert!(buffer[written..].iter().all(|&byte| byte == 0xAA), "{name}, {length} bytes");
+            assert_eq!(low[..written], high[..written], "{name} {number}, {length} bytes");
+            assert!(low[written..].iter().all(|&byte| byte == 0x55), "{name} {number}, {length} bytes");
+            assert!(high[written..].iter().all(|&byte| byte == 0xAA), "{name} {number}, {length} bytes");
         }
+    }
+}
+
+/// A file is its whole number: none is taken for the file that its lowest bits name.
+#[test]
+fn files_of_64_bits() {
+    let bytes = plans("0", "");
+    for file in [0, 7, 256 + 5, (1 << 32) + 5, 1 << 63, (1 << 63) + 5, u64::MAX] {
+        assert_eq!(show_record(file, 1, &bytes), Shown::NoRecord, "{file}");
     }
 }
 

@@ -1,5 +1,5 @@
 -- `answer_in` goes by what was taken, and asks for the verdict where all files were.
-use mathlib.Core.Path.{sym, ap, _∙_}
+use mathlib.Core.Path.{ap}
 use native.Mathlib.Omega.{arith}
 use borrow.Author.Needs.{needs}
 use lib.ListN.{length}

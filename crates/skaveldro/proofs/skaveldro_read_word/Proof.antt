@@ -4,11 +4,15 @@ use Rattle.skaveldro.specs.Answers.{wordAnswer}
 use Rattle.skaveldro.proofs.skaveldro_read_word.Statement.{statement}
 use Rattle.skaveldro.proofs.skaveldro_read_word.Tie as tie
 
+-- as many values are lent as the layout has
+slice-aggregate-give : tie.Need-slice-aggregate-give
+slice-aggregate-give c = rw (c .before .before .values .ensures)
+
 returns : tie.Need-returns
 unfolding wordAnswer
 returns c =
-    let g = c .before .before in let v = g .before .before .before in let n = v .before in
-    rw (← n .before .read .ensures, ← n .number .ensures, ← v .values .ensures) (g .give .ensures)
+    let g = c .before .before in let n = g .before .before .before in let v = n .before in
+    rw (← v .before .read .ensures, ← n .number .ensures, ← v .values .ensures) (g .give .ensures)
 
 pub skaveldro-read-word-spec : {M : Type 1} → statement M
 skaveldro-read-word-spec =
@@ -18,6 +22,7 @@ skaveldro-read-word-spec =
     (λ c κs. search needs)
     (λ c κs. search needs)
     (λ c. search needs)
+    slice-aggregate-give
     (λ c κs. search needs)
     (λ c. search needs)
     returns)

@@ -4,11 +4,15 @@ use Rattle.skaveldro.specs.Answers.{shownAnswer}
 use Rattle.skaveldro.proofs.skaveldro_show_record.Statement.{statement}
 use Rattle.skaveldro.proofs.skaveldro_show_record.Tie as tie
 
+-- as many values are lent as the layout has
+slice-aggregate-give : tie.Need-slice-aggregate-give
+slice-aggregate-give c = rw (c .before .before .values .ensures)
+
 returns : tie.Need-returns
 unfolding shownAnswer
 returns c =
-    let g = c .before .before in let v = g .before .before .before in let n = v .before in
-    rw (← n .before .show-record .ensures, ← n .number .ensures, ← v .values .ensures) (g .give .ensures)
+    let g = c .before .before in let n = g .before .before .before in let v = n .before in
+    rw (← v .before .show-record .ensures, ← n .number .ensures, ← v .values .ensures) (g .give .ensures)
 
 pub skaveldro-show-record-spec : {M : Type 1} → statement M
 skaveldro-show-record-spec =
@@ -18,6 +22,7 @@ skaveldro-show-record-spec =
     (λ c κs. search needs)
     (λ c κs. search needs)
     (λ c. search needs)
+    slice-aggregate-give
     (λ c κs. search needs)
     (λ c. search needs)
     returns)

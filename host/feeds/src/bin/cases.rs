@@ -1,4 +1,4 @@
-//! Prints questions about generated sets, one a line, in the form that the `answer` program of the reference reads.
+//! Prints questions about generated sets, one a line, in the form that the program `answer` of `differential` reads.
 //!
 //!     cases FIRST_SEED COUNT [few|some|many|full]
 //!

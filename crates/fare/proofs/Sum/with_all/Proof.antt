@@ -3,13 +3,13 @@ use borrow.Author.Needs.{needs}
 use Prim.Native.Nat.{_-_, _<_}
 use native.Mathlib.Omega.{arith}
 use Rattle.limits.specs.Ceilings.{segments}
-use Rattle.fare.specs.Folds.{listed, charged}
+use Rattle.fare.specs.Folds.{listed, withAll}
 use Rattle.fare.proofs.Charging.{Going, going-start, going-end, going-payable, going-more}
 use Rattle.fare.proofs.Sum.with_all.Statement.{statement}
 use Rattle.fare.proofs.Sum.with_all.Tie as tie
 
 abbrev Inv-loop : tie.InvT-loop
-Inv-loop ride list count sum₀ marks₀ i₀ sum marks i = Going list count ride sum marks i (charged sum₀ (listed (record { list = list; count = count })) ride)
+Inv-loop ride list count sum₀ marks₀ i₀ sum marks i = Going list count ride sum marks i (withAll sum₀ (listed (record { list = list; count = count })) ride)
 
 abbrev μ-loop : tie.MeasureT-loop
 μ-loop ride list count sum₀ marks₀ i₀ sum marks i = count - i

@@ -31,12 +31,12 @@ loop-holds c =
 returns : tie.Need-returns Inv-loop μ-loop
 returns c =
     let r = c .before .before .before .before .read-file in
-    (tt, decided-as Unread (turnOf (r .last .1 .1 .1 .0)) (c .enum-told .given .1) (r .ensures .1))
+    (decided-as Unread (turnOf (r .last .1 .1 .1 .0)) (c .enum-told .given .1) (r .ensures .0), tt)
 
 returns-2 : tie.Need-returns-2 Inv-loop μ-loop
 returns-2 c =
     let r = c .before .before .before .before .read-file in
-    (tt, decided-as Full (turnOf (r .last .1 .1 .1 .0)) (c .enum-told2 .given .1) (r .ensures .1))
+    (decided-as Full (turnOf (r .last .1 .1 .1 .0)) (c .enum-told2 .given .1) (r .ensures .0), tt)
 
 loop-again : tie.Need-loop-again Inv-loop μ-loop
 loop-again c =
@@ -48,16 +48,16 @@ loop-again c =
       omega arith,
       omega arith,
       search needs,
-      standing-next (l .i) _ (l .places) (omega arith) most (l .bytes) _ _ (omega (arith, i .1)) (end .1) (r .read-file .ensures .0) (i .3),
-      whole left (end .0 .0) (decided-as (To (end .0 .0)) left (end .1) (r .read-file .ensures .1)),
+      standing-next (l .i) _ (l .places) (omega arith) most (l .bytes) _ _ (omega (arith, i .1)) (end .1) (r .read-file .ensures .1) (i .3),
+      whole left (end .0 .0) (decided-as (To (end .0 .0)) left (end .1) (r .read-file .ensures .0)),
     )
 
 returns-3 : tie.Need-returns-3 Inv-loop μ-loop
 returns-3 c =
     let l = c .before .before .loop in
     let six : l .i ≡ 6 = omega arith in (
-      subst (λ (n : ℕ). InOrder n most (l .places)) six (l .inv .3 .1),
       subst (λ (t : Turn). Decides t (To (getD (l .places) 6 0))) (sym (l .inv .4)) refl,
+      subst (λ (n : ℕ). InOrder n most (l .places)) six (l .inv .3 .1),
     )
 
 pub read-all-spec : {M : Type 1} → statement M

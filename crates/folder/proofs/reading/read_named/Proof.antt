@@ -13,14 +13,14 @@ use Rattle.folder.proofs.reading.read_named.Tie as tie
 returns : tie.Need-returns
 returns c =
     let t = c .before .before .before in
-    (refl, decided Unread Failed (toZ w64 (ofZ w64 (t .before .opening .result))) (t .came-to .ensures) (c .before .enum-told .given .1) refl)
+    (decided Unread Failed (toZ w64 (ofZ w64 (t .before .opening .result))) (t .came-to .ensures) (c .before .enum-told .given .1) refl, refl)
 
 returns-2 : tie.Need-returns-2
 returns-2 c =
     let t = c .before .before in
     let a = t .before .before .before .before .before .before .args in (
-      (refl, omega arith, omega arith),
       decided (To (a .from)) Ended (toZ w64 (ofZ w64 (t .before .opening .result))) (t .came-to .ensures) (c .enum-told2 .given .1) refl,
+      (refl, omega arith, omega arith),
     )
 
 pub read-named-spec : {M : Type 1} → statement M

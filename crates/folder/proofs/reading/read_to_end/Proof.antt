@@ -31,8 +31,8 @@ returns c =
     let l = r .before .before .before .before in
     let a = l .before .before .before .args in
     let i = l .loop .inv in (
-      kept-before (a .from) (l .loop .to) (a .bytes .now) (l .loop .bytes) _ (i .0) (i .1) (i .3),
       decided Unread Failed (r .read-some .last .1 .1 .0) (r .read-some .ensures .0) (c .before .enum-told .given .1) refl,
+      kept-before (a .from) (l .loop .to) (a .bytes .now) (l .loop .bytes) _ (i .0) (i .1) (i .3),
     )
 
 returns-2 : tie.Need-returns-2 Inv-loop μ-loop
@@ -41,8 +41,8 @@ returns-2 c =
     let l = r .before .before .before .before in
     let a = l .before .before .before .args in
     let i = l .loop .inv in (
-      (kept-before (a .from) (l .loop .to) (a .bytes .now) (l .loop .bytes) _ (i .0) (i .1) (i .3), i .0, omega (arith, i .1, i .2)),
       decided (To (l .loop .to)) Ended (r .read-some .last .1 .1 .0) (r .read-some .ensures .0) (c .enum-told2 .given .1) refl,
+      (kept-before (a .from) (l .loop .to) (a .bytes .now) (l .loop .bytes) _ (i .0) (i .1) (i .3), i .0, omega (arith, i .1, i .2)),
     )
 
 add-to : tie.Need-add-to Inv-loop μ-loop
@@ -76,7 +76,7 @@ loop-again c =
     )
 
 returns-3 : tie.Need-returns-3 Inv-loop μ-loop
-returns-3 c = let i = c .before .loop .inv in (i .3, i .4 (omega arith))
+returns-3 c = let i = c .before .loop .inv in (i .4 (omega arith), i .3)
 
 pub read-to-end-spec : {M : Type 1} → statement M
 read-to-end-spec =

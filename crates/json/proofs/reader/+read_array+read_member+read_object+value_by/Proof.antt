@@ -12,17 +12,18 @@ use Rattle.lexeme.specs.Class.{startOf}
 use Rattle.lexeme.specs.Character.{paired}
 use Rattle.lexeme.specs.Read.{placed}
 use Rattle.lexeme.specs.Strings.{string}
-use Rattle.lexeme.specs.Tokens.{Start, start}
+use Rattle.lexeme.specs.Tokens.{Start}
 use Rattle.lexeme.proofs.Placed.{ends-at, faults, faults-at, passes, Leaves, lands, takes-leaves}
 use Rattle.lexeme.proofs.Reading.{Any}
 use Rattle.lexeme.proofs.Spans.{skipped}
+use Rattle.lexeme.proofs.Starts.{string-byte}
 use Rattle.lexeme.proofs.NumberParts.{equal-inside}
 use Rattle.json.specs.Text.{expect, bracketed, member, value}
 use Rattle.json.proofs.Bound.{all}
 use Rattle.lexeme.proofs.Takes.{string-takes}
 use Rattle.json.proofs.Takes.{expect-takes, value-eats, value-takes, member-eats, member-takes}
 use Rattle.json.proofs.Loops.{opened-closed, opened-all, Onward, all-stops, all-next}
-use Rattle.json.proofs.Values.{start-inside, began, digit-starts, expect-there, classless, value-string, value-number, array-deep, object-deep, array-opened, object-opened, value-true, value-false, value-null, value-none, value-empty, member-empty, member-unnamed, member-wrong, member-value}
+use Rattle.json.proofs.Values.{start-inside, began, expect-there, classless, value-string, value-number, array-deep, object-deep, array-opened, object-opened, value-true, value-false, value-null, value-none, value-empty, member-empty, member-unnamed, member-wrong, member-value}
 use Rattle.json.proofs.reader.read_array.Reads as read-array
 use Rattle.json.proofs.reader.read_array.Kinds as read-array-kinds
 use Rattle.json.proofs.reader.+read_array+read_member+read_object+value_by.Lts-read_array as read-array-lts
@@ -38,9 +39,8 @@ use Rattle.json.proofs.reader.+read_array+read_member+read_object+value
 use Rattle.json.proofs.element.after_element.Reads as after-element-reads
 use Rattle.json.proofs.reader.string_by.Reads as string-by-reads
 use Rattle.strings.proofs.read_string.Reads as read-string-reads
-use Rattle.lexeme.proofs.blank.skip_blanks.Reads as skip-blanks-reads
+use Rattle.lexeme.proofs.blank.skip_blanks_by.Reads as skip-blanks-by-reads
 use Rattle.lexeme.proofs.class.class_by.Reads as class-by-reads
-use Rattle.lexeme.proofs.ascii.is_digit.Reads as is-digit-reads
 use Rattle.lexeme.proofs.front.first.Reads as first-reads
 use Rattle.lexeme.proofs.front.place.Reads as place-reads
 use Rattle.lexeme.proofs.literal.read_literal.Reads as read-literal-reads
@@ -85,13 +85,13 @@ abbrev value-by-below : ℕ → In 2 value-by-kinds.ps
 value-by-below t = and 2 value-by-kinds.ps (falls 2 value-by-kinds.ps _<_ μ-value-by t) value-by.Pre
 
 abbrev read-array-calls : ℕ → read-array-lts.Claims
-read-array-calls t = (skip-blanks-reads.Asked, skip-blanks-reads.Learnt, first-reads.Asked, first-reads.Learnt, value-by-below t, value-by.Post, after-element-reads.Asked, after-element-reads.Learnt)
+read-array-calls t = (skip-blanks-by-reads.Asked, skip-blanks-by-reads.Learnt, first-reads.Asked, first-reads.Learnt, value-by-below t, value-by.Post, after-element-reads.Asked, after-element-reads.Learnt)
 
 abbrev read-member-calls : ℕ → read-member-lts.Claims
-read-member-calls t = (string-by-reads.Asked, string-by-reads.Learnt, skip-blanks-reads.Asked, skip-blanks-reads.Learnt, first-reads.Asked, first-reads.Learnt, is-digit-reads.Asked, is-digit-reads.Learnt, read-number-reads.Asked, read-number-reads.Learnt, value-by-below t, value-by.Post)
+read-member-calls t = (string-by-reads.Asked, string-by-reads.Learnt, skip-blanks-by-reads.Asked, skip-blanks-by-reads.Learnt, first-reads.Asked, first-reads.Learnt, class-by-reads.Asked, class-by-reads.Learnt, read-number-reads.Asked, read-number-reads.Learnt, value-by-below t, value-by.Post)
 
 abbrev read-object-calls : ℕ → read-object-lts.Claims
-read-object-calls t = (skip-blanks-reads.Asked, skip-blanks-reads.Learnt, first-reads.Asked, first-reads.Learnt, read-member-below t, read-member.Post, after-element-reads.Asked, after-element-reads.Learnt)
+read-object-calls t = (skip-blanks-by-reads.Asked, skip-blanks-by-reads.Learnt, first-reads.Asked, first-reads.Learnt, read-member-below t, read-member.Post, after-element-reads.Asked, after-element-reads.Learnt)
 
 abbrev value-by-calls : ℕ → value-by-lts.Claims
 value-by-calls t = (first-reads.Asked, first-reads.Learnt, class-by-reads.Asked, class-by-reads.Learnt, read-number-reads.Asked, read-number-reads.Learnt, read-array-below t, read-array.Post, read-object-below t, read-object.Post, read-literal-reads.Asked, read-literal-reads.Learnt, read-string-reads.Asked, read-string-reads.Learnt, place-reads.Asked, place-reads.Learnt)
@@ -109,7 +109,7 @@ read-array-add-t10 : (t : ℕ)
 read-array-add-t10 t c =
     let p = c .before in
     let a = p .before .before .before .args in
-    omega (arith, equal-inside 0x5d refl (a .s .now) (p .before .skip-blanks .result) (sym (p .first .ensures) ∙ c .if1 .taken))
+    omega (arith, equal-inside 0x5d refl (a .s .now) (p .before .skip-blanks-by .result) (sym (p .first .ensures) ∙ c .if1 .taken))
 
 read-array-returns : (t : ℕ)
     → read-array-lts.Need-returns (read-array-calls t) (read-array-at t) read-array.Post read-array-Inv-loop read-array-μ-loop
@@ -117,10 +117,10 @@ read-array-returns t c =
     let p = c .before in
     let a = p .before .before .before .args in
     let s = a .s .now in
-    let i = p .before .skip-blanks .result in
+    let i = p .before .skip-blanks-by .result in
     let e = sym (p .first .ensures) ∙ c .if1 .taken in
     let h : i < length s = equal-inside 0x5d refl s i e in
-    ends-at s (i + 1) _ (omega arith) _ (opened-closed 0x5d _ s (a .at) i (skipped s (a .at) i (p .before .skip-blanks .ensures)) refl e)
+    ends-at s (i + 1) _ (omega arith) _ (opened-closed 0x5d _ s (a .at) i (skipped s (a .at) i (p .before .skip-blanks-by .ensures)) refl e)
 
 read-array-loop-holds : (t : ℕ)
     → read-array-lts.Need-loop-holds (read-array-calls t) (read-array-at t) read-array.Post read-array-Inv-loop read-array-μ-loop
@@ -129,8 +129,8 @@ read-array-loop-holds t c =
     let a = p .before .before .before .args in
     let s = a .s .now in
     let d = a .levels in
-    let i = p .before .skip-blanks .result in
-    let k = skipped s (a .at) i (p .before .skip-blanks .ensures) in
+    let i = p .before .skip-blanks-by .result in
+    let k = skipped s (a .at) i (p .before .skip-blanks-by .ensures) in
     (k .upto, ap (placed s) (opened-all 0x5d (value paired d) s (a .at) i k (value-empty d) (λ z. c .if1 .left (p .first .ensures ∙ z))))
 
 read-array-returns-2 : (t : ℕ)
@@ -183,7 +183,7 @@ read-object-add-t10 : (t : ℕ)
 read-object-add-t10 t c =
     let p = c .before in
     let a = p .before .before .before .args in
-    omega (arith, equal-inside 0x7d refl (a .s .now) (p .before .skip-blanks .result) (sym (p .first .ensures) ∙ c .if1 .taken))
+    omega (arith, equal-inside 0x7d refl (a .s .now) (p .before .skip-blanks-by .result) (sym (p .first .ensures) ∙ c .if1 .taken))
 
 read-object-returns : (t : ℕ)
     → read-object-lts.Need-returns (read-object-calls t) (read-object-at t) read-object.Post read-object-Inv-loop read-object-μ-loop
@@ -191,10 +191,10 @@ read-object-returns t c =
     let p = c .before in
     let a = p .before .before .before .args in
     let s = a .s .now in
-    let i = p .before .skip-blanks .result in
+    let i = p .before .skip-blanks-by .result in
     let e = sym (p .first .ensures) ∙ c .if1 .taken in
     let h : i < length s = equal-inside 0x7d refl s i e in
-    ends-at s (i + 1) _ (omega arith) _ (opened-closed 0x7d _ s (a .at) i (skipped s (a .at) i (p .before .skip-blanks .ensures)) refl e)
+    ends-at s (i + 1) _ (omega arith) _ (opened-closed 0x7d _ s (a .at) i (skipped s (a .at) i (p .before .skip-blanks-by .ensures)) refl e)
 
 read-object-loop-holds : (t : ℕ)
     → read-object-lts.Need-loop-holds (read-object-calls t) (read-object-at t) read-object.Post read-object-Inv-loop read-object-μ-loop
@@ -203,8 +203,8 @@ read-object-loop-holds t c =
     let a = p .before .before .before .args in
     let s = a .s .now in
     let d = a .levels in
-    let i = p .before .skip-blanks .result in
-    let k = skipped s (a .at) i (p .before .skip-blanks .ensures) in
+    let i = p .before .skip-blanks-by .result in
+    let k = skipped s (a .at) i (p .before .skip-blanks-by .ensures) in
     (k .upto, ap (placed s) (opened-all 0x7d (member paired (value paired d)) s (a .at) i k (member-empty (value paired d)) (λ z. c .if1 .left (p .first .ensures ∙ z))))
 
 read-object-returns-2 : (t : ℕ)
@@ -258,38 +258,40 @@ read-member-returns-2 : (t : ℕ) → read-member-lts.Need-returns-2 (read-membe
 read-member-returns-2 t c =
     let k = c .before .before in let n = k .before .before in let r = n .before .before in let a = r .before .before .args in let s = a .s .now in
     let d = lands (expect 0x22 (string paired 0)) s (a .at) _ named-leaves (sym (n .next .given .1) ∙ r .string-by .ensures) in
-    let i = k .skip-blanks .result in let w = skipped s (n .next .given .0 .0) i (k .skip-blanks .ensures) in
+    let i = k .skip-blanks-by .result in let w = skipped s (n .next .given .0 .0) i (k .skip-blanks-by .ensures) in
     faults-at s i _ (w .upto) _
     (member-wrong (value paired (a .levels)) s (a .at) _ i _ (d .reads) w (λ z. c .if1 .taken (c .before .first .ensures ∙ z)))
 
-read-member-add-skip-blanks : (t : ℕ) → read-member-lts.Need-add-skip-blanks (read-member-calls t) (read-member-at t) read-member.Post
-read-member-add-skip-blanks t c =
+read-member-add-skip-blanks-by : (t : ℕ) → read-member-lts.Need-add-skip-blanks-by (read-member-calls t) (read-member-at t) read-member.Post
+read-member-add-skip-blanks-by t c =
     let k = c .before .before in let n = k .before .before in let r = n .before .before in let a = r .before .before .args in
-    omega (arith, equal-inside 0x3a refl (a .s .now) (k .skip-blanks .result) (sym (c .before .first .ensures) ∙ c .if1 .left))
+    omega (arith, equal-inside 0x3a refl (a .s .now) (k .skip-blanks-by .result) (sym (c .before .first .ensures) ∙ c .if1 .left))
 
 -- behind the colon the value decides the member
 read-member-valued : (t : ℕ) (c : read-member-lts.After-first2 (read-member-calls t) (read-member-at t) read-member.Post) →
     let a = c .before .before .before .before .before .before .before .before .before .before .args in let s = a .s .now in
-    placed s (value paired (a .levels) (drop (c .before .skip-blanks2 .result) s)) ≡ placed s (member paired (value paired (a .levels)) (drop (a .at) s))
+    placed s (value paired (a .levels) (drop (c .before .skip-blanks-by2 .result) s)) ≡ placed s (member paired (value paired (a .levels)) (drop (a .at) s))
 read-member-valued t c =
     let f = c .before .before .before in let k = f .before in let n = k .before .before in let r = n .before .before in let a = r .before .before .args in let s = a .s .now in
     let d = lands (expect 0x22 (string paired 0)) s (a .at) _ named-leaves (sym (n .next .given .1) ∙ r .string-by .ensures) in
-    let i = k .skip-blanks .result in let j = c .before .skip-blanks2 .result in
-    sym (member-value (value paired (a .levels)) s (a .at) _ i _ (d .reads) (skipped s (n .next .given .0 .0) i (k .skip-blanks .ensures))
-    (sym (f .first .ensures) ∙ c .before .before .if1 .left) j (skipped s (i + 1) j (c .before .skip-blanks2 .ensures)))
+    let i = k .skip-blanks-by .result in let j = c .before .skip-blanks-by2 .result in
+    sym (member-value (value paired (a .levels)) s (a .at) _ i _ (d .reads) (skipped s (n .next .given .0 .0) i (k .skip-blanks-by .ensures))
+    (sym (f .first .ensures) ∙ c .before .before .if1 .left) j (skipped s (i + 1) j (c .before .skip-blanks-by2 .ensures)))
 
 read-member-returns-3 : (t : ℕ) → read-member-lts.Need-returns-3 (read-member-calls t) (read-member-at t) read-member.Post
-unfolding start
+unfolding startOf
 read-member-returns-3 t c =
-    let e = c .before .before in let a = e .before .before .before .before .before .before .before .before .before .before .args in let s = a .s .now in let j = e .before .skip-blanks2 .result in
-    let q = sym (e .first2 .ensures) ∙ c .before .if2 .taken in
-    c .string-by2 .ensures ∙ ap (placed s) (expect-there 0x22 (string paired 0) s j refl q) ∙ sym (value-string s j (a .levels) (ap start q)) ∙ read-member-valued t e
+    let g = c .before .before in let e = g .before in let a = e .before .before .before .before .before .before .before .before .before .before .args in let s = a .s .now in
+    let j = e .before .skip-blanks-by2 .result in
+    let q = began s j _ _ 14 (e .first2 .ensures) (g .class-by .ensures) (c .before .if2 .taken) in
+    c .string-by2 .ensures ∙ ap (placed s) (expect-there 0x22 (string paired 0) s j refl (string-byte _ q)) ∙ sym (value-string s j (a .levels) q) ∙ read-member-valued t e
 
 read-member-returns-4 : (t : ℕ) → read-member-lts.Need-returns-4 (read-member-calls t) (read-member-at t) read-member.Post
+unfolding startOf
 read-member-returns-4 t c =
-    let g = c .before .before in let e = g .before .before in let a = e .before .before .before .before .before .before .before .before .before .before .args in let s = a .s .now in
-    let j = e .before .skip-blanks2 .result in
-    c .read-number .ensures ∙ sym (value-number s j (a .levels) (ap start (sym (e .first2 .ensures)) ∙ digit-starts _ (sym (g .is-digit .ensures) ∙ c .before .if3 .taken)))
+    let g = c .before .before .before in let e = g .before in let a = e .before .before .before .before .before .before .before .before .before .before .args in let s = a .s .now in
+    let j = e .before .skip-blanks-by2 .result in
+    c .read-number .ensures ∙ sym (value-number s j (a .levels) (began s j _ _ 2 (e .first2 .ensures) (g .class-by .ensures) (c .before .if3 .taken)))
     ∙ read-member-valued t e
 
 read-member-returns-5 : (t : ℕ) → read-member-lts.Need-returns-5 (read-member-calls t) (read-member-at t) read-member.Post
@@ -307,77 +309,77 @@ value-by-returns-2 : (t : ℕ) → value-by-lts.Need-returns-2 (value-by-calls t
 unfolding startOf
 value-by-returns-2 t c =
     let m = c .before in let a = m .before .before .before .before .args in let s = a .s .now in let i = a .at in let d = a .levels in
-    let e = began s i _ _ 3 (m .before .before .first .ensures) (m .before .class-by .ensures) (m .match .keys2) in
+    let e = began s i _ _ 4 (m .before .before .first .ensures) (m .before .class-by .ensures) (m .match .keys2) in
     faults-at s i _ (omega (arith, start-inside s i Start.array e refl)) _ (array-deep s i d e (c .if1 .taken))
 
 value-by-add-read-array : (t : ℕ) → value-by-lts.Need-add-read-array (value-by-calls t) (value-by-at t) value-by.Post
 unfolding startOf
 value-by-add-read-array t c =
     let m = c .before in let a = m .before .before .before .before .args in let s = a .s .now in let i = a .at in let d = a .levels in
-    let e = began s i _ _ 3 (m .before .before .first .ensures) (m .before .class-by .ensures) (m .match .keys2) in
+    let e = began s i _ _ 4 (m .before .before .first .ensures) (m .before .class-by .ensures) (m .match .keys2) in
     omega (arith, start-inside s i Start.array e refl)
 
 value-by-returns-3 : (t : ℕ) → value-by-lts.Need-returns-3 (value-by-calls t) (value-by-at t) value-by.Post
 unfolding startOf
 value-by-returns-3 t c =
     let m = c .before .before in let a = m .before .before .before .before .args in let s = a .s .now in let i = a .at in let d = a .levels in
-    let e = began s i _ _ 3 (m .before .before .first .ensures) (m .before .class-by .ensures) (m .match .keys2) in
+    let e = began s i _ _ 4 (m .before .before .first .ensures) (m .before .class-by .ensures) (m .match .keys2) in
     c .read-array .ensures ∙ sym (array-opened s i d e (c .before .if1 .left))
 
 value-by-returns-4 : (t : ℕ) → value-by-lts.Need-returns-4 (value-by-calls t) (value-by-at t) value-by.Post
 unfolding startOf
 value-by-returns-4 t c =
     let m = c .before in let a = m .before .before .before .before .args in let s = a .s .now in let i = a .at in let d = a .levels in
-    let e = began s i _ _ 4 (m .before .before .first .ensures) (m .before .class-by .ensures) (m .match .keys3) in
+    let e = began s i _ _ 6 (m .before .before .first .ensures) (m .before .class-by .ensures) (m .match .keys3) in
     faults-at s i _ (omega (arith, start-inside s i Start.object e refl)) _ (object-deep s i d e (c .if2 .taken))
 
 value-by-add-read-object : (t : ℕ) → value-by-lts.Need-add-read-object (value-by-calls t) (value-by-at t) value-by.Post
 unfolding startOf
 value-by-add-read-object t c =
     let m = c .before in let a = m .before .before .before .before .args in let s = a .s .now in let i = a .at in let d = a .levels in
-    let e = began s i _ _ 4 (m .before .before .first .ensures) (m .before .class-by .ensures) (m .match .keys3) in
+    let e = began s i _ _ 6 (m .before .before .first .ensures) (m .before .class-by .ensures) (m .match .keys3) in
     omega (arith, start-inside s i Start.object e refl)
 
 value-by-returns-5 : (t : ℕ) → value-by-lts.Need-returns-5 (value-by-calls t) (value-by-at t) value-by.Post
 unfolding startOf
 value-by-returns-5 t c =
     let m = c .before .before in let a = m .before .before .before .before .args in let s = a .s .now in let i = a .at in let d = a .levels in
-    let e = began s i _ _ 4 (m .before .before .first .ensures) (m .before .class-by .ensures) (m .match .keys3) in
+    let e = began s i _ _ 6 (m .before .before .first .ensures) (m .before .class-by .ensures) (m .match .keys3) in
     c .read-object .ensures ∙ sym (object-opened s i d e (c .before .if2 .left))
 
 value-by-returns-6 : (t : ℕ) → value-by-lts.Need-returns-6 (value-by-calls t) (value-by-at t) value-by.Post
 unfolding startOf
 value-by-returns-6 t c =
     let m = c .before .before in let a = m .before .before .before .before .args in let s = a .s .now in let i = a .at in let d = a .levels in
-    let e = began s i _ _ 5 (m .before .before .first .ensures) (m .before .class-by .ensures) (m .match .keys4) in
+    let e = began s i _ _ 8 (m .before .before .first .ensures) (m .before .class-by .ensures) (m .match .keys4) in
     c .read-literal .ensures ∙ sym (value-true s i d e)
 
 value-by-returns-7 : (t : ℕ) → value-by-lts.Need-returns-7 (value-by-calls t) (value-by-at t) value-by.Post
 unfolding startOf
 value-by-returns-7 t c =
     let m = c .before .before in let a = m .before .before .before .before .args in let s = a .s .now in let i = a .at in let d = a .levels in
-    let e = began s i _ _ 6 (m .before .before .first .ensures) (m .before .class-by .ensures) (m .match .keys5) in
+    let e = began s i _ _ 10 (m .before .before .first .ensures) (m .before .class-by .ensures) (m .match .keys5) in
     c .read-literal2 .ensures ∙ sym (value-false s i d e)
 
 value-by-returns-8 : (t : ℕ) → value-by-lts.Need-returns-8 (value-by-calls t) (value-by-at t) value-by.Post
 unfolding startOf
 value-by-returns-8 t c =
     let m = c .before .before in let a = m .before .before .before .before .args in let s = a .s .now in let i = a .at in let d = a .levels in
-    let e = began s i _ _ 7 (m .before .before .first .ensures) (m .before .class-by .ensures) (m .match .keys6) in
+    let e = began s i _ _ 12 (m .before .before .first .ensures) (m .before .class-by .ensures) (m .match .keys6) in
     c .read-literal3 .ensures ∙ sym (value-null s i d e)
 
 value-by-add-read-string : (t : ℕ) → value-by-lts.Need-add-read-string (value-by-calls t) (value-by-at t) value-by.Post
 unfolding startOf
 value-by-add-read-string t c =
     let m = c in let a = m .before .before .before .before .args in let s = a .s .now in let i = a .at in let d = a .levels in
-    let e = began s i _ _ 8 (m .before .before .first .ensures) (m .before .class-by .ensures) (m .match .keys7) in
+    let e = began s i _ _ 14 (m .before .before .first .ensures) (m .before .class-by .ensures) (m .match .keys7) in
     omega (arith, start-inside s i Start.string e refl)
 
 value-by-returns-9 : (t : ℕ) → value-by-lts.Need-returns-9 (value-by-calls t) (value-by-at t) value-by.Post
 unfolding startOf
 value-by-returns-9 t c =
     let m = c .before in let a = m .before .before .before .before .args in let s = a .s .now in let i = a .at in let d = a .levels in
-    let e = began s i _ _ 8 (m .before .before .first .ensures) (m .before .class-by .ensures) (m .match .keys7) in
+    let e = began s i _ _ 14 (m .before .before .first .ensures) (m .before .class-by .ensures) (m .match .keys7) in
     c .read-string .ensures ∙ sym (value-string s i d e)
 
 value-by-returns-10 : (t : ℕ) → value-by-lts.Need-returns-10 (value-by-calls t) (value-by-at t) value-by.Post
@@ -394,7 +396,7 @@ pub +read-array+read-member+read-object+value-by-spec : {M : Type 1} → stateme
     (λ t. read-array-lts.spec (read-array-calls t) (read-array-at t) read-array.Post read-array-Inv-loop read-array-μ-loop
     (λ c κs. search needs) (λ c κs. search needs) (read-array-add-t10 t) (read-array-returns t) (read-array-loop-holds t) (λ c κs. (omega arith, c .before .before .before .before .before .pre .1)) (λ c κs. search needs) (λ c. search needs) (read-array-returns-2 t) (λ c. search needs) (read-array-loop-less t) (read-array-loop-again t))
     (λ t. read-member-lts.spec (read-member-calls t) (read-member-at t) read-member.Post
-    (λ c κs. search needs) (λ c. search needs) (read-member-returns t) (λ c. search needs) (λ c κs. search needs) (λ c κs. search needs) (read-member-returns-2 t) (read-member-add-skip-blanks t) (λ c κs. search needs) (λ c κs. search needs) (λ c κs. search needs) (read-member-returns-3 t) (λ c κs. search needs) (λ c κs. search needs) (read-member-returns-4 t)
+    (λ c κs. search needs) (λ c. search needs) (read-member-returns t) (λ c. search needs) (λ c κs. search needs) (λ c κs. search needs) (read-member-returns-2 t) (read-member-add-skip-blanks-by t) (λ c κs. search needs) (λ c κs. search needs) (λ c κs. search needs) (λ c κs. search needs) (read-member-returns-3 t) (λ c κs. search needs) (read-member-returns-4 t)
     (λ c κs. (omega arith, c .before .before .before .before .before .before .before .before .before .before .before .before .before .pre .1)) (read-member-returns-5 t))
     (λ t. read-object-lts.spec (read-object-calls t) (read-object-at t) read-object.Post read-object-Inv-loop read-object-μ-loop
     (λ c κs. search needs) (λ c κs. search needs) (read-object-add-t10 t) (read-object-returns t) (read-object-loop-holds t) (λ c κs. (omega arith, c .before .before .before .before .before .pre .1)) (λ c κs. search needs) (λ c. search needs) (read-object-returns-2 t) (λ c. search needs) (read-object-loop-less t) (read-object-loop-again t))

@@ -8,7 +8,7 @@ use Rattle.fare.specs.declared.Minutes.{Minutes}
 use Rattle.fare.specs.declared.Kilometres.{Kilometres}
 use Rattle.fare.specs.declared.Charged.{Charged}
 use Rattle.fare.specs.Charges.{minutesOf, kilometresOf}
-use Rattle.fare.specs.Folds.{charged}
+use Rattle.fare.specs.Folds.{withAll}
 use Rattle.fare.proofs.Bound.{minutes-short, kilometres-short}
 use Rattle.quote.proofs.Fields.{minutes-clear, kilometres-clear}
 use Rattle.quote.proofs.Trips.{price, byMinute, byKilometre, minutes-chargeable, kilometres-chargeable, plan-quoted}
@@ -17,20 +17,20 @@ use Rattle.quote.proofs.trip.quote_plan.Tie as tie
 
 -- what the per-minute segments came to, and behind them the others
 timed : (c : tie.After-with-minutes) → let a = c .before .before .before .before .before .before .before .args in
-    c .with-minutes .result ≡ charged (price (a .p .now)) (byMinute (a .p .now)) (minutesOf (a .seconds) .count)
+    c .with-minutes .result ≡ withAll (price (a .p .now)) (byMinute (a .p .now)) (minutesOf (a .seconds) .count)
 timed c =
     let s = c .before in let q = s .before .before in let o = q .before .before in let p = o .before .before .args .p .now in
     c .with-minutes .ensures
-    ∙ ap₂ (λ (x : Sum) (l : List Segment). charged x l (o .of-seconds .result .count)) (q .price-of .ensures) (s .segments-of .ensures .are)
-    ∙ ap (λ (m : Minutes). charged (price p) (byMinute p) (m .count)) (o .of-seconds .ensures)
+    ∙ ap₂ (λ (x : Sum) (l : List Segment). withAll x l (o .of-seconds .result .count)) (q .price-of .ensures) (s .segments-of .ensures .are)
+    ∙ ap (λ (m : Minutes). withAll (price p) (byMinute p) (m .count)) (o .of-seconds .ensures)
 
 all : (c : tie.After-with-kilometres) → let t = c .before .before .before .before in let a = t .before .before .before .before .before .before .before .args in
-    c .with-kilometres .result ≡ charged (charged (price (a .p .now)) (byMinute (a .p .now)) (minutesOf (a .seconds) .count) .sum) (byKilometre (a .p .now)) (kilometresOf (a .metres) .count)
+    c .with-kilometres .result ≡ withAll (withAll (price (a .p .now)) (byMinute (a .p .now)) (minutesOf (a .seconds) .count) .sum) (byKilometre (a .p .now)) (kilometresOf (a .metres) .count)
 all c =
     let s = c .before in let t = s .before .before .before in let o = t .before .before .before .before in let a = o .before .before .before .args in let p = a .p .now in
     c .with-kilometres .ensures
-    ∙ ap₂ (λ (x : Charged) (l : List Segment). charged (x .sum) l (o .of-metres .result .count)) (timed t) (s .segments-of2 .ensures .are)
-    ∙ ap (λ (m : Kilometres). charged (charged (price p) (byMinute p) (minutesOf (a .seconds) .count) .sum) (byKilometre p) (m .count)) (o .of-metres .ensures)
+    ∙ ap₂ (λ (x : Charged) (l : List Segment). withAll (x .sum) l (o .of-metres .result .count)) (timed t) (s .segments-of2 .ensures .are)
+    ∙ ap (λ (m : Kilometres). withAll (withAll (price p) (byMinute p) (minutesOf (a .seconds) .count) .sum) (byKilometre p) (m .count)) (o .of-metres .ensures)
 
 segments-of-requires : tie.Need-segments-of-requires
 segments-of-requires c κs = let k = c .before .before .before .before .before .pre .2 in (k .whole, minutes-clear k)

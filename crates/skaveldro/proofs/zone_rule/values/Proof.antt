@@ -1,4 +1,4 @@
--- Each arm writes out what the definition says of its variant.
+-- Each arm lays out what the definition says of its variant.
 use borrow.Author.Needs.{needs}
 use Rattle.skaveldro.proofs.zone_rule.values.Statement.{statement}
 use Rattle.skaveldro.proofs.zone_rule.values.Tie as tie
@@ -7,7 +7,7 @@ returns : tie.Need-returns
 returns c = rw (c .enum-told .given .1)
 
 returns-2 : tie.Need-returns-2
-returns-2 c = rw (c .before .before .before .before .before .before .before .r .given .1)
+returns-2 c = rw (c .before .before .r .given .1, c .parts-then-zeros .ensures)
 
 returns-3 : tie.Need-returns-3
 returns-3 c = rw (c .enum-told2 .given .1)
@@ -24,12 +24,7 @@ values-spec =
     (λ c. search needs)
     returns
     (λ c. search needs)
-    (λ c. search needs)
-    (λ c. search needs)
-    (λ c. search needs)
-    (λ c. search needs)
-    (λ c. search needs)
-    (λ c. search needs)
+    (λ c κs. search needs)
     returns-2
     (λ c. search needs)
     returns-3

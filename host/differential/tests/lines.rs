@@ -1,0 +1,66 @@
+//! Questions by lines of text: both sides answer them alike.
+
+use differential::lines::answer;
+use differential::question::Side;
+
+/// `{"version":"2.3","last_updated":0,"ttl":0,"data":DATA}` in hex.
+fn file(data: &str) -> String {
+    hex(&format!(r#"{{"version":"2.3","last_updated":0,"ttl":0,"data":{{{data}}}}}"#))
+}
+
+fn hex(text: &str) -> String {
+    text.bytes().map(|byte| format!("{byte:02x}")).collect()
+}
+
+#[test]
+fn both_answer_by_lines() {
+    let plan = r#"{"plan_id":"p","name":"n","currency":"EUR","price":2,"is_taxable":false,"description":"d"}"#;
+    let plans = file(&format!(r#""plans":[{plan}]"#));
+    let zone = r#"{"type":"Feature","geometry":{"type":"MultiPolygon","coordinates":[[[[0,0],[0,2],[2,2],[2,0],[0,0]]]]},"properties":{"rules":[{"ride_allowed":true,"ride_through_allowed":false,"maximum_speed_kph":20}]}}"#;
+    let zones = file(&format!(r#""geofencing_zones":{{"type":"FeatureCollection","features":[{zone}]}}"#));
+    let bikes = file(r#""bikes":[{}]"#);
+    let from = plans.find(&hex(plan)).expect("the plan stands in its file") / 2;
+    let cases = [
+        (format!("verdict 7 - - - {bikes} - -"), "2".into()),
+        (format!("verdict 8 - - - {bikes} - -"), "1 1462800100000000".into()),
+        (format!("verdict 99999999999999999999 - - - {} - -", file(r#""bikes":[]"#)), "0 1000000000000000".into()),
+        ("word 1462800100000000".into(), "0 4 6 40 1 0 0".into()),
+        ("word -".into(), "3".into()),
+        (format!("quote {plans} 70 0 0"), "0 20000 0 0".into()),
+        (format!("quote {plans} - 0 0"), "6".into()),
+        ("quote 5b 70 0 99999999999999999999".into(), "4".into()),
+        ("quote 5b 70 0 0".into(), "5 5 2 0 0 0 1".into()),
+        (format!("zone {zones} 1000000 2000000 - 0"), "0 1 0 20 -".into()),
+        (format!("zone {zones} -1 0 - 0"), "9".into()),
+        (format!("zone {zones} -99999999999999999999 0 - 0"), "8".into()),
+        (format!("show - - - - {plans} - 5 1"), format!("0 {from} {}", from + plan.len())),
+        (format!("show - - - - {plans} - 261 1"), "10".into()),
+        (format!("show - - - {bikes} - - 4 1"), "5 4 6 40 1 0 0".into()),
+    ];
+    for (line, expected) in cases {
+        for side in [Side::Library, Side::Reference] {
+            assert_eq!(answer(side, &line), expected, "{side:?}: {line}");
+        }
+    }
+}
+
+#[test]
+fn what_is_no_question() {
+    for line in [
+        "",
+        "word",
+        "word 1",
+        "word 1G",
+        "word 1A",
+        "word  ",
+        "word - -",
+        "verdict 8 - - - - -",
+        "quote - - -1 0",
+        "zone - 1. 0 - 0",
+        "price -",
+    ] {
+        for side in [Side::Library, Side::Reference] {
+            assert_eq!(answer(side, line), "error", "{side:?}: {line:?}");
+        }
+    }
+}
