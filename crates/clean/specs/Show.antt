@@ -25,16 +25,17 @@ pub record Answer : Type 0 where
 abbrev pub refused : ℕ → Parts → Answer
 refused number p = record { number = number; parts = p; from = 0; upto = 0 }
 
+-- a record, from one place up to another
+abbrev pub shown : (from upto : ℕ) → Answer
+shown from upto = record { number = 0; parts = noParts; from = from; upto = upto }
+
 abbrev pub answer : Shown → Answer
 answer NoFile = refused 10 noParts
 answer (NotClean p) = refused 5 p
 answer NoRecord = refused 10 noParts
-answer (Record from upto) = record { number = 0; parts = noParts; from = from; upto = upto }
+answer (Record from upto) = shown from upto
 
 -- of a clean file: no such record, or where it stands
-abbrev pub shown : (from upto : ℕ) → Answer
-shown from upto = record { number = 0; parts = noParts; from = from; upto = upto }
-
 abbrev pub ofSpan : Span → Answer
 ofSpan None = refused 10 noParts
 ofSpan (Is from upto) = shown from upto

@@ -22,7 +22,8 @@ pub record Has (file n : ℕ) (s : List ℕ) : Type 0 where
   pub first : 1 ≤ n
   pub last : n ≤ length (recordTrees file (treeOf s))
 
--- the bytes of s from one place up to another are record n of the file: one whole value, with its brackets for first and last byte
+-- The bytes of s from one place up to another are record n of the file: one whole value, with its brackets for first and last byte. Of two records that are
+-- alike this does not say which is meant; the places of `shownOf` do.
 pub record IsRecord (file n : ℕ) (s : List ℕ) (from upto : ℕ) : Type 0 where
   pub tree : Json
   pub numbered : numbered n (recordTrees file (treeOf s)) ≡ some tree

@@ -113,7 +113,7 @@ fn judge_passed(file: u8, s: &[u8]) -> Cleanness
 }
 
 // Whether a file is clean, by its number, from 1 to 6, and its bytes; where nothing is there it is. Under any other number stage A alone counts.
-// Shut out: stage B asked of no bytes, so that kind 12 is named where stage B has a fault; an absent file named as one that is no JSON text.
+// Shut out: a repeated id named where stage B finds a fault; an absent file refused as no JSON text.
 pub fn check_clean(file: u8, s: &[u8]) -> Cleanness
     ensures { λ r. ⌜ r ≡ cleanOf file (now (s .entry)) ⌝ }
 {

@@ -63,23 +63,23 @@ worth-charge sum s ride =
     worth-amount sum (s .rate .negative) (s .rate .size * length (moments s ride))
     ∙ ap (λ (z : ℤ). worth sum +ℤ z) (signed-times (s .rate .negative) (s .rate .size) (length (moments s ride)))
 
--- nothing is asked for a number at or below zero
-clamped-away : (n : ℕ) → Is (pos 0) ≡ total (clamped (negℤ (pos n)))
-unfolding total
-clamped-away zero = refl
-clamped-away (suc n) = refl
+-- a number at or below zero comes to zero
+clamped-below : (n : ℕ) → clamped (negℤ (pos n)) ≡ pos 0
+clamped-below zero = refl
+clamped-below (suc n) = refl
 
--- the ways through the total
+-- what the two sums come to for the rider is the difference of natural numbers, which stops at zero
 module _ (a b : ℕ) where
-  -- no more is added than taken off
-  pub total-nothing : a ≤ b → Is (pos 0) ≡ total (clamped (difference a b))
-  total-nothing h = rw (difference-down a b h) (clamped-away (b - a))
+  clamped-difference : clamped (difference a b) ≡ pos (a - b)
+  clamped-difference =
+      ⊎-elim (λ (h : a ≤ b). let z : a - b ≡ 0 = omega arith in ap clamped (difference-down a b h) ∙ clamped-below (b - a) ∙ ap pos (sym z))
+      (λ (h : b ≤ a). ap clamped (difference-up a b h)) (total-order a b)
 
-  -- more is added, by less than 2 ^ 63 or not
-  pub total-fits : b ≤ a → a - b < 2 ^ 63 → Is (pos (a - b)) ≡ total (clamped (difference a b))
+  -- the ways through the total: the difference fits, or not
+  pub total-fits : a - b < 2 ^ 63 → Is (pos (a - b)) ≡ total (clamped (difference a b))
   unfolding total
-  total-fits h l = rw (difference-up a b h, lt-ltb (a - b) (2 ^ 63) l)
+  total-fits l = rw (clamped-difference, lt-ltb (a - b) (2 ^ 63) l)
 
-  pub total-outside : b ≤ a → 2 ^ 63 ≤ a - b → Outside ≡ total (clamped (difference a b))
+  pub total-outside : 2 ^ 63 ≤ a - b → Outside ≡ total (clamped (difference a b))
   unfolding total
-  total-outside h l = rw (difference-up a b h, le-ltb (a - b) (2 ^ 63) l)
+  total-outside l = rw (clamped-difference, le-ltb (a - b) (2 ^ 63) l)

@@ -10,7 +10,7 @@ use crate::Sum;
 use crate::Total;
 use decimal::Amount;
 ghost use mathlib.Core.Path.{_≡_};
-ghost use Prim.Native.Nat.{_+_, _^_, _≤_, _<_};
+ghost use Prim.Native.Nat.{_+_, _-_, _^_, _≤_, _<_};
 ghost use lib.ListN.{length};
 ghost use Rattle.signed.specs.Signed.{difference};
 ghost use Rattle.fare.specs.Charges.{moments, clamped, total as totalOf};
@@ -138,15 +138,22 @@ impl Sum {
         return self.with_all(l, ride.count);
     }
 
-    // The amount, of any two sums: nothing where no more is added than taken off.
+    // What is added beyond what is taken off; nothing where that is less.
     // Shut out: a credit to the rider where discounts outweigh the price; the size of a negative sum.
+    fn excess(self) -> u64
+        ensures { λ r. ⌜ r ≡ self .added - self .taken ⌝ }
+    {
+        if self.added <= self.taken {
+            return 0;
+        }
+        return self.added - self.taken;
+    }
+
+    // The amount, of any two sums.
     pub fn total(self) -> Total
         ensures { λ r. ⌜ r ≡ totalOf (clamped (difference (self .added) (self .taken))) ⌝ }
     {
-        if self.added <= self.taken {
-            return Total::Is(0);
-        }
-        let amount = self.added - self.taken;
+        let amount = self.excess();
         if amount < 0x8000_0000_0000_0000 {
             return Total::Is(amount as i64);
         }

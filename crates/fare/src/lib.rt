@@ -1,5 +1,6 @@
 // What a ride costs by a plan's price and segments.
 use decimal::Amount;
+use limits::Limits;
 
 pub mod charge;
 pub mod length;
@@ -25,8 +26,12 @@ pub struct Segment {
 
 // The segments of one sort: so many of the places, from the first on.
 pub struct Segments {
-    pub list: [Segment; 16],
+    pub list: [Segment; Segments::PLACES],
     pub count: usize,
+}
+
+impl Segments {
+    pub const PLACES: usize = Limits::SEGMENTS as usize;
 }
 
 // A sum of charges: what is added and what is taken off, in ten-thousandths.

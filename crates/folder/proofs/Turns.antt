@@ -7,7 +7,7 @@ use native.Mathlib.Omega.{arith}
 use lib.Dec.{T}
 use lib.IntN.{ℤ, pos, negsuc, natAbs}
 use lib.Signed.{ltZ, nonNeg}
-use borrow.Author.Tests.{ltb-true, ltb-false, ne-eqb}
+use borrow.Author.Tests.{ltb-true, ne-eqb}
 use Rattle.libc.specs.Io.{Moved}
 use Rattle.folder.specs.declared.reading.Taken.{Taken}
 use Rattle.folder.specs.declared.reading.Taken.the-variants as taken
@@ -21,19 +21,17 @@ pub failed : (z : ℤ) → ltZ z (pos 0) ≡ true → turn.Failed ≡ turnOf z
 failed (pos n) e = let h = ltb-true n 0 e in absurd (omega arith)
 failed (negsuc n) e = refl
 
-pub positive : (z : ℤ) → ltZ (pos 0) z ≡ true → T (nonNeg z)
-positive (pos n) e = tt
-positive (negsuc n) e = subst T (sym e) tt
+pub ended : (z : ℤ) → z ≡ pos 0 → turn.Ended ≡ turnOf z
+ended z e = ap turnOf (sym e)
 
-pub brought : (z : ℤ) → ltZ (pos 0) z ≡ true → turn.Got (natAbs z) ≡ turnOf z
-brought (pos zero) e = let h = ltb-true 0 0 e in absurd (omega arith)
-brought (pos (suc n)) e = refl
-brought (negsuc n) e = absurd (subst T (sym e) tt)
+pub natural : (z : ℤ) → ltZ z (pos 0) ≡ false → T (nonNeg z)
+natural (pos n) e = tt
+natural (negsuc n) e = absurd (subst T e tt)
 
-pub ended : (z : ℤ) → ltZ z (pos 0) ≡ false → ltZ (pos 0) z ≡ false → turn.Ended ≡ turnOf z
-ended (pos zero) e f = refl
-ended (pos (suc n)) e f = let h = ltb-false 0 (suc n) f in absurd (omega arith)
-ended (negsuc n) e f = absurd (subst T e tt)
+pub brought : (z : ℤ) → ltZ z (pos 0) ≡ false → (z ≡ pos 0 → ⊥) → turn.Got (natAbs z) ≡ turnOf z
+brought (pos zero) e f = absurd (f refl)
+brought (pos (suc n)) e f = refl
+brought (negsuc n) e f = absurd (subst T e tt)
 
 pub opened : (z e : ℤ) → ltZ z (pos 0) ≡ false → pos 1 ≡ openingOf z e
 opened (pos n) e t = refl
@@ -68,8 +66,8 @@ whole turn.Failed end e = let z : _≡_ {A = ℕ} 0 1 = cc in absurd (omega arit
 whole turn.Ended end e = refl
 whole (turn.Got n) end e = let z : _≡_ {A = ℕ} 0 1 = cc in absurd (omega arith)
 
--- the last call decides the sort of the answer
-pub tells : (t : Turn) (k : Taken) (bytes places : List ℕ) → Decides t k → Tells t (answerOf k bytes places)
+-- the last call decides the answer
+pub tells : (t : Turn) (k : Taken) (bytes places : List ℕ) → Decides t k → Tells t bytes places (answerOf k bytes places)
 tells turn.Failed k bytes places e = ap (λ (x : Taken). answerOf x bytes places) e
 tells turn.Ended taken.Unread bytes places e = let z : _≡_ {A = ℕ} 0 1 = cc in absurd (omega arith)
 tells turn.Ended taken.Full bytes places e = let z : _≡_ {A = ℕ} 0 1 = cc in absurd (omega arith)

@@ -3,8 +3,6 @@
 use mathlib.Core.List.{List}
 use mathlib.Core.Path.{_≡_}
 use Prim.Native.Nat.{ℕ, _+_}
-use Rattle.word.specs.Word.{noParts}
-use Rattle.word.specs.declared.Parts.{Parts}
 use Rattle.gbfs.specs.Verdict.{said, verdictOf}
 use Rattle.folder.specs.declared.Answer.{Answer}
 use Rattle.folder.specs.declared.Answer.the-variants.{Nothing, TooLarge, Says}
@@ -27,13 +25,9 @@ answerOf taken.Unread bytes places = Nothing
 answerOf taken.Full bytes places = TooLarge
 answerOf (taken.To end) bytes places = Says (said (verdictOf (setIn bytes places)))
 
--- Which sort of answer there is, by what the last call on a file came to: none where it failed.
-abbrev pub sayingOf : Answer → Parts
-sayingOf Nothing = noParts
-sayingOf TooLarge = noParts
-sayingOf (Says p) = p
-
-abbrev pub Tells : Turn → Answer → Type 0
-Tells turn.Failed a = a ≡ Nothing
-Tells turn.Ended a = a ≡ Says (sayingOf a)
-Tells (turn.Got n) a = a ≡ TooLarge
+-- The answer by what the last call on a file came to: none where it failed, the verdict where it was the last file's end, and where it brought bytes the
+-- buffer is full.
+abbrev pub Tells : Turn → (bytes places : List ℕ) → Answer → Type 0
+Tells turn.Failed bytes places a = a ≡ Nothing
+Tells turn.Ended bytes places a = a ≡ Says (said (verdictOf (setIn bytes places)))
+Tells (turn.Got n) bytes places a = a ≡ TooLarge

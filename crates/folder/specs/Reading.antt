@@ -27,13 +27,14 @@ openingOf (pos k) error = pos 1
 openingOf (negsuc k) (pos error) = eqb error noSuchFile ⇒ pos 0 else negsuc 0
 openingOf (negsuc k) (negsuc error) = negsuc 0
 
--- What is taken of a file or of all files, by what the last call came to: nothing where it failed, all where it was the end, and where it brought bytes
--- the buffer is full.
+-- where what is taken ends, if there is such a place
 abbrev pub endOf : Taken → ℕ
 endOf taken.Unread = 0
 endOf taken.Full = 0
 endOf (taken.To end) = end
 
+-- What is taken of a file or of all files, by what the last call came to: nothing where it failed, all where it was the end, and where it brought bytes
+-- the buffer is full.
 abbrev pub Decides : Turn → Taken → Type 0
 Decides turn.Failed t = t ≡ taken.Unread
 Decides turn.Ended t = t ≡ taken.To (endOf t)

@@ -15,7 +15,7 @@ const NAME: usize = 32;
 
 // Reads the files of the current folder in the set's order, and notes the place where each begins and the last one ends. It stops at a file that can't be read,
 // and where the buffer is full; `left` is the number that the last call on a file left.
-// Shut out: a file that can't be read passed over; a set judged that fills the buffer.
+// Shut out: a set read to its end where its last file can't be read; a set that fills the buffer taken as all of it.
 pub fn read_all(bytes: &mut [u8], places: &mut [usize; 7], left: &mut isize) -> Taken
     requires { ⌜ (length (now bytes) ≡ room) × (length (now places) ≡ 7) ⌝ }
     ensures { λ r. ⌜ Decides (turnOf (now (left .exit))) r × Placed most (now (places .exit)) r ⌝ }

@@ -24,22 +24,22 @@ pub enum Answer {
 }
 
 // Judges the feeds in the current folder, and prints the answer. No contract can speak of files or of what is written. Proved are the answer on what stands in
-// the buffer, that there is none where a call on a file failed, the names that are opened and the bytes that are written.
+// the buffer, that there is none where the last call on a file failed, the names that are opened and the bytes that are written.
 pub fn judge() {
     let mut bytes = [0u8; MOST + 1];
+    let mut places: [usize; 7] = [0; 7];
     let mut left = 0;
-    print::line(judge_in(&mut bytes, &mut left));
+    print::line(judge_in(&mut bytes, &mut places, &mut left));
 }
 
-// The answer on the current folder. `left` is the number that the last call on a file left.
-// Shut out: a verdict on files of which one was half read; a buffer that a set which is too large fits into.
-fn judge_in(bytes: &mut [u8], left: &mut isize) -> Answer
-    requires { ⌜ length (now bytes) ≡ room ⌝ }
-    ensures { λ r. ⌜ Tells (turnOf (now (left .exit))) r ⌝ }
+// The answer on the current folder, by what then stands in the buffer and at which places. `left` is the number that the last call on a file left.
+// Shut out: a verdict where the last call failed; one on other places than those that were read; a buffer that a set which is too large fits into.
+fn judge_in(bytes: &mut [u8], places: &mut [usize; 7], left: &mut isize) -> Answer
+    requires { ⌜ (length (now bytes) ≡ room) × (length (now places) ≡ 7) ⌝ }
+    ensures { λ r. ⌜ Tells (turnOf (now (left .exit))) (now (bytes .exit)) (now (places .exit)) r ⌝ }
 {
-    let mut places: [usize; 7] = [0; 7];
-    let taken = files::read_all(bytes, &mut places, left);
-    answer_in(taken, bytes, &places)
+    let taken = files::read_all(bytes, places, left);
+    answer_in(taken, bytes, places)
 }
 
 // The answer on the files that stand in a buffer.

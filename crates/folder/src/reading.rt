@@ -96,10 +96,10 @@ fn came_to(got: isize) -> Turn
     if got < 0 {
         return Turn::Failed;
     }
-    if got > 0 {
-        return Turn::Got(got as usize);
+    if got == 0 {
+        return Turn::Ended;
     }
-    Turn::Ended
+    Turn::Got(got as usize)
 }
 
 // An opening as a number like a read's: below 0 it failed, at 0 there is no such file, at 1 it is open. The error counts only where there is no descriptor.

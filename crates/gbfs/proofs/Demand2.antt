@@ -16,7 +16,7 @@ use Rattle.gbfs.proofs.First.{broken-parts, accepted, accepted-only, re
 use Rattle.gbfs.proofs.Only.{first-refused}
 use Rattle.gbfs.proofs.Says.{says}
 use Rattle.gbfs.proofs.Moments.{charge-due}
-use Rattle.gbfs.proofs.Prices.{price, price-given, no-credit, past-minutes, past-kilometres}
+use Rattle.gbfs.proofs.Prices.{price, price-given, no-credit, marked-minutes-ends, marked-kilometres-ends, past-minutes, past-kilometres}
 use Rattle.gbfs.proofs.Zones.{rule, no-rule, ruled, unruled}
 
 -- a set that breaks a rule breaks a first one
@@ -49,6 +49,8 @@ demand-2 =
       noCredit = no-credit;
       endedMinutes = λ s id seconds metres plan e found over. past-minutes s id seconds metres e plan found over;
       endedKilometres = λ s id seconds metres plan e found over. past-kilometres s id seconds metres e plan found over;
+      markedMinutes = marked-minutes-ends;
+      markedKilometres = marked-kilometres-ends;
       rule = λ s q type moment. rule q type moment s;
       noRule = λ s q type moment. no-rule q type moment s;
       ruled = λ s q type moment. ruled q type moment s;

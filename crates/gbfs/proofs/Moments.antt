@@ -14,7 +14,7 @@ use Rattle.schema.proofs.Tests.{and-left, and-right}
 use Rattle.fare.specs.declared.Segment.{Segment}
 use Rattle.fare.specs.Charges.{charged, momentsFrom, moments, charge}
 use Rattle.fault.proofs.Order.{by-test}
-use Rattle.gbfs.specs.Demand2.{Due, Rising, none, more, Charged}
+use Rattle.gbfs.specs.Demand2.{Due, Rising, none, more, DueCharges}
 
 module _ (x : Segment) (ride : ℕ) where
   -- the test of a moment
@@ -96,7 +96,7 @@ module _ (x : Segment) (ride : ℕ) where
   -- how many are listed at most: one where the interval is 0
   module _ (most : ℕ) (e : moments x ride ≡ momentsFrom x ride most (x .start)) (rises : Rising (momentsFrom x ride most (x .start)))
       (enough : (t : ℕ) → Due x ride t → (n : ℕ) × (t ≡ x .start + n * x .interval) × (n < most)) where
-    listed : Charged x ride
+    listed : DueCharges x ride
     unfolding charge
     listed =
         record {
@@ -107,7 +107,7 @@ module _ (x : Segment) (ride : ℕ) where
           sum = refl;
         }
 
-  pub charge-due : Charged x ride
+  pub charge-due : DueCharges x ride
   unfolding moments
   charge-due =
       by-test (eqb (x .interval) 0)

@@ -1,7 +1,8 @@
 -- Demand 2 on prices. A quote asks in order whether the ride is short, the file clean and the plan there; one that gives a price has passed all three, and its
 -- total is the plan's amount itself. A ride past the ends is quoted as the shortest that is, which passes them too.
 use mathlib.Core.Bool.{Bool, true, false}
-use mathlib.Core.List.{List, [], _∷_, List·Memᴰ, List·Memᴰ·head, List·Memᴰ·tail}
+use mathlib.Core.List.{List, [], _∷_, List·Memᴰ, List·Memᴰ·head, List·Memᴰ·tail, List·Memᴰ·not-nil, List·Memᴰ·cases-cons}
+use mathlib.Core.Logic.{⊎-elim}
 use mathlib.Core.Path.{_≡_, refl, sym, ap, _∙_}
 use Prim.Native.Nat.{ℕ, _*_, _/_, _^_, _≤_, _<_}
 use native.Mathlib.Omega.{arith}
@@ -21,7 +22,9 @@ use Rattle.fare.specs.declared.Total.{Total}
 use Rattle.fare.specs.declared.Total.the-variants as total
 use Rattle.fare.specs.Charges as charges
 use Rattle.fare.specs.Charges.{minutesOf, kilometresOf, sum, amount, allEnded, greatestEnd}
+use Rattle.fare.proofs.Past as ends
 use Rattle.fare.proofs.Amounts.{amount-natural}
+use Rattle.fault.proofs.Order.{true-false}
 use Rattle.clean.specs.declared.Cleanness.{Cleanness}
 use Rattle.clean.specs.declared.Cleanness.the-variants.{Clean, Broken}
 use Rattle.clean.specs.Clean.{treeOf, cleanOf}
@@ -87,6 +90,30 @@ asked-natural true Clean (some plan) seconds metres =
     natural-total _ (pastMinutes plan seconds) (pastKilometres plan metres)
     (amount-natural (tenThousandths (priceAt plan)) (perMinute plan) (perKilometre plan) (minutesOf seconds) (kilometresOf metres))
 
+-- a mark that a quote gives is its plan's
+given-mark : (t : Total) (m k : Bool) → fareOf t m k .pastMinutes ≡ true → m ≡ true
+given-mark (total.Is z) m k e = e
+given-mark total.Outside m k e = true-false e refl
+
+given-far-mark : (t : Total) (m k : Bool) → fareOf t m k .pastKilometres ≡ true → k ≡ true
+given-far-mark (total.Is z) m k e = e
+given-far-mark total.Outside m k e = true-false e refl
+
+module _ (seconds metres : ℕ) (plan : Picked) where
+  asked-minutes : (t : Bool) (c : Cleanness) (m : Maybe Picked) → m ≡ some plan → asked t c m seconds metres .pastMinutes ≡ true → pastMinutes plan seconds ≡ true
+  asked-minutes false c m f e = true-false e refl
+  asked-minutes true (Broken p) m f e = true-false e refl
+  asked-minutes true Clean none f e = true-false e refl
+  asked-minutes true Clean (some x) f e =
+      let p : x ≡ plan = cc in ap (λ (y : Picked). pastMinutes y seconds) (sym p) ∙ given-mark (charges.total (tripAmount x seconds metres)) (pastMinutes x seconds) (pastKilometres x metres) e
+
+  asked-kilometres : (t : Bool) (c : Cleanness) (m : Maybe Picked) → m ≡ some plan → asked t c m seconds metres .pastKilometres ≡ true → pastKilometres plan metres ≡ true
+  asked-kilometres false c m f e = true-false e refl
+  asked-kilometres true (Broken p) m f e = true-false e refl
+  asked-kilometres true Clean none f e = true-false e refl
+  asked-kilometres true Clean (some x) f e =
+      let p : x ≡ plan = cc in ap (λ (y : Picked). pastKilometres y metres) (sym p) ∙ given-far-mark (charges.total (tripAmount x seconds metres)) (pastMinutes x seconds) (pastKilometres x metres) e
+
 -- segments that have all ended
 all-ended : (l : List Segment) → ((x : Segment) → List·Memᴰ x l → x .ended ≡ true) → allEnded l ≡ true
 unfolding allEnded
@@ -102,6 +129,35 @@ greatest-end (x ∷ l) ride h =
 past-ends : (l : List Segment) (ride : ℕ) → PastEnds l ride → past.Ended l ride
 past-ends [] ride e = absurd (e .there refl)
 past-ends (x ∷ l) ride e = record { first = x; others = l; are = refl; ended = all-ended (x ∷ l) (e .ended); late = greatest-end (x ∷ l) ride (e .over) }
+
+-- a mark is set at and past every end of segments that all end
+ended-each : (l : List Segment) → allEnded l ≡ true → (x : Segment) → List·Memᴰ x l → x .ended ≡ true
+unfolding allEnded
+ended-each [] e x m = absurd (List·Memᴰ·not-nil m)
+ended-each (y ∷ l) e x m =
+    let rest = ended-each l (and-right (y .ended) (allEnded l) e) x in
+    ⊎-elim (λ (p : x ≡ y). ap (λ (z : Segment). z .ended) p ∙ and-left (y .ended) (allEnded l) e) rest (List·Memᴰ·cases-cons m)
+
+end-most : (l : List Segment) (x : Segment) → List·Memᴰ x l → x .end ≤ greatestEnd l
+unfolding greatestEnd
+end-most [] x m = absurd (List·Memᴰ·not-nil m)
+end-most (y ∷ l) x m =
+    let rest = end-most l x in
+    ⊎-elim (λ (p : x ≡ y). let q = ap (λ (z : Segment). z .end) p in omega arith) (λ (k : List·Memᴰ x l). let h = rest k in omega arith) (List·Memᴰ·cases-cons m)
+
+some-marked : (l : List Segment) (ride : ℕ) → charges.past l ride ≡ true → l ≡ [] → ⊥
+unfolding charges.past
+some-marked [] ride e p = true-false e refl
+some-marked (x ∷ l) ride e p = let z : _≡_ {A = ℕ} 0 1 = cc in omega arith
+
+marked-ends : (l : List Segment) (ride : ℕ) → charges.past l ride ≡ true → PastEnds l ride
+marked-ends l ride e =
+    let k = ends.past-ends l ride e in
+    record {
+      there = some-marked l ride e;
+      ended = ended-each l (k .0);
+      over = λ x m. let h = end-most l x m in omega (arith, k .1);
+    }
 
 -- the same of a ride of another length that is past the ends
 ended-at : {l : List Segment} {a : ℕ} (b : ℕ) → greatestEnd l ≤ b → past.Ended l a → past.Ended l b
@@ -129,6 +185,16 @@ module _ (s id : List ℕ) where
   unfolding quoteOf cleanQuote
   no-credit seconds metres = asked-natural (short seconds metres) (cleanOf 5 s) (planIn s id) seconds metres
 
+  pub marked-minutes-ends : (seconds metres : ℕ) (plan : Picked) → planIn s id ≡ some plan → quoteOf s id seconds metres .pastMinutes ≡ true → PastEnds (perMinute plan) (seconds / 60)
+  unfolding quoteOf cleanQuote pastMinutes
+  marked-minutes-ends seconds metres plan found e =
+      marked-ends (perMinute plan) (seconds / 60) (asked-minutes seconds metres plan (short seconds metres) (cleanOf 5 s) (planIn s id) found e)
+
+  pub marked-kilometres-ends : (seconds metres : ℕ) (plan : Picked) → planIn s id ≡ some plan → quoteOf s id seconds metres .pastKilometres ≡ true → PastEnds (perKilometre plan) (metres / 1000)
+  unfolding quoteOf cleanQuote pastKilometres
+  marked-kilometres-ends seconds metres plan found e =
+      marked-ends (perKilometre plan) (metres / 1000) (asked-kilometres seconds metres plan (short seconds metres) (cleanOf 5 s) (planIn s id) found e)
+
   module _ (seconds metres : ℕ) (e : quoteOf s id seconds metres .number ≡ 0) where
     through : Passed (short seconds metres) (cleanOf 5 s) (planIn s id)
     unfolding quoteOf cleanQuote
@@ -137,12 +203,15 @@ module _ (s id : List ℕ) where
     by-plan : quoteOf s id seconds metres ≡ cleanQuote file id seconds metres
     by-plan = quote-clean seconds metres (through .brief) (through .clean)
 
-    pub price-given : (plan : Picked) × (planIn s id ≡ some plan) × (quoteOf s id seconds metres ≡ fare plan seconds metres)
-    unfolding cleanQuote tripAmount sum amount pastMinutes pastKilometres
+    pub price-given : (seconds ≤ mostSeconds) × (metres ≤ mostMetres) × (cleanOf 5 s ≡ Clean)
+        × (plan : Picked) × (planIn s id ≡ some plan) × (quoteOf s id seconds metres ≡ fare plan seconds metres)
+    unfolding short cleanQuote tripAmount sum amount pastMinutes pastKilometres
     price-given =
+        let a = leb-true seconds mostSeconds (and-left (leb seconds mostSeconds) _ (through .brief)) in
+        let b = leb-true metres mostMetres (and-right (leb seconds mostSeconds) _ (through .brief)) in
         let plan = through .plan in
         let is : quoteOf s id seconds metres ≡ planQuote seconds metres (some plan) = by-plan ∙ ap (planQuote seconds metres) (through .found) in
-        (plan, through .found, is ∙ priced-total (tripAmount plan seconds metres) (pastMinutes plan seconds) (pastKilometres plan metres) (ap (λ (a : Answer). a .number) (sym is) ∙ e))
+        (a, b, through .clean, plan, through .found, is ∙ priced-total (tripAmount plan seconds metres) (pastMinutes plan seconds) (pastKilometres plan metres) (ap (λ (a : Answer). a .number) (sym is) ∙ e))
 
     module _ (plan : Picked) (found : planIn s id ≡ some plan) where
       pub past-minutes : PastEnds (perMinute plan) (seconds / 60)

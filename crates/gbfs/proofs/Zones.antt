@@ -216,20 +216,22 @@ module _ (q : Point) (type : List ℕ) (moment : ℕ) where
     numbered : {n : ℕ} → rulingOf s q type moment .number ≡ n → asked (onMap q) (cleanOf 6 s) ruleOf .number ≡ n
     numbered e = ap (λ (a : Answer). a .number) (sym in-order) ∙ e
 
-    pub ruled : rulingOf s q type moment .number ≡ 0 → (r : ZoneRule) × FirstWith Apply r (rulesIn s)
+    pub ruled : rulingOf s q type moment .number ≡ 0 → (onMap q ≡ true) × (cleanOf 6 s ≡ Clean) × (r : ZoneRule) × FirstWith Apply r (rulesIn s)
     ruled e = go (onMap q) (cleanOf 6 s) ruleOf searched (numbered e)
       where
-        go : (t : Bool) (c : Cleanness) (m : Maybe Picked) → Outcome (rulesIn s) m → asked t c m .number ≡ 0 → (r : ZoneRule) × FirstWith Apply r (rulesIn s)
+        go : (t : Bool) (c : Cleanness) (m : Maybe Picked) → Outcome (rulesIn s) m → asked t c m .number ≡ 0
+            → (t ≡ true) × (c ≡ Clean) × (r : ZoneRule) × FirstWith Apply r (rulesIn s)
         go false c m o i = absurd (omega arith)
         go true (Broken p) m o i = absurd (omega arith)
         go true Clean none (nowhere h) i = absurd (omega arith)
-        go true Clean (some x) (at {r} f) i = (r, f)
+        go true Clean (some x) (at {r} f) i = (refl, refl, r, f)
 
-    pub unruled : rulingOf s q type moment .number ≡ 9 → NoneWith Apply (rulesIn s)
+    pub unruled : rulingOf s q type moment .number ≡ 9 → (onMap q ≡ true) × (cleanOf 6 s ≡ Clean) × NoneWith Apply (rulesIn s)
     unruled e = go (onMap q) (cleanOf 6 s) ruleOf searched (numbered e)
       where
-        go : (t : Bool) (c : Cleanness) (m : Maybe Picked) → Outcome (rulesIn s) m → asked t c m .number ≡ 9 → NoneWith Apply (rulesIn s)
+        go : (t : Bool) (c : Cleanness) (m : Maybe Picked) → Outcome (rulesIn s) m → asked t c m .number ≡ 9
+            → (t ≡ true) × (c ≡ Clean) × NoneWith Apply (rulesIn s)
         go false c m o i = absurd (omega arith)
         go true (Broken p) m o i = absurd (omega arith)
-        go true Clean none (nowhere h) i = h
+        go true Clean none (nowhere h) i = (refl, refl, h)
         go true Clean (some x) (at f) i = absurd (omega arith)

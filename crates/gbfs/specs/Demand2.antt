@@ -57,7 +57,7 @@ pub data Rising : List ℕ → Type 0 where
   more : {t : ℕ} {l : List ℕ} → ((u : ℕ) → List·Memᴰ u l → t < u) → Rising l → Rising (t ∷ l)
 
 -- what a segment charges: its rate at every moment that is due, once at each
-pub record Charged (x : Segment) (ride : ℕ) : Type 0 where
+pub record DueCharges (x : Segment) (ride : ℕ) : Type 0 where
   pub moments : List ℕ
   pub once : Rising moments
   pub due : (t : ℕ) → List·Memᴰ t moments → Due x ride t
@@ -142,16 +142,17 @@ pub record Demand2 : Type 0 where
   pub word : (s : List ℕ) (p : Parts) → IsWord form1 p s → readWord s ≡ record { number = 0; parts = p }
   pub isWord : (s : List ℕ) → Bytes s → readWord s .number ≡ 0 → IsWord form1 (readWord s .parts) s
   pub noWord : (s : List ℕ) → Bytes s → ((p : Parts) → IsWord form1 p s → ⊥) → readWord s ≡ record { number = 3; parts = noParts }
-  -- A segment charges its rate at start, start + interval and so on, up to the ride's length and before the segment's end.
+  -- A segment asks its rate at its start and after every interval, as long as the ride has come so far and the segment has not ended.
   -- Shut out: a charge at the end minute, or past it; one at the start missed.
-  pub charged : (x : Segment) (ride : ℕ) → Charged x ride
+  pub charged : (x : Segment) (ride : ℕ) → DueCharges x ride
   -- A ride within the limits, on a plan of a clean file, costs the plan's price and all charges of its segments, or nothing where that sum is negative, if
   -- signed 64 bits hold the amount; and no other quote gives a price.
-  -- Shut out: one amount for everything; a ride rounded up to the next minute; a quote that always refuses.
+  -- Shut out: one amount for everything; a ride rounded up to the next minute; a quote that always refuses; a price out of a file that is not clean.
   pub price : (s id : List ℕ) (seconds metres : ℕ) (plan : Picked) → seconds ≤ mostSeconds → metres ≤ mostMetres → cleanOf 5 s ≡ Clean
       → planIn s id ≡ some plan → mag (fare plan seconds metres .amount) < 2 ^ 63 → quoteOf s id seconds metres ≡ fare plan seconds metres
   pub priced : (s id : List ℕ) (seconds metres : ℕ) → quoteOf s id seconds metres .number ≡ 0
-      → (plan : Picked) × (planIn s id ≡ some plan) × (quoteOf s id seconds metres ≡ fare plan seconds metres)
+      → (seconds ≤ mostSeconds) × (metres ≤ mostMetres) × (cleanOf 5 s ≡ Clean)
+      × (plan : Picked) × (planIn s id ≡ some plan) × (quoteOf s id seconds metres ≡ fare plan seconds metres)
   -- No amount is negative.
   -- Shut out: a credit where discounts outweigh the price.
   pub noCredit : (s id : List ℕ) (seconds metres : ℕ) → leZ (pos 0) (quoteOf s id seconds metres .amount) ≡ true
@@ -164,6 +165,12 @@ pub record Demand2 : Type 0 where
   pub endedKilometres : (s id : List ℕ) (seconds metres : ℕ) (plan : Picked) → quoteOf s id seconds metres .number ≡ 0 → planIn s id ≡ some plan
       → PastEnds (perKilometre plan) (metres / 1000)
       → (quoteOf s id seconds metres ≡ quoteOf s id seconds (greatestEnd (perKilometre plan) * 1000)) × (quoteOf s id seconds metres .pastKilometres ≡ true)
+  -- A mark is set for no other ride.
+  -- Shut out: a mark from the first minute on.
+  pub markedMinutes : (s id : List ℕ) (seconds metres : ℕ) (plan : Picked) → planIn s id ≡ some plan
+      → quoteOf s id seconds metres .pastMinutes ≡ true → PastEnds (perMinute plan) (seconds / 60)
+  pub markedKilometres : (s id : List ℕ) (seconds metres : ℕ) (plan : Picked) → planIn s id ≡ some plan
+      → quoteOf s id seconds metres .pastKilometres ≡ true → PastEnds (perKilometre plan) (metres / 1000)
   -- At a point in range, a clean file answers with the values of the first rule, in file order over all zones, that applies, and with 9 where none does;
   -- and exactly there.
   -- Shut out: a rule of a zone that the point is outside of; a later rule, or values of two; an answer 9 for everything.
@@ -172,6 +179,6 @@ pub record Demand2 : Type 0 where
   pub noRule : (s : List ℕ) (q : Point) (type : List ℕ) (moment : ℕ) → onMap q ≡ true → cleanOf 6 s ≡ Clean
       → NoneWith (Applies q type moment) (rulesIn s) → rulingOf s q type moment ≡ zone.refused 9 noParts
   pub ruled : (s : List ℕ) (q : Point) (type : List ℕ) (moment : ℕ) → rulingOf s q type moment .number ≡ 0
-      → (r : ZoneRule) × FirstWith (Applies q type moment) r (rulesIn s)
+      → (onMap q ≡ true) × (cleanOf 6 s ≡ Clean) × (r : ZoneRule) × FirstWith (Applies q type moment) r (rulesIn s)
   pub unruled : (s : List ℕ) (q : Point) (type : List ℕ) (moment : ℕ) → rulingOf s q type moment .number ≡ 9
-      → NoneWith (Applies q type moment) (rulesIn s)
+      → (onMap q ≡ true) × (cleanOf 6 s ≡ Clean) × NoneWith (Applies q type moment) (rulesIn s)

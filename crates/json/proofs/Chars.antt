@@ -86,7 +86,7 @@ hex-back b e =
 abbrev worth : ℕ → ℕ → ℕ → ℕ → ℕ
 worth a b c d = hexValue a * 4096 + hexValue b * 256 + hexValue c * 16 + hexValue d
 
-quad-of : (a b c d : ℕ) (q : List ℕ) → hexDigit a ≡ true → hexDigit b ≡ true → hexDigit c ≡ true → hexDigit d ≡ true
+pub quad-of : (a b c d : ℕ) (q : List ℕ) → hexDigit a ≡ true → hexDigit b ≡ true → hexDigit c ≡ true → hexDigit d ≡ true
     → quad (a ∷ b ∷ c ∷ d ∷ q) ≡ Value (worth a b c d)
 unfolding quad
 quad-of a b c d q h i j k = rw (hex-yes a h, hex-yes b i, hex-yes c j, hex-yes d k, quad)

@@ -81,7 +81,7 @@ handed : {A B : Type 0} {o : Read A} {k n : ℕ} {q r : List ℕ} → o ≡ bad 
 handed e i = cc (e, bad-kind i, bad-rest i)
 
 -- reading to the end carries over to a longer text, where what follows may follow
-extend : {A : Type 0} {C : List ℕ → List ℕ → Type 0} (f : List ℕ → Read A) → Takes C f
+pub extend : {A : Type 0} {C : List ℕ → List ℕ → Type 0} (f : List ℕ → Read A) → Takes C f
     → (p z : List ℕ) (x : A) → f (p ++ z) ≡ done x [] → (q : List ℕ) → C [] q → f (p ++ (z ++ q)) ≡ done x q
 extend f takes p z x e q o =
     let t = takes (p ++ z) [] x e in

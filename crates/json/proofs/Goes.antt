@@ -94,7 +94,7 @@ module _ (D : ℕ → Type 0) where
     past : {A : Type 0} (d : ℕ) (g : A → Json) (f : List ℕ → Read A) → D tooDeep → Stays σ d f → (b : ℕ) (r : List ℕ) → Goes D (bad tooDeep (b ∷ r)) (made g (f r))
     past d g f h stays b r = further {r = b ∷ r} {o = made g (f r)} h (omega (arith, made-shrinks g f (stays-shrinks σ d f stays) r))
 
-    value-goes : (d e : ℕ) → d ≤ e → (d < e → D tooDeep) → Laxer D (value ρ d) (value σ e)
+    pub value-goes : (d e : ℕ) → d ≤ e → (d < e → D tooDeep) → Laxer D (value ρ d) (value σ e)
     unfolding value
     value-goes zero zero h deep = value-by-goes _ _ _ _ (λ b r. same) (λ b r. same)
     value-goes zero (suc e) h deep =

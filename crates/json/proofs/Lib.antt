@@ -21,3 +21,7 @@ pub mod Spellings
 pub mod Passed
 pub mod Prefix
 pub mod Least
+pub mod Balanced
+pub mod Surrogates
+pub mod Holds
+pub mod Places

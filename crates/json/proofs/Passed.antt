@@ -190,7 +190,7 @@ closing first close {r = r} f c =
       spells = f (c .0) (c .2);
     }
 
-value-finds : (d : ℕ) → Finds (value lone d) (λ x. Value d)
+pub value-finds : (d : ℕ) → Finds (value lone d) (λ x. Value d)
 unfolding value
 value-finds zero =
     value-by-finds lone _ _ (λ x. Scalar) (λ l y r e. widened (λ s. Scalar.string) (quoted-front l y r e)) (λ n e. Scalar.number (number-found n n [] e))

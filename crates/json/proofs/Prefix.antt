@@ -19,7 +19,7 @@ use Rattle.json.proofs.Passed.{grammar-reads, reads-grammar}
 use Rattle.json.proofs.Verdict.{met}
 
 -- what stands before the rest, and that with one byte more
-before : (s p r : List ℕ) → s ≡ p ++ r → take (length s - length r) s ≡ p
+pub before : (s p r : List ℕ) → s ≡ p ++ r → take (length s - length r) s ≡ p
 before s p r e = ap (take (length s - length r)) e ∙ take-at p r (length s - length r) (omega (arith, ap length e ∙ length-append p r))
 
 before-more : (s p : List ℕ) (b : ℕ) (w : List ℕ) → s ≡ p ++ (b ∷ w) → take (length s - length (b ∷ w) + 1) s ≡ p ++ (b ∷ [])

@@ -1,19 +1,22 @@
 -- Stage A on cases, computed: each is named for what it shows. The last two are of any text, by its length.
+use mathlib.Core.Bool.{Bool, true, false}
 use mathlib.Core.List.{List, [], _∷_}
 use mathlib.Core.Path.{_≡_, refl}
 use Prim.Native.Nat.{ℕ, _≤_, _<_}
+use native.Mathlib.Omega.{arith}
 use lib.ListN.{length}
 use borrow.Author.Tests.{lt-ltb, le-ltb}
 use Rattle.limits.specs.Ceilings.{fileBytes, depth}
 use Rattle.notation.specs.Ascii.{bytes}
 use Rattle.lexeme.specs.Read.{placed}
 use Rattle.lexeme.specs.Read.Read.{done}
-use Rattle.lexeme.specs.Character.{paired}
+use Rattle.lexeme.specs.Character.{within, paired}
 use Rattle.lexeme.specs.Cases.{lexing}
 use Rattle.json.specs.declared.Syntax.the-variants.{Sound, Fault}
 use Rattle.json.specs.Tree.{Json, item, noItem, itemsOf, membersOf}
 use Rattle.json.specs.Text.{expect, separator, after, elements, contents, bracketed, member, valueAt, valueBy, value, finish, text, verdictOf, syntaxOf}
 use Rattle.json.specs.Spelling.{Blanks, Padded, Character, Characters, Quoted, Plain, Listed, Enclosed, Nested, Spells}
+use Rattle.json.specs.Places.{outside, inside, escaped, placeAfter, placing, Escape, Low, Unpaired}
 
 -- opens every definition of stage A
 unfoldable pub reading : Unit {0}
@@ -391,6 +394,55 @@ mixed =
           Blanks.none)))
           Blanks.none;
     }
+
+-- places by the bytes alone: brackets in strings do not count, and an escaped quotation mark or backslash ends nothing
+
+three-open : placeAfter (bytes "[0, {\"a]\": [") ≡ outside 3
+unfolding placing
+three-open = refl
+
+one-closed : placeAfter (bytes "[[1], {\"b\": [2]}, ") ≡ outside 1
+unfolding placing
+one-closed = refl
+
+quote-escaped : placeAfter (bytes "[\"\\\"[") ≡ inside 1
+unfolding placing
+quote-escaped = refl
+
+backslash-escaped : placeAfter (bytes "\"\\\\\"") ≡ outside 0
+unfolding placing
+backslash-escaped = refl
+
+after-backslash : placeAfter (bytes "[\"\\") ≡ escaped 1
+unfolding placing
+after-backslash = refl
+
+-- surrogate escapes that pair with none after them
+
+low-alone : Unpaired (bytes "\\udc00\"")
+unfolding placing
+low-alone = Unpaired.low (record { value = 0xdc00; whole = Escape.escape refl refl refl refl; range = refl })
+
+no-low-at-end : (p : List ℕ) → Low [] p → ⊥
+no-low-at-end p u = go (u .whole)
+  where
+    go : {v : ℕ} {p : List ℕ} → Escape v [] p → ⊥
+    go e = elim e [ ]
+
+high-at-end : Unpaired (bytes "\\uDBFF")
+unfolding placing
+high-at-end = Unpaired.high (record { value = 0xdbff; whole = Escape.escape refl refl refl refl; range = refl }) no-low-at-end
+
+pair-is-none : Unpaired (bytes "\\ud83d\\ude00\"") → ⊥
+unfolding placing
+pair-is-none (Unpaired.low u) = go (u .whole) (u .range)
+  where
+    go : {v : ℕ} {q : List ℕ} → Escape v (bytes "\\ud83d\\ude00\"") q → within 0xdc00 0xdfff v ≡ true → ⊥
+    go (Escape.escape h i j k) e = let f : _≡_ {A = Bool} false true = e in let n : _≡_ {A = ℕ} 0 1 = cc in omega arith
+pair-is-none (Unpaired.high u none) = go (u .whole) none
+  where
+    go : {v : ℕ} {q : List ℕ} → Escape v (bytes "\\ud83d\\ude00\"") q → ((p : List ℕ) → Low q p → ⊥) → ⊥
+    go (Escape.escape h i j k) none = none (bytes "\"") (record { value = 0xde00; whole = Escape.escape refl refl refl refl; range = refl })
 
 -- kind 1: a text above the ceiling is not looked into; one at the ceiling is read
 

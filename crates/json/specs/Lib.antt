@@ -3,4 +3,5 @@ pub mod Text
 pub mod Turns
 pub mod Spelling
 pub mod Grammar
+pub mod Places
 pub mod Cases

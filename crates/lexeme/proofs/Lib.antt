@@ -16,3 +16,6 @@ pub mod Goes
 pub mod Mends
 pub mod Lone
 pub mod Faults
+pub mod Utf8Reads
+pub mod Utf8Values
+pub mod Utf8

@@ -5,3 +5,5 @@ pub mod Numbers
 pub mod Tokens
 pub mod Class
 pub mod Cases
+pub mod Utf8
+pub mod Utf8Cases

@@ -336,6 +336,7 @@ const CLASS: [u8; 256] = [
 ];
 
 // The table itself: a constant is laid out anew wherever it is named, so a scanner takes it once and lends it.
+// Shut out: ED classed with the other first bytes of three, so that surrogates pass for UTF-8; a line feed that is plain inside a string.
 pub fn class_table() -> [u8; 256]
     ensures { λ r. ⌜ Classifies r ⌝ }
 {

@@ -60,6 +60,8 @@ fn read_fraction(s: &[u8], at: usize) -> Scan
     }
 }
 
+// The integer and what follows it.
+// Shut out: a 0 taken together with the byte after it, so that 01 is one number; an integer with no digit.
 fn read_integer(s: &[u8], at: usize) -> Scan
     ensures { λ r. ⌜ r ≡ placed (now (s .entry)) (both integer (both fraction exponent) (drop at (now (s .entry)))) ⌝ }
 {

@@ -65,7 +65,7 @@ pub fn segments_in(p: &[u8]) -> Segments
     ensures { λ r. ⌜ Fills r (segmentsBy (now (p .entry))) ⌝ }
 {
     let none = unfilled();
-    let mut list: [Segment; 16] = [none; 16];
+    let mut list: [Segment; Segments::PLACES] = [none; Segments::PLACES];
     let mut count: usize = 0;
     let mut at: usize = 1;
     loop {

@@ -11,6 +11,7 @@ fn widened(b: u8) -> u64
 }
 
 // What a byte string of up to eight bytes is worth as a number, its first byte counting most.
+// Shut out: the first byte left out; the last byte counting most.
 pub fn bytes_number(s: &[u8]) -> u64
     requires { ⌜ length (now s) ≤ 8 ⌝ }
     ensures { λ r. ⌜ r ≡ bytesNumber (now (s .entry)) ⌝ }
@@ -33,6 +34,7 @@ pub fn with_field(n: u64, width: u32, value: u64) -> u64
 }
 
 // The field of this width above the lower bits of a number.
+// Shut out: a field taken above as many bits as it is wide; one with bits of the field before it.
 pub fn field_of(n: u64, lower: u32, width: u32) -> u64
     requires { ⌜ (lower < 64) × (width < 64) ⌝ }
     ensures { λ r. ⌜ r ≡ n / 2 ^ lower % 2 ^ width ⌝ }

@@ -36,11 +36,15 @@ pub record Answer : Type 0 where
 abbrev pub refused : ℕ → Parts → Answer
 refused number p = record { number = number; parts = p; rule = noRule }
 
+-- a rule's values
+abbrev pub found : Rule → Answer
+found rule = record { number = 0; parts = noParts; rule = rule }
+
 abbrev pub answer : Ruling → Answer
 answer OffMap = refused 8 noParts
 answer (NotClean p) = refused 5 p
 answer NoRule = refused 9 noParts
-answer (Is rule) = record { number = 0; parts = noParts; rule = rule }
+answer (Is rule) = found rule
 
 -- a boolean, no where it is not given
 abbrev pub yes : Maybe Bool → Bool
@@ -66,9 +70,6 @@ onMap q =
     leZ (negℤ (pos 90_000_000)) (q .lat) and leZ (q .lat) (pos 90_000_000)
 
 -- of a clean file: no rule applies, or the values of the one that does
-abbrev pub found : Rule → Answer
-found rule = record { number = 0; parts = noParts; rule = rule }
-
 abbrev pub ofRule : Maybe Picked → Answer
 ofRule none = refused 9 noParts
 ofRule (some rule) = found (values rule)

@@ -38,7 +38,7 @@ unfoldable pub polygonsHold : List Picked → Point → Bool
 polygonsHold [] q = false
 polygonsHold (p ∷ ps) q = ringsHold (elements p) q ⇒ true else polygonsHold ps q
 
--- a rule is for this type where it names it, or names nobody in particular
+-- a rule is for this type where it names it, or has no field 78
 unfoldable pub anyText : List Picked → List ℕ → Bool
 anyText [] type = false
 anyText (x ∷ l) type = elim (textIn x) [ none ↦ anyText l type | some t ↦ same t type ⇒ true else anyText l type ]

@@ -80,13 +80,13 @@ pub fn verdict(files: crate::Files, buffer: &mut [u8]) -> u8 {
     }
 }
 
-/// The parts of a word as six numbers: 2, 3 or 0.
+/// The parts of a word as six numbers: 3, 2 or 0.
 pub fn read_word(word: &[u8], answer: &mut [u8]) -> u8 {
     // SAFETY: as above.
     unsafe { skaveldro_read_word(word.as_ptr(), word.len(), answer.as_mut_ptr(), answer.len()) }
 }
 
-/// A quote as nine numbers: 2, 4, 5, 6, 7 or 0.
+/// A quote as nine numbers: 4, 5, 6, 7, 2 or 0.
 pub fn quote(plans: &[u8], id: &[u8], seconds: u64, metres: u64, answer: &mut [u8]) -> u8 {
     // SAFETY: as above.
     unsafe {
@@ -94,7 +94,7 @@ pub fn quote(plans: &[u8], id: &[u8], seconds: u64, metres: u64, answer: &mut [u
     }
 }
 
-/// A zone rule as twelve numbers: 2, 8, 5, 9 or 0.
+/// A zone rule as twelve numbers: 8, 5, 9, 2 or 0.
 pub fn zone_rule(zones: &[u8], lon: i64, lat: i64, type_id: &[u8], moment: u64, answer: &mut [u8]) -> u8 {
     // SAFETY: as above.
     unsafe {
@@ -112,7 +112,7 @@ pub fn zone_rule(zones: &[u8], lon: i64, lat: i64, type_id: &[u8], moment: u64, 
     }
 }
 
-/// Where a record stands, as eight numbers: 2, 10, 5 or 0.
+/// Where a record stands, as eight numbers: 10, 5, 2 or 0.
 pub fn show_record(file: u64, record: u64, bytes: &[u8], answer: &mut [u8]) -> u8 {
     // SAFETY: as above.
     unsafe { skaveldro_show_record(file, record, bytes.as_ptr(), bytes.len(), answer.as_mut_ptr(), answer.len()) }

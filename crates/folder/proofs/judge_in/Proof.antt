@@ -11,7 +11,8 @@ use Rattle.folder.proofs.judge_in.Tie as tie
 returns : tie.Need-returns
 returns c =
     let r = c .before .before .before .before .before .read-all in
-    subst (λ (a : Answer). Tells (turnOf (r .last .1 .1 .0)) a) (sym (c .answer-in .ensures)) (tells (turnOf (r .last .1 .1 .0)) (r .result) _ _ (r .ensures .0))
+    subst (λ (a : Answer). Tells (turnOf (r .last .1 .1 .0)) (r .last .0) (r .last .1 .0) a) (sym (c .answer-in .ensures))
+    (tells (turnOf (r .last .1 .1 .0)) (r .result) (r .last .0) (r .last .1 .0) (r .ensures .0))
 
 pub judge-in-spec : {M : Type 1} → statement M
 judge-in-spec = tie.close (tie.spec (λ c κs. search needs) (λ c κs. search needs) (λ c. search needs) returns)
