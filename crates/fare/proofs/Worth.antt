@@ -5,7 +5,8 @@ use Prim.Native.Nat.{ℕ, zero, suc, _+_, _-_, _*_, _^_, _≤_, _<_}
 use native.Mathlib.Omega.{arith}
 use lib.IntN.{ℤ, pos, negℤ, _+ℤ_, _*ℤ_}
 use lib.ListN.{length}
-use borrow.Author.Tests.{lt-ltb, le-ltb}
+use lib.Dec.{leb}
+use borrow.Author.Tests.{leb-true, leb-false, lt-ltb, le-ltb}
 use Rattle.signed.specs.Signed.{signed, difference}
 use Rattle.signed.proofs.Gap.{gap, gap-pos, gap-neg, gap-add, gap-mul, gap-same, difference-up, difference-down}
 use Rattle.decimal.specs.declared.Amount.{Amount}
@@ -71,9 +72,13 @@ clamped-below (suc n) = refl
 -- what the two sums come to for the rider is the difference of natural numbers, which stops at zero
 module _ (a b : ℕ) where
   clamped-difference : clamped (difference a b) ≡ pos (a - b)
-  clamped-difference =
-      ⊎-elim (λ (h : a ≤ b). let z : a - b ≡ 0 = omega arith in ap clamped (difference-down a b h) ∙ clamped-below (b - a) ∙ ap pos (sym z))
-      (λ (h : b ≤ a). ap clamped (difference-up a b h)) (total-order a b)
+  clamped-difference = go (leb a b) refl
+    where
+      go : (t : Bool) → leb a b ≡ t → clamped (difference a b) ≡ pos (a - b)
+      go true e =
+          let h = leb-true a b e in let z : 0 ≡ a - b = omega arith in
+          ap clamped (difference-down a b h) ∙ clamped-below (b - a) ∙ ap pos z
+      go false e = let h = leb-false a b e in ap clamped (difference-up a b (omega arith))
 
   -- the ways through the total: the difference fits, or not
   pub total-fits : a - b < 2 ^ 63 → Is (pos (a - b)) ≡ total (clamped (difference a b))
