@@ -65,6 +65,9 @@ impl Marks {
 }
 
 impl Sum {
+    // What a rider is paid where discounts outweigh the price and the charges.
+    const CREDIT: u64 = 0;
+
     // With one amount more.
     fn with(self, negative: bool, size: u64) -> Sum
         requires { ⌜ (self .added + size < 2 ^ 64) × (self .taken + size < 2 ^ 64) ⌝ }
@@ -144,7 +147,7 @@ impl Sum {
         ensures { λ r. ⌜ r ≡ self .added - self .taken ⌝ }
     {
         if self.added <= self.taken {
-            return 0;
+            return Sum::CREDIT;
         }
         return self.added - self.taken;
     }
