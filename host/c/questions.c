@@ -11,7 +11,7 @@
 #define HEADER "{\"version\":\"2.3\",\"last_updated\":0,\"ttl\":0,\"data\":"
 
 #define PLAN \
-    "{\"plan_id\":\"p\",\"name\":\"n\",\"currency\":\"EUR\",\"price\":0,\"is_taxable\":false,\"description\":\"d\"," \
+    "{\"plan_id\":\"p\",\"name\":\"n\",\"currency\":\"EUR\",\"price\":1,\"is_taxable\":false,\"description\":\"d\"," \
     "\"per_min_pricing\":[{\"start\":10,\"rate\":-0.5,\"interval\":0,\"end\":20}]}"
 
 /* A text as a file: pointer and length. */
@@ -27,6 +27,9 @@ static const char NO_TYPES[] = HEADER "{\"vehicle_types\":[]}}";
 static const char NO_STATIONS[] = HEADER "{\"stations\":[]}}";
 static const char NO_BIKES[] = HEADER "{\"bikes\":[]}}";
 static const char PLANS[] = HEADER "{\"plans\":[" PLAN "]}}";
+static const char DISCOUNTS[] = HEADER
+    "{\"plans\":[{\"plan_id\":\"p\",\"name\":\"n\",\"currency\":\"EUR\",\"price\":1,\"is_taxable\":false,\"description\":\"d\","
+    "\"per_min_pricing\":[{\"start\":10,\"rate\":-3,\"interval\":0,\"end\":20}]}]}}";
 static const char ZONES[] = HEADER
     "{\"geofencing_zones\":{\"type\":\"FeatureCollection\",\"features\":[{\"type\":\"Feature\",\"geometry\":{\"type\":\"MultiPolygon\","
     "\"coordinates\":[[[[0,0],[0,2],[2,2],[2,0],[0,0]]]]},\"properties\":{\"rules\":[{\"vehicle_type_id\":[\"t\"],"
@@ -81,6 +84,12 @@ static uint8_t quote_priced(uint8_t *answer, size_t length)
 static uint8_t quote_past_minutes(uint8_t *answer, size_t length)
 {
     return skaveldro_quote(FILE_OF(PLANS), FILE_OF("p"), 1200, 0, answer, length);
+}
+
+/* A discount beyond the price gives no credit, and leaves the mark. */
+static uint8_t quote_discounted(uint8_t *answer, size_t length)
+{
+    return skaveldro_quote(FILE_OF(DISCOUNTS), FILE_OF("p"), 1200, 0, answer, length);
 }
 
 /* Too long a ride comes ahead of a file that is not clean. */
@@ -182,8 +191,9 @@ static const struct asked ASKED[] = {
     {"read word", word_read, SKAVELDRO_READ_WORD_BYTES, SKAVELDRO_ANSWERED, 6, {4, 6, 40, 3, 0, 0}},
     {"read word, cut off", word_cut_off, SKAVELDRO_READ_WORD_BYTES, SKAVELDRO_NO_WORD, 0, {0}},
     {"read word, no bytes", word_of_no_bytes, SKAVELDRO_READ_WORD_BYTES, SKAVELDRO_NO_WORD, 0, {0}},
-    {"quote", quote_priced, SKAVELDRO_QUOTE_BYTES, SKAVELDRO_ANSWERED, 9, {0, 0, 0, 0, 0, 0, -5000, 0, 0}},
-    {"quote past minutes", quote_past_minutes, SKAVELDRO_QUOTE_BYTES, SKAVELDRO_ANSWERED, 9, {0, 0, 0, 0, 0, 0, -5000, 1, 0}},
+    {"quote", quote_priced, SKAVELDRO_QUOTE_BYTES, SKAVELDRO_ANSWERED, 9, {0, 0, 0, 0, 0, 0, 5000, 0, 0}},
+    {"quote past minutes", quote_past_minutes, SKAVELDRO_QUOTE_BYTES, SKAVELDRO_ANSWERED, 9, {0, 0, 0, 0, 0, 0, 5000, 1, 0}},
+    {"quote, no credit", quote_discounted, SKAVELDRO_QUOTE_BYTES, SKAVELDRO_ANSWERED, 9, {0, 0, 0, 0, 0, 0, 0, 1, 0}},
     {"quote, too long", quote_too_long, SKAVELDRO_QUOTE_BYTES, SKAVELDRO_RIDE_TOO_LONG, 0, {0}},
     {"quote, not clean", quote_not_clean, SKAVELDRO_QUOTE_BYTES, SKAVELDRO_NOT_CLEAN, 9, {5, 2, 0, 0, 0, 1, 0, 0, 0}},
     {"quote, no plan", quote_of_no_plan, SKAVELDRO_QUOTE_BYTES, SKAVELDRO_NO_PLAN, 0, {0}},

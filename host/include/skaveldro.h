@@ -77,7 +77,7 @@ enum {
 
 /* Further values of a quote. */
 enum {
-    SKAVELDRO_AMOUNT = 6,         /* ten-thousandths of the plan's currency; read it with skaveldro_signed_value */
+    SKAVELDRO_AMOUNT = 6,         /* ten-thousandths of the plan's currency, never negative; read it with skaveldro_signed_value */
     SKAVELDRO_PAST_MINUTES = 7,   /* 1 where the ride has come to the end of all per-minute segments, else 0 */
     SKAVELDRO_PAST_KILOMETRES = 8 /* the same of the per-kilometre segments */
 };
@@ -123,7 +123,7 @@ uint8_t skaveldro_read_word(const uint8_t *word, size_t word_length,
  * 2,678,400 seconds or 1,000,000 metres; SKAVELDRO_NOT_CLEAN if the file is not sound by itself, with the parts of its word;
  * SKAVELDRO_NO_PLAN; SKAVELDRO_AMOUNT_OUTSIDE if the amount is no signed number of 64 bits; SKAVELDRO_ANSWERED with amount and marks.
  * In place of the two that write values, SKAVELDRO_NO_ROOM under 72 bytes. Nine values: the parts, amount, past minutes, past
- * kilometres.
+ * kilometres. Where discounts outweigh the price and the charges the amount is 0: a ride is never credited.
  */
 uint8_t skaveldro_quote(const uint8_t *plans, size_t plans_length,
                         const uint8_t *id, size_t id_length,

@@ -17,7 +17,7 @@ pub fn next(n: u64) {
     number(n);
 }
 
-// An amount after others; below zero, a minus sign and its size, which is one more than that of the number above it.
+// A signed number after others; below zero, a minus sign and its size, which is one more than that of the number above it.
 pub fn amount(n: i64) {
     if n >= 0 {
         next(n as u64);

@@ -7,6 +7,7 @@ use Prim.Native.Nat.{ℕ, suc, _+_, _*_, _^_, _≤_, _<_}
 use native.Mathlib.Nat.{mul-le-mul}
 use native.Mathlib.Omega.{arith}
 use lib.ListN.{length}
+use lib.IntN.{ℤ, pos, negsuc}
 use lib.Signed.{mag}
 use borrow.Author.Tests.{lt-ltb}
 use Rattle.limits.specs.Ceilings.{segments}
@@ -18,10 +19,10 @@ use Rattle.fare.specs.declared.Kilometres.{Kilometres}
 use Rattle.fare.specs.declared.Segment.{Segment}
 use Rattle.fare.specs.declared.Sum.{Sum}
 use Rattle.fare.specs.declared.Total.the-variants.{Is}
-use Rattle.fare.specs.Charges.{minutesOf, kilometresOf, moments, amount, total}
+use Rattle.fare.specs.Charges.{minutesOf, kilometresOf, moments, sum, clamped, amount, total}
 use Rattle.fare.specs.Folds.{withAmount, ofPrice, withCharge, withCharges}
 use Rattle.fare.specs.Bounds.{mostMoney, mostRide, mostCharge, Room, Payable, Modest, Quotable}
-use Rattle.fare.proofs.Fold.{amount-summed}
+use Rattle.fare.proofs.Fold.{sum-kept}
 use Rattle.fare.proofs.Moments.{moments-most}
 
 -- the longest rides that are asked for
@@ -67,7 +68,12 @@ room-charges n (s ∷ l) sum ride m h r =
     room-charges n l (withCharge sum s ride) ride (λ t i. m t (List·Memᴰ·tail i)) h
     (room-next s ride (m s (List·Memᴰ·head refl)) h (room-less (suc (n + length l)) (omega arith) r))
 
--- so the amount of a plan and a ride within the ceilings has its place in signed 64 bits
+-- a negative number becomes smaller in size
+clamped-below : (z : ℤ) (k : ℕ) → mag z < k → mag (clamped z) < k
+clamped-below (pos n) k h = h
+clamped-below (negsuc n) k h = omega arith
+
+-- so sum and amount of a plan and a ride within the ceilings have their place in signed 64 bits
 module _ (price : Amount) (perMinute perKilometre : List Segment) (minutes : Minutes) (kilometres : Kilometres)
     (q : Quotable price perMinute perKilometre minutes kilometres) where
   all : Sum
@@ -81,11 +87,15 @@ module _ (price : Amount) (perMinute perKilometre : List Segment) (minutes : Min
       (room-charges (length perKilometre) perMinute (ofPrice price) (minutes .count) (q .modest-minutes) (q .short-minutes)
       (room-less (length perKilometre + length perMinute) (omega (arith, q .few-minutes, q .few-kilometres)) (room-price price (q .cheap)))))
 
-  pub amount-fits : mag (amount (tenThousandths price) perMinute perKilometre minutes kilometres) < 2 ^ 63
+  pub sum-fits : mag (sum (tenThousandths price) perMinute perKilometre minutes kilometres) < 2 ^ 63
   unfolding all
-  amount-fits =
-      rw (← amount-summed price perMinute perKilometre minutes kilometres)
+  sum-fits =
+      rw (← sum-kept price perMinute perKilometre minutes kilometres)
       (gap-mag (gap (all .added) (all .taken)) (2 ^ 63) (omega (arith, room-all .added)) (omega (arith, room-all .taken)))
+
+  pub amount-fits : mag (amount (tenThousandths price) perMinute perKilometre minutes kilometres) < 2 ^ 63
+  unfolding amount
+  amount-fits = clamped-below (sum (tenThousandths price) perMinute perKilometre minutes kilometres) (2 ^ 63) sum-fits
 
   pub amount-total : total (amount (tenThousandths price) perMinute perKilometre minutes kilometres)
       ≡ Is (amount (tenThousandths price) perMinute perKilometre minutes kilometres)

@@ -15,7 +15,7 @@ use Rattle.fare.specs.declared.Kilometres.{Kilometres}
 use Rattle.fare.specs.declared.Segment.{Segment}
 use Rattle.fare.specs.declared.Sum.{Sum}
 use Rattle.fare.specs.declared.Marks.{Marks}
-use Rattle.fare.specs.Charges.{charge, charges, amount, allEnded, greatestEnd, past}
+use Rattle.fare.specs.Charges.{charge, charges, sum, allEnded, greatestEnd, past}
 use Rattle.fare.specs.Folds.{worth, ofPrice, withCharge, withCharges, unmarked, withEnd, withEnds, marked}
 use Rattle.fare.proofs.Worth.{worth-price, worth-charge}
 
@@ -42,11 +42,11 @@ makes-all z ride (s ∷ l) sum h = makes-all z ride l (withCharge sum s ride) (m
 pub charges-summed : (sum : Sum) (l : List Segment) (ride : ℕ) → worth (withCharges sum l ride) ≡ worth sum +ℤ charges l ride
 charges-summed sum l ride = makes-all _ ride l sum (makes-start sum l ride)
 
-pub amount-summed : (price : Amount) (perMinute perKilometre : List Segment) (minutes : Minutes) (kilometres : Kilometres)
+pub sum-kept : (price : Amount) (perMinute perKilometre : List Segment) (minutes : Minutes) (kilometres : Kilometres)
     → worth (withCharges (withCharges (ofPrice price) perMinute (minutes .count)) perKilometre (kilometres .count))
-    ≡ amount (tenThousandths price) perMinute perKilometre minutes kilometres
-unfolding amount
-amount-summed price perMinute perKilometre minutes kilometres =
+    ≡ sum (tenThousandths price) perMinute perKilometre minutes kilometres
+unfolding sum
+sum-kept price perMinute perKilometre minutes kilometres =
     charges-summed _ perKilometre (kilometres .count)
     ∙ ap (λ (z : ℤ). z +ℤ charges perKilometre (kilometres .count))
     (charges-summed (ofPrice price) perMinute (minutes .count) ∙ ap (λ (z : ℤ). z +ℤ charges perMinute (minutes .count)) (worth-price price))

@@ -5,3 +5,4 @@ pub mod Bound
 pub mod Charging
 pub mod Ends
 pub mod Past
+pub mod Amounts

@@ -13,7 +13,7 @@ use Rattle.decimal.specs.Exact.{tenThousandths}
 use Rattle.fare.specs.declared.Minutes.{Minutes}
 use Rattle.fare.specs.declared.Kilometres.{Kilometres}
 use Rattle.fare.specs.declared.Segment.{Segment}
-use Rattle.fare.specs.Charges.{charge, charges, amount, allEnded, greatestEnd, past}
+use Rattle.fare.specs.Charges.{charge, charges, sum, amount, allEnded, greatestEnd, past}
 use Rattle.fare.specs.Folds.{countBelow}
 use Rattle.fare.proofs.Moments.{bound-end, moments-counted}
 
@@ -62,11 +62,11 @@ module _ (price : ℤ) (perMinute perKilometre : List Segment) (minutes : Minute
   pub amount-past-minutes : past perMinute (minutes .count) ≡ true
       → amount price perMinute perKilometre minutes kilometres
       ≡ amount price perMinute perKilometre (record { count = greatestEnd perMinute }) kilometres
-  unfolding amount
+  unfolding sum amount
   amount-past-minutes e = rw (marked-charges perMinute (minutes .count) e)
 
   pub amount-past-kilometres : past perKilometre (kilometres .count) ≡ true
       → amount price perMinute perKilometre minutes kilometres
       ≡ amount price perMinute perKilometre minutes (record { count = greatestEnd perKilometre })
-  unfolding amount
+  unfolding sum amount
   amount-past-kilometres e = rw (marked-charges perKilometre (kilometres .count) e)

@@ -1,19 +1,20 @@
--- What the two sums come to: an amount goes in with its sign, and a charge is the segment's. The total is exact on either side of zero.
+-- What the two sums come to: an amount goes in with its sign, and a charge is the segment's. The total is their difference, and zero where that is negative.
 use mathlib.Core.Bool.{Bool, true, false}
 use mathlib.Core.Path.{_≡_, refl, ap, _∙_}
-use Prim.Native.Nat.{ℕ, _+_, _-_, _*_, _^_, _≤_, _<_}
+use Prim.Native.Nat.{ℕ, zero, suc, _+_, _-_, _*_, _^_, _≤_, _<_}
 use native.Mathlib.Omega.{arith}
-use lib.IntN.{ℤ, pos, negsuc, _+ℤ_, _-ℤ_, _*ℤ_}
+use lib.IntN.{ℤ, pos, negℤ, _+ℤ_, _*ℤ_}
 use lib.ListN.{length}
-use borrow.Author.Tests.{lt-ltb, le-ltb}
+use lib.Dec.{leb}
+use borrow.Author.Tests.{leb-true, leb-false, lt-ltb, le-ltb}
 use Rattle.signed.specs.Signed.{signed, difference}
-use Rattle.signed.proofs.Gap.{gap, gap-pos, gap-neg, gap-negsuc, gap-add, gap-minus, gap-mul, gap-same, difference-up}
+use Rattle.signed.proofs.Gap.{gap, gap-pos, gap-neg, gap-add, gap-mul, gap-same, difference-up, difference-down}
 use Rattle.decimal.specs.declared.Amount.{Amount}
 use Rattle.decimal.specs.Exact.{tenThousandths}
 use Rattle.fare.specs.declared.Segment.{Segment}
 use Rattle.fare.specs.declared.Sum.{Sum}
 use Rattle.fare.specs.declared.Total.the-variants.{Is, Outside}
-use Rattle.fare.specs.Charges.{moments, charge, total}
+use Rattle.fare.specs.Charges.{moments, charge, clamped, total}
 use Rattle.fare.specs.Folds.{worth, withAmount, ofPrice, withCharge}
 
 abbrev sums : ℕ → ℕ → Sum
@@ -63,26 +64,27 @@ worth-charge sum s ride =
     worth-amount sum (s .rate .negative) (s .rate .size * length (moments s ride))
     ∙ ap (λ (z : ℤ). worth sum +ℤ z) (signed-times (s .rate .negative) (s .rate .size) (length (moments s ride)))
 
--- the ways through the total
+-- a number at or below zero comes to zero
+clamped-below : (n : ℕ) → clamped (negℤ (pos n)) ≡ pos 0
+clamped-below zero = refl
+clamped-below (suc n) = refl
+
+-- what the two sums come to for the rider is the difference of natural numbers, which stops at zero
 module _ (a b : ℕ) where
-  difference-below : a < b → difference a b ≡ negsuc (b - a - 1)
-  difference-below h = gap-same (gap a b) (gap-negsuc (b - a - 1)) (omega arith)
+  clamped-difference : clamped (difference a b) ≡ pos (a - b)
+  clamped-difference = go (leb a b) refl
+    where
+      go : (t : Bool) → leb a b ≡ t → clamped (difference a b) ≡ pos (a - b)
+      go true e =
+          let h = leb-true a b e in let z : 0 ≡ a - b = omega arith in
+          ap clamped (difference-down a b h) ∙ clamped-below (b - a) ∙ ap pos z
+      go false e = let h = leb-false a b e in ap clamped (difference-up a b (omega arith))
 
-  pub total-above : b ≤ a → a - b < 2 ^ 63 → Is (pos (a - b)) ≡ total (difference a b)
+  -- the ways through the total: the difference fits, or not
+  pub total-fits : a - b < 2 ^ 63 → Is (pos (a - b)) ≡ total (clamped (difference a b))
   unfolding total
-  total-above h l = rw (difference-up a b h, lt-ltb (a - b) (2 ^ 63) l)
+  total-fits l = rw (clamped-difference, lt-ltb (a - b) (2 ^ 63) l)
 
-  pub total-over : b ≤ a → 2 ^ 63 ≤ a - b → Outside ≡ total (difference a b)
+  pub total-outside : 2 ^ 63 ≤ a - b → Outside ≡ total (clamped (difference a b))
   unfolding total
-  total-over h l = rw (difference-up a b h, le-ltb (a - b) (2 ^ 63) l)
-
-  pub total-below : a < b → b - a - 1 < 2 ^ 63 → Is (negsuc (b - a - 1)) ≡ total (difference a b)
-  unfolding total
-  total-below h l = rw (difference-below h, lt-ltb (b - a - 1) (2 ^ 63) l)
-
-  pub total-under : a < b → 2 ^ 63 ≤ b - a - 1 → Outside ≡ total (difference a b)
-  unfolding total
-  total-under h l = rw (difference-below h, le-ltb (b - a - 1) (2 ^ 63) l)
-
-pub one-below : (n : ℕ) → negsuc 0 -ℤ pos n ≡ negsuc n
-one-below n = gap-same (gap-minus (gap-negsuc 0) (gap-pos n)) (gap-negsuc n) (omega arith)
+  total-outside l = rw (clamped-difference, le-ltb (a - b) (2 ^ 63) l)

@@ -1,4 +1,4 @@
--- Document 01's worked readings (f) to (i), computed.
+-- Document 01's worked readings (f) to (i), with (g) as document 02's W2 has it, computed.
 use mathlib.Core.Bool.{true, false}
 use mathlib.Core.List.{[], _∷_, map}
 use mathlib.Core.Path.{_≡_, refl}
@@ -6,10 +6,10 @@ use Prim.Native.Nat.{ℕ}
 use lib.IntN.{pos, negℤ}
 use Rattle.decimal.specs.Exact.{tenThousandths}
 use Rattle.fare.specs.declared.Segment.{Segment}
-use Rattle.fare.specs.Charges.{minutesOf, kilometresOf, charged, momentsFrom, moments, charge, charges, amount, allEnded, greatestEnd, past, total}
+use Rattle.fare.specs.Charges.{minutesOf, kilometresOf, charged, momentsFrom, moments, charge, charges, sum, amount, allEnded, greatestEnd, past, total}
 
 unfoldable pub charging : Unit {0}
-unfolding tenThousandths charged momentsFrom moments charge charges amount allEnded greatestEnd past total
+unfolding tenThousandths charged momentsFrom moments charge charges sum amount allEnded greatestEnd past total
 charging = tt
 
 -- a segment without an end, its rate in ten-thousandths; and one with an end
@@ -32,9 +32,20 @@ rebate start rate =
     record { start = start; rate = record { negative = true; size = rate }; interval = 0; ended = false; end = 0 }
 
 g : map (λ seconds. amount (pos 0) (rebate 10 5000 ∷ []) [] (minutesOf seconds) (kilometresOf 0)) (599 ∷ 600 ∷ 6000 ∷ [])
-    ≡ pos 0 ∷ negℤ (pos 5000) ∷ negℤ (pos 5000) ∷ []
+    ≡ pos 0 ∷ pos 0 ∷ pos 0 ∷ []
 unfolding charging
 g = refl
+
+-- the sum itself goes below zero
+g-sum : map (λ seconds. sum (pos 0) (rebate 10 5000 ∷ []) [] (minutesOf seconds) (kilometresOf 0)) (599 ∷ 600 ∷ []) ≡ pos 0 ∷ negℤ (pos 5000) ∷ []
+unfolding charging
+g-sum = refl
+
+-- discounts that leave a part of the price, then none of it; later charges are added to the sum, not to zero
+discounts : map (λ seconds. amount (pos 12000) (rebate 10 5000 ∷ rebate 20 8000 ∷ open′ 30 500 0 ∷ open′ 40 2500 0 ∷ []) [] (minutesOf seconds) (kilometresOf 0)) (599 ∷ 600 ∷ 1200 ∷ 1800 ∷ 2400 ∷ [])
+    ≡ pos 12000 ∷ pos 7000 ∷ pos 0 ∷ pos 0 ∷ pos 2000 ∷ []
+unfolding charging
+discounts = refl
 
 h : map (λ seconds. amount (pos 10000) (ending 0 2500 15 45 ∷ []) [] (minutesOf seconds) (kilometresOf 0)) (0 ∷ 2699 ∷ 2700 ∷ []) ≡ pos 12500 ∷ pos 17500 ∷ pos 17500 ∷ []
 unfolding charging

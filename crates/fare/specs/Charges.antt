@@ -1,10 +1,10 @@
--- What a ride costs: document 01, "Charges". Lengths are whole minutes or kilometres; amounts are ten-thousandths, of any size.
+-- What a ride costs: document 01, "Charges", with document 02's W2. Lengths are whole minutes or kilometres; amounts are ten-thousandths, of any size.
 use mathlib.Core.Bool.{Bool, true, false}
 use mathlib.Core.List.{List, [], _∷_}
 use Prim.Native.Nat.{ℕ, zero, suc, _+_, _/_, _^_, max}
 use lib.Dec.{eqb, leb, ltb}
 use lib.ListN.{length}
-use lib.IntN.{ℤ, pos, _+ℤ_, _*ℤ_}
+use lib.IntN.{ℤ, pos, negsuc, _+ℤ_, _*ℤ_}
 use lib.Signed.{mag}
 use Rattle.notation.specs.Choice.{_⇒_else_, _and_}
 use Rattle.decimal.specs.Exact.{tenThousandths}
@@ -42,10 +42,19 @@ unfoldable pub charges : List Segment → ℕ → ℤ
 charges [] ride = pos 0
 charges (s ∷ l) ride = charge s ride +ℤ charges l ride
 
--- price and all charges of both arrays
-unfoldable pub amount : ℤ → List Segment → List Segment → Minutes → Kilometres → ℤ
-amount price perMinute perKilometre minutes kilometres =
+-- price and all charges of both arrays; discounts may make it negative
+unfoldable pub sum : ℤ → List Segment → List Segment → Minutes → Kilometres → ℤ
+sum price perMinute perKilometre minutes kilometres =
     price +ℤ charges perMinute (minutes .count) +ℤ charges perKilometre (kilometres .count)
+
+-- a number, and zero for a negative one
+abbrev pub clamped : ℤ → ℤ
+clamped (pos n) = pos n
+clamped (negsuc n) = pos 0
+
+-- what is asked of the rider: the sum, and nothing where that is negative
+unfoldable pub amount : ℤ → List Segment → List Segment → Minutes → Kilometres → ℤ
+amount price perMinute perKilometre minutes kilometres = clamped (sum price perMinute perKilometre minutes kilometres)
 
 -- at least one segment, all of them with an end, and the ride at or past the greatest
 unfoldable pub allEnded : List Segment → Bool

@@ -10,10 +10,10 @@ use crate::Sum;
 use crate::Total;
 use decimal::Amount;
 ghost use mathlib.Core.Path.{_≡_};
-ghost use Prim.Native.Nat.{_+_, _^_, _≤_, _<_};
+ghost use Prim.Native.Nat.{_+_, _-_, _^_, _≤_, _<_};
 ghost use lib.ListN.{length};
 ghost use Rattle.signed.specs.Signed.{difference};
-ghost use Rattle.fare.specs.Charges.{moments, total as totalOf};
+ghost use Rattle.fare.specs.Charges.{moments, clamped, total as totalOf};
 ghost use Rattle.fare.specs.Folds.{boundOf, withAmount, ofPrice, withCharge, marked, listed, withAll};
 ghost use Rattle.fare.specs.Bounds.{mostRide, Payable, Chargeable};
 
@@ -65,6 +65,9 @@ impl Marks {
 }
 
 impl Sum {
+    // What a rider is paid where discounts outweigh the price and the charges.
+    const CREDIT: u64 = 0;
+
     // With one amount more.
     fn with(self, negative: bool, size: u64) -> Sum
         requires { ⌜ (self .added + size < 2 ^ 64) × (self .taken + size < 2 ^ 64) ⌝ }
@@ -138,20 +141,24 @@ impl Sum {
         return self.with_all(l, ride.count);
     }
 
-    // The amount, of any two sums. Below zero the size is counted from -1 down, so that the least number of 64 bits needs no case.
-    pub fn total(self) -> Total
-        ensures { λ r. ⌜ r ≡ totalOf (difference (self .added) (self .taken)) ⌝ }
+    // What is added beyond what is taken off; nothing where that is less.
+    // Shut out: a credit to the rider where discounts outweigh the price; the size of a negative sum.
+    fn excess(self) -> u64
+        ensures { λ r. ⌜ r ≡ self .added - self .taken ⌝ }
     {
-        if self.taken <= self.added {
-            let above = self.added - self.taken;
-            if above < 0x8000_0000_0000_0000 {
-                return Total::Is(above as i64);
-            }
-            return Total::Outside;
+        if self.added <= self.taken {
+            return Sum::CREDIT;
         }
-        let below = self.taken - self.added - 1;
-        if below < 0x8000_0000_0000_0000 {
-            return Total::Is(-1 - (below as i64));
+        return self.added - self.taken;
+    }
+
+    // The amount, of any two sums.
+    pub fn total(self) -> Total
+        ensures { λ r. ⌜ r ≡ totalOf (clamped (difference (self .added) (self .taken))) ⌝ }
+    {
+        let amount = self.excess();
+        if amount < 0x8000_0000_0000_0000 {
+            return Total::Is(amount as i64);
         }
         return Total::Outside;
     }

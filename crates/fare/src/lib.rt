@@ -40,7 +40,7 @@ pub struct Sum {
     pub taken: u64,
 }
 
-// An amount in ten-thousandths, or a sum that has no place in 64 bits with a sign.
+// An amount in ten-thousandths, or one that does not fit in 64 bits with a sign.
 pub enum Total {
     Is(i64),
     Outside,

@@ -1,4 +1,4 @@
--- Demand 2. The verdict is the first of the broken rules, which is one alone, and its word reads back; words are what packing gives; a price is the plan's sum;
+-- Demand 2. The verdict is the first of the broken rules, which is one alone, and its word reads back; words are what packing gives; a price is the plan's amount;
 -- a zone's rule is the first that applies.
 use mathlib.Core.List.{List, []}
 use mathlib.Core.Path.{_≡_, refl, sym, _∙_}
@@ -16,7 +16,7 @@ use Rattle.gbfs.proofs.First.{broken-parts, accepted, accepted-only, re
 use Rattle.gbfs.proofs.Only.{first-refused}
 use Rattle.gbfs.proofs.Says.{says}
 use Rattle.gbfs.proofs.Moments.{charge-due}
-use Rattle.gbfs.proofs.Prices.{price, price-given, marked-minutes-ends, marked-kilometres-ends, past-minutes, past-kilometres}
+use Rattle.gbfs.proofs.Prices.{price, price-given, no-credit, marked-minutes-ends, marked-kilometres-ends, past-minutes, past-kilometres}
 use Rattle.gbfs.proofs.Zones.{rule, no-rule, ruled, unruled}
 
 -- a set that breaks a rule breaks a first one
@@ -46,6 +46,7 @@ demand-2 =
       charged = charge-due;
       price = price;
       priced = price-given;
+      noCredit = no-credit;
       endedMinutes = λ s id seconds metres plan e found over. past-minutes s id seconds metres e plan found over;
       endedKilometres = λ s id seconds metres plan e found over. past-kilometres s id seconds metres e plan found over;
       markedMinutes = marked-minutes-ends;

@@ -6,7 +6,7 @@ use mathlib.Core.Path.{_≡_}
 use Prim.Native.Nat.{ℕ, _+_, _*_, _/_, _^_, _≤_, _<_}
 use lib.IntN.{pos, _+ℤ_, _*ℤ_}
 use lib.ListN.{length, take}
-use lib.Signed.{mag}
+use lib.Signed.{leZ, mag}
 use Rattle.radix.specs.Fields.{Bytes}
 use Rattle.word.specs.declared.Parts.{Parts}
 use Rattle.word.specs.Form.{form1}
@@ -18,7 +18,7 @@ use Rattle.document.specs.Document as document
 use Rattle.document.specs.Document.{Maybe, some, elements, elementsOf, field, fieldItems, along}
 use Rattle.decimal.specs.Exact.{tenThousandths}
 use Rattle.fare.specs.declared.Segment.{Segment}
-use Rattle.fare.specs.Charges.{charge, charges, greatestEnd, past}
+use Rattle.fare.specs.Charges.{charge, charges, clamped, greatestEnd, past}
 use Rattle.geometry.specs.Ring.{Point}
 use Rattle.geometry.specs.Held.{holds}
 use Rattle.rings.specs.Rings.{position}
@@ -68,13 +68,14 @@ pub record DueCharges (x : Segment) (ride : ℕ) : Type 0 where
 abbrev pub planIn : (s id : List ℕ) → Maybe Picked
 planIn s id = planOf (plans (pick (fileShape table23 5) (treeOf s))) id
 
--- a plan's price and the charges of its segments, by whole minutes and kilometres; and whether the ride is past the ends
+-- a plan's price and the charges of its segments, by whole minutes and kilometres, and zero where that sum is negative; and whether the ride is past the
+-- ends
 abbrev pub fare : Picked → (seconds metres : ℕ) → quote.Answer
 fare plan seconds metres =
     record {
       number = 0;
       parts = noParts;
-      amount = tenThousandths (priceAt plan) +ℤ charges (perMinute plan) (seconds / 60) +ℤ charges (perKilometre plan) (metres / 1000);
+      amount = clamped (tenThousandths (priceAt plan) +ℤ charges (perMinute plan) (seconds / 60) +ℤ charges (perKilometre plan) (metres / 1000));
       pastMinutes = past (perMinute plan) (seconds / 60);
       pastKilometres = past (perKilometre plan) (metres / 1000);
     }
@@ -144,14 +145,17 @@ pub record Demand2 : Type 0 where
   -- A segment asks its rate at its start and after every interval, as long as the ride has come so far and the segment has not ended.
   -- Shut out: a charge at the end minute, or past it; one at the start missed.
   pub charged : (x : Segment) (ride : ℕ) → DueCharges x ride
-  -- A ride within the limits, on a plan of a clean file, costs the plan's price and all charges of its segments, where signed 64 bits hold the amount;
-  -- and no other quote gives a price.
+  -- A ride within the limits, on a plan of a clean file, costs the plan's price and all charges of its segments, or nothing where that sum is negative, if
+  -- signed 64 bits hold the amount; and no other quote gives a price.
   -- Shut out: one amount for everything; a ride rounded up to the next minute; a quote that always refuses; a price out of a file that is not clean.
   pub price : (s id : List ℕ) (seconds metres : ℕ) (plan : Picked) → seconds ≤ mostSeconds → metres ≤ mostMetres → cleanOf 5 s ≡ Clean
       → planIn s id ≡ some plan → mag (fare plan seconds metres .amount) < 2 ^ 63 → quoteOf s id seconds metres ≡ fare plan seconds metres
   pub priced : (s id : List ℕ) (seconds metres : ℕ) → quoteOf s id seconds metres .number ≡ 0
       → (seconds ≤ mostSeconds) × (metres ≤ mostMetres) × (cleanOf 5 s ≡ Clean)
       × (plan : Picked) × (planIn s id ≡ some plan) × (quoteOf s id seconds metres ≡ fare plan seconds metres)
+  -- No amount is negative.
+  -- Shut out: a credit where discounts outweigh the price.
+  pub noCredit : (s id : List ℕ) (seconds metres : ℕ) → leZ (pos 0) (quoteOf s id seconds metres .amount) ≡ true
   -- At and past the greatest end of a plan's segments per minute, where all end, every ride costs what it costs at that end, and the mark says so;
   -- and likewise per kilometre.
   -- Shut out: a price that goes on rising past the ends, or has no mark there.

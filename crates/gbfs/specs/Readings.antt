@@ -6,7 +6,7 @@ use mathlib.Core.Path.{_≡_, refl}
 use Prim.Native.Nat.{ℕ, _*_}
 use Prim.Native.String.{String}
 use lib.Dec.{eqb}
-use lib.IntN.{ℤ, pos, negsuc, negℤ}
+use lib.IntN.{ℤ, pos, negsuc}
 use lib.ListN.{replicate}
 use Rattle.notation.specs.Ascii.{bytes}
 use Rattle.notation.specs.Choice.{_⇒_else_, _and_}
@@ -124,9 +124,9 @@ table =
     fare two 105 30000 ∷
     fare two 120 60000 ∷
     fare two 180 90000 ∷
-    -- (g), the amount of the second below zero
+    -- (g), with document 02's W2: the sum of the second is below zero
     fare discount 599 0 ∷
-    record { answered = priced discount 600; expected = 0 ∷ 1 ∷ 4999 ∷ 0 ∷ 0 ∷ [] } ∷
+    fare discount 600 0 ∷
     -- (h), the last with its mark
     fare ended 0 12500 ∷
     fare ended 2699 17500 ∷

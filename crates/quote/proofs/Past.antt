@@ -12,7 +12,7 @@ use Rattle.fare.specs.declared.Segment.{Segment}
 use Rattle.fare.specs.Charges as charges
 use Rattle.fare.specs.Charges.{minutesOf, kilometresOf, amount, allEnded, greatestEnd, past}
 use Rattle.fare.proofs.Past.{past-set, amount-past-minutes, amount-past-kilometres}
-use Rattle.quote.specs.Plan.{priceAt, perMinute, perKilometre, planOf, plans, sum, pastMinutes, pastKilometres}
+use Rattle.quote.specs.Plan.{priceAt, perMinute, perKilometre, planOf, plans, tripAmount, pastMinutes, pastKilometres}
 use Rattle.quote.specs.Quote.{fareOf, planQuote, cleanQuote}
 
 -- the shortest ride at the greatest end
@@ -37,8 +37,8 @@ ended-marked {l} {ride} e =
 
 module _ (file : Picked) (id : List ℕ) {plan : Picked} (found : planOf (plans file) id ≡ some plan) (seconds metres : ℕ) where
   pub ended-minutes : Ended (perMinute plan) (minutesOf seconds .count)
-      → cleanQuote file id seconds metres ≡ fareOf (charges.total (sum plan (lastSeconds plan) metres)) true (pastKilometres plan metres)
-  unfolding cleanQuote sum pastMinutes
+      → cleanQuote file id seconds metres ≡ fareOf (charges.total (tripAmount plan (lastSeconds plan) metres)) true (pastKilometres plan metres)
+  unfolding cleanQuote tripAmount pastMinutes
   ended-minutes e =
       let t = ended-marked e in
       let n : lastSeconds plan / 60 ≡ greatestEnd (perMinute plan) = omega arith in
@@ -46,11 +46,11 @@ module _ (file : Picked) (id : List ℕ) {plan : Picked} (found : planOf (plans 
       amount-past-minutes (tenThousandths (priceAt plan)) (perMinute plan) (perKilometre plan) (minutesOf seconds) (kilometresOf metres) t
       ∙ ap (λ (k : ℕ). amount (tenThousandths (priceAt plan)) (perMinute plan) (perKilometre plan) (record { count = k }) (kilometresOf metres)) (sym n) in
       ap (planQuote seconds metres) found ∙ ap (λ z. fareOf (charges.total z) (past (perMinute plan) (minutesOf seconds .count)) (pastKilometres plan metres)) same
-      ∙ ap (λ m. fareOf (charges.total (sum plan (lastSeconds plan) metres)) m (pastKilometres plan metres)) t
+      ∙ ap (λ m. fareOf (charges.total (tripAmount plan (lastSeconds plan) metres)) m (pastKilometres plan metres)) t
 
   pub ended-kilometres : Ended (perKilometre plan) (kilometresOf metres .count)
-      → cleanQuote file id seconds metres ≡ fareOf (charges.total (sum plan seconds (lastMetres plan))) (pastMinutes plan seconds) true
-  unfolding cleanQuote sum pastKilometres
+      → cleanQuote file id seconds metres ≡ fareOf (charges.total (tripAmount plan seconds (lastMetres plan))) (pastMinutes plan seconds) true
+  unfolding cleanQuote tripAmount pastKilometres
   ended-kilometres e =
       let t = ended-marked e in
       let n : lastMetres plan / 1000 ≡ greatestEnd (perKilometre plan) = omega arith in
@@ -58,4 +58,4 @@ module _ (file : Picked) (id : List ℕ) {plan : Picked} (found : planOf (plans 
       amount-past-kilometres (tenThousandths (priceAt plan)) (perMinute plan) (perKilometre plan) (minutesOf seconds) (kilometresOf metres) t
       ∙ ap (λ (k : ℕ). amount (tenThousandths (priceAt plan)) (perMinute plan) (perKilometre plan) (minutesOf seconds) (record { count = k })) (sym n) in
       ap (planQuote seconds metres) found ∙ ap (λ z. fareOf (charges.total z) (pastMinutes plan seconds) (past (perKilometre plan) (kilometresOf metres .count))) same
-      ∙ ap (λ m. fareOf (charges.total (sum plan seconds (lastMetres plan))) (pastMinutes plan seconds) m) t
+      ∙ ap (λ m. fareOf (charges.total (tripAmount plan seconds (lastMetres plan))) (pastMinutes plan seconds) m) t

@@ -18,9 +18,9 @@ use Rattle.fare.specs.Charges as charges
 use Rattle.fare.specs.Charges.{minutesOf, kilometresOf}
 use Rattle.fare.specs.Folds.{worth, ofPrice, withCharges, Fills, withAll}
 use Rattle.fare.specs.Bounds.{mostRide, Room, Modest, Chargeable}
-use Rattle.fare.proofs.Fold.{amount-summed}
+use Rattle.fare.proofs.Fold.{sum-kept}
 use Rattle.fare.proofs.Bound.{room-price, room-less, room-charges}
-use Rattle.quote.specs.Plan.{priceAt, perMinute, perKilometre, sum, pastMinutes, pastKilometres}
+use Rattle.quote.specs.Plan.{priceAt, perMinute, perKilometre, tripAmount, pastMinutes, pastKilometres}
 use Rattle.fields.specs.Values.{memberOf, arrayBy}
 use Rattle.quote.specs.Values.{priceBy, segmentsBy}
 use Rattle.quote.specs.Clear.{ClearPlan}
@@ -88,14 +88,14 @@ module _ {p : List ℕ} (c : ClearPlan p) where
       chargeable f few-kilometres (segments-modest (kilometreBytes p)) (room-charges (length (byKilometre p)) (byMinute p) (price p) ride modest h room) k
 
   module _ (seconds metres : ℕ) where
-    worth-is : worth (withCharges (withCharges (price p) (byMinute p) (minutesOf seconds .count)) (byKilometre p) (kilometresOf metres .count)) ≡ sum plan seconds metres
-    unfolding sum
-    worth-is =
+    amount-is : charges.clamped (worth (withCharges (withCharges (price p) (byMinute p) (minutesOf seconds .count)) (byKilometre p) (kilometresOf metres .count))) ≡ tripAmount plan seconds metres
+    unfolding tripAmount charges.amount
+    amount-is =
         rw (minutes-are, kilometres-are, plan-price (c .whole))
-        (amount-summed (priceAt plan) (perMinute plan) (perKilometre plan) (minutesOf seconds) (kilometresOf metres))
+        (ap charges.clamped (sum-kept (priceAt plan) (perMinute plan) (perKilometre plan) (minutesOf seconds) (kilometresOf metres)))
 
     pub plan-quoted : let timed = withAll (price p) (byMinute p) (minutesOf seconds .count) in let all = withAll (timed .sum) (byKilometre p) (kilometresOf metres .count) in
-        fareOf (charges.total (worth (all .sum))) (timed .past) (all .past) ≡ planQuote seconds metres (some plan)
+        fareOf (charges.total (charges.clamped (worth (all .sum)))) (timed .past) (all .past) ≡ planQuote seconds metres (some plan)
     unfolding pastMinutes pastKilometres
     plan-quoted =
-        rw (worth-is, ap (λ (l : List Segment). charges.past l (minutesOf seconds .count)) minutes-are, ap (λ (l : List Segment). charges.past l (kilometresOf metres .count)) kilometres-are)
+        rw (amount-is, ap (λ (l : List Segment). charges.past l (minutesOf seconds .count)) minutes-are, ap (λ (l : List Segment). charges.past l (kilometresOf metres .count)) kilometres-are)

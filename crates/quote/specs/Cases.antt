@@ -6,7 +6,7 @@ use mathlib.Core.Path.{_≡_, refl}
 use Prim.Native.Nat.{ℕ}
 use Prim.Native.String.{String}
 use lib.Dec.{eqb}
-use lib.IntN.{pos, negℤ}
+use lib.IntN.{pos}
 use Rattle.notation.specs.Ascii.{bytes}
 use Rattle.notation.specs.Choice.{_⇒_else_}
 use Rattle.schema.specs.Pick.{at}
@@ -14,12 +14,12 @@ use Rattle.document.specs.Document as document
 use Rattle.fare.specs.Cases.{charging}
 use Rattle.judge.specs.Cases.{judging}
 use Rattle.clean.specs.Clean.{treeOf, idField, recordsOf, usedBefore, repeatedId, repeatsFrom, repeats, cleanOf}
-use Rattle.quote.specs.Plan.{priceAt, segment, perKilometre, perMinute, planOf, plans, sum, pastMinutes, pastKilometres}
+use Rattle.quote.specs.Plan.{priceAt, segment, perKilometre, perMinute, planOf, plans, tripAmount, pastMinutes, pastKilometres}
 use Rattle.quote.specs.Quote.{Answer, refused, unclean, priced, cleanQuote, short, quoteOf}
 
 -- opens every definition of a quote
 unfoldable pub quoting : Unit {0}
-unfolding judging charging at document.field document.fieldItems document.along document.text document.spelling treeOf idField recordsOf usedBefore repeatedId repeatsFrom repeats cleanOf priceAt segment perKilometre perMinute planOf plans sum pastMinutes pastKilometres cleanQuote short quoteOf
+unfolding judging charging at document.field document.fieldItems document.along document.text document.spelling treeOf idField recordsOf usedBefore repeatedId repeatsFrom repeats cleanOf priceAt segment perKilometre perMinute planOf plans tripAmount pastMinutes pastKilometres cleanQuote short quoteOf
 quoting = tt
 
 abbrev mark : ℕ → ℕ
@@ -51,9 +51,16 @@ f : quotes "2,'per_min_pricing':[{'start':1,'rate':1,'interval':1},{'start':2,'r
 unfolding quoting file plan quotes
 f = refl
 
-g : quotes "0,'per_min_pricing':[{'start':10,'rate':-0.5,'interval':0}]" (599 ∷ 600 ∷ []) ≡ fare 0 ∷ priced (negℤ (pos 5000)) false false ∷ []
+-- (g) as document 02's W2 has it: a discount past the price gives no credit
+g : quotes "0,'per_min_pricing':[{'start':10,'rate':-0.5,'interval':0}]" (599 ∷ 600 ∷ []) ≡ fare 0 ∷ fare 0 ∷ []
 unfolding quoting file plan quotes
 g = refl
+
+-- a sum below zero leaves the mark as it is
+discount-marked : quotes "1,'per_min_pricing':[{'start':5,'rate':-3,'interval':0,'end':8}]" (299 ∷ 300 ∷ 479 ∷ 480 ∷ [])
+    ≡ fare 10000 ∷ fare 0 ∷ fare 0 ∷ endedFare 0 ∷ []
+unfolding quoting file plan quotes
+discount-marked = refl
 
 h : quotes "1,'per_min_pricing':[{'start':0,'rate':0.25,'interval':15,'end':45}]" (0 ∷ 2699 ∷ 2700 ∷ []) ≡ fare 12500 ∷ fare 17500 ∷ endedFare 17500 ∷ []
 unfolding quoting file plan quotes

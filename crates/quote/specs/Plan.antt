@@ -76,9 +76,9 @@ planOf (x ∷ l) id = elim (text 50 x) [ none ↦ planOf l id | some t ↦ same 
 unfoldable pub plans : Picked → List Picked
 plans file = elementsOf (along (4 ∷ 5 ∷ []) file)
 
--- what a plan quotes for a ride
-unfoldable pub sum : Picked → ℕ → ℕ → ℤ
-sum plan seconds metres =
+-- what a plan asks for a ride
+unfoldable pub tripAmount : Picked → (seconds metres : ℕ) → ℤ
+tripAmount plan seconds metres =
     amount (tenThousandths (priceAt plan)) (perMinute plan) (perKilometre plan) (minutesOf seconds) (kilometresOf metres)
 
 unfoldable pub pastMinutes : Picked → ℕ → Bool

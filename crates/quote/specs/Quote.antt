@@ -20,7 +20,7 @@ use Rattle.clean.specs.declared.Cleanness.the-variants.{Clean, Broken}
 use Rattle.clean.specs.Clean.{treeOf, cleanOf}
 use Rattle.quote.specs.declared.Quote.{Quote}
 use Rattle.quote.specs.declared.Quote.the-variants.{TooLong, NotClean, NoPlan, Outside, Fare}
-use Rattle.quote.specs.Plan.{planOf, plans, sum, pastMinutes, pastKilometres}
+use Rattle.quote.specs.Plan.{planOf, plans, tripAmount, pastMinutes, pastKilometres}
 
 -- the longest ride
 abbrev pub mostSeconds : ℕ
@@ -64,7 +64,7 @@ fareOf total.Outside m k = refused 7
 abbrev pub planQuote : ℕ → ℕ → Maybe Picked → Answer
 planQuote seconds metres none = refused 6
 planQuote seconds metres (some plan) =
-    fareOf (charges.total (sum plan seconds metres)) (pastMinutes plan seconds) (pastKilometres plan metres)
+    fareOf (charges.total (tripAmount plan seconds metres)) (pastMinutes plan seconds) (pastKilometres plan metres)
 
 -- of a clean file of plans
 unfoldable pub cleanQuote : Picked → List ℕ → ℕ → ℕ → Answer

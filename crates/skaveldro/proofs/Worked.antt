@@ -9,7 +9,7 @@ two-numbers : encoded (258 ∷ 1 ∷ []) ≡ 2 ∷ 1 ∷ 0 ∷ 0 ∷ 0 ∷ 0 ∷
 unfolding encoded lowBytes
 two-numbers = refl
 
--- -5000, a negative amount
+-- -5000, a number below zero
 below-zero : encoded (signedBits (negsuc 4_999) ∷ []) ≡ 120 ∷ 236 ∷ 255 ∷ 255 ∷ 255 ∷ 255 ∷ 255 ∷ 255 ∷ []
 unfolding encoded lowBytes
 below-zero = refl

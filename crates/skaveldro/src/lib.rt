@@ -51,7 +51,7 @@ pub extern "C" fn skaveldro_read_word(word: &[u8], answer: &mut [u8]) -> u8
 }
 
 // The question "quote", of the bytes of file 5. Nine values: the six parts of a word, the amount in two's complement, past minutes, past kilometres.
-// Shut out: a negative amount told without its sign; one mark told in the other's place.
+// Shut out: the amount told in a part's place; one mark told in the other's place.
 #[no_mangle]
 pub extern "C" fn skaveldro_quote(
     plans: &[u8],

@@ -15,7 +15,7 @@ pub enum Quote {
     NoPlan,
     /// 7: the amount is no signed number of 64 bits.
     Outside,
-    /// 0: the amount in ten-thousandths, and whether the ride is past all that the plan's segments cover.
+    /// 0: the amount in ten-thousandths, never negative, and whether the ride is past all that the plan's segments cover.
     Fare { amount: i64, past_minutes: bool, past_kilometres: bool },
 }
 
@@ -35,7 +35,8 @@ pub fn quote(plans: &[u8], id: &[u8], seconds: u64, metres: u64) -> Quote {
     let kilometres = Leg { length: metres / 1000, segments: segments(plan, 56) };
     let minutes = Leg { length: seconds / 60, segments: segments(plan, 61) };
     let price = plan.decimal(53).unwrap_or(0) / TEN_THOUSANDTH;
-    match i64::try_from(price + kilometres.charges() + minutes.charges()) {
+    let sum = price + kilometres.charges() + minutes.charges();
+    match i64::try_from(sum.max(0)) {
         Ok(amount) => Quote::Fare { amount, past_minutes: minutes.is_past(), past_kilometres: kilometres.is_past() },
         Err(_) => Quote::Outside,
     }
@@ -122,7 +123,17 @@ mod tests {
     fn worked_reading_g() {
         let segments = r#"{"start":10,"rate":-0.5,"interval":0}"#;
         assert_eq!(ride("0", segments, 599), (0, false));
-        assert_eq!(ride("0", segments, 600), (-5000, false));
+        assert_eq!(ride("0", segments, 600), (0, false));
+    }
+
+    #[test]
+    fn discounts_are_taken_off_the_sum_and_give_no_credit() {
+        let segments = r#"{"start":10,"rate":-1.5,"interval":0},{"start":20,"rate":0.25,"interval":0},{"start":30,"rate":1,"interval":0,"end":40}"#;
+        for (seconds, amount) in [(599, 10000), (600, 0), (1200, 0), (1800, 7500)] {
+            assert_eq!(ride("1", segments, seconds), (amount, false), "{seconds} s");
+        }
+        let ended = r#"{"start":0,"rate":-1,"interval":0,"end":5}"#;
+        assert_eq!([299, 300].map(|seconds| ride("0", ended, seconds)), [(0, false), (0, true)]);
     }
 
     #[test]

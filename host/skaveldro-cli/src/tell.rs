@@ -59,9 +59,7 @@ fn blame(parts: Parts, bytes: Option<&[u8]>, members: &mut Members) -> String {
 
 /// A price, with four decimals in words and in ten-thousandths in JSON.
 pub fn fare(fare: Fare) -> Report {
-    let sign = if fare.amount < 0 { "-" } else { "" };
-    let size = fare.amount.unsigned_abs();
-    let mut text = format!("{sign}{}.{:04}", size / 10_000, size % 10_000);
+    let mut text = format!("{}.{:04}", fare.amount / 10_000, fare.amount % 10_000);
     for (past, measure) in [(fare.past_minutes, "minute"), (fare.past_kilometres, "kilometre")] {
         if past {
             text.push_str(&format!("\nthe ride has come to the end of all that the plan prices by the {measure}"));

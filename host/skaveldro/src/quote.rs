@@ -21,7 +21,7 @@ pub enum Quote {
 /// What a ride costs under a plan.
 #[derive(Clone, Copy, Debug, PartialEq, Eq, Hash)]
 pub struct Fare {
-    /// In ten-thousandths of the plan's currency; a plan may make it negative.
+    /// In ten-thousandths of the plan's currency. Never negative: where discounts outweigh the price and the charges it is 0.
     pub amount: i64,
     /// Has the ride come to the end of all per-minute segments, past which the plan says no price?
     pub past_minutes: bool,

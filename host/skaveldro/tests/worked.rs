@@ -54,7 +54,7 @@ fn fares_f_to_i() {
         assert_eq!(fare("2", f, seconds), (amount, false), "{seconds} s");
     }
     let g = r#"{"start":10,"rate":-0.5,"interval":0}"#;
-    assert_eq!((fare("0", g, 599), fare("0", g, 600)), ((0, false), (-5000, false)));
+    assert_eq!((fare("0", g, 599), fare("0", g, 600)), ((0, false), (0, false)));
     let h = r#"{"start":0,"rate":0.25,"interval":15,"end":45}"#;
     for (seconds, answer) in [(0, (12500, false)), (2699, (17500, false)), (2700, (17500, true))] {
         assert_eq!(fare("1", h, seconds), answer, "{seconds} s");
