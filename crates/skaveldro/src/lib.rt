@@ -39,7 +39,7 @@ pub extern "C" fn skaveldro_verdict<'a>(
 }
 
 // The question "read a word". Six values: file, kind, field, record, sub, offset.
-// Shut out: the most significant byte of a value put first; a byte past the sixth value written.
+// Shut out: the upper four bytes of a value told as its lower four; a byte past the sixth value written.
 #[no_mangle]
 pub extern "C" fn skaveldro_read_word(word: &[u8], answer: &mut [u8]) -> u8
     ensures { λ r. ⌜ r ≡ told (now (answer .entry)) (wordAnswer (now (word .entry))) ⌝ }

@@ -5,7 +5,7 @@ use Rattle.folder.proofs.verdict.file.Statement.{statement}
 use Rattle.folder.proofs.verdict.file.Tie as tie
 
 sub-result : tie.Need-sub-result
-sub-result c = let p = c .before .before .pre in p .1 _ (p .0) .0
+sub-result c = let p = c .before .before .pre in let o = p .1 _ (p .0) in omega (arith, o .0, o .1)
 
 part-result-start : tie.Need-part-result-start
 part-result-start c = let p = c .before .before .pre in let o = p .1 _ (p .0) in omega (arith, o .0, o .1)
