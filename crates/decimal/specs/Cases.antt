@@ -121,12 +121,20 @@ money-judged : map (λ c. of Outside moneyOf (c .0)) moneys ≡ map (λ c. c .1)
 unfolding deciding
 money-judged = refl
 
--- millionths, cut towards zero from either side; a number past 90 may be cut to 90, so its range is tested before
-cuts :
-    map (of (pos 0) millionths) ("12.3456789" ∷ "-0.0000019" ∷ "-0.0000009" ∷ "0.0000009" ∷ "90.00000001" ∷ [])
-    ≡ pos 12_345_678 ∷ negsuc 0 ∷ pos 0 ∷ pos 0 ∷ pos 90_000_000 ∷ []
+-- millionths: six decimals stay, more are rounded, and halves go away from zero on either side of it
+rounded :
+    map (of (pos 0) millionths)
+    ("12.345678" ∷ "12.3456784" ∷ "12.3456785" ∷ "12.345678499999999999" ∷ "0.0000005" ∷ "-0.0000005" ∷ "0.0000004" ∷ "-0.0000004" ∷ "-0.0000015" ∷ [])
+    ≡ pos 12_345_678 ∷ pos 12_345_678 ∷ pos 12_345_679 ∷ pos 12_345_678 ∷ pos 1 ∷ negsuc 0 ∷ pos 0 ∷ pos 0 ∷ negsuc 1 ∷ []
 unfolding deciding
-cuts = refl
+rounded = refl
+
+-- a number short of 180 may come to 180, and one past 90 to 90, so the range is tested on the exact value
+to-the-bound :
+    map (of (pos 0) millionths) ("179.9999995" ∷ "-179.9999995" ∷ "179.9999994" ∷ "90.00000001" ∷ [])
+    ≡ pos 180_000_000 ∷ negsuc 179_999_999 ∷ pos 179_999_999 ∷ pos 90_000_000 ∷ []
+unfolding deciding
+to-the-bound = refl
 
 -- prices in quotation marks
 abbrev prices : List (String × Price)

@@ -1,5 +1,5 @@
 -- A number's exact value, in parts of 10^-18, and what document 01's "Numbers" asks of it: ranges on the exact value,
--- coordinates cut towards zero to millionths, money in ten-thousandths.
+-- coordinates rounded to millionths (document 02, W3), money in ten-thousandths.
 use mathlib.Core.Bool.{Bool}
 use Prim.Native.Nat.{ℕ, _+_, _*_, _/_, _%_}
 use lib.Dec.{eqb}
@@ -34,9 +34,17 @@ portion d = leZ (pos 0) (exact d) and leZ (exact d) (pos unit)
 unfoldable pub within : ℕ → Decimal → Bool
 within k d = leZ (negℤ (pos (k * unit))) (exact d) and leZ (exact d) (pos (k * unit))
 
--- a coordinate in millionths: cut towards zero
+-- a millionth, in parts
+abbrev pub millionth : ℕ
+millionth = 1_000_000_000_000
+
+-- a size in millionths: the nearest, and halfway between two the greater
+abbrev pub nearest : ℕ → ℕ
+nearest parts = (parts + millionth / 2) / millionth
+
+-- a coordinate in millionths: its size is rounded and its sign stays, so that a half goes away from zero
 unfoldable pub millionths : Decimal → ℤ
-millionths d = signed (d .negative) (size d / 1_000_000_000_000)
+millionths d = signed (d .negative) (nearest (size d))
 
 -- money: at most a million either way, and a multiple of 0.0001; its amount
 abbrev pub amountOf : Decimal → Amount

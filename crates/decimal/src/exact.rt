@@ -10,12 +10,14 @@ ghost use Rattle.decimal.specs.Exact.{natural as naturalOf, portion as p
 ghost use Rattle.decimal.specs.Formed.{Formed};
 
 impl Decimal {
-    // The greatest amount of money either way, and the parts of 10^-18 in a ten-thousandth and in a millionth.
+    // The greatest amount of money either way, and the parts of 10^-18 in a ten-thousandth, in a millionth and in half a millionth.
     pub const MOST_MONEY: u64 = 1_000_000;
 
     pub const TEN_THOUSANDTH: u64 = 100_000_000_000_000;
 
     pub const MILLIONTH: u64 = 1_000_000_000_000;
+
+    pub const HALFWAY: u64 = 500_000_000_000;
 
     // At least 0.
     pub fn natural(self) -> bool
@@ -26,7 +28,7 @@ impl Decimal {
     }
 
     // From -k to k.
-    // Shut out: a test on the value after it was cut to millionths, which lets 90.00000001 pass for 90.
+    // Shut out: a test on the rounded value, which lets 90.00000001 pass for 90.
     pub fn within(self, k: u64) -> bool
         requires { ⌜ Formed self ⌝ }
         ensures { λ r. ⌜ r ≡ withinOf k self ⌝ }
@@ -76,12 +78,13 @@ impl Decimal {
         return Money::Is(self.amount());
     }
 
-    // How many millionths, without the sign.
-    fn cut(self) -> u64
+    // How many millionths, to the nearest and without the sign.
+    // Shut out: the rest dropped, which moves every coordinate towards zero; a half dropped.
+    fn rounded(self) -> u64
         requires { ⌜ Formed self ⌝ }
         ensures { λ r. ⌜ signed (self .negative) r ≡ millionths self ⌝ }
     {
-        self.whole * 1_000_000 + self.part / Decimal::MILLIONTH
+        self.whole * 1_000_000 + (self.part + Decimal::HALFWAY) / Decimal::MILLIONTH
     }
 
     // A coordinate in millionths, k degrees up: so it is never below 0.
@@ -90,7 +93,7 @@ impl Decimal {
         ensures { λ r. ⌜ difference r (k * 1_000_000) ≡ millionths self ⌝ }
     {
         let up = k * 1_000_000;
-        let size = self.cut();
+        let size = self.rounded();
         if self.negative {
             return up - size;
         }

@@ -69,7 +69,7 @@ position-lengths : asFound lengths ≡ asSaid lengths
 unfolding ringing found
 position-lengths = refl
 
--- lon and lat: form, range and type; range before cutting
+-- lon and lat: form, range and type; range before rounding
 abbrev numbers : List (String × List (ℕ × ℕ))
 numbers =
     ("[[[[0,0],[1e1,2],[2,2],[0,0]]]]", (2, 8) ∷ []) ∷
@@ -82,14 +82,19 @@ lon-and-lat : asFound numbers ≡ asSaid numbers
 unfolding ringing found
 lon-and-lat = refl
 
--- a ring of three positions, which cannot have an area; one that is open, and open by a millionth; closed at six decimals and not at seven; one
--- without an area; and one that is open with a position that is not sound, where nothing of the whole is asked
+-- a ring of three positions, which cannot have an area; one that is open, and open by a millionth; rings that rounding closes, at the end of the map
+-- too, and rings that it opens; one without an area; and one that is open with a position that is not sound, where nothing of the whole is asked
 abbrev rings : List (String × List (ℕ × ℕ))
 rings =
     ("[[[[0,0],[0,2],[0,0]]]]", (1, 11) ∷ (1, 11) ∷ []) ∷
     ("[[[[0,0],[0,2],[2,2],[2,0]]]]", (1, 11) ∷ []) ∷
     ("[[[[0,0],[0,2],[2,2],[0.000001,0]]]]", (1, 11) ∷ []) ∷
-    ("[[[[0,0],[0,2],[2,2],[0.0000001,-0.0000009]]]]", []) ∷
+    ("[[[[0,0],[0,2],[2,2],[0.0000004,-0.0000004]]]]", []) ∷
+    ("[[[[0.000001,0],[0,2],[2,2],[0.0000005,0]]]]", []) ∷
+    ("[[[[179.9999995,0],[179,2],[178,2],[180,0]]]]", []) ∷
+    ("[[[[0,0],[0,2],[2,2],[0.0000001,-0.0000009]]]]", (1, 11) ∷ []) ∷
+    ("[[[[0,0],[0,2],[2,2],[0.0000005,0]]]]", (1, 11) ∷ []) ∷
+    ("[[[[180.0000005,0],[179,2],[178,2],[180,0]]]]", (1, 9) ∷ []) ∷
     ("[[[[0,0],[1,1],[2,2],[0,0]]]]", (1, 11) ∷ []) ∷
     ("[[[[0,0],[0,2],[2,2],[2,null]]]]", (4, 7) ∷ []) ∷
     []

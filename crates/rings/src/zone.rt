@@ -96,7 +96,7 @@ fn judge_polygons(p: &[u8], n: u32) -> Tally
 }
 
 // The first fault of the array that field 73 is.
-// Shut out: a count of polygons, rings or positions that hides another fault; a ring compared before it is cut to six decimals; a number
+// Shut out: a count of polygons, rings or positions that hides another fault; a ring compared before it is rounded to six decimals; a number
 // that is off by one.
 pub fn judge_coordinates(p: &[u8]) -> LeastFound
     requires { ⌜ length (now p) ≤ fileBytes ⌝ }

@@ -6,7 +6,7 @@ use reference::coordinates::{area_sum, Point};
 const DEGREE: i64 = 1_000_000;
 
 /// A closed ring of at most so many positions, at least 4, whose area is not zero. Many have corners on a coarse grid, so that points, edges
-/// and parallels meet.
+/// and parallels meet; some touch an end of the map.
 pub fn ring(rng: &mut Rng, most: usize, full: bool) -> Vec<Point> {
     let positions = if full { most } else { rng.between(4, most as i64) as usize };
     let step = rng.one_of(&[1, 1000, DEGREE / 4, DEGREE]);
@@ -17,10 +17,28 @@ pub fn ring(rng: &mut Rng, most: usize, full: bool) -> Vec<Point> {
     if area_sum(&ring) == 0 {
         ring = square(step);
     }
+    if !full && rng.chance(10) {
+        ring = at_an_end(rng, ring);
+    }
     if rng.flip() {
         ring.reverse();
     }
     ring
+}
+
+/// The ring moved to a corner of the map.
+fn at_an_end(rng: &mut Rng, ring: Vec<Point>) -> Vec<Point> {
+    let mut moved = |numbers: Vec<i64>, end: i64| -> i64 {
+        let (least, most) = (*numbers.iter().min().unwrap(), *numbers.iter().max().unwrap());
+        if rng.flip() {
+            end - most
+        } else {
+            -end - least
+        }
+    };
+    let east = moved(ring.iter().map(|point| point.lon).collect(), 180 * DEGREE);
+    let north = moved(ring.iter().map(|point| point.lat).collect(), 90 * DEGREE);
+    ring.into_iter().map(|Point { lon, lat }| Point { lon: lon + east, lat: lat + north }).collect()
 }
 
 /// Corners anywhere, edges that may cross.

@@ -45,20 +45,38 @@ pub fn degrees(rng: &mut Rng, limit: i64) -> Tree {
     }
 }
 
-/// A coordinate that is cut to the given millionths, or to any.
+/// A coordinate of at most so many degrees in size that rounds to the given millionths, or to any.
 pub fn coordinate(rng: &mut Rng, limit: i64, millionths: Option<i64>) -> Tree {
     let value = millionths.unwrap_or_else(|| rng.between(-limit * MILLION, limit * MILLION));
-    let mut spelling = fixed(value, 6);
-    if value.abs() < limit * MILLION && rng.chance(20) {
-        for _ in 0..rng.between(1, 12) {
-            spelling.push(rng.one_of(&['0', '1', '5', '9']));
-        }
-        return Tree::Number(spelling);
+    if value.abs() == limit * MILLION && rng.flip() {
+        return Tree::Number(rounding_to(value, "5"));
     }
+    if value.abs() < limit * MILLION && rng.chance(20) {
+        let decimals: String = (0..rng.between(1, 12)).map(|_| rng.one_of(&['0', '1', '5', '9'])).collect();
+        return Tree::Number(rounding_to(value, &decimals));
+    }
+    let mut spelling = fixed(value, 6);
     if rng.chance(70) {
         spelling = spelling.trim_end_matches('0').trim_end_matches('.').into();
     }
     Tree::Number(spelling)
+}
+
+/// A spelling that has these decimals behind the sixth and rounds to so many millionths: from below in size where they come to half a
+/// millionth, from above where they do not. What rounds to zero may have either sign.
+fn rounding_to(value: i64, decimals: &str) -> String {
+    let size = value.abs();
+    let spelling = match (decimals >= "5", size) {
+        (false, _) => fixed(size, 6) + decimals,
+        (true, 0) => fixed(0, 6) + "4" + &decimals[1..],
+        (true, _) => fixed(size - 1, 6) + decimals,
+    };
+    let negative = value < 0 || (value == 0 && decimals.len() % 2 == 1);
+    if negative {
+        format!("-{spelling}")
+    } else {
+        spelling
+    }
 }
 
 /// Money of `least` to a million, as a number.

@@ -6,7 +6,7 @@ use crate::scalar::fault;
 use crate::table::Form;
 use crate::{ceiling, kind};
 
-/// A position in millionths of a degree, cut towards zero.
+/// A position in millionths of a degree, each number rounded to the nearest with halves away from zero.
 #[derive(Clone, Copy, Debug, PartialEq, Eq)]
 pub struct Point {
     pub lon: i64,
@@ -85,9 +85,14 @@ fn point(position: &Value) -> Option<Point> {
     let items = position.as_array()?;
     let millionths = |index: usize| {
         let value = decimal(items.get(index)?.as_number()?)?;
-        i64::try_from(value / MILLIONTH).ok()
+        i64::try_from(rounded(value)).ok()
     };
     Some(Point { lon: millionths(0)?, lat: millionths(1)? })
+}
+
+/// A value in whole millionths: its size is rounded, halves up, and its sign put back.
+fn rounded(value: i128) -> i128 {
+    (value.abs() + MILLIONTH / 2) / MILLIONTH * value.signum()
 }
 
 /// The rings of sound coordinates, one a polygon.
@@ -120,7 +125,7 @@ mod tests {
     fn sound_coordinates() {
         assert_eq!(least("[]"), None);
         assert_eq!(least(&format!("[[{RING}],[{RING}]]")), None);
-        assert_eq!(least("[[[[0,0,1e999],[0,2],[2,2,-1.5],[0.0000009,-0.0000009]]]]"), None);
+        assert_eq!(least("[[[[0,0,1e999],[0,2],[2,2,-1.5],[0.0000004,-0.0000004]]]]"), None);
     }
 
     #[test]
@@ -134,6 +139,21 @@ mod tests {
         assert_eq!(least("[[[[0,0],[0,2],[2,2],[0,1]]]]"), Some((1, 11)));
         assert_eq!(least("[[[[0,0],[1,1],[2,2],[0,0]]]]"), Some((1, 11)));
         assert_eq!(least("[[[]]]"), Some((1, 11)));
+    }
+
+    #[test]
+    fn rings_close_once_they_are_rounded() {
+        assert_eq!(least("[[[[0.000001,0],[0,2],[2,2],[0.0000005,0]]]]"), None);
+        assert_eq!(least("[[[[179.9999995,0],[179,2],[178,2],[180,0]]]]"), None);
+        assert_eq!(least("[[[[0,0],[0,2],[2,2],[0.0000005,0]]]]"), Some((1, 11)));
+        assert_eq!(least("[[[[0,0],[0,2],[2,2],[0,-0.0000009]]]]"), Some((1, 11)));
+        assert_eq!(least("[[[[180.0000005,0],[179,2],[178,2],[180,0]]]]"), Some((1, 9)));
+    }
+
+    #[test]
+    fn halves_go_away_from_zero() {
+        let half = MILLIONTH / 2;
+        assert_eq!([half - 1, half, -half, 1 - half].map(rounded), [0, 1, -1, 0]);
     }
 
     #[test]
