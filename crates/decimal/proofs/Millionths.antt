@@ -2,13 +2,14 @@
 -- of zero alike. Nothing else opens the definition.
 use mathlib.Core.Bool.{Bool, true, false}
 use mathlib.Core.Path.{_≡_, sym, ap, _∙_}
-use Prim.Native.Nat.{ℕ, _+_, _*_, _/_, _≤_}
+use Prim.Native.Nat.{ℕ, _+_, _*_, _/_, _≤_, _<_}
 use native.Mathlib.Omega.{arith}
 use lib.IntN.{ℤ, pos, negℤ, natAbs, _-ℤ_, _*ℤ_}
 use lib.Signed.{leZ}
 use borrow.Author.Tests.{le-leb, leb-true}
 use Rattle.signed.specs.Signed.{signed}
-use Rattle.signed.proofs.Gap.{Gap, gap-pos, gap-neg, gap-mul, gap-minus, gap-size, gap-le, signed-size, signed-negated, signed-le, signed-across}
+use Rattle.signed.proofs.Gap.{gap-pos, gap-neg, gap-back, gap-same, gap-mul, gap-minus, gap-size, gap-le, signed-size, signed-negated, signed-le, signed-across}
+use Rattle.signed.proofs.Sums.{parts, up-size, down-size}
 use Rattle.decimal.specs.declared.Decimal.{Decimal}
 use Rattle.decimal.specs.Exact.{unit, size, exact, within, millionth, nearest, millionths}
 use Rattle.decimal.specs.Rounding.{opposite, Rounding}
@@ -79,5 +80,20 @@ millionths-near : (d : Decimal) → natAbs (millionths d *ℤ pos millionth -ℤ
 unfolding exact millionths
 millionths-near d = apart (d .negative) (size d)
 
+-- so what is less than half a millionth away from a number is its millionths
+nearer : (s : Bool) (n : ℕ) (z : ℤ) → natAbs (z *ℤ pos millionth -ℤ signed s n) < millionth / 2 → z ≡ signed s (nearest n)
+nearer true n z h =
+    let w = z *ℤ pos millionth -ℤ signed true n in
+    gap-same (parts z) (gap-neg (nearest n))
+    (omega (arith, up-size w, down-size w, gap-back (parts w) (gap-minus (gap-mul (parts z) (gap-pos millionth)) (gap-neg n))))
+nearer false n z h =
+    let w = z *ℤ pos millionth -ℤ signed false n in
+    gap-same (parts z) (gap-pos (nearest n))
+    (omega (arith, up-size w, down-size w, gap-back (parts w) (gap-minus (gap-mul (parts z) (gap-pos millionth)) (gap-pos n))))
+
+millionths-only : (d : Decimal) (z : ℤ) → natAbs (z *ℤ pos millionth -ℤ exact d) < millionth / 2 → z ≡ millionths d
+unfolding exact millionths
+millionths-only d z h = nearer (d .negative) (size d) z h
+
 pub rounding : Rounding
-rounding = record { near = millionths-near; halfway = millionths-halfway; odd = millionths-odd; six = millionths-six }
+rounding = record { near = millionths-near; only = millionths-only; halfway = millionths-halfway; odd = millionths-odd; six = millionths-six }

@@ -5,10 +5,10 @@ use mathlib.Core.Path.{_≡_, refl, sym, ap, _∙_}
 use Prim.Native.Nat.{ℕ, _+_, _*_, _/_, _%_, _<_, _≤_}
 use native.Mathlib.Decide.{ℕ-discrete}
 use native.Mathlib.Omega.{arith}
-use lib.Dec.{eqb, leb}
+use lib.Dec.{eqb, leb, ltb}
 use lib.IntN.{pos, negℤ}
 use lib.Signed.{leZ}
-use borrow.Author.Tests.{eq-eqb, ne-eqb, le-leb, lt-leb}
+use borrow.Author.Tests.{eq-eqb, ne-eqb, le-leb, lt-leb, lt-ltb, le-ltb}
 use Rattle.notation.specs.Choice.{_⇒_else_, _and_}
 use Rattle.signed.specs.Signed.{signed}
 use Rattle.signed.proofs.Gap.{gap-neg, gap-natural, signed-le, signed-across}
@@ -46,12 +46,12 @@ module _ (k : ℕ) (d : Decimal) (f : Formed d) where
   pub within-more : k < d .whole → false ≡ within k d
   within-more h = let j : k * unit < size d = omega arith in sym (lt-leb (size d) (k * unit) j) ∙ within-is k d
 
-  pub within-even : k ≤ d .whole → d .whole ≤ k → eqb (d .part) 0 ≡ within k d
+  pub within-even : k ≤ d .whole → d .whole ≤ k → ltb (d .part) 1 ≡ within k d
   within-even a b = go (ℕ-discrete (d .part) 0) ∙ within-is k d
     where
-      go : Dec (d .part ≡ 0) → eqb (d .part) 0 ≡ leb (size d) (k * unit)
-      go (yes z) = let j : size d ≤ k * unit = omega arith in eq-eqb (d .part) 0 z ∙ sym (le-leb (size d) (k * unit) j)
-      go (no z) = let j : k * unit < size d = omega (arith, z) in ne-eqb (d .part) 0 z ∙ sym (lt-leb (size d) (k * unit) j)
+      go : Dec (d .part ≡ 0) → ltb (d .part) 1 ≡ leb (size d) (k * unit)
+      go (yes z) = let j : size d ≤ k * unit = omega arith in lt-ltb (d .part) 1 (omega (arith, z)) ∙ sym (le-leb (size d) (k * unit) j)
+      go (no z) = let j : k * unit < size d = omega (arith, z) in le-ltb (d .part) 1 (omega (arith, z)) ∙ sym (lt-leb (size d) (k * unit) j)
 
 -- from 0 to 1
 below-signed : (s : Bool) (n : ℕ) → (s ≡ true → 0 < n) → s ≡ true → false ≡ (leZ (pos 0) (signed s n) and leZ (signed s n) (pos unit))

@@ -39,7 +39,7 @@ impl Decimal {
         if k < self.whole {
             return false;
         }
-        return self.part == 0;
+        return self.part < 1;
     }
 
     // From 0 to 1.

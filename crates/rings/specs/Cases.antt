@@ -83,7 +83,7 @@ unfolding ringing found
 lon-and-lat = refl
 
 -- a ring of three positions, which cannot have an area; one that is open, and open by a millionth; rings that rounding closes, at the end of the map
--- too, and rings that it opens; one without an area; and one that is open with a position that is not sound, where nothing of the whole is asked
+-- too, and rings that it opens; one that has an area only when it is rounded, and one that loses it; one without an area; and one that is open with a position that is not sound, where nothing of the whole is asked
 abbrev rings : List (String × List (ℕ × ℕ))
 rings =
     ("[[[[0,0],[0,2],[0,0]]]]", (1, 11) ∷ (1, 11) ∷ []) ∷
@@ -94,6 +94,8 @@ rings =
     ("[[[[179.9999995,0],[179,2],[178,2],[180,0]]]]", []) ∷
     ("[[[[0,0],[0,2],[2,2],[0.0000001,-0.0000009]]]]", (1, 11) ∷ []) ∷
     ("[[[[0,0],[0,2],[2,2],[0.0000005,0]]]]", (1, 11) ∷ []) ∷
+    ("[[[[0,0],[0,0.0000005],[0.0000005,0.0000005],[0,0]]]]", []) ∷
+    ("[[[[0,0.0000009],[1,0.000001],[2,0.0000009],[0,0.0000009]]]]", (1, 11) ∷ []) ∷
     ("[[[[180.0000005,0],[179,2],[178,2],[180,0]]]]", (1, 9) ∷ []) ∷
     ("[[[[0,0],[1,1],[2,2],[0,0]]]]", (1, 11) ∷ []) ∷
     ("[[[[0,0],[0,2],[2,2],[2,null]]]]", (4, 7) ∷ []) ∷

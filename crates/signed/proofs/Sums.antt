@@ -4,7 +4,7 @@ use mathlib.Core.Path.{_≡_, refl, ap}
 use Prim.Native.Nat.{ℕ, zero, suc, _+_, _*_, _-_, _≤_, _<_}
 use native.Mathlib.Numerals.{add-one}
 use native.Mathlib.Omega.{arith}
-use lib.IntN.{ℤ, pos, negsuc, _+ℤ_}
+use lib.IntN.{ℤ, pos, negsuc, natAbs, _+ℤ_}
 use Rattle.signed.specs.Sums.{sumTo, sumZ}
 use Rattle.signed.proofs.Gap.{Gap, gap-add, gap-pos, gap-same}
 
@@ -75,6 +75,14 @@ down (negsuc k) = suc k
 pub parts : (z : ℤ) → Gap z (up z) (down z)
 parts (pos k) = record { apart = omega arith }
 parts (negsuc k) = record { apart = omega arith }
+
+pub up-size : (z : ℤ) → up z ≤ natAbs z
+up-size (pos n) = omega arith
+up-size (negsuc n) = omega arith
+
+pub down-size : (z : ℤ) → down z ≤ natAbs z
+down-size (pos n) = omega arith
+down-size (negsuc n) = omega arith
 
 -- so sums in ℤ are equal where the sums of both parts are
 same-parts : (f g : ℕ → ℤ) (n m : ℕ) → sumTo (λ k. up (f k)) n ≡ sumTo (λ k. up (g k)) m → sumTo (λ k. down (f k)) n ≡ sumTo (λ k. down (g k)) m

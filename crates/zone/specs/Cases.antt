@@ -140,3 +140,23 @@ all-four : for (named "{'ride_allowed':false,'ride_through_allowed':true,'maximu
     ≡ found (record { ride = false; through = true; limited = true; speed = 25; parks = true; parking = false }) ∷ []
 unfolding ruled
 all-four = refl
+
+-- Positions are rounded before anything is asked of them: a border half a millionth past two degrees is held a millionth past them, and a nearer one is not;
+-- a triangle that winds clockwise when its corners are rounded, and the other way when they are cut, does not hold what is outside.
+abbrev millionths : ℕ → ℕ → Point
+millionths x y = record { lon = pos x; lat = pos y }
+
+rounded-border : at (file (zone "[0,0],[0,2],[2.0000005,2],[2.0000005,0],[0,0]" "" forAll)) (millionths 2_000_001 1 ∷ millionths 2_000_002 1 ∷ [])
+    ≡ bare true false ∷ none ∷ []
+unfolding ruled
+rounded-border = refl
+
+rounded-back : at (file (zone "[0,0],[0,2],[2.0000004,2],[2.0000004,0],[0,0]" "" forAll)) (millionths 2_000_000 1 ∷ millionths 2_000_001 1 ∷ [])
+    ≡ bare true false ∷ none ∷ []
+unfolding ruled
+rounded-back = refl
+
+rounded-winding : at (file (zone "[0,0],[0.000002,0.0000016],[0.0000016,0.000001],[0,0]" "" forAll)) (millionths 2 1 ∷ millionths 1 2 ∷ degrees 1 1 ∷ [])
+    ≡ bare true false ∷ none ∷ none ∷ []
+unfolding ruled
+rounded-winding = refl

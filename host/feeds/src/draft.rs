@@ -228,11 +228,18 @@ impl Maker<'_> {
     }
 
     fn position(&mut self, Point { lon, lat }: Point) -> Tree {
-        let mut items = vec![values::coordinate(self.rng, 180, Some(lon)), values::coordinate(self.rng, 90, Some(lat))];
+        let mut items = vec![self.ordinate(180, lon), self.ordinate(90, lat)];
         if self.rng.chance(10) {
             items.push(Tree::number(self.rng.one_of(&["0", "-1e400", "12345678901234567890", "1.5E-3"])));
         }
         Tree::Array(items)
+    }
+
+    fn ordinate(&mut self, limit: i64, millionths: i64) -> Tree {
+        if !self.size.full && self.rng.chance(5) {
+            return values::halfway(millionths);
+        }
+        values::coordinate(self.rng, limit, Some(millionths))
     }
 
     fn rule(&mut self) -> Tree {

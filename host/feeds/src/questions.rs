@@ -4,8 +4,8 @@ use crate::listed::records;
 use crate::rng::Rng;
 use crate::tree::{Members, Tree};
 use crate::Set;
-use reference::coordinates::Point;
-use reference::decimal::{decimal, MILLIONTH};
+use reference::coordinates::{rounded, Point};
+use reference::decimal::decimal;
 use reference::json::parse;
 use reference::table::name_of;
 
@@ -17,7 +17,7 @@ pub struct Ride {
     pub metres: u64,
 }
 
-/// Which rule holds.
+/// What the rules at a place allow.
 #[derive(Clone, Debug, PartialEq, Eq)]
 pub struct Where {
     pub lon: i64,
@@ -189,7 +189,7 @@ fn integers(members: Option<&Members>, names: &[&str]) -> Vec<u64> {
 /// The positions of a zone that can be read.
 fn corners(coordinates: Option<&Tree>) -> Vec<Point> {
     let positions = coordinates.into_iter().flat_map(Tree::items).flat_map(Tree::items).flat_map(Tree::items);
-    let millionths = |item: Option<&Tree>| i64::try_from(decimal(item?.as_number()?.as_bytes())? / MILLIONTH).ok();
+    let millionths = |item: Option<&Tree>| i64::try_from(rounded(decimal(item?.as_number()?.as_bytes())?)).ok();
     positions
         .filter_map(|position| {
             Some(Point { lon: millionths(position.items().first())?, lat: millionths(position.items().get(1))? })

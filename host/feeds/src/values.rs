@@ -62,8 +62,13 @@ pub fn coordinate(rng: &mut Rng, limit: i64, millionths: Option<i64>) -> Tree {
     Tree::Number(spelling)
 }
 
+/// A coordinate that lies halfway between two millionths and rounds to the given one, if that is not zero.
+pub fn halfway(millionths: i64) -> Tree {
+    Tree::Number(rounding_to(millionths, "50"))
+}
+
 /// A spelling that has these decimals behind the sixth and rounds to so many millionths: from below in size where they come to half a
-/// millionth, from above where they do not. What rounds to zero may have either sign.
+/// millionth, from above where they do not. What rounds to zero has a first decimal of 4 at most, and may have either sign.
 fn rounding_to(value: i64, decimals: &str) -> String {
     let size = value.abs();
     let spelling = match (decimals >= "5", size) {

@@ -27,6 +27,20 @@ fn sets_near_the_ceilings_are_accepted() {
 }
 
 #[test]
+fn positions_lie_halfway_and_at_the_ends_of_the_map() {
+    let (mut halves, mut ends) = (0, 0);
+    for seed in 0..300 {
+        let zones = sound(seed, &Size::FEW)[5].clone();
+        for number in String::from_utf8(zones).unwrap().split(|c: char| !"+-.0123456789eE".contains(c)) {
+            let behind_the_sixth = number.split_once('.').and_then(|(_, decimals)| decimals.get(6..));
+            halves += usize::from(behind_the_sixth.is_some_and(|decimals| decimals.trim_end_matches('0') == "5"));
+            ends += usize::from(number.contains("179.9999995"));
+        }
+    }
+    assert!(halves > 200 && ends > 10, "{halves} halves, {ends} of them at 180 degrees");
+}
+
+#[test]
 fn a_broken_rule_is_named() {
     let mut seen = HashSet::new();
     for seed in 0..8000 {

@@ -91,7 +91,7 @@ fn point(position: &Value) -> Option<Point> {
 }
 
 /// A value in whole millionths: its size is rounded, halves up, and its sign put back.
-fn rounded(value: i128) -> i128 {
+pub fn rounded(value: i128) -> i128 {
     (value.abs() + MILLIONTH / 2) / MILLIONTH * value.signum()
 }
 

@@ -3,6 +3,9 @@
 use super::field::{no_object, wrong_type, wrong_values, Broken};
 use crate::rng::Rng;
 use crate::tree::Tree;
+use crate::values::fixed;
+use reference::coordinates::rounded;
+use reference::decimal::decimal;
 use reference::table::Form;
 use reference::{ceiling, kind};
 
@@ -70,7 +73,7 @@ fn break_ring(tree: &mut Tree, rng: &mut Rng) -> Option<u8> {
         }
         3 => {
             let positions = tree.items_mut()?;
-            let shifted = shift(positions.first()?)?;
+            let shifted = shift(positions.first()?, rng)?;
             *positions.last_mut()? = shifted;
         }
         _ => *tree = ring(&[(0, 0), (1, 1), (2, 2), (0, 0)]),
@@ -78,11 +81,17 @@ fn break_ring(tree: &mut Tree, rng: &mut Rng) -> Option<u8> {
     Some(kind::RING)
 }
 
-/// A position that differs from a sound one at six decimals.
-fn shift(position: &Tree) -> Option<Tree> {
+/// A position that differs from a sound one when both are rounded: by degrees, by a millionth, or by half a millionth that rounds away.
+fn shift(position: &Tree, rng: &mut Rng) -> Option<Tree> {
     let mut shifted = position.clone();
     let lon = shifted.items_mut()?.first_mut()?;
-    *lon = if lon.as_number()?.starts_with('1') { Tree::number("20.5") } else { Tree::number("10.5") };
+    let millionths = i64::try_from(rounded(decimal(lon.as_number()?.as_bytes())?)).ok()?;
+    *lon = Tree::Number(match rng.below(3) {
+        0 if millionths.abs() < 180_000_000 => fixed(millionths + 1, 6),
+        1 if millionths.abs() < 180_000_000 => fixed(millionths, 6) + "5",
+        _ if millionths == 10_500_000 => "20.5".into(),
+        _ => "10.5".into(),
+    });
     Some(shifted)
 }
 
