@@ -86,9 +86,9 @@ enum {
 enum {
     SKAVELDRO_RIDE = 6,           /* ride_allowed */
     SKAVELDRO_THROUGH = 7,        /* ride_through_allowed */
-    SKAVELDRO_SPEED_GIVEN = 8,    /* whether the rule gives maximum_speed_kph */
+    SKAVELDRO_SPEED_GIVEN = 8,    /* whether a rule gives maximum_speed_kph */
     SKAVELDRO_SPEED = 9,          /* maximum_speed_kph */
-    SKAVELDRO_PARKING_GIVEN = 10, /* whether the rule gives station_parking */
+    SKAVELDRO_PARKING_GIVEN = 10, /* whether a rule gives station_parking */
     SKAVELDRO_PARKING = 11        /* station_parking */
 };
 
@@ -131,11 +131,11 @@ uint8_t skaveldro_quote(const uint8_t *plans, size_t plans_length,
                         uint8_t *answer, size_t answer_length);
 
 /*
- * The rule that holds at a point, in millionths of a degree, longitude first, for a vehicle type at a moment, in seconds since 1970, by
- * the bytes of file 6. Returns, in this order of checking: SKAVELDRO_POINT_OFF_MAP past 180 or 90 degrees; SKAVELDRO_NOT_CLEAN if the
- * file is not sound by itself, with the parts of its word; SKAVELDRO_NO_RULE; SKAVELDRO_ANSWERED with the rule. In place of the two
- * that write values, SKAVELDRO_NO_ROOM under 96 bytes. Twelve values: the parts, ride, through, whether a speed is given, the speed,
- * whether parking is given, parking.
+ * What the rules at a point, in millionths of a degree, longitude first, give together for a vehicle type at a moment, in seconds since
+ * 1970, by the bytes of file 6: each value comes from the first rule, in file order, that applies and gives it. Returns, in this order of
+ * checking: SKAVELDRO_POINT_OFF_MAP past 180 or 90 degrees; SKAVELDRO_NOT_CLEAN if the file is not sound by itself, with the parts of its
+ * word; SKAVELDRO_NO_RULE; SKAVELDRO_ANSWERED with the values. In place of the two that write values, SKAVELDRO_NO_ROOM under 96 bytes.
+ * Twelve values: the parts, ride, through, whether a speed is given, the speed, whether parking is given, parking.
  */
 uint8_t skaveldro_zone_rule(const uint8_t *zones, size_t zones_length,
                             int64_t lon, int64_t lat,

@@ -61,7 +61,7 @@ fn print_ruling(r: Ruling) {
     print::end();
 }
 
-// The four values, a minus sign for one that the rule does not give.
+// The four values, a minus sign for one that no rule gives.
 fn print_rule(r: Rule) {
     print::first(0);
     print::mark(r.ride);

@@ -17,7 +17,7 @@ use Rattle.gbfs.proofs.Only.{first-refused}
 use Rattle.gbfs.proofs.Says.{says}
 use Rattle.gbfs.proofs.Moments.{charge-due}
 use Rattle.gbfs.proofs.Prices.{price, price-given, no-credit, marked-minutes-ends, marked-kilometres-ends, past-minutes, past-kilometres}
-use Rattle.gbfs.proofs.Zones.{rule, no-rule, ruled, unruled}
+use Rattle.gbfs.proofs.Zones.{together-there, rule, no-rule, ruled, unruled}
 
 -- a set that breaks a rule breaks a first one
 some-first : (s : Feeds) → (rules s ≡ [] → ⊥) → (p : Parts) × First p (rules s)
@@ -51,6 +51,7 @@ demand-2 =
       endedKilometres = λ s id seconds metres plan e found over. past-kilometres s id seconds metres e plan found over;
       markedMinutes = marked-minutes-ends;
       markedKilometres = marked-kilometres-ends;
+      together = λ s q type moment. together-there q type moment s;
       rule = λ s q type moment. rule q type moment s;
       noRule = λ s q type moment. no-rule q type moment s;
       ruled = λ s q type moment. ruled q type moment s;

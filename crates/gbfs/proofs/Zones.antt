@@ -1,5 +1,6 @@
--- Demand 2 on zones. The definition takes the rules of the zones that count and hold the point, and of these the first for the type: that is the first of all
--- rules, in file order, that applies, since a ring or polygon is found to hold a point exactly where one does.
+-- Demand 2 on zones. The definition takes the rules of the zones that count and hold the point, and of these the ones for the type: these are, of all rules in
+-- file order, the ones that apply, since a ring or polygon is found to hold a point exactly where one does. So a value that is first among them is first
+-- among all that apply.
 use mathlib.Core.Bool.{Bool, true, false}
 use mathlib.Core.List.{List, [], _∷_, _++_, map, List·Memᴰ, List·Memᴰ·head, List·Memᴰ·tail, List·Memᴰ·not-nil, List·Memᴰ·cases-cons}
 use mathlib.Core.Logic.{⊎-elim}
@@ -12,7 +13,7 @@ use Rattle.schema.specs.Shape.{fileShape}
 use Rattle.schema.specs.Table23.{table23}
 use Rattle.schema.specs.Pick.{Picked, pick}
 use Rattle.schema.proofs.Tests.{and-left, and-right}
-use Rattle.document.specs.Document.{Maybe, none, some, elements, elementsOf, field, fieldItems, along}
+use Rattle.document.specs.Document.{Maybe, none, some, elements, elementsOf, field, fieldItems, along, spelling, truth, given}
 use Rattle.fault.proofs.Order.{by-test, true-false}
 use Rattle.geometry.specs.Ring.{Point}
 use Rattle.geometry.specs.Held.{holds}
@@ -20,9 +21,9 @@ use Rattle.rings.specs.Rings.{position}
 use Rattle.clean.specs.declared.Cleanness.{Cleanness}
 use Rattle.clean.specs.declared.Cleanness.the-variants.{Clean, Broken}
 use Rattle.clean.specs.Clean.{treeOf, cleanOf}
-use Rattle.zone.specs.Zone.{counts, ringsHold, polygonsHold, applies, zoneRules, rules, firstFor, ruleAt}
-use Rattle.zone.specs.Answer.{Answer, refused, found, values, onMap, ofRule, ofClean, rulingOf}
-use Rattle.gbfs.specs.Demand2.{ZoneRule, everyRule, rulesIn, Holding, Applies, FirstWith, here, later, NoneWith}
+use Rattle.zone.specs.Zone.{counts, ringsHold, polygonsHold, applies, zoneRules, rules, applicable, rulesAt, otherwise, firstGiven}
+use Rattle.zone.specs.Answer.{Answer, refused, found, ruleOf, values, onMap, ofRules, ofClean, rulingOf}
+use Rattle.gbfs.specs.Demand2.{ZoneRule, everyRule, rulesIn, Holding, Applies, FirstWith, here, later, NoneWith, Giving, FirstValue, by, byNone, Together}
 
 -- one of a list passes a test
 module _ (test : Picked → Bool) (any : List Picked → Bool) (none-passes : any [] ≡ false)
@@ -83,45 +84,83 @@ module _ {A : Type 0} {P : A → Type 0} where
   first-only (later n f) (here k) = absurd (n k)
   first-only (later n f) (later k g) = first-only f g
 
+  -- one that has it not may stand before
+  none-behind : {y : A} {l : List A} → (P y → ⊥) → NoneWith P l → NoneWith P (y ∷ l)
+  none-behind {y} {l} n h x m p = ⊎-elim (λ (e : x ≡ y). n (subst P e p)) (λ (k : List·Memᴰ x l). h x k p) (List·Memᴰ·cases-cons m)
+
+-- a value by the first rule that gives it
+module _ {A : Type 0} {value : Picked → Maybe A} {P : ZoneRule → Type 0} where
+  -- is one value
+  value-only : {l : List ZoneRule} {a b : Maybe A} → FirstValue value P l a → FirstValue value P l b → a ≡ b
+  value-only (by r f) (by x g) = ap (λ (z : ZoneRule). value (z .rule)) (first-only f g)
+  value-only (by r f) (byNone n) = absurd (n r (first-stands f) (first-has f))
+  value-only (byNone n) (by x g) = absurd (n x (first-stands g) (first-has g))
+  value-only (byNone n) (byNone k) = refl
+
+  value-behind : {y : ZoneRule} {l : List ZoneRule} {a : Maybe A} → (Giving value P y → ⊥) → FirstValue value P l a → FirstValue value P (y ∷ l) a
+  value-behind n (by r f) = by r (later n f)
+  value-behind n (byNone h) = byNone (none-behind n h)
+
+  -- of a rule that has the property, and the values behind it
+  value-here : (y : ZoneRule) {l : List ZoneRule} {a : Maybe A} → P y → FirstValue value P l a
+      → FirstValue value P (y ∷ l) (otherwise (value (y .rule)) a)
+  value-here y {l} {a} p v = go (value (y .rule)) refl
+    where
+      go : (m : Maybe A) → value (y .rule) ≡ m → FirstValue value P (y ∷ l) (otherwise m a)
+      go none e = value-behind (λ g. true-false (g .1) (ap given e)) v
+      go (some x) e = subst (FirstValue value P (y ∷ l)) e (by y (here (p, ap given e)))
+
 module _ (q : Point) (type : List ℕ) (moment : ℕ) where
   abbrev Apply : ZoneRule → Type 0
   Apply r = Applies q type moment r
 
-  -- what a search for the first rule comes to
-  data Outcome (l : List ZoneRule) : Maybe Picked → Type 0 where
-    nowhere : NoneWith Apply l → Outcome l none
-    at : {r : ZoneRule} → FirstWith Apply r l → Outcome l (some (r .rule))
+  -- the rules of a list that apply, and no others
+  data Applying : List ZoneRule → List Picked → Type 0 where
+    end : Applying [] []
+    taken : {y : ZoneRule} {l : List ZoneRule} {k : List Picked} → Apply y → Applying l k → Applying (y ∷ l) (y .rule ∷ k)
+    passed : {y : ZoneRule} {l : List ZoneRule} {k : List Picked} → (Apply y → ⊥) → Applying l k → Applying (y ∷ l) k
 
-  passed-over : (y : ZoneRule) {l : List ZoneRule} {m : Maybe Picked} → (Apply y → ⊥) → Outcome l m → Outcome (y ∷ l) m
-  passed-over y {l} n (nowhere h) =
-      nowhere (λ r m a. ⊎-elim (λ (e : r ≡ y). n (subst Apply e a)) (λ (k : List·Memᴰ r l). h r k a) (List·Memᴰ·cases-cons m))
-  passed-over y n (at f) = at (later n f)
+  -- where there are none, none applies; where there are some, one does
+  none-applies : {l : List ZoneRule} → Applying l [] → NoneWith Apply l
+  none-applies end = λ x m p. List·Memᴰ·not-nil m
+  none-applies (passed n o) = none-behind n (none-applies o)
 
-  first-here : (r : Picked) (rs : List Picked) → applies r type ≡ true → firstFor (r ∷ rs) type ≡ some r
-  unfolding firstFor
-  first-here r rs t = rw t
+  one-applies : {l : List ZoneRule} {x : Picked} {k : List Picked} → Applying l (x ∷ k) → (r : ZoneRule) × List·Memᴰ r l × Apply r
+  one-applies (taken {y} p o) = (y, List·Memᴰ·head refl, p)
+  one-applies (passed n o) = let r = one-applies o in (r .0, List·Memᴰ·tail (r .1), r .2)
 
-  first-next : (r : Picked) (rs : List Picked) → applies r type ≡ false → firstFor (r ∷ rs) type ≡ firstFor rs type
-  unfolding firstFor
-  first-next r rs f = rw f
+  -- a value that is first among them is first among all that apply
+  first-value : {A : Type 0} (value : Picked → Maybe A) {l : List ZoneRule} {k : List Picked} → Applying l k → FirstValue value Apply l (firstGiven value k)
+  unfolding firstGiven
+  first-value value end = byNone (λ x m p. List·Memᴰ·not-nil m)
+  first-value value (taken {y} p o) = value-here y p (first-value value o)
+  first-value value (passed n o) = value-behind (λ g. n (g .0)) (first-value value o)
+
+  applicable-here : (r : Picked) (rs : List Picked) → applies r type ≡ true → applicable (r ∷ rs) type ≡ r ∷ applicable rs type
+  unfolding applicable
+  applicable-here r rs t = rw t
+
+  applicable-next : (r : Picked) (rs : List Picked) → applies r type ≡ false → applicable (r ∷ rs) type ≡ applicable rs type
+  unfolding applicable
+  applicable-next r rs f = rw f
 
   -- the rules of one zone, before those of the others
   module _ (z p : Picked) where
     abbrev inZone : Picked → ZoneRule
     inZone r = record { zone = z; properties = p; rule = r }
 
-    none-of : (rs : List Picked) {l : List ZoneRule} {m : Maybe Picked} → ((r : Picked) → Apply (inZone r) → ⊥) → Outcome l m → Outcome (map inZone rs ++ l) m
+    none-of : (rs : List Picked) {l : List ZoneRule} {k : List Picked} → ((r : Picked) → Apply (inZone r) → ⊥) → Applying l k → Applying (map inZone rs ++ l) k
     none-of [] n o = o
-    none-of (r ∷ rs) n o = passed-over (inZone r) (n r) (none-of rs n o)
+    none-of (r ∷ rs) n o = passed (n r) (none-of rs n o)
 
-    some-of : Holding z q → counts p moment ≡ true → (rs : List Picked) {l : List ZoneRule} (others : List Picked) → Outcome l (firstFor others type)
-        → Outcome (map inZone rs ++ l) (firstFor (rs ++ others) type)
+    some-of : Holding z q → counts p moment ≡ true → (rs : List Picked) {l : List ZoneRule} (others : List Picked) → Applying l (applicable others type)
+        → Applying (map inZone rs ++ l) (applicable (rs ++ others) type)
     some-of h c [] others o = o
     some-of h c (r ∷ rs) {l} others o =
         let ih = some-of h c rs others o in
         by-test (applies r type)
-        (λ t. subst (Outcome (inZone r ∷ (map inZone rs ++ l))) (sym (first-here r (rs ++ others) t)) (at {r = inZone r} (here (record { holding = h; counting = c; naming = t }))))
-        (λ f. subst (Outcome (inZone r ∷ (map inZone rs ++ l))) (sym (first-next r (rs ++ others) f)) (passed-over (inZone r) (λ a. true-false (a .naming) f) ih))
+        (λ t. subst (Applying (inZone r ∷ (map inZone rs ++ l))) (sym (applicable-here r (rs ++ others) t)) (taken {y = inZone r} (record { holding = h; counting = c; naming = t }) ih))
+        (λ f. subst (Applying (inZone r ∷ (map inZone rs ++ l))) (sym (applicable-next r (rs ++ others) f)) (passed {y = inZone r} (λ a. true-false (a .naming) f) ih))
 
   -- one zone and the others
   module _ (z : Picked) (zs : List Picked) where
@@ -139,7 +178,7 @@ module _ (q : Point) (type : List ℕ) (moment : ℕ) where
 
     module _ (p : Picked) (e : field 74 z ≡ some p) where
       abbrev holding : Bool
-      holding = polygonsHold (polygonsOf q z) q and counts p moment
+      holding = counts p moment and polygonsHold (polygonsOf q z) q
 
       rules-some : zoneRules z q moment ≡ (holding ⇒ fieldItems 77 p else [])
       unfolding zoneRules
@@ -153,85 +192,124 @@ module _ (q : Point) (type : List ℕ) (moment : ℕ) where
       unfolding rules
       rules-other f = ap (λ (l : List Picked). l ++ rules zs q moment) (rules-some ∙ ap (λ (b : Bool). b ⇒ fieldItems 77 p else []) f)
 
-    outcome-as : {l : List ZoneRule} {rs : List Picked} → everyRule (z ∷ zs) ≡ l → rules (z ∷ zs) q moment ≡ rs → Outcome l (firstFor rs type)
-        → Outcome (everyRule (z ∷ zs)) (firstFor (rules (z ∷ zs) q moment) type)
-    outcome-as {l} e f o = subst (λ k. Outcome k (firstFor (rules (z ∷ zs) q moment) type)) (sym e) (subst (λ k. Outcome l (firstFor k type)) (sym f) o)
+    applying-as : {l : List ZoneRule} {rs : List Picked} → everyRule (z ∷ zs) ≡ l → rules (z ∷ zs) q moment ≡ rs → Applying l (applicable rs type)
+        → Applying (everyRule (z ∷ zs)) (applicable (rules (z ∷ zs) q moment) type)
+    applying-as {l} e f o =
+        subst (λ k. Applying k (applicable (rules (z ∷ zs) q moment) type)) (sym e) (subst (λ k. Applying l (applicable k type)) (sym f) o)
 
   both : (a b : Bool) → a ≡ true → b ≡ true → (a and b) ≡ true
   both true b e f = f
   both false b e f = true-false e refl
 
-  outcome : (zs : List Picked) → Outcome (everyRule zs) (firstFor (rules zs q moment) type)
-  unfolding everyRule rules firstFor
-  outcome [] = nowhere (λ r m a. List·Memᴰ·not-nil m)
-  outcome (z ∷ zs) = go (field 74 z) refl (outcome zs)
+  applying : (zs : List Picked) → Applying (everyRule zs) (applicable (rules zs q moment) type)
+  unfolding everyRule rules applicable
+  applying [] = end
+  applying (z ∷ zs) = go (field 74 z) refl (applying zs)
     where
-      go : (f : Maybe Picked) → field 74 z ≡ f → Outcome (everyRule zs) (firstFor (rules zs q moment) type)
-          → Outcome (everyRule (z ∷ zs)) (firstFor (rules (z ∷ zs) q moment) type)
-      go none e ih = outcome-as z zs (every-none z zs e) (rules-none z zs e) ih
+      go : (f : Maybe Picked) → field 74 z ≡ f → Applying (everyRule zs) (applicable (rules zs q moment) type)
+          → Applying (everyRule (z ∷ zs)) (applicable (rules (z ∷ zs) q moment) type)
+      go none e ih = applying-as z zs (every-none z zs e) (rules-none z zs e) ih
       go (some p) e ih =
           let held = polygonsHold (polygonsOf q z) q in
-          by-test (held and counts p moment)
+          by-test (counts p moment and held)
           (λ t.
-          outcome-as z zs (every-some z zs p e) (rules-held z zs p e t)
-          (some-of z p (held-holding q z (and-left held (counts p moment) t)) (and-right held (counts p moment) t) (fieldItems 77 p) (rules zs q moment) ih))
+          applying-as z zs (every-some z zs p e) (rules-held z zs p e t)
+          (some-of z p (held-holding q z (and-right (counts p moment) held t)) (and-left (counts p moment) held t) (fieldItems 77 p) (rules zs q moment) ih))
           (λ f.
-          outcome-as z zs (every-some z zs p e) (rules-other z zs p e f)
-          (none-of z p (fieldItems 77 p) (λ r a. true-false (both held (counts p moment) (holding-held q z (a .holding)) (a .counting)) f) ih))
+          applying-as z zs (every-some z zs p e) (rules-other z zs p e f)
+          (none-of z p (fieldItems 77 p) (λ r a. true-false (both (counts p moment) held (a .counting) (holding-held q z (a .holding))) f) ih))
 
   -- what a zone question asks, in order
-  abbrev asked : Bool → Cleanness → Maybe Picked → Answer
-  asked t c m = t ⇒ ofClean c (ofRule m) else refused 8 noParts
+  abbrev asked : Bool → Cleanness → List Picked → Answer
+  asked t c k = t ⇒ ofClean c (ofRules k) else refused 8 noParts
+
+  -- the values of the rules that apply
+  together : {l : List ZoneRule} {x : Picked} {k : List Picked} → Applying l (x ∷ k) → Together Apply l
+  together {x} {k} o =
+      let r = one-applies o in
+      record {
+        one = r .0;
+        stands = r .1;
+        has = r .2;
+        ride = firstGiven (truth 79) (x ∷ k);
+        through = firstGiven (truth 80) (x ∷ k);
+        speed = firstGiven (spelling 81) (x ∷ k);
+        parking = firstGiven (truth 82) (x ∷ k);
+        rideBy = first-value (truth 79) o;
+        throughBy = first-value (truth 80) o;
+        speedBy = first-value (spelling 81) o;
+        parkingBy = first-value (truth 82) o;
+      }
+
+  -- are the only ones that are given together
+  together-only : {l : List ZoneRule} {k : List Picked} → Applying l k → (g : Together Apply l) → values k ≡ ruleOf (g .ride) (g .through) (g .speed) (g .parking)
+  unfolding values
+  together-only o g =
+      rw (
+        value-only (first-value (truth 79) o) (g .rideBy),
+        value-only (first-value (truth 80) o) (g .throughBy),
+        value-only (first-value (spelling 81) o) (g .speedBy),
+        value-only (first-value (truth 82) o) (g .parkingBy),
+      )
+      refl
 
   module _ (s : List ℕ) where
-    abbrev ruleOf : Maybe Picked
-    ruleOf = ruleAt (pick (fileShape table23 6) (treeOf s)) q type moment
+    abbrev those : List Picked
+    those = rulesAt (pick (fileShape table23 6) (treeOf s)) q type moment
 
-    searched : Outcome (rulesIn s) ruleOf
-    unfolding ruleAt
-    searched = outcome (elementsOf (along (4 ∷ 5 ∷ 7 ∷ []) (pick (fileShape table23 6) (treeOf s))))
+    listed : Applying (rulesIn s) those
+    unfolding rulesAt
+    listed = applying (elementsOf (along (4 ∷ 5 ∷ 7 ∷ []) (pick (fileShape table23 6) (treeOf s))))
 
-    in-order : rulingOf s q type moment ≡ asked (onMap q) (cleanOf 6 s) ruleOf
+    in-order : rulingOf s q type moment ≡ asked (onMap q) (cleanOf 6 s) those
     unfolding rulingOf
     in-order = refl
 
-    answered : onMap q ≡ true → cleanOf 6 s ≡ Clean → rulingOf s q type moment ≡ ofRule ruleOf
+    pub together-there : (r : ZoneRule) → List·Memᴰ r (rulesIn s) → Apply r → Together Apply (rulesIn s)
+    together-there r m a = go those listed
+      where
+        go : (k : List Picked) → Applying (rulesIn s) k → Together Apply (rulesIn s)
+        go [] o = absurd (none-applies o r m a)
+        go (x ∷ k) o = together o
+
+    answered : onMap q ≡ true → cleanOf 6 s ≡ Clean → rulingOf s q type moment ≡ ofRules those
     answered h c = in-order ∙ rw (h, c)
 
-    pub rule : onMap q ≡ true → cleanOf 6 s ≡ Clean → (r : ZoneRule) → FirstWith Apply r (rulesIn s) → rulingOf s q type moment ≡ found (values (r .rule))
-    rule h c r f = answered h c ∙ go ruleOf searched
+    pub rule : onMap q ≡ true → cleanOf 6 s ≡ Clean → (g : Together Apply (rulesIn s))
+        → rulingOf s q type moment ≡ found (ruleOf (g .ride) (g .through) (g .speed) (g .parking))
+    rule h c g = answered h c ∙ go those listed
       where
-        go : (m : Maybe Picked) → Outcome (rulesIn s) m → ofRule m ≡ found (values (r .rule))
-        go none (nowhere k) = absurd (k r (first-stands f) (first-has f))
-        go (some x) (at g) = ap (λ (z : ZoneRule). found (values (z .rule))) (first-only g f)
+        go : (k : List Picked) → Applying (rulesIn s) k → ofRules k ≡ found (ruleOf (g .ride) (g .through) (g .speed) (g .parking))
+        go [] o = absurd (none-applies o (g .one) (g .stands) (g .has))
+        go (x ∷ k) o = ap found (together-only o g)
 
     pub no-rule : onMap q ≡ true → cleanOf 6 s ≡ Clean → NoneWith Apply (rulesIn s) → rulingOf s q type moment ≡ refused 9 noParts
-    no-rule h c n = answered h c ∙ go ruleOf searched
+    no-rule h c n = answered h c ∙ go those listed
       where
-        go : (m : Maybe Picked) → Outcome (rulesIn s) m → ofRule m ≡ refused 9 noParts
-        go none (nowhere k) = refl
-        go (some x) (at {r} f) = absurd (n r (first-stands f) (first-has f))
+        go : (k : List Picked) → Applying (rulesIn s) k → ofRules k ≡ refused 9 noParts
+        go [] o = refl
+        go (x ∷ k) o = let r = one-applies o in absurd (n (r .0) (r .1) (r .2))
 
     -- the number by what was asked
-    numbered : {n : ℕ} → rulingOf s q type moment .number ≡ n → asked (onMap q) (cleanOf 6 s) ruleOf .number ≡ n
+    numbered : {n : ℕ} → rulingOf s q type moment .number ≡ n → asked (onMap q) (cleanOf 6 s) those .number ≡ n
     numbered e = ap (λ (a : Answer). a .number) (sym in-order) ∙ e
 
-    pub ruled : rulingOf s q type moment .number ≡ 0 → (onMap q ≡ true) × (cleanOf 6 s ≡ Clean) × (r : ZoneRule) × FirstWith Apply r (rulesIn s)
-    ruled e = go (onMap q) (cleanOf 6 s) ruleOf searched (numbered e)
+    pub ruled : rulingOf s q type moment .number ≡ 0 → (onMap q ≡ true) × (cleanOf 6 s ≡ Clean) × Together Apply (rulesIn s)
+    ruled e = go (onMap q) (cleanOf 6 s) those listed (numbered e)
       where
-        go : (t : Bool) (c : Cleanness) (m : Maybe Picked) → Outcome (rulesIn s) m → asked t c m .number ≡ 0
-            → (t ≡ true) × (c ≡ Clean) × (r : ZoneRule) × FirstWith Apply r (rulesIn s)
-        go false c m o i = absurd (omega arith)
-        go true (Broken p) m o i = absurd (omega arith)
-        go true Clean none (nowhere h) i = absurd (omega arith)
-        go true Clean (some x) (at {r} f) i = (refl, refl, r, f)
+        go : (t : Bool) (c : Cleanness) (k : List Picked) → Applying (rulesIn s) k → asked t c k .number ≡ 0
+            → (t ≡ true) × (c ≡ Clean) × Together Apply (rulesIn s)
+        go false c k o i = absurd (omega arith)
+        go true (Broken p) k o i = absurd (omega arith)
+        go true Clean [] o i = absurd (omega arith)
+        go true Clean (x ∷ k) o i = (refl, refl, together o)
 
     pub unruled : rulingOf s q type moment .number ≡ 9 → (onMap q ≡ true) × (cleanOf 6 s ≡ Clean) × NoneWith Apply (rulesIn s)
-    unruled e = go (onMap q) (cleanOf 6 s) ruleOf searched (numbered e)
+    unruled e = go (onMap q) (cleanOf 6 s) those listed (numbered e)
       where
-        go : (t : Bool) (c : Cleanness) (m : Maybe Picked) → Outcome (rulesIn s) m → asked t c m .number ≡ 9
+        go : (t : Bool) (c : Cleanness) (k : List Picked) → Applying (rulesIn s) k → asked t c k .number ≡ 9
             → (t ≡ true) × (c ≡ Clean) × NoneWith Apply (rulesIn s)
-        go false c m o i = absurd (omega arith)
-        go true (Broken p) m o i = absurd (omega arith)
-        go true Clean none (nowhere h) i = (refl, refl, h)
-        go true Clean (some x) (at f) i = absurd (omega arith)
+        go false c k o i = absurd (omega arith)
+        go true (Broken p) k o i = absurd (omega arith)
+        go true Clean [] o i = (refl, refl, none-applies o)
+        go true Clean (x ∷ k) o i = absurd (omega arith)

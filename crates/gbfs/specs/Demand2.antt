@@ -1,6 +1,6 @@
 -- Demand 2: what the answers say. Each field of the record is one sentence of it, over the definitions of the verdict, the word, the quote and the zone
 -- rule, with what it shuts out.
-use mathlib.Core.Bool.{true, false}
+use mathlib.Core.Bool.{Bool, true, false}
 use mathlib.Core.List.{List, [], _∷_, _++_, map, List·Memᴰ}
 use mathlib.Core.Path.{_≡_}
 use Prim.Native.Nat.{ℕ, _+_, _*_, _/_, _^_, _≤_, _<_}
@@ -15,7 +15,7 @@ use Rattle.schema.specs.Shape.{fileShape}
 use Rattle.schema.specs.Table23.{table23}
 use Rattle.schema.specs.Pick.{Picked, pick}
 use Rattle.document.specs.Document as document
-use Rattle.document.specs.Document.{Maybe, some, elements, elementsOf, field, fieldItems, along}
+use Rattle.document.specs.Document.{Maybe, some, elements, elementsOf, field, fieldItems, along, spelling, truth, given}
 use Rattle.decimal.specs.Exact.{tenThousandths}
 use Rattle.fare.specs.declared.Segment.{Segment}
 use Rattle.fare.specs.Charges.{charge, charges, clamped, greatestEnd, past}
@@ -29,7 +29,7 @@ use Rattle.quote.specs.Quote as quote
 use Rattle.quote.specs.Quote.{mostSeconds, mostMetres, quoteOf}
 use Rattle.zone.specs.Zone.{counts, applies}
 use Rattle.zone.specs.Answer as zone
-use Rattle.zone.specs.Answer.{values, onMap, rulingOf}
+use Rattle.zone.specs.Answer.{ruleOf, onMap, rulingOf}
 use Rattle.gbfs.specs.Verdict.{Feeds, rules, before, numberOf, bufferOf}
 
 -- The verdict: p is among the rules, and none of them comes before it.
@@ -126,6 +126,29 @@ pub data FirstWith {A : Type 0} (P : A → Type 0) : A → List A → Type 0 whe
 abbrev pub NoneWith : {A : Type 0} → (A → Type 0) → List A → Type 0
 NoneWith {A} P l = (x : A) → List·Memᴰ x l → P x → ⊥
 
+-- a rule with this property gives a value: the member is there, and not as ""
+abbrev pub Giving : {A : Type 0} → (Picked → Maybe A) → (ZoneRule → Type 0) → ZoneRule → Type 0
+Giving value P r = P r × (given (value (r .rule)) ≡ true)
+
+-- a value as the first rule that has the property and gives it has it, and none where no such rule stands in the list
+pub data FirstValue {A : Type 0} (value : Picked → Maybe A) (P : ZoneRule → Type 0) (l : List ZoneRule) : Maybe A → Type 0 where
+  by : (r : ZoneRule) → FirstWith (Giving value P) r l → FirstValue value P l (value (r .rule))
+  byNone : NoneWith (Giving value P) l → FirstValue value P l document.none
+
+-- what the rules of a list that have the property give together, where one has it: fields 79 to 82, each by the first that gives it
+pub record Together (P : ZoneRule → Type 0) (l : List ZoneRule) : Type 0 where
+  pub one : ZoneRule
+  pub stands : List·Memᴰ one l
+  pub has : P one
+  pub ride : Maybe Bool
+  pub through : Maybe Bool
+  pub speed : Maybe (List ℕ)
+  pub parking : Maybe Bool
+  pub rideBy : FirstValue (truth 79) P l ride
+  pub throughBy : FirstValue (truth 80) P l through
+  pub speedBy : FirstValue (spelling 81) P l speed
+  pub parkingBy : FirstValue (truth 82) P l parking
+
 -- the demand
 pub record Demand2 : Type 0 where
   -- A set that breaks no rule is accepted, and its word says nothing else.
@@ -171,14 +194,18 @@ pub record Demand2 : Type 0 where
       → quoteOf s id seconds metres .pastMinutes ≡ true → PastEnds (perMinute plan) (seconds / 60)
   pub markedKilometres : (s id : List ℕ) (seconds metres : ℕ) (plan : Picked) → planIn s id ≡ some plan
       → quoteOf s id seconds metres .pastKilometres ≡ true → PastEnds (perKilometre plan) (metres / 1000)
-  -- At a point in range, a clean file answers with the values of the first rule, in file order over all zones, that applies, and with 9 where none does;
-  -- and exactly there.
-  -- Shut out: a rule of a zone that the point is outside of; a later rule, or values of two; an answer 9 for everything.
+  -- Where a rule applies, there is what the rules that apply give together.
+  pub together : (s : List ℕ) (q : Point) (type : List ℕ) (moment : ℕ) (r : ZoneRule) → List·Memᴰ r (rulesIn s) → Applies q type moment r
+      → Together (Applies q type moment) (rulesIn s)
+  -- At a point in range where rules apply, a clean file answers with the values that they give together, and with 9 where none applies; and exactly
+  -- there.
+  -- Shut out: a value of a zone that the point is outside of; a later rule's value, or none where a later rule gives one; an answer 9 for everything.
   pub rule : (s : List ℕ) (q : Point) (type : List ℕ) (moment : ℕ) → onMap q ≡ true → cleanOf 6 s ≡ Clean
-      → (r : ZoneRule) → FirstWith (Applies q type moment) r (rulesIn s) → rulingOf s q type moment ≡ zone.found (values (r .rule))
+      → (g : Together (Applies q type moment) (rulesIn s))
+      → rulingOf s q type moment ≡ zone.found (ruleOf (g .ride) (g .through) (g .speed) (g .parking))
   pub noRule : (s : List ℕ) (q : Point) (type : List ℕ) (moment : ℕ) → onMap q ≡ true → cleanOf 6 s ≡ Clean
       → NoneWith (Applies q type moment) (rulesIn s) → rulingOf s q type moment ≡ zone.refused 9 noParts
   pub ruled : (s : List ℕ) (q : Point) (type : List ℕ) (moment : ℕ) → rulingOf s q type moment .number ≡ 0
-      → (onMap q ≡ true) × (cleanOf 6 s ≡ Clean) × (r : ZoneRule) × FirstWith (Applies q type moment) r (rulesIn s)
+      → (onMap q ≡ true) × (cleanOf 6 s ≡ Clean) × Together (Applies q type moment) (rulesIn s)
   pub unruled : (s : List ℕ) (q : Point) (type : List ℕ) (moment : ℕ) → rulingOf s q type moment .number ≡ 9
       → (onMap q ≡ true) × (cleanOf 6 s ≡ Clean) × NoneWith (Applies q type moment) (rulesIn s)

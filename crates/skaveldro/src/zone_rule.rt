@@ -18,7 +18,7 @@ pub fn number(r: Ruling) -> u8
     }
 }
 
-// The values of its layout: the parts of a fault, and what the rule says.
+// The values of its layout: the parts of a fault, and what the rules say.
 pub fn values(r: Ruling) -> [u64; 12]
     ensures { λ v. ⌜ v ≡ zoneValues (answer r) ⌝ }
 {

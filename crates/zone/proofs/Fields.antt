@@ -18,17 +18,16 @@ use Rattle.schema.specs.Shape.{Shape, Rows, Sort, Numbering}
 use Rattle.schema.specs.Table23 as table
 use Rattle.schema.specs.Pick.{Picked, pick}
 use Rattle.rings.specs.Parts.{Listing, partsOf}
-use Rattle.document.specs.Document.{Maybe, none, some, along, elements, elementsOf, field, fieldItems, given, textIn}
+use Rattle.document.specs.Document.{Maybe, none, some, along, elements, elementsOf, field, fieldItems, textIn}
 use Rattle.document.proofs.Fields.{Lists}
 use Rattle.document.proofs.Records.{pickedItems}
-use Rattle.fields.specs.Values.{memberOf, textBy, arrayBy, integerIn, isId}
+use Rattle.fields.specs.Values.{memberOf, textBy, arrayBy, isId}
 use Rattle.fields.proofs.Values.{Holds, member-holds, holds-text, holds-items}
 use Rattle.fields.proofs.Arrays.{member-array}
 use Rattle.fields.proofs.Fields.{field-spelled, field-truth, field-items, rowOf, listed}
-use Rattle.zone.specs.declared.Rule.{Rule}
 use Rattle.zone.specs.Zone.{anyText, applies}
-use Rattle.zone.specs.Answer.{yes, values}
-use Rattle.zone.specs.Values.{idShape, valuesBy}
+use Rattle.zone.specs.Values.{idShape, flagOf, limitOf, givenBy, givenIn}
+use Rattle.zone.proofs.Combining.{same-given}
 
 -- the parts of an array are its picked items
 parts-are : (σ : Shape) (p : List ℕ) → partsOf σ p ≡ pickedItems σ p
@@ -64,19 +63,12 @@ module _ {f : ℕ} {name : List ℕ} {ν : Numbering} {most : ℕ} {σ : Shape} 
       go (some y) h = parts-field (h .1) ∙ ap (λ z. elementsOf (field f z)) (h .2) ∙ at-end (field f y)
 
 -- a rule
-abbrev made : Bool → Bool → Bool → ℕ → Bool → Bool → Rule
-made ride through limited speed parks parking =
-    record { ride = ride; through = through; limited = limited; speed = speed; parks = parks; parking = parking }
-
-same-rule : {a b c d e f g h i j : Bool} {k l : ℕ} → a ≡ b → c ≡ d → e ≡ f → k ≡ l → g ≡ h → i ≡ j → made a c e k g i ≡ made b d f l h j
-same-rule m n o p q r = rw (m, n, o, p, q, r)
-
 module _ {p : List ℕ} {x : Json} (w : Whole p x) where
-  pub rule-values : valuesBy p ≡ values (pick table.rule x)
-  unfolding table.rule rowOf valuesBy values
-  rule-values =
-      same-rule (ap yes (field-truth (listed refl) w)) (ap yes (field-truth (listed refl) w)) (ap given (field-spelled (listed refl) w))
-      (ap integerIn (field-spelled (listed refl) w)) (ap given (field-truth (listed refl) w)) (ap yes (field-truth (listed refl) w))
+  pub rule-given : givenBy p ≡ givenIn (pick table.rule x)
+  unfolding table.rule rowOf givenBy givenIn
+  rule-given =
+      same-given refl (ap flagOf (field-truth (listed refl) w)) (ap flagOf (field-truth (listed refl) w)) (ap limitOf (field-spelled (listed refl) w))
+      (ap flagOf (field-truth (listed refl) w))
 
   module _ (type : List ℕ) where
     -- an id by its bytes

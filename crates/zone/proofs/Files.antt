@@ -1,5 +1,5 @@
--- Of a clean file of zones: its zones are the items at the front of the rest, nothing is found in any of them, and so the first rule among them is
--- the file's. An absent file has none.
+-- Of a clean file of zones: its zones are the items at the front of the rest, nothing is found in any of them, and so what their rules give is what the
+-- file's give. An absent file has none.
 use mathlib.Core.List.{List, [], _∷_, List·Memᴰ}
 use mathlib.Core.Path.{_≡_, refl, sym, ap, subst, _∙_}
 use Prim.Native.Nat.{ℕ}
@@ -20,13 +20,15 @@ use Rattle.clean.specs.Clean.{treeOf, recordsOf}
 use Rattle.clean.proofs.Cleans.{Sound, clean-held}
 use Rattle.clean.proofs.Repeated.{Held}
 use Rattle.zone.specs.declared.Ruling.the-variants.{NoRule}
-use Rattle.zone.specs.Zone.{rules, firstFor, ruleAt}
-use Rattle.zone.specs.Values.{ruling}
+use Rattle.zone.specs.Zone.{rules, applicable, rulesAt}
+use Rattle.zone.specs.Answer.{answer, ofRules}
+use Rattle.zone.specs.Values.{allGiven, rulingBy}
 use Rattle.zone.specs.Clean.{CleanZones}
+use Rattle.zone.proofs.Combining.{given-answered}
 
 module _ (q : Point) (type : List ℕ) (moment : ℕ) where
-  pub none-absent : (s : List ℕ) → length s ≡ 0 → NoRule ≡ ruling (ruleAt (pick (fileShape table23 6) (treeOf s)) q type moment)
-  unfolding reading treeOf fileShape table23 zones file pick field along ruleAt rules firstFor
+  pub none-absent : (s : List ℕ) → length s ≡ 0 → answer NoRule ≡ ofRules (rulesAt (pick (fileShape table23 6) (treeOf s)) q type moment)
+  unfolding reading treeOf fileShape table23 zones file pick field along rulesAt rules applicable
   none-absent [] e = refl
   none-absent (b ∷ s) e = absurd (omega arith)
 
@@ -50,7 +52,9 @@ module _ {s p : List ℕ} (k : Sound 6 s) (f : RecordsFrom 6 s p) where
             record { place = h .0; field = held .field; clear = h .1 };
       }
 
-  pub file-rule : (q : Point) (type : List ℕ) (moment : ℕ)
-      → ruling (firstFor (rules (partsOf zone p) q moment) type) ≡ ruling (ruleAt (pick (fileShape table23 6) (treeOf s)) q type moment)
-  unfolding recordsOf ruleAt
-  file-rule q type moment = ap (λ l. ruling (firstFor (rules l q moment) type)) (sym (held .are ∙ zones-are))
+  pub file-answer : (q : Point) (type : List ℕ) (moment : ℕ)
+      → answer (rulingBy (allGiven (applicable (rules (partsOf zone p) q moment) type))) ≡ ofRules (rulesAt (pick (fileShape table23 6) (treeOf s)) q type moment)
+  unfolding recordsOf rulesAt
+  file-answer q type moment =
+      given-answered (applicable (rules (partsOf zone p) q moment) type)
+      ∙ ap (λ l. ofRules (applicable (rules l q moment) type)) (sym (held .are ∙ zones-are))

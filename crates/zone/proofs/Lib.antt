@@ -1,8 +1,10 @@
 pub mod Raising
 pub mod Ways
+pub mod Combining
+pub mod Combined
 pub mod Fields
 pub mod Zoned
 pub mod Cleared
-pub mod Searching
-pub mod Searched
+pub mod Looping
+pub mod Loops
 pub mod Files

@@ -1,4 +1,4 @@
--- The ways through reading truths, numbers and the window of a zone by their bytes.
+-- The ways through reading booleans, speeds and the window of a zone by their bytes.
 use mathlib.Core.Bool.{Bool, true, false}
 use mathlib.Core.List.{List, [], _∷_}
 use mathlib.Core.Path.{_≡_, refl, sym, ap, _∙_}
@@ -8,14 +8,14 @@ use lib.Dec.{eqb, leb, ltb}
 use lib.ListN.{length, getD}
 use borrow.Author.Tests.{eq-eqb, ne-eqb}
 use Rattle.notation.specs.Ascii.{bytes}
-use Rattle.notation.specs.Choice.{_⇒_else_}
 use Rattle.walk.specs.Part.{kindAt}
-use Rattle.document.specs.Document.{none, some, given}
+use Rattle.document.specs.Document.{none, some}
 use Rattle.fields.specs.Values.{code, truthBy, spelledBy, memberOf, integerIn}
 use Rattle.fields.proofs.Ways.{spelled-none, spelled-some}
+use Rattle.zone.specs.declared.Flag.the-variants as flag
+use Rattle.zone.specs.declared.Limit.the-variants as limit
 use Rattle.zone.specs.Zone.{integer, begun, unended}
-use Rattle.zone.specs.Answer.{yes}
-use Rattle.zone.specs.Values.{countsBy}
+use Rattle.zone.specs.Values.{countsBy, flagOf, limitOf}
 
 -- by the kind of q
 module _ (q : List ℕ) (n : ℕ) (e : n ≡ code (kindAt q)) where
@@ -27,34 +27,24 @@ module _ (q : List ℕ) (n : ℕ) (e : n ≡ code (kindAt q)) where
   unfolding truthBy
   truth-some h = rw (← e, eq-eqb n 1 h)
 
-  pub true-none : (n ≡ 1 → ⊥) → false ≡ yes (truthBy q)
-  true-none h = sym (ap yes (truth-none h))
+  pub flag-missing : (n ≡ 1 → ⊥) → flag.Missing ≡ flagOf (truthBy q)
+  flag-missing h = sym (ap flagOf (truth-none h))
 
-  pub true-empty : n ≡ 1 → length q ≡ 0 → false ≡ yes (truthBy q)
-  true-empty h l = no-byte q l ∙ sym (ap yes (truth-some h))
+  pub flag-empty : n ≡ 1 → length q ≡ 0 → flag.Is false ≡ flagOf (truthBy q)
+  flag-empty h l = ap flag.Is (no-byte q l) ∙ sym (ap flagOf (truth-some h))
     where
       no-byte : (s : List ℕ) → length s ≡ 0 → false ≡ eqb (getD s 0 0) 0x74
       no-byte [] i = refl
       no-byte (b ∷ s) i = absurd (omega arith)
 
-  pub true-some : n ≡ 1 → eqb (getD q 0 0) 0x74 ≡ yes (truthBy q)
-  true-some h = sym (ap yes (truth-some h))
+  pub flag-some : n ≡ 1 → flag.Is (eqb (getD q 0 0) 0x74) ≡ flagOf (truthBy q)
+  flag-some h = sym (ap flagOf (truth-some h))
 
-  pub truth-given : eqb n 1 ≡ given (truthBy q)
-  unfolding truthBy
-  truth-given = rw (← e) (go (eqb n 1))
-    where
-      go : (t : Bool) → t ≡ given (t ⇒ some (eqb (getD q 0 0) 0x74) else none)
-      go true = refl
-      go false = refl
+  pub limit-missing : (n ≡ 2 → ⊥) → limit.Missing ≡ limitOf (spelledBy q)
+  limit-missing h = sym (ap limitOf (spelled-none q n e h))
 
-  pub number-given : eqb n 2 ≡ given (spelledBy q)
-  unfolding spelledBy
-  number-given = rw (← e) (go (eqb n 2))
-    where
-      go : (t : Bool) → t ≡ given (t ⇒ some q else none)
-      go true = refl
-      go false = refl
+  pub limit-some : n ≡ 2 → limit.Is (integerIn (spelledBy q)) ≡ limitOf (spelledBy q)
+  limit-some h = rw (spelled-some q n e h)
 
   -- start and end
   module _ (moment : ℕ) where

@@ -1,4 +1,4 @@
--- A zone by its bytes: its polygons, its window and its rules, and the ways through asking for the first rule of it.
+-- A zone by its bytes: its polygons, its window and its rules, and the ways through asking what these give.
 use mathlib.Core.Bool.{Bool, true, false}
 use mathlib.Core.List.{List, [], _∷_}
 use mathlib.Core.Path.{_≡_, refl, sym, ap, ap₂, _∙_}
@@ -19,9 +19,10 @@ use Rattle.document.proofs.Fields.{Lists}
 use Rattle.fields.specs.Values.{memberOf, arrayBy}
 use Rattle.fields.proofs.Values.{Holds, member-holds}
 use Rattle.fields.proofs.Fields.{field-spelled, rowOf, listed}
-use Rattle.zone.specs.declared.Ruling.the-variants.{NoRule}
-use Rattle.zone.specs.Zone.{integer, begun, unended, counts, polygonsHold, zoneRules, firstFor}
-use Rattle.zone.specs.Values.{countsBy, ruling}
+use Rattle.zone.specs.declared.Given.{Given}
+use Rattle.zone.specs.Zone.{integer, begun, unended, counts, polygonsHold, zoneRules}
+use Rattle.zone.specs.Values.{countsBy}
+use Rattle.zone.proofs.Combining.{withRules, rules-none}
 use Rattle.zone.proofs.Fields.{nothing-in, parts-field, parts-inside}
 
 -- the bytes of a zone's polygons, of its properties, and of the rules in them
@@ -46,21 +47,21 @@ module _ {rows : Rows} (d : Dated rows) {p : List ℕ} {x : Json} (w : Whole p x
   window moment = ap₂ (λ s e. begun (integer s) moment and unended (integer e) moment) (field-spelled (d .starts) w) (field-spelled (d .ends) w)
 
   in-window : (held : Bool) (moment : ℕ)
-      → (held and counts (pick (shape.object rows) x) moment ⇒ fieldItems 77 (pick (shape.object rows) x) else [])
-      ≡ (held and countsBy p moment ⇒ partsOf table.rule (ruleBytes p) else [])
-  in-window held moment = ap₂ (λ c l. held and c ⇒ l else []) (sym (window moment)) (sym (parts-field (d .ruled) w))
+      → (counts (pick (shape.object rows) x) moment and held ⇒ fieldItems 77 (pick (shape.object rows) x) else [])
+      ≡ (countsBy p moment and held ⇒ partsOf table.rule (ruleBytes p) else [])
+  in-window held moment = ap₂ (λ c l. c and held ⇒ l else []) (sym (window moment)) (sym (parts-field (d .ruled) w))
 
--- without properties there are no rules, whatever is held and counts
+-- without properties there are no rules, whatever counts and is held
 no-rules : {p : List ℕ} → p ≡ [] → (t : Bool) → [] ≡ (t ⇒ partsOf table.rule (ruleBytes p) else [])
 no-rules e true = sym (ap (λ p. partsOf table.rule (ruleBytes p)) e ∙ nothing-in table.rule (bytes "rules"))
 no-rules e false = refl
 
 in-properties : {rows : Rows} → Dated rows → (p : List ℕ) (held : Bool) (moment : ℕ) (o : Maybe Picked) → Holds (shape.object rows) p o
-    → elim o [ none ↦ [] | some y ↦ held and counts y moment ⇒ fieldItems 77 y else [] ]
-    ≡ (held and countsBy p moment ⇒ partsOf table.rule (ruleBytes p) else [])
-in-properties d p held moment none h = no-rules h (held and countsBy p moment)
+    → elim o [ none ↦ [] | some y ↦ counts y moment and held ⇒ fieldItems 77 y else [] ]
+    ≡ (countsBy p moment and held ⇒ partsOf table.rule (ruleBytes p) else [])
+in-properties d p held moment none h = no-rules h (countsBy p moment and held)
 in-properties d p held moment (some y) h =
-    ap (λ z. held and counts z moment ⇒ fieldItems 77 z else []) (sym (h .2)) ∙ in-window d (h .1) held moment
+    ap (λ z. counts z moment and held ⇒ fieldItems 77 z else []) (sym (h .2)) ∙ in-window d (h .1) held moment
 
 module _ {p : List ℕ} {x : Json} (w : Whole p x) where
   -- its picked polygons
@@ -73,22 +74,20 @@ module _ {p : List ℕ} {x : Json} (w : Whole p x) where
 
   module _ (q : Point) (moment : ℕ) where
     zone-rules : zoneRules (pick table.zone x) q moment
-        ≡ (polygonsHold polygons q and countsBy (propertyBytes p) moment ⇒ partsOf table.rule (ruleBytes (propertyBytes p)) else [])
+        ≡ (countsBy (propertyBytes p) moment and polygonsHold polygons q ⇒ partsOf table.rule (ruleBytes (propertyBytes p)) else [])
     unfolding table.zone rowOf zoneRules
     zone-rules =
         in-properties (record { starts = listed refl; ends = listed refl; ruled = listed refl }) (propertyBytes p) (polygonsHold polygons q) moment
         (field 74 (pick table.zone x)) (member-holds (listed refl) p x w)
 
-    module _ (type : List ℕ) where
-      pub zone-off : polygonsHold polygons q ≡ false → NoRule ≡ ruling (firstFor (zoneRules (pick table.zone x) q moment) type)
-      unfolding firstFor
-      zone-off e = rw (zone-rules, e)
+    module _ (type : List ℕ) (a : Given) where
+      pub zone-past : countsBy (propertyBytes p) moment ≡ false → a ≡ withRules type a (zoneRules (pick table.zone x) q moment)
+      zone-past c = sym (rules-none type a) ∙ rw (zone-rules, c)
 
-      pub zone-past : polygonsHold polygons q ≡ true → countsBy (propertyBytes p) moment ≡ false
-          → NoRule ≡ ruling (firstFor (zoneRules (pick table.zone x) q moment) type)
-      unfolding firstFor
-      zone-past e c = rw (zone-rules, e, c)
+      pub zone-off : countsBy (propertyBytes p) moment ≡ true → polygonsHold polygons q ≡ false
+          → a ≡ withRules type a (zoneRules (pick table.zone x) q moment)
+      zone-off c e = sym (rules-none type a) ∙ rw (zone-rules, c, e)
 
-      pub zone-first : polygonsHold polygons q ≡ true → countsBy (propertyBytes p) moment ≡ true
-          → ruling (firstFor (partsOf table.rule (ruleBytes (propertyBytes p))) type) ≡ ruling (firstFor (zoneRules (pick table.zone x) q moment) type)
-      zone-first e c = rw (zone-rules, e, c)
+      pub zone-given : countsBy (propertyBytes p) moment ≡ true → polygonsHold polygons q ≡ true
+          → withRules type a (partsOf table.rule (ruleBytes (propertyBytes p))) ≡ withRules type a (zoneRules (pick table.zone x) q moment)
+      zone-given c e = rw (zone-rules, c, e)

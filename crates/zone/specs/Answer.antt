@@ -1,7 +1,7 @@
--- The question "zone rule" of document 01: its numbers in the order of checking, and the four values of the rule that applies. Where an answer has
--- no parts or values, zero and no stand in.
+-- The question "zone rule" of document 01, with document 02's request W4: its numbers in the order of checking, and the four values, each by the first
+-- rule that applies and gives it. Where an answer has no parts or values, zero and no stand in.
 use mathlib.Core.Bool.{Bool, false}
-use mathlib.Core.List.{List}
+use mathlib.Core.List.{List, [], _∷_}
 use Prim.Native.Nat.{ℕ}
 use lib.IntN.{pos, negℤ}
 use lib.Signed.{leZ}
@@ -20,7 +20,7 @@ use Rattle.clean.specs.Clean.{treeOf, cleanOf}
 use Rattle.zone.specs.declared.Rule.{Rule}
 use Rattle.zone.specs.declared.Ruling.{Ruling}
 use Rattle.zone.specs.declared.Ruling.the-variants.{OffMap, NotClean, NoRule, Is}
-use Rattle.zone.specs.Zone.{ruleAt}
+use Rattle.zone.specs.Zone.{rulesAt, firstGiven}
 
 -- no rule
 abbrev pub noRule : Rule
@@ -51,17 +51,21 @@ abbrev pub yes : Maybe Bool → Bool
 yes none = false
 yes (some b) = b
 
--- the values of fields 79 to 82; the last two with whether they are given
-unfoldable pub values : Picked → Rule
-values x =
+-- the four values as an answer has them; the last two with whether they are given
+abbrev pub ruleOf : (ride through : Maybe Bool) → (speed : Maybe (List ℕ)) → (parking : Maybe Bool) → Rule
+ruleOf ride through speed parking =
     record {
-      ride = yes (truth 79 x);
-      through = yes (truth 80 x);
-      limited = given (spelling 81 x);
-      speed = integerIn (spelling 81 x);
-      parks = given (truth 82 x);
-      parking = yes (truth 82 x);
+      ride = yes ride;
+      through = yes through;
+      limited = given speed;
+      speed = integerIn speed;
+      parks = given parking;
+      parking = yes parking;
     }
+
+-- fields 79 to 82 of these rules, each by the first that gives it
+unfoldable pub values : List Picked → Rule
+values l = ruleOf (firstGiven (truth 79) l) (firstGiven (truth 80) l) (firstGiven (spelling 81) l) (firstGiven (truth 82) l)
 
 -- a point whose lon and lat are in their ranges
 unfoldable pub onMap : Point → Bool
@@ -69,10 +73,10 @@ onMap q =
     leZ (negℤ (pos 180_000_000)) (q .lon) and leZ (q .lon) (pos 180_000_000) and
     leZ (negℤ (pos 90_000_000)) (q .lat) and leZ (q .lat) (pos 90_000_000)
 
--- of a clean file: no rule applies, or the values of the one that does
-abbrev pub ofRule : Maybe Picked → Answer
-ofRule none = refused 9 noParts
-ofRule (some rule) = found (values rule)
+-- of a clean file: no rule applies, or the values of those that do
+abbrev pub ofRules : List Picked → Answer
+ofRules [] = refused 9 noParts
+ofRules (r ∷ rs) = found (values (r ∷ rs))
 
 abbrev pub ofClean : Cleanness → Answer → Answer
 ofClean Clean next = next
@@ -82,5 +86,5 @@ ofClean (Broken p) next = refused 5 p
 unfoldable pub rulingOf : (s : List ℕ) → Point → (type : List ℕ) → (moment : ℕ) → Answer
 rulingOf s q type moment =
     onMap q ⇒
-    ofClean (cleanOf 6 s) (ofRule (ruleAt (pick (fileShape table23 6) (treeOf s)) q type moment))
+    ofClean (cleanOf 6 s) (ofRules (rulesAt (pick (fileShape table23 6) (treeOf s)) q type moment))
     else refused 8 noParts

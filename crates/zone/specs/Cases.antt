@@ -14,13 +14,13 @@ use Rattle.geometry.specs.Ring.{Point}
 use Rattle.document.specs.Document as document
 use Rattle.judge.specs.Cases.{judging}
 use Rattle.clean.specs.Clean as clean
-use Rattle.zone.specs.Zone.{counts, ringsHold, polygonsHold, anyText, applies, zoneRules, rules, firstFor, ruleAt}
+use Rattle.zone.specs.Zone.{counts, ringsHold, polygonsHold, anyText, applies, zoneRules, rules, applicable, rulesAt, firstGiven}
 use Rattle.word.specs.Word.{noParts}
 use Rattle.zone.specs.Answer.{Answer, refused, found, values, onMap, rulingOf}
 
 -- opens every definition of this layer
 unfoldable pub ruled : Unit {0}
-unfolding judging pick.at document.field document.fieldItems document.along document.text document.spelling document.truth clean.treeOf clean.idField clean.recordsOf clean.usedBefore clean.repeatedId clean.repeatsFrom clean.repeats clean.cleanOf counts ringsHold polygonsHold anyText applies zoneRules rules firstFor ruleAt values onMap rulingOf
+unfolding judging pick.at document.field document.fieldItems document.along document.text document.spelling document.truth clean.treeOf clean.idField clean.recordsOf clean.usedBefore clean.repeatedId clean.repeatsFrom clean.repeats clean.cleanOf counts ringsHold polygonsHold anyText applies zoneRules rules applicable rulesAt firstGiven values onMap rulingOf
 ruled = tt
 
 abbrev mark : ℕ → ℕ
@@ -126,16 +126,6 @@ ids-with-blank : for (named "{'vehicle_type_id':['','u'],'ride_allowed':true,'ri
 unfolding ruled
 ids-with-blank = refl
 
--- the whole first rule that is for the type, over all zones: nothing of a later one
-first-of-two :
-    for (file (zone square "" "{'vehicle_type_id':['u'],'ride_allowed':false,'ride_through_allowed':false}" ++
-    bytes "," ++
-    zone square "" "{'ride_allowed':true,'ride_through_allowed':true},{'ride_allowed':false,'ride_through_allowed':false,'maximum_speed_kph':9,'station_parking':true}"))
-    ("u" ∷ "t" ∷ [])
-    ≡ bare false false ∷ bare true true ∷ []
-unfolding ruled
-first-of-two = refl
-
 all-four : for (named "{'ride_allowed':false,'ride_through_allowed':true,'maximum_speed_kph':25,'station_parking':false}") ("t" ∷ [])
     ≡ found (record { ride = false; through = true; limited = true; speed = 25; parks = true; parking = false }) ∷ []
 unfolding ruled
@@ -160,3 +150,45 @@ rounded-winding : at (file (zone "[0,0],[0.000002,0.0000016],[0.0000016,0.000001
     ≡ bare true false ∷ none ∷ none ∷ []
 unfolding ruled
 rounded-winding = refl
+
+-- document 02's own case: the park's rule stands before the town's and gives no speed, and inside both the answer has the park's ban and the town's speed.
+-- In the park's part that lies outside the town there is no speed, in the town outside the park the town's rule stands alone
+abbrev park : List ℕ
+park = zone square "" "{'ride_allowed':false,'ride_through_allowed':false}"
+
+abbrev town : List ℕ
+town = zone "[1,0],[1,4],[4,4],[4,0],[1,0]" "" "{'ride_allowed':true,'ride_through_allowed':true,'maximum_speed_kph':20}"
+
+abbrev both : List ℕ → List ℕ → List ℕ
+both a b = file (a ++ bytes "," ++ b)
+
+abbrev limited : Bool → Bool → ℕ → Answer
+limited ride through speed = found (record { ride = ride; through = through; limited = true; speed = speed; parks = false; parking = false })
+
+park-and-town : at (both park town) (degrees 0 1 ∷ degrees 2 1 ∷ degrees 3 1 ∷ degrees 5 1 ∷ [])
+    ≡ bare false false ∷ limited false false 20 ∷ limited true true 20 ∷ none ∷ []
+unfolding ruled
+park-and-town = refl
+
+-- the earlier wins where they collide
+town-and-park : at (both town park) (degrees 2 1 ∷ []) ≡ limited true true 20 ∷ []
+unfolding ruled
+town-and-park = refl
+
+-- "" gives no value, 0 and no do, in rules of one zone as in those of several; a rule for another type gives nothing
+given-and-not :
+    for (both
+    (zone square "" "{'vehicle_type_id':['u'],'ride_allowed':false,'ride_through_allowed':false,'maximum_speed_kph':7},{'ride_allowed':true,'ride_through_allowed':true,'maximum_speed_kph':'','station_parking':false}")
+    (zone square "" "{'vehicle_type_id':[],'ride_allowed':false,'ride_through_allowed':false,'maximum_speed_kph':5},{'ride_allowed':false,'ride_through_allowed':false,'maximum_speed_kph':0,'station_parking':true},{'ride_allowed':true,'ride_through_allowed':true,'maximum_speed_kph':9}"))
+    ("u" ∷ "t" ∷ [])
+    ≡ found (record { ride = false; through = false; limited = true; speed = 7; parks = true; parking = false })
+    ∷ found (record { ride = true; through = true; limited = true; speed = 0; parks = true; parking = false })
+    ∷ []
+unfolding ruled
+given-and-not = refl
+
+-- a zone that does not count gives nothing to one that does
+over-and-not : when (both (zone square "'end':9," "{'ride_allowed':false,'ride_through_allowed':false,'maximum_speed_kph':3}") town) (8 ∷ 9 ∷ [])
+    ≡ limited false false 3 ∷ limited true true 20 ∷ []
+unfolding ruled
+over-and-not = refl

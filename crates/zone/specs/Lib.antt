@@ -1,5 +1,6 @@
 pub mod Zone
 pub mod Answer
+pub mod Combined
 pub mod Values
 pub mod Clean
 pub mod Cases

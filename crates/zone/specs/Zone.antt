@@ -1,4 +1,4 @@
--- The rule that holds at a point: document 01, "Zones", on a picked file of zones.
+-- The rules that apply at a point, and what they give together: document 01, "Zones", with document 02's request W4, on a picked file of zones.
 use mathlib.Core.Bool.{Bool, true, false}
 use mathlib.Core.List.{List, [], _∷_, _++_, map}
 use Prim.Native.Nat.{ℕ}
@@ -52,17 +52,26 @@ zoneRules zone q moment =
     elim (field 74 zone) [
       | none ↦ []
       | some properties ↦
-          polygonsHold (elementsOf (along (71 ∷ 73 ∷ []) zone)) q and counts properties moment ⇒ fieldItems 77 properties else []
+          counts properties moment and polygonsHold (elementsOf (along (71 ∷ 73 ∷ []) zone)) q ⇒ fieldItems 77 properties else []
     ]
 
 unfoldable pub rules : List Picked → Point → ℕ → List Picked
 rules [] q moment = []
 rules (z ∷ zs) q moment = zoneRules z q moment ++ rules zs q moment
 
--- the whole first one that is for the type
-unfoldable pub firstFor : List Picked → List ℕ → Maybe Picked
-firstFor [] type = none
-firstFor (r ∷ rs) type = applies r type ⇒ some r else firstFor rs type
+-- those of them that are for the type
+unfoldable pub applicable : List Picked → List ℕ → List Picked
+applicable [] type = []
+applicable (r ∷ rs) type = applies r type ⇒ r ∷ applicable rs type else applicable rs type
 
-unfoldable pub ruleAt : Picked → Point → List ℕ → ℕ → Maybe Picked
-ruleAt file q type moment = firstFor (rules (elementsOf (along (4 ∷ 5 ∷ 7 ∷ []) file)) q moment) type
+unfoldable pub rulesAt : Picked → Point → List ℕ → ℕ → List Picked
+rulesAt file q type moment = applicable (rules (elementsOf (along (4 ∷ 5 ∷ 7 ∷ []) file)) q moment) type
+
+-- a value as the first rule that gives it has it; one that is missing or "" is not given
+abbrev pub otherwise : {A : Type 0} → Maybe A → Maybe A → Maybe A
+otherwise none o = o
+otherwise (some v) o = some v
+
+unfoldable pub firstGiven : {A : Type 0} → (Picked → Maybe A) → List Picked → Maybe A
+firstGiven value [] = none
+firstGiven value (r ∷ rs) = otherwise (value r) (firstGiven value rs)

@@ -1,4 +1,4 @@
-// The rule that holds at a point and a moment for a type of vehicle, by a file of zones.
+// What the rules of a file of zones say together at a point and a moment for a type of vehicle.
 use crate::point::on_map;
 use crate::point::raised;
 use crate::zones::rule_in;
@@ -12,10 +12,11 @@ ghost use Rattle.zone.specs.Answer.{answer, rulingOf};
 mod area;
 mod point;
 mod rules;
+mod values;
 mod window;
 mod zones;
 
-// A rule's values: a speed counts where it is limited, and whether parking needs a station where that is said.
+// The four values of an answer: a speed counts where it is limited, and whether parking needs a station where that is said.
 pub struct Rule {
     pub ride: bool,
     pub through: bool,
@@ -25,7 +26,27 @@ pub struct Rule {
     pub parking: bool,
 }
 
-// The answer to "zone rule": the point is off the map, the file is not clean, no rule applies, or the values of the one that does.
+// A boolean, and a speed, that a rule may give.
+pub enum Flag {
+    Missing,
+    Is(bool),
+}
+
+pub enum Limit {
+    Missing,
+    Is(u64),
+}
+
+// What the rules so far give, each value by the first that gives it; `any` where there is a rule at all.
+pub struct Given {
+    pub any: bool,
+    pub ride: Flag,
+    pub through: Flag,
+    pub limit: Limit,
+    pub parking: Flag,
+}
+
+// The answer to "zone rule": the point is off the map, the file is not clean, no rule applies, or the values of those that do.
 pub enum Ruling {
     OffMap,
     NotClean(Parts),
@@ -38,8 +59,8 @@ impl Ruling {
     const FILE: u8 = 6;
 }
 
-// The rule at a point, in millionths of a degree, for a type at a moment, by the bytes of the file of zones.
-// Shut out: a zone that still counts at its end; an empty field 78 read as everybody.
+// The values at a point, in millionths of a degree, for a type at a moment, by the bytes of the file of zones: each by the first rule that applies and gives it.
+// Shut out: a zone that still counts at its end; an empty field 78 read as everybody; a later rule's value where an earlier one gives it.
 pub fn zone_rule(s: &[u8], lon: i64, lat: i64, type_id: &[u8], moment: u64) -> Ruling
     ensures { λ r. ⌜ answer r ≡ rulingOf (now (s .entry)) (record { lon = lon; lat = lat }) (now («type_id» .entry)) moment ⌝ }
 {

@@ -1,6 +1,7 @@
-// The rules of a zone, and the one that is chosen.
-use crate::Rule;
-use crate::Ruling;
+// The rules of a zone, and what those for a type give.
+use crate::Flag;
+use crate::Given;
+use crate::Limit;
 use fields::NUMBER;
 use fields::array_in;
 use fields::code_of;
@@ -14,55 +15,47 @@ ghost use Rattle.walk.specs.Part.{Whole, treeOf};
 ghost use Rattle.schema.specs.Pick.{pick};
 ghost use Rattle.schema.specs.Table23.{rule};
 ghost use Rattle.rings.specs.Parts.{Listing, partsOf};
-ghost use Rattle.document.specs.Document.{given};
 ghost use Rattle.fields.specs.Values.{truthBy, spelledBy};
-ghost use Rattle.zone.specs.Zone.{anyText, applies as appliesTo, firstFor};
-ghost use Rattle.zone.specs.Answer.{yes};
-ghost use Rattle.zone.specs.Values.{idShape, valuesBy, ruling};
+ghost use Rattle.zone.specs.Zone.{anyText, applies as appliesTo, applicable};
+ghost use Rattle.zone.specs.Values.{idShape, flagOf, limitOf, givenBy, orGiven, withRule, allGiven};
 
-// The kind of truths.
+// The kind of booleans.
 const BOOLEAN: u8 = 1;
 
-// Whether a value is true.
-fn is_true(q: &[u8]) -> bool
-    ensures { λ r. ⌜ r ≡ yes (truthBy (now (q .entry))) ⌝ }
+// The boolean of a value.
+fn flag_in(q: &[u8]) -> Flag
+    ensures { λ r. ⌜ r ≡ flagOf (truthBy (now (q .entry))) ⌝ }
 {
     if code_of(q) != BOOLEAN {
-        return false;
+        return Flag::Missing;
     }
     if q.len() == 0 {
-        return false;
+        return Flag::Is(false);
     }
-    q[0] == b't'
+    return Flag::Is(q[0] == b't');
 }
 
-// Whether a truth is given, or a number.
-fn is_truth(q: &[u8]) -> bool
-    ensures { λ r. ⌜ r ≡ given (truthBy (now (q .entry))) ⌝ }
+// The speed of a value. Zero is one.
+fn limit_in(q: &[u8]) -> Limit
+    ensures { λ r. ⌜ r ≡ limitOf (spelledBy (now (q .entry))) ⌝ }
 {
-    code_of(q) == BOOLEAN
+    if code_of(q) != NUMBER {
+        return Limit::Missing;
+    }
+    return Limit::Is(integer_in(q));
 }
 
-fn is_number(q: &[u8]) -> bool
-    ensures { λ r. ⌜ r ≡ given (spelledBy (now (q .entry))) ⌝ }
-{
-    code_of(q) == NUMBER
-}
-
-// The values of the rule `p`.
-fn values_in(p: &[u8]) -> Rule
+// What the rule `p` gives.
+fn given_in(p: &[u8]) -> Given
     requires { ⌜ Whole (now p) (treeOf (now p)) ⌝ }
-    ensures { λ r. ⌜ r ≡ valuesBy (now (p .entry)) ⌝ }
+    ensures { λ r. ⌜ r ≡ givenBy (now (p .entry)) ⌝ }
 {
-    let speed = member(p, b"maximum_speed_kph");
-    let parking = member(p, b"station_parking");
-    Rule {
-        ride: is_true(member(p, b"ride_allowed")),
-        through: is_true(member(p, b"ride_through_allowed")),
-        limited: is_number(speed),
-        speed: integer_in(speed),
-        parks: is_truth(parking),
-        parking: is_true(parking),
+    Given {
+        any: true,
+        ride: flag_in(member(p, b"ride_allowed")),
+        through: flag_in(member(p, b"ride_through_allowed")),
+        limit: limit_in(member(p, b"maximum_speed_kph")),
+        parking: flag_in(member(p, b"station_parking")),
     }
 }
 
@@ -101,22 +94,35 @@ fn applies(p: &[u8], type_id: &[u8]) -> bool
     names_type(array_in(ids), type_id)
 }
 
-// The first rule for a type among those of the array `p`.
-pub fn first_for(p: &[u8], type_id: &[u8]) -> Ruling
-    requires { ⌜ Listing (now p) ⌝ }
-    ensures { λ r. ⌜ r ≡ ruling (firstFor (partsOf rule (now (p .entry))) (now («type_id» .entry))) ⌝ }
+// What is given so far, joined by what the rule `p` gives where it is for a type.
+fn with_rule(p: &[u8], type_id: &[u8], start: Given) -> Given
+    requires { ⌜ Whole (now p) (treeOf (now p)) ⌝ }
+    ensures { λ r. ⌜ r ≡ withRule (now («type_id» .entry)) start (pick rule (treeOf (now (p .entry)))) ⌝ }
 {
+    if !applies(p, type_id) {
+        return start;
+    }
+    start.or(given_in(p))
+}
+
+// What is given so far, joined by what the rules of the array `p` give that are for a type. Once all values are there no further rule is asked.
+pub fn with_rules(p: &[u8], type_id: &[u8], start: Given) -> Given
+    requires { ⌜ Listing (now p) ⌝ }
+    ensures { λ r. ⌜ r ≡ orGiven start (allGiven (applicable (partsOf rule (now (p .entry))) (now («type_id» .entry)))) ⌝ }
+{
+    let mut given = start;
     let mut at: usize = 1;
     loop {
         match pass_item(p, at) {
             ItemStep::End => {
-                return Ruling::NoRule;
+                return given;
             }
             ItemStep::Found(m) => {
                 let from = m.value;
                 let upto = m.value_end;
-                if applies(&p[from..upto], type_id) {
-                    return Ruling::Is(values_in(&p[from..upto]));
+                given = with_rule(&p[from..upto], type_id, given);
+                if given.is_full() {
+                    return given;
                 }
                 at = m.next;
             }

@@ -1,7 +1,8 @@
 // The zones of a file, one after the other.
+use crate::Given;
 use crate::Ruling;
 use crate::area::zone_holds;
-use crate::rules::first_for;
+use crate::rules::with_rules;
 use crate::window::counts;
 use document::records_from;
 use fields::array_in;
@@ -18,54 +19,44 @@ ghost use Rattle.geometry.specs.Shifted.{OnMap, point};
 ghost use Rattle.rings.specs.Parts.{partsOf};
 ghost use Rattle.clean.specs.declared.Cleanness.the-variants.{Clean};
 ghost use Rattle.clean.specs.Clean.{treeOf as fileTree, cleanOf};
-ghost use Rattle.zone.specs.Zone.{zoneRules, rules, firstFor, ruleAt};
-ghost use Rattle.zone.specs.Values.{ruling, isRule};
+ghost use Rattle.zone.specs.Zone.{zoneRules, rules, applicable, rulesAt};
+ghost use Rattle.zone.specs.Answer.{answer, ofRules};
+ghost use Rattle.zone.specs.Values.{orGiven, allGiven};
 ghost use Rattle.zone.specs.Clean.{CleanZone, CleanZones};
 
-// Whether a rule was found.
-fn is_rule(r: Ruling) -> bool
-    ensures { λ b. ⌜ b ≡ isRule r ⌝ }
-{
-    match r {
-        Ruling::OffMap => false,
-        Ruling::NotClean(_) => false,
-        Ruling::NoRule => false,
-        Ruling::Is(_) => true,
-    }
-}
-
-// The first rule of the zone `p` for a type, where the zone holds the point and counts at the moment.
-fn rule_of_zone(p: &[u8], q: Position, type_id: &[u8], moment: u64) -> Ruling
+// What is given so far, joined by what the rules of the zone `p` give for a type, where the zone counts at the moment and holds the point.
+fn with_zone(p: &[u8], q: Position, type_id: &[u8], moment: u64, start: Given) -> Given
     requires { ⌜ CleanZone (now p) × OnMap q ⌝ }
-    ensures { λ r. ⌜ r ≡ ruling (firstFor (zoneRules (pick zone (treeOf (now (p .entry)))) (point q) moment) (now («type_id» .entry))) ⌝ }
+    ensures { λ r. ⌜ r ≡ orGiven start (allGiven (applicable (zoneRules (pick zone (treeOf (now (p .entry)))) (point q) moment) (now («type_id» .entry)))) ⌝ }
 {
-    if !zone_holds(p, q) {
-        return Ruling::NoRule;
-    }
     let properties = member(p, b"properties");
     if !counts(properties, moment) {
-        return Ruling::NoRule;
+        return start;
     }
-    first_for(array_in(member(properties, b"rules")), type_id)
+    if !zone_holds(p, q) {
+        return start;
+    }
+    with_rules(array_in(member(properties, b"rules")), type_id, start)
 }
 
-// The first rule among the zones of the array at the front of `p`.
-fn rule_of_zones(p: &[u8], q: Position, type_id: &[u8], moment: u64) -> Ruling
+// What the rules of the zones in the array at the front of `p` give. Once all values are there no further zone is asked.
+fn given_by_zones(p: &[u8], q: Position, type_id: &[u8], moment: u64) -> Given
     requires { ⌜ CleanZones (now p) × OnMap q ⌝ }
-    ensures { λ r. ⌜ r ≡ ruling (firstFor (rules (partsOf zone (now (p .entry))) (point q) moment) (now («type_id» .entry))) ⌝ }
+    ensures { λ r. ⌜ r ≡ allGiven (applicable (rules (partsOf zone (now (p .entry))) (point q) moment) (now («type_id» .entry))) ⌝ }
 {
+    let mut given = Given::nothing();
     let mut at: usize = 1;
     loop {
         match pass_item(p, at) {
             ItemStep::End => {
-                return Ruling::NoRule;
+                return given;
             }
             ItemStep::Found(m) => {
                 let from = m.value;
                 let upto = m.value_end;
-                let found = rule_of_zone(&p[from..upto], q, type_id, moment);
-                if is_rule(found) {
-                    return found;
+                given = with_zone(&p[from..upto], q, type_id, moment, given);
+                if given.is_full() {
+                    return given;
                 }
                 at = m.next;
             }
@@ -73,13 +64,13 @@ fn rule_of_zones(p: &[u8], q: Position, type_id: &[u8], moment: u64) -> Ruling
     }
 }
 
-// The rule by a clean file; an absent one has no zones.
+// The answer by a clean file; an absent one has no zones.
 pub fn rule_in(s: &[u8], q: Position, type_id: &[u8], moment: u64) -> Ruling
     requires { ⌜ (cleanOf 6 (now s) ≡ Clean) × OnMap q ⌝ }
-    ensures { λ r. ⌜ r ≡ ruling (ruleAt (pick (fileShape table23 6) (fileTree (now (s .entry)))) (point q) (now («type_id» .entry)) moment) ⌝ }
+    ensures { λ r. ⌜ answer r ≡ ofRules (rulesAt (pick (fileShape table23 6) (fileTree (now (s .entry)))) (point q) (now («type_id» .entry)) moment) ⌝ }
 {
     if s.len() == 0 {
         return Ruling::NoRule;
     }
-    rule_of_zones(records_from(Ruling::FILE, s), q, type_id, moment)
+    given_by_zones(records_from(Ruling::FILE, s), q, type_id, moment).ruling()
 }

@@ -14,7 +14,8 @@ pub fn draft(rng: &mut Rng, size: &Size) -> Draft {
     let mut there = |percent: usize| size.full || rng.chance(percent);
     let (has_plans, has_types, has_stations, has_zones) = (there(80), there(80), there(80), there(80));
     let has_bikes = there(80) || !has_stations;
-    let mut maker = Maker { rng, size, has_plans, has_types, plans: Vec::new(), types: Vec::new(), stations: Vec::new() };
+    let mut maker =
+        Maker { rng, size, has_plans, has_types, plans: Vec::new(), types: Vec::new(), stations: Vec::new(), areas: Vec::new() };
 
     let plans = has_plans.then(|| maker.file("plans", size.plans, Maker::plan));
     // A type needs a plan if the file of plans is there, a bike a type likewise.
@@ -40,6 +41,8 @@ struct Maker<'r> {
     types: Vec<(String, bool)>,
     /// Ids of stations, and whether the station has a capacity.
     stations: Vec<(String, bool)>,
+    /// Coordinates of zones that others may lie over.
+    areas: Vec<Tree>,
 }
 
 /// Left of a file's bytes for its header.
@@ -203,8 +206,7 @@ impl Maker<'_> {
     }
 
     fn zone(&mut self, _number: usize) -> Tree {
-        let polygons = self.count(self.size.polygons);
-        let coordinates = Tree::Array((0..polygons).map(|_| Tree::Array(vec![self.ring()])).collect());
+        let coordinates = self.area();
         let mut properties = Members::default();
         for name in ["start", "end"] {
             let moment = self.rng.chance(30).then(|| values::integer(self.rng, 1000));
@@ -220,6 +222,19 @@ impl Maker<'_> {
             ("geometry", Tree::object([("type", Tree::text("MultiPolygon")), ("coordinates", coordinates)])),
             ("properties", Tree::Object(properties)),
         ])
+    }
+
+    /// A zone's coordinates. Unless the set is full, many zones lie over an earlier one, so that rules of several apply at a point.
+    fn area(&mut self) -> Tree {
+        if !self.areas.is_empty() && self.rng.chance(60) {
+            return self.rng.pick(&self.areas).clone();
+        }
+        let polygons = self.count(self.size.polygons);
+        let area = Tree::Array((0..polygons).map(|_| Tree::Array(vec![self.ring()])).collect());
+        if !self.size.full && polygons > 0 {
+            self.areas.push(area.clone());
+        }
+        area
     }
 
     fn ring(&mut self) -> Tree {
@@ -244,7 +259,8 @@ impl Maker<'_> {
 
     fn rule(&mut self) -> Tree {
         let mut rule = Members::default();
-        let types = self.rng.chance(70).then(|| {
+        let named = if self.size.full { 70 } else { 40 };
+        let types = self.rng.chance(named).then(|| {
             let count = if self.types.is_empty() { 0 } else { self.count(self.size.items) };
             Tree::Array((0..count).map(|_| self.some_type()).collect())
         });
@@ -269,5 +285,52 @@ impl Maker<'_> {
             None if self.rng.chance(10) => record.push(name, Tree::text("")),
             None => {}
         }
+    }
+}
+
+#[cfg(test)]
+mod tests {
+    use super::*;
+    use crate::listed::records;
+    use crate::questions::Questions;
+    use crate::respell;
+    use reference::zone::{zone_rule, Rule, Ruling};
+
+    /// A file of one zone.
+    fn alone(zone: &Tree) -> Vec<u8> {
+        let features = Tree::Array(vec![zone.clone()]);
+        let zones = Tree::object([("type", Tree::text("FeatureCollection")), ("features", features)]);
+        shortest(&Tree::object([
+            ("version", Tree::text("2.3")),
+            ("last_updated", Tree::number("0")),
+            ("ttl", Tree::number("0")),
+            ("data", Tree::object([("geofencing_zones", zones)])),
+        ]))
+    }
+
+    #[test]
+    fn zones_lie_over_others_and_leave_values_to_them() {
+        let (mut speeds, mut parkings) = (0, 0);
+        for seed in 0..500 {
+            let mut rng = Rng::new(seed);
+            let trees = draft(&mut rng, &Size::FEW);
+            let Some(zones) = &trees[5] else { continue };
+            let files: Vec<_> = records(6, zones).iter().map(alone).collect();
+            let set = respell::write(trees, &mut rng);
+            let mut questions = Questions::about(&set, seed);
+            for place in (0..20).map(|_| questions.place()) {
+                let ask = |file: &[u8]| match zone_rule(file, place.lon, place.lat, &place.vehicle_type, place.moment) {
+                    Ruling::Is(rule) => Some(rule),
+                    _ => None,
+                };
+                if let (Some(first), Some(all)) = (files.iter().find_map(|file| ask(file)), ask(&set[5])) {
+                    assert_eq!((first.ride, first.through), (all.ride, all.through), "seed {seed}");
+                    let left = |value: fn(&Rule) -> bool| usize::from(!value(&first) && value(&all));
+                    speeds += left(|rule| rule.speed.is_some());
+                    parkings += left(|rule| rule.parking.is_some());
+                }
+            }
+        }
+        assert!(speeds > 80 && parkings > 80, "{speeds} speeds, {parkings} parkings");
     }
 }

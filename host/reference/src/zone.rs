@@ -1,4 +1,4 @@
-//! The rule that holds for a vehicle type at a point and a moment.
+//! What the rules say together for a vehicle type at a point and a moment.
 
 use crate::clean::{clean, Row};
 use crate::coordinates::{area_sum, rings, Point};
@@ -13,11 +13,11 @@ pub enum Ruling {
     NotClean(Parts),
     /// 9: none of the rules applies.
     NoRule,
-    /// 0: the first rule that applies.
+    /// 0: the values of the rules that apply.
     Is(Rule),
 }
 
-/// A rule's four values.
+/// The four values, each from the first rule that applies and gives it.
 #[derive(Clone, Copy, Debug, PartialEq, Eq, Hash)]
 pub struct Rule {
     pub ride: bool,
@@ -29,7 +29,7 @@ pub struct Rule {
 const MOST_LON: u64 = 180_000_000;
 const MOST_LAT: u64 = 90_000_000;
 
-/// Which rule holds at a point, in millionths of a degree, for a vehicle type at a moment.
+/// What holds at a point, in millionths of a degree, for a vehicle type at a moment.
 pub fn zone_rule(zones: &[u8], lon: i64, lat: i64, type_id: &[u8], moment: u64) -> Ruling {
     if lon.unsigned_abs() > MOST_LON || lat.unsigned_abs() > MOST_LAT {
         return Ruling::OffMap;
@@ -39,29 +39,33 @@ pub fn zone_rule(zones: &[u8], lon: i64, lat: i64, type_id: &[u8], moment: u64) 
         Err(parts) => return Ruling::NotClean(parts),
     };
     let point = Point { lon, lat };
-    let rule = zones.rows().filter_map(|zone| rule_of(zone, type_id, point, moment)).next();
-    match rule {
-        Some(rule) => Ruling::Is(rule),
-        None => Ruling::NoRule,
-    }
+    let there = zones.rows().filter(|&zone| counts(zone, moment) && covers(zone, point));
+    let rules: Vec<Row> = there.flat_map(rules_of).filter(|&rule| names(rule, type_id)).collect();
+    let flag = |field: u8| rules.iter().find_map(|rule| rule.flag(field));
+    // Every rule of a clean file gives these two.
+    let (Some(ride), Some(through)) = (flag(79), flag(80)) else {
+        return Ruling::NoRule;
+    };
+    let speed = rules.iter().find_map(|rule| rule.integer(81));
+    Ruling::Is(Rule { ride, through, speed, parking: flag(82) })
 }
 
-/// The zone's first rule for the type, if the zone counts at the moment and holds the point.
-fn rule_of(zone: Row, type_id: &[u8], point: Point, moment: u64) -> Option<Rule> {
-    let properties = zone.inner(74)?;
-    let started = properties.integer(75).is_none_or(|start| start <= moment);
-    let ended = properties.integer(76).is_some_and(|end| end <= moment);
-    if !started || ended {
-        return None;
-    }
-    let rule = properties.items(77).find(|&rule| names(rule, type_id))?;
-    let polygons = rings(zone.inner(71)?.value(73)?);
-    polygons.iter().any(|ring| holds(ring, point)).then_some(Rule {
-        ride: rule.flag(79)?,
-        through: rule.flag(80)?,
-        speed: rule.integer(81),
-        parking: rule.flag(82),
+/// Is the moment between the zone's start and its end?
+fn counts(zone: Row, moment: u64) -> bool {
+    zone.inner(74).is_some_and(|properties| {
+        let started = properties.integer(75).is_none_or(|start| start <= moment);
+        let ended = properties.integer(76).is_some_and(|end| end <= moment);
+        started && !ended
     })
+}
+
+fn covers(zone: Row, point: Point) -> bool {
+    let coordinates = zone.inner(71).and_then(|geometry| geometry.value(73));
+    coordinates.is_some_and(|polygons| rings(polygons).iter().any(|ring| holds(ring, point)))
+}
+
+fn rules_of<'t, 'a>(zone: Row<'t, 'a>) -> impl Iterator<Item = Row<'t, 'a>> {
+    zone.inner(74).into_iter().flat_map(|properties| properties.items(77))
 }
 
 /// Does a rule speak of the type? One without a list speaks of all.
@@ -148,17 +152,35 @@ mod tests {
     }
 
     #[test]
-    fn the_first_rule_that_names_the_type() {
-        let rules = r#""rules":[{"vehicle_type_id":[],"ride_allowed":false,"ride_through_allowed":false},
+    fn only_rules_that_name_the_type() {
+        let rules = r#""rules":[{"vehicle_type_id":[],"ride_allowed":false,"ride_through_allowed":false,"maximum_speed_kph":1},
             {"vehicle_type_id":["a","b"],"ride_allowed":true,"ride_through_allowed":false,"maximum_speed_kph":20},
             {"ride_allowed":false,"ride_through_allowed":true,"station_parking":true}]"#;
         let file = zones(&zone(CLOCKWISE, rules));
         let ask = |type_id: &[u8]| zone_rule(&file, DEGREE, DEGREE, type_id, 0);
-        let named = Rule { ride: true, through: false, speed: Some(20), parking: None };
+        let named = Rule { ride: true, through: false, speed: Some(20), parking: Some(true) };
         let others = Rule { ride: false, through: true, speed: None, parking: Some(true) };
         assert_eq!(ask(b"b"), Ruling::Is(named));
         assert_eq!(ask(b"c"), Ruling::Is(others));
         assert_eq!(ask(b""), Ruling::Is(others));
+    }
+
+    #[test]
+    fn each_value_from_the_first_rule_that_gives_it() {
+        let park = zone(CLOCKWISE, r#""rules":[{"ride_allowed":false,"ride_through_allowed":false,"maximum_speed_kph":""}]"#);
+        let town = zone(
+            "[[1,0],[1,4],[4,4],[4,0],[1,0]]",
+            r#""rules":[{"ride_allowed":true,"ride_through_allowed":true,"maximum_speed_kph":0},
+                {"ride_allowed":true,"ride_through_allowed":true,"maximum_speed_kph":9,"station_parking":false}]"#,
+        );
+        let file = zones(&format!("{park},{town}"));
+        let ask = |lon: i64| zone_rule(&file, lon * DEGREE, DEGREE, b"", 0);
+        let in_park = Rule { ride: false, through: false, speed: None, parking: None };
+        let in_town = Rule { ride: true, through: true, speed: Some(0), parking: Some(false) };
+        assert_eq!(ask(0), Ruling::Is(in_park));
+        assert_eq!(ask(2), Ruling::Is(Rule { ride: false, through: false, ..in_town }));
+        assert_eq!(ask(3), Ruling::Is(in_town));
+        assert_eq!(ask(5), Ruling::NoRule);
     }
 
     #[test]

@@ -47,7 +47,7 @@ pub fn quote(path: &str, plan: &str, seconds: &str, metres: &str) -> Result<Repo
     Ok(report.noting(note))
 }
 
-/// The rule at a point.
+/// What the rules at a point give together.
 pub fn zone(path: &str, lat: &str, lon: &str, vehicle_type: &str, moment: &str) -> Result<Report, Failure> {
     let point = Point { lat: millionths("LAT", lat)?, lon: millionths("LON", lon)? };
     let moment = whole("MOMENT", moment)?;

@@ -33,8 +33,9 @@ the ride has come to the end of all that the plan prices by the minute",
     Command {
         name: "zone",
         usage: "zone PATH LAT LON TYPE MOMENT",
-        about: "Tells the zone rule that holds at a point. PATH is geofencing_zones.json or the directory that has it, LAT and LON are
-degrees with at most six decimals, TYPE is a vehicle_type_id (\"\" for none), MOMENT is in seconds since 1970.",
+        about: "Tells what the zone rules at a point allow, each value by the first rule that applies and gives it.
+PATH is geofencing_zones.json or the directory that has it, LAT and LON are degrees with at most six decimals, TYPE is a
+vehicle_type_id (\"\" for none), MOMENT is in seconds since 1970.",
         example: "skaveldro zone crates/sample/data 47.37 8.543 city_bike 1716458431",
         answer: "ride_allowed yes, ride_through_allowed yes, maximum_speed_kph 10, station_parking yes",
     },

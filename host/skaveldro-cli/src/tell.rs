@@ -74,7 +74,7 @@ pub fn fare(fare: Fare) -> Report {
     Report { status: 0, text, members, notes: Vec::new() }
 }
 
-/// A rule's four values.
+/// The four values of a zone rule's answer.
 pub fn rule(rule: Rule) -> Report {
     let yes = |truth: bool| if truth { "yes" } else { "no" };
     let speed = rule.speed.map_or("not given".into(), |speed| speed.to_string());

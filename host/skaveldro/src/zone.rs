@@ -1,4 +1,4 @@
-//! Which zone rule holds.
+//! What zone rules allow.
 
 use crate::answer::{room, Answer};
 use crate::{raw, Parts};
@@ -19,24 +19,24 @@ pub enum Ruling {
     NotClean(Parts),
     /// 9: none of the rules applies.
     NoRule,
-    /// 0: the first rule that applies.
+    /// 0: what the rules that apply give together.
     Is(Rule),
 }
 
-/// A rule's four values.
+/// Four values, each from the first rule in file order that applies and gives it.
 #[derive(Clone, Copy, Debug, PartialEq, Eq, Hash)]
 pub struct Rule {
     /// May a ride start and end here?
     pub ride: bool,
     /// May a ride pass through?
     pub through: bool,
-    /// The most kilometres an hour, if the rule gives it.
+    /// The most kilometres an hour, if a rule gives it.
     pub speed: Option<u64>,
-    /// Does parking need a station, if the rule says?
+    /// Does parking need a station, if a rule says?
     pub parking: Option<bool>,
 }
 
-/// Which rule holds at a point for a vehicle type at a moment, by the bytes of geofencing_zones.
+/// What the rules at a point give together for a vehicle type at a moment, by the bytes of geofencing_zones.
 pub fn zone_rule(zones: &[u8], point: Point, type_id: &[u8], moment: u64) -> Ruling {
     let answer = Answer::<{ room(12) }>::to(|buffer| raw::zone_rule(zones, point.lon, point.lat, type_id, moment, buffer));
     match answer.number {

@@ -78,6 +78,34 @@ fn points_j() {
     }
 }
 
+/// A park that bans riding and gives no speed, before the town around it, which gives one.
+#[test]
+fn a_park_and_its_town() {
+    let zone = |ring: &str, rule: &str| {
+        format!(
+            r#"{{"type":"Feature","geometry":{{"type":"MultiPolygon","coordinates":[[[{ring}]]]}},"properties":{{"rules":[{rule}]}}}}"#
+        )
+    };
+    let park = zone(CLOCKWISE, r#"{"ride_allowed":false,"ride_through_allowed":false}"#);
+    let town =
+        zone("[1,0],[1,4],[4,4],[4,0],[1,0]", r#"{"ride_allowed":true,"ride_through_allowed":true,"maximum_speed_kph":20}"#);
+    let features = format!(r#""geofencing_zones":{{"type":"FeatureCollection","features":[{park},{town}]}}"#);
+    let at = |lon| match zone_rule(&file(&features), degrees(lon, 1), b"", 0) {
+        Ruling::Is(rule) => Some((rule.ride, rule.speed)),
+        Ruling::NoRule => None,
+        other => panic!("{other:?}"),
+    };
+    assert_eq!([0, 2, 3, 5].map(at), [Some((false, None)), Some((false, Some(20))), Some((true, Some(20))), None]);
+}
+
+/// A border half a millionth past two degrees lies a millionth past them.
+#[test]
+fn a_border_that_is_rounded() {
+    let zones = zones("[0,0],[0,2],[2.0000005,2],[2.0000005,0],[0,0]", RULE);
+    let held = |lon| matches!(zone_rule(&zones, Point { lon, lat: 1 }, b"", 0), Ruling::Is(_));
+    assert_eq!([2_000_001, 2_000_002].map(held), [true, false]);
+}
+
 #[test]
 fn words_k_and_l() {
     let bikes = file(

@@ -10,16 +10,12 @@ use mir.ValLaws.{toZ-ofZ}
 use Rattle.signed.specs.Signed.{difference}
 use Rattle.schema.specs.Shape.{fileShape}
 use Rattle.schema.specs.Table23.{table23}
-use Rattle.schema.specs.Pick.{Picked, pick}
-use Rattle.geometry.specs.Ring.{Point}
+use Rattle.schema.specs.Pick.{pick}
 use Rattle.geometry.specs.Shifted.{halfLon, halfLat}
-use Rattle.document.specs.Document.{Maybe}
 use Rattle.clean.specs.Clean.{treeOf}
-use Rattle.zone.specs.Zone.{ruleAt}
-use Rattle.zone.specs.Answer.{answer, onMap, rulingOf}
-use Rattle.zone.specs.Values.{ruling}
+use Rattle.zone.specs.Zone.{rulesAt}
+use Rattle.zone.specs.Answer.{onMap, ofRules, rulingOf}
 use Rattle.zone.proofs.Raising.{Ranged, ranged, raised-map, raised-point}
-use Rattle.zone.proofs.Searched.{rule-answered}
 use Rattle.zone.proofs.zone_rule.Statement.{statement}
 use Rattle.zone.proofs.zone_rule.Tie as tie
 
@@ -69,9 +65,8 @@ unfolding rulingOf
 returns-2 c =
     let t = c .before .before .before in let k = t .before .before in let a = k .before .before .before .before .before .args in
     let point = raised-point (placed (k .before)) _ _ (east (c .before .before)) (north (c .before)) in
-    let rule : Point → Maybe Picked = λ q. ruleAt (pick (fileShape table23 6) (treeOf (a .s .now))) q (a .type-id .now) (a .moment) in
     rw (on-it (k .before), sym (k .check-clean .ensures) ∙ t .enum-told .given .1)
-    (ap answer (c .rule-in .ensures ∙ ap (λ (q : Point). ruling (rule q)) point) ∙ rule-answered (rule (record { lon = a .lon; lat = a .lat })))
+    (c .rule-in .ensures ∙ ap (λ q. ofRules (rulesAt (pick (fileShape table23 6) (treeOf (a .s .now))) q (a .type-id .now) (a .moment))) point)
 
 returns-3 : tie.Need-returns-3
 unfolding rulingOf

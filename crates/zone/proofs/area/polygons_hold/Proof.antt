@@ -10,13 +10,13 @@ use Rattle.rings.specs.Parts.{polygonShape, picked, partsOf}
 use Rattle.document.specs.Document.{elements}
 use Rattle.zone.specs.Zone.{ringsHold, polygonsHold}
 use Rattle.zone.proofs.Cleared.{polygon-rings, polygon-clean}
-use Rattle.zone.proofs.Searching.{Searches, searches-start, searches-end, searches-whole, searches-fit, searches-here, searches-later}
-use Rattle.zone.proofs.Searched.{polygons}
+use Rattle.zone.proofs.Looping.{Loops, loop-start, loop-end, loop-whole, loop-fit, loop-here, loop-more}
+use Rattle.zone.proofs.Loops.{polygons, polygons-none, polygons-here, polygons-later}
 use Rattle.zone.proofs.area.polygons_hold.Statement.{statement}
 use Rattle.zone.proofs.area.polygons_hold.Tie as tie
 
 abbrev Inv-loop : tie.InvT-loop
-Inv-loop p q at₀ at = Searches (polygons (point q)) polygonShape p at (polygonsHold (partsOf polygonShape p) (point q))
+Inv-loop p q at₀ at = Loops (polygons (point q)) p at tt (polygonsHold (partsOf polygonShape p) (point q))
 
 abbrev μ-loop : tie.MeasureT-loop
 μ-loop p q at₀ at = length p - at
@@ -24,12 +24,13 @@ abbrev μ-loop : tie.MeasureT-loop
 loop-holds : tie.Need-loop-holds Inv-loop μ-loop
 loop-holds c =
     let k = c .before in
-    searches-start (polygons (point (k .args .q))) polygonShape (k .args .p .now) (k .pre .0 .listing) (k .pre .0 .first, k .pre .0 .clear)
+    loop-start (polygons (point (k .args .q))) (k .args .p .now) tt (k .pre .0 .listing) (k .pre .0 .first, k .pre .0 .clear)
 
 returns : tie.Need-returns Inv-loop μ-loop
 returns c =
     let n = c .before .before in let k = n .before in let a = k .before .before .args in
-    searches-end (polygons (point (a .q))) polygonShape (a .p .now) (k .loop .inv) (n .pass-item .ensures) (c .enum-told .given .1)
+    sym (polygons-none (point (a .q)))
+    ∙ loop-end (polygons (point (a .q))) (a .p .now) (k .loop .inv) (n .pass-item .ensures) (c .enum-told .given .1)
 
 -- where an item was found
 abbrev Met : Type 0
@@ -43,8 +44,8 @@ rings-hold-requires : tie.Need-rings-hold-requires Inv-loop μ-loop
 rings-hold-requires c κs =
     let d = c .before .before in let n = d .before .before in let k = n .before in let s = k .before .before in let m = d .m .given .0 .0 in
     let at = d .m .given .1 in
-    let w = searches-whole (polygons (point (s .args .q))) polygonShape (s .args .p .now) (k .loop .inv) (n .pass-item .ensures) m at in
-    let f = searches-fit (polygons (point (s .args .q))) polygonShape (s .args .p .now) (k .loop .inv) (n .pass-item .ensures) m at in
+    let w = loop-whole (polygons (point (s .args .q))) (s .args .p .now) (k .loop .inv) (n .pass-item .ensures) m at in
+    let f = loop-fit (polygons (point (s .args .q))) (s .args .p .now) (k .loop .inv) (n .pass-item .ensures) m at in
     (polygon-clean (s .args .p .now) m (s .pre .0 .short) w (f .0) (f .1), s .pre .1)
 
 -- what was asked of it
@@ -54,8 +55,8 @@ asked : (c : tie.After-rings-hold Inv-loop μ-loop) →
 asked c =
     let d = c .before .before .before in let n = d .before .before in let k = n .before in let s = k .before .before in let m = d .m .given .0 .0 in
     let at = d .m .given .1 in
-    let w = searches-whole (polygons (point (s .args .q))) polygonShape (s .args .p .now) (k .loop .inv) (n .pass-item .ensures) m at in
-    let f = searches-fit (polygons (point (s .args .q))) polygonShape (s .args .p .now) (k .loop .inv) (n .pass-item .ensures) m at in
+    let w = loop-whole (polygons (point (s .args .q))) (s .args .p .now) (k .loop .inv) (n .pass-item .ensures) m at in
+    let f = loop-fit (polygons (point (s .args .q))) (s .args .p .now) (k .loop .inv) (n .pass-item .ensures) m at in
     c .rings-hold .ensures
     ∙ ap (λ l. ringsHold l (point (s .args .q)))
     (polygon-rings (s .args .p .now) m (s .pre .0 .short) w (f .0) (f .1))
@@ -63,14 +64,14 @@ asked c =
 returns-2 : tie.Need-returns-2 Inv-loop μ-loop
 returns-2 c =
     let i = c .before in let d = i .before .before .before in let n = d .before .before in let k = n .before in let a = k .before .before .args in
-    searches-here (polygons (point (a .q))) polygonShape (a .p .now) (k .loop .inv) (n .pass-item .ensures) (d .m .given .0 .0) (d .m .given .1)
-    (sym (asked i) ∙ c .if1 .taken)
+    loop-here (polygons (point (a .q))) (a .p .now) (k .loop .inv) (n .pass-item .ensures) (d .m .given .0 .0) (d .m .given .1)
+    (λ l. polygons-here (point (a .q)) _ l (sym (asked i) ∙ c .if1 .taken))
 
 loop-again : tie.Need-loop-again Inv-loop μ-loop
 loop-again c =
     let i = c .before in let d = i .before .before .before in let n = d .before .before in let k = n .before in let a = k .before .before .args in
-    searches-later (polygons (point (a .q))) polygonShape (a .p .now) (k .loop .inv) (n .pass-item .ensures) (d .m .given .0 .0) (d .m .given .1)
-    (sym (asked i) ∙ c .if1 .left)
+    loop-more (polygons (point (a .q))) (a .p .now) (k .loop .inv) (n .pass-item .ensures) (d .m .given .0 .0) (d .m .given .1) tt
+    (λ l. polygons-later (point (a .q)) _ l (sym (asked i) ∙ c .if1 .left))
 
 pub polygons-hold-spec : {M : Type 1} → statement M
 polygons-hold-spec =

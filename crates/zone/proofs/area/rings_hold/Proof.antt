@@ -10,13 +10,13 @@ use Rattle.geometry.specs.Shifted.{point}
 use Rattle.rings.specs.Parts.{ringShape, partsOf}
 use Rattle.zone.specs.Zone.{ringsHold}
 use Rattle.zone.proofs.Cleared.{ring-clean}
-use Rattle.zone.proofs.Searching.{Searches, searches-start, searches-end, searches-whole, searches-fit, searches-here, searches-later}
-use Rattle.zone.proofs.Searched.{rings}
+use Rattle.zone.proofs.Looping.{Loops, loop-start, loop-end, loop-whole, loop-fit, loop-here, loop-more}
+use Rattle.zone.proofs.Loops.{rings, rings-none, rings-here, rings-later}
 use Rattle.zone.proofs.area.rings_hold.Statement.{statement}
 use Rattle.zone.proofs.area.rings_hold.Tie as tie
 
 abbrev Inv-loop : tie.InvT-loop
-Inv-loop p q at₀ at = Searches (rings (point q)) ringShape p at (ringsHold (partsOf ringShape p) (point q))
+Inv-loop p q at₀ at = Loops (rings (point q)) p at tt (ringsHold (partsOf ringShape p) (point q))
 
 abbrev μ-loop : tie.MeasureT-loop
 μ-loop p q at₀ at = length p - at
@@ -24,12 +24,13 @@ abbrev μ-loop : tie.MeasureT-loop
 loop-holds : tie.Need-loop-holds Inv-loop μ-loop
 loop-holds c =
     let k = c .before in
-    searches-start (rings (point (k .args .q))) ringShape (k .args .p .now) (k .pre .0 .listing) (k .pre .0 .first, k .pre .0 .clear)
+    loop-start (rings (point (k .args .q))) (k .args .p .now) tt (k .pre .0 .listing) (k .pre .0 .first, k .pre .0 .clear)
 
 returns : tie.Need-returns Inv-loop μ-loop
 returns c =
     let n = c .before .before in let k = n .before in let a = k .before .before .args in
-    searches-end (rings (point (a .q))) ringShape (a .p .now) (k .loop .inv) (n .pass-item .ensures) (c .enum-told .given .1)
+    sym (rings-none (point (a .q)))
+    ∙ loop-end (rings (point (a .q))) (a .p .now) (k .loop .inv) (n .pass-item .ensures) (c .enum-told .given .1)
 
 -- where an item was found
 abbrev Met : Type 0
@@ -43,21 +44,21 @@ ring-holds-requires : tie.Need-ring-holds-requires Inv-loop μ-loop
 ring-holds-requires c κs =
     let d = c .before .before in let n = d .before .before in let k = n .before in let s = k .before .before in let m = d .m .given .0 .0 in
     let at = d .m .given .1 in
-    let w = searches-whole (rings (point (s .args .q))) ringShape (s .args .p .now) (k .loop .inv) (n .pass-item .ensures) m at in
-    let f = searches-fit (rings (point (s .args .q))) ringShape (s .args .p .now) (k .loop .inv) (n .pass-item .ensures) m at in
+    let w = loop-whole (rings (point (s .args .q))) (s .args .p .now) (k .loop .inv) (n .pass-item .ensures) m at in
+    let f = loop-fit (rings (point (s .args .q))) (s .args .p .now) (k .loop .inv) (n .pass-item .ensures) m at in
     (ring-clean (s .args .p .now) m (s .pre .0 .short) w (f .0) (f .1), s .pre .1)
 
 returns-2 : tie.Need-returns-2 Inv-loop μ-loop
 returns-2 c =
     let i = c .before in let d = i .before .before .before in let n = d .before .before in let k = n .before in let a = k .before .before .args in
-    searches-here (rings (point (a .q))) ringShape (a .p .now) (k .loop .inv) (n .pass-item .ensures) (d .m .given .0 .0) (d .m .given .1)
-    (sym (i .ring-holds .ensures) ∙ c .if1 .taken)
+    loop-here (rings (point (a .q))) (a .p .now) (k .loop .inv) (n .pass-item .ensures) (d .m .given .0 .0) (d .m .given .1)
+    (λ l. rings-here (point (a .q)) _ l (sym (i .ring-holds .ensures) ∙ c .if1 .taken))
 
 loop-again : tie.Need-loop-again Inv-loop μ-loop
 loop-again c =
     let i = c .before in let d = i .before .before .before in let n = d .before .before in let k = n .before in let a = k .before .before .args in
-    searches-later (rings (point (a .q))) ringShape (a .p .now) (k .loop .inv) (n .pass-item .ensures) (d .m .given .0 .0) (d .m .given .1)
-    (sym (i .ring-holds .ensures) ∙ c .if1 .left)
+    loop-more (rings (point (a .q))) (a .p .now) (k .loop .inv) (n .pass-item .ensures) (d .m .given .0 .0) (d .m .given .1) tt
+    (λ l. rings-later (point (a .q)) _ l (sym (i .ring-holds .ensures) ∙ c .if1 .left))
 
 pub rings-hold-spec : {M : Type 1} → statement M
 rings-hold-spec =

@@ -1,0 +1,100 @@
+-- The loops of this crate: over ids for a type, rings and polygons for a point, rules for what they give a type, zones for what their rules give.
+use mathlib.Core.Bool.{Bool, true, false}
+use mathlib.Core.List.{List, [], _∷_, map, List·Memᴰ, List·Memᴰ·tail, append-eq-nil-iff}
+use mathlib.Core.Path.{_≡_, refl}
+use Prim.Native.Nat.{ℕ, _+_}
+use native.Mathlib.Omega.{arith}
+use Rattle.schema.specs.Table23 as table
+use Rattle.schema.specs.Pick.{Picked}
+use Rattle.geometry.specs.Ring.{Point}
+use Rattle.geometry.specs.Held.{holds}
+use Rattle.rings.specs.Rings.{position, ring, ringPositions, ringsFound, polygon, polygonPositions, polygonsFound}
+use Rattle.rings.specs.Parts.{ringShape, polygonShape}
+use Rattle.document.specs.Document.{Maybe, none, some, elements, textIn}
+use Rattle.fields.specs.Values.{isId}
+use Rattle.zone.specs.declared.Given.{Given}
+use Rattle.zone.specs.Zone.{ringsHold, polygonsHold, anyText, rules}
+use Rattle.zone.specs.Values.{idShape}
+use Rattle.zone.specs.Clean.{Faultless}
+use Rattle.zone.proofs.Looping.{Loop}
+use Rattle.zone.proofs.Combining.{withRules}
+
+-- ids
+module _ (type : List ℕ) where
+  abbrev pub ids : Loop (Unit {0}) Bool
+  ids = record { shape = idShape; from = λ a l. anyText l type; Fit = λ l. Unit {0}; rest = λ x l f. tt }
+
+  pub any-none : anyText [] type ≡ false
+  unfolding anyText
+  any-none = refl
+
+  pub any-here : (x : Picked) (l : List Picked) → isId type (textIn x) ≡ true → anyText (x ∷ l) type ≡ true
+  unfolding anyText
+  any-here x l e = go (textIn x) refl e
+    where
+      go : (o : Maybe (List ℕ)) → textIn x ≡ o → isId type o ≡ true → anyText (x ∷ l) type ≡ true
+      go none h i = let z : _≡_ {A = ℕ} 0 1 = cc in absurd (omega arith)
+      go (some t) h i = rw (anyText, h, i)
+
+  pub any-later : (x : Picked) (l : List Picked) → isId type (textIn x) ≡ false → anyText (x ∷ l) type ≡ anyText l type
+  unfolding anyText
+  any-later x l e = go (textIn x) refl e
+    where
+      go : (o : Maybe (List ℕ)) → textIn x ≡ o → isId type o ≡ false → anyText (x ∷ l) type ≡ anyText l type
+      go none h i = rw (anyText, h)
+      go (some t) h i = rw (anyText, h, i)
+
+-- rings and polygons
+module _ (q : Point) where
+  pub rings-rest : (x : Picked) (l : List Picked) → (n : ℕ) × (ringsFound n (x ∷ l) ≡ []) → (n : ℕ) × (ringsFound n l ≡ [])
+  unfolding ringsFound
+  rings-rest x l (n, e) = (n + ringPositions x, append-eq-nil-iff {p = ring n x} .0 e .1)
+
+  abbrev pub rings : Loop (Unit {0}) Bool
+  rings = record { shape = ringShape; from = λ a l. ringsHold l q; Fit = λ l. (n : ℕ) × (ringsFound n l ≡ []); rest = rings-rest }
+
+  pub rings-none : ringsHold [] q ≡ false
+  unfolding ringsHold
+  rings-none = refl
+
+  pub rings-here : (x : Picked) (l : List Picked) → holds (map position (elements x)) q ≡ true → ringsHold (x ∷ l) q ≡ true
+  unfolding ringsHold
+  rings-here x l e = rw (ringsHold, e)
+
+  pub rings-later : (x : Picked) (l : List Picked) → holds (map position (elements x)) q ≡ false → ringsHold (x ∷ l) q ≡ ringsHold l q
+  unfolding ringsHold
+  rings-later x l e = rw (ringsHold, e)
+
+  pub polygons-rest : (x : Picked) (l : List Picked) → (n : ℕ) × (polygonsFound n (x ∷ l) ≡ []) → (n : ℕ) × (polygonsFound n l ≡ [])
+  unfolding polygonsFound
+  polygons-rest x l (n, e) = (n + polygonPositions x, append-eq-nil-iff {p = polygon n x} .0 e .1)
+
+  abbrev pub polygons : Loop (Unit {0}) Bool
+  polygons =
+      record { shape = polygonShape; from = λ a l. polygonsHold l q; Fit = λ l. (n : ℕ) × (polygonsFound n l ≡ []); rest = polygons-rest }
+
+  pub polygons-none : polygonsHold [] q ≡ false
+  unfolding polygonsHold
+  polygons-none = refl
+
+  pub polygons-here : (x : Picked) (l : List Picked) → ringsHold (elements x) q ≡ true → polygonsHold (x ∷ l) q ≡ true
+  unfolding polygonsHold
+  polygons-here x l e = rw (polygonsHold, e)
+
+  pub polygons-later : (x : Picked) (l : List Picked) → ringsHold (elements x) q ≡ false → polygonsHold (x ∷ l) q ≡ polygonsHold l q
+  unfolding polygonsHold
+  polygons-later x l e = rw (polygonsHold, e)
+
+-- rules and zones, by the laws of `Combining`
+module _ (type : List ℕ) where
+  abbrev pub rulesFor : Loop Given Given
+  rulesFor = record { shape = table.rule; from = withRules type; Fit = λ l. Unit {0}; rest = λ x l f. tt }
+
+  abbrev pub zonesFor : Point → ℕ → Loop Given Given
+  zonesFor q moment =
+      record {
+        shape = table.zone;
+        from = λ a l. withRules type a (rules l q moment);
+        Fit = λ l. (x : Picked) → List·Memᴰ x l → Faultless x;
+        rest = λ x l f y i. f y (List·Memᴰ·tail i);
+      }
