@@ -202,7 +202,7 @@ fn answers_as_json() {
     let rule = |vehicle_type| told(&["zone", SAMPLE, "47.37", "8.543", vehicle_type, "1704067200", "--json"]).1;
     assert_eq!(
         rule("scooter"),
-        "{\"answer\":0,\"ride_allowed\":false,\"ride_through_allowed\":false,\"maximum_speed_kph\":null,\"station_parking\":null}\n"
+        "{\"answer\":0,\"ride_allowed\":false,\"ride_through_allowed\":false,\"maximum_speed_kph\":10,\"station_parking\":true}\n"
     );
     assert_eq!(
         rule("city_bike"),
