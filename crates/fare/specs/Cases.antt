@@ -7,6 +7,7 @@ use lib.IntN.{pos, negℤ}
 use Rattle.decimal.specs.Exact.{tenThousandths}
 use Rattle.fare.specs.declared.Segment.{Segment}
 use Rattle.fare.specs.Charges.{minutesOf, kilometresOf, charged, momentsFrom, moments, charge, charges, sum, amount, allEnded, greatestEnd, past, total}
+use Rattle.fare.specs.Bounds.{mostSum}
 
 unfoldable pub charging : Unit {0}
 unfolding tenThousandths charged momentsFrom moments charge charges sum amount allEnded greatestEnd past total
@@ -96,3 +97,7 @@ kilometres : map (λ metres. amount (pos 0) [] (open′ 1 10000 1 ∷ []) (minut
     ≡ pos 0 ∷ pos 10000 ∷ pos 10000 ∷ pos 20000 ∷ []
 unfolding charging
 kilometres = refl
+
+-- the largest sum that the ceilings allow, in ten-thousandths
+largest : mostSum ≡ 7_302_730_000_000_000
+largest = refl
