@@ -7,8 +7,6 @@ use native.Mathlib.Nat.{mul-le-mul}
 use native.Mathlib.Omega.{arith}
 use lib.ListN.{length}
 use lib.IntN.{ℤ, pos, negsuc, natAbs, _+ℤ_}
-use lib.Signed.{mag}
-use borrow.Author.Tests.{lt-ltb}
 use Rattle.signed.proofs.Gap.{gap-add, gap-size, signed-size}
 use Rattle.signed.proofs.Sums.{parts, up-size, down-size}
 use Rattle.decimal.specs.declared.Amount.{Amount}
@@ -16,8 +14,7 @@ use Rattle.decimal.specs.Exact.{tenThousandths}
 use Rattle.fare.specs.declared.Minutes.{Minutes}
 use Rattle.fare.specs.declared.Kilometres.{Kilometres}
 use Rattle.fare.specs.declared.Segment.{Segment}
-use Rattle.fare.specs.declared.Total.the-variants.{Is}
-use Rattle.fare.specs.Charges.{moments, charge, charges, sum, clamped, amount, total}
+use Rattle.fare.specs.Charges.{moments, charge, charges, sum, clamped, amount}
 use Rattle.fare.specs.Bounds.{mostMoney, mostCharge, mostSum, Modest, Quotable}
 use Rattle.fare.proofs.Worth.{signed-times}
 use Rattle.fare.proofs.Bound.{charge-most}
@@ -86,12 +83,3 @@ module _ (price : Amount) (perMinute perKilometre : List Segment) (minutes : Min
 -- the bound itself has its place in 63 bits
 pub sum-room : mostSum < 2 ^ 63
 sum-room = omega arith
-
--- and so has every number within it
-size-fits : (z : ℤ) → natAbs z ≤ mostSum → mag z < 2 ^ 63
-size-fits (pos n) h = omega arith
-size-fits (negsuc n) h = omega arith
-
-pub total-is : (z : ℤ) → natAbs z ≤ mostSum → total z ≡ Is z
-unfolding total
-total-is z h = rw (lt-ltb (mag z) (2 ^ 63) (size-fits z h))

@@ -6,11 +6,11 @@ use Prim.Native.Nat.{ℕ}
 use lib.IntN.{pos, negℤ}
 use Rattle.decimal.specs.Exact.{tenThousandths}
 use Rattle.fare.specs.declared.Segment.{Segment}
-use Rattle.fare.specs.Charges.{minutesOf, kilometresOf, charged, momentsFrom, moments, charge, charges, sum, amount, allEnded, greatestEnd, past, total}
+use Rattle.fare.specs.Charges.{minutesOf, kilometresOf, charged, momentsFrom, moments, charge, charges, sum, amount, allEnded, greatestEnd, past}
 use Rattle.fare.specs.Bounds.{mostSum}
 
 unfoldable pub charging : Unit {0}
-unfolding tenThousandths charged momentsFrom moments charge charges sum amount allEnded greatestEnd past total
+unfolding tenThousandths charged momentsFrom moments charge charges sum amount allEnded greatestEnd past
 charging = tt
 
 -- a segment without an end, its rate in ten-thousandths; and one with an end

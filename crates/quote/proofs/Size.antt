@@ -1,8 +1,7 @@
 -- The promises on size. The plan of an id in a clean file is clear, so that it and a ride within the limits keep every ceiling; a quote that has no such plan or no such
 -- ride gives no amount.
 use mathlib.Core.Bool.{Bool, true, false}
-use mathlib.Core.List.{List, [], _∷_, List·Memᴰ, List·Memᴰ·head, List·Memᴰ·tail, List·Memᴰ·not-nil, List·Memᴰ·cases-cons}
-use mathlib.Core.Logic.{⊎-elim}
+use mathlib.Core.List.{List, [], _∷_, List·Memᴰ, List·Memᴰ·head, List·Memᴰ·tail}
 use mathlib.Core.Path.{_≡_, refl, sym, ap, subst, _∙_}
 use Prim.Native.Nat.{ℕ, _≤_}
 use native.Mathlib.Omega.{arith}
@@ -13,12 +12,12 @@ use Rattle.schema.specs.Pick.{Picked, pick}
 use Rattle.document.specs.Document.{Maybe, none, some}
 use Rattle.fare.specs.Charges.{minutesOf, kilometresOf}
 use Rattle.fare.specs.Bounds.{mostSum, Quotable}
-use Rattle.fare.proofs.Size.{sum-size, amount-size, sum-room, total-is}
+use Rattle.fare.proofs.Size.{sum-size, amount-size, sum-room}
 use Rattle.clean.specs.declared.Cleanness.{Cleanness}
 use Rattle.clean.specs.declared.Cleanness.the-variants.{Clean, Broken}
 use Rattle.clean.specs.Clean.{treeOf, cleanOf}
 use Rattle.quote.specs.Plan.{priceAt, perMinute, perKilometre, planOf, plans, tripAmount, pastMinutes, pastKilometres}
-use Rattle.quote.specs.Quote.{Answer, priced, fareOf, planQuote, cleanQuote, short, quoteOf}
+use Rattle.quote.specs.Quote.{Answer, priced, planQuote, cleanQuote, short, quoteOf}
 use Rattle.quote.specs.Size.{PlanIn, tripSum, Sized}
 use Rattle.quote.proofs.Files.{short-both, found-clear, quote-long, quote-of}
 use Rattle.quote.proofs.Trips.{quotable}
@@ -41,9 +40,7 @@ module _ {s id : List ℕ} {plan : Picked} (p : PlanIn s id plan) (seconds metre
   quoted : quoteOf s id seconds metres ≡ priced (tripAmount plan seconds metres) (pastMinutes plan seconds) (pastKilometres plan metres)
   unfolding cleanQuote
   quoted =
-      sym (quote-of s id seconds metres brief Clean (sym (p .clean)))
-      ∙ ap (planQuote seconds metres) (p .found)
-      ∙ ap (λ t. fareOf t (pastMinutes plan seconds) (pastKilometres plan metres)) (total-is (tripAmount plan seconds metres) trip-amount)
+      sym (quote-of s id seconds metres brief Clean (sym (p .clean))) ∙ ap (planQuote seconds metres) (p .found)
 
 -- what every quote keeps: its amount's size and its number
 record Kept (a : Answer) : Type 0 where
@@ -80,12 +77,3 @@ sized =
       priced = λ s id plan seconds metres p e. quoted p seconds metres e;
       numbers = λ s id seconds metres. kept s id seconds metres .number;
     }
-
--- so 7 is never answered
-pub never-outside : (s id : List ℕ) (seconds metres : ℕ) → quoteOf s id seconds metres .number ≡ 7 → ⊥
-never-outside s id seconds metres e = other (subst (λ (n : ℕ). List·Memᴰ n (0 ∷ 4 ∷ 5 ∷ 6 ∷ [])) e (kept s id seconds metres .number))
-  where
-    other : List·Memᴰ {A = ℕ} 7 (0 ∷ 4 ∷ 5 ∷ 6 ∷ []) → ⊥
-    other i =
-        ⊎-elim (λ e. omega arith) (λ j. ⊎-elim (λ e. omega arith) (λ k. ⊎-elim (λ e. omega arith) (λ l. ⊎-elim (λ e. omega arith) List·Memᴰ·not-nil
-        (List·Memᴰ·cases-cons l)) (List·Memᴰ·cases-cons k)) (List·Memᴰ·cases-cons j)) (List·Memᴰ·cases-cons i)

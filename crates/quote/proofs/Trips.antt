@@ -2,9 +2,10 @@
 -- of both, and price and charges make the amount.
 use mathlib.Core.List.{List}
 use mathlib.Core.Path.{_≡_, sym, ap, subst, _∙_}
-use Prim.Native.Nat.{ℕ, _+_, _≤_}
+use Prim.Native.Nat.{ℕ, _+_, _-_, _^_, _≤_, _<_}
 use native.Mathlib.Omega.{arith}
 use lib.ListN.{length}
+use lib.IntN.{natAbs}
 use Rattle.notation.specs.Ascii.{bytes}
 use Rattle.limits.specs.Ceilings.{segments}
 use Rattle.walk.specs.Part.{treeOf}
@@ -18,13 +19,15 @@ use Rattle.fare.specs.Charges as charges
 use Rattle.fare.specs.Charges.{minutesOf, kilometresOf}
 use Rattle.fare.specs.Folds.{worth, ofPrice, withCharges, Fills, withAll}
 use Rattle.fare.specs.Bounds.{mostMinutes, mostKilometres, mostRide, Room, Modest, Chargeable, Quotable}
+use Rattle.fare.proofs.Worth.{clamped-difference}
 use Rattle.fare.proofs.Fold.{sum-kept}
 use Rattle.fare.proofs.Bound.{minutes-short, kilometres-short, room-price, room-less, room-charges}
+use Rattle.fare.proofs.Size.{amount-size}
 use Rattle.quote.specs.Plan.{priceAt, perMinute, perKilometre, tripAmount, pastMinutes, pastKilometres}
 use Rattle.fields.specs.Values.{memberOf, arrayBy}
 use Rattle.quote.specs.Values.{priceBy, segmentsBy}
 use Rattle.quote.specs.Clear.{ClearPlan}
-use Rattle.quote.specs.Quote.{mostSeconds, mostMetres, fareOf, planQuote}
+use Rattle.quote.specs.Quote.{mostSeconds, mostMetres, priced, planQuote}
 use Rattle.quote.proofs.Fields.{plan-price, plan-minutes, plan-kilometres, minutes-clear, kilometres-clear}
 use Rattle.quote.proofs.Segments.{price-most, segments-modest, segments-few, segments-picked}
 
@@ -108,8 +111,17 @@ module _ {p : List ℕ} (c : ClearPlan p) where
         rw (minutes-are, kilometres-are, plan-price (c .whole))
         (ap charges.clamped (sum-kept (priceAt plan) (perMinute plan) (perKilometre plan) (minutesOf seconds) (kilometresOf metres)))
 
+    -- what is added and what is taken off are apart by no more than the largest sum
+    pub amount-room : seconds ≤ mostSeconds → metres ≤ mostMetres
+        → let all = withCharges (withCharges (price p) (byMinute p) (minutesOf seconds .count)) (byKilometre p) (kilometresOf metres .count) in all .added - all .taken < 2 ^ 63
+    unfolding tripAmount
+    amount-room short near =
+        let all = withCharges (withCharges (price p) (byMinute p) (minutesOf seconds .count)) (byKilometre p) (kilometresOf metres .count) in
+        let is : natAbs (tripAmount plan seconds metres) ≡ all .added - all .taken = ap natAbs (sym amount-is ∙ clamped-difference (all .added) (all .taken)) in
+        omega (arith, amount-size _ _ _ _ _ (quotable seconds metres short near))
+
     pub plan-quoted : let timed = withAll (price p) (byMinute p) (minutesOf seconds .count) in let all = withAll (timed .sum) (byKilometre p) (kilometresOf metres .count) in
-        fareOf (charges.total (charges.clamped (worth (all .sum)))) (timed .past) (all .past) ≡ planQuote seconds metres (some plan)
+        priced (charges.clamped (worth (all .sum))) (timed .past) (all .past) ≡ planQuote seconds metres (some plan)
     unfolding pastMinutes pastKilometres
     plan-quoted =
         rw (amount-is, ap (λ (l : List Segment). charges.past l (minutesOf seconds .count)) minutes-are, ap (λ (l : List Segment). charges.past l (kilometresOf metres .count)) kilometres-are)
