@@ -1,5 +1,5 @@
--- The question "quote" of document 01, "Questions and their numbers", in that table's numbers and order of checking. An amount, a mark or parts that an
--- answer does not give are zero or no.
+-- The question "quote" of document 01, "Questions and their numbers", as document 02's W6 leaves it, in that table's numbers and order of checking. An
+-- amount, a mark or parts that an answer does not give are zero or no.
 use mathlib.Core.Bool.{Bool, false}
 use mathlib.Core.List.{List}
 use Prim.Native.Nat.{ℕ}
