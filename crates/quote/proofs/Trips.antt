@@ -84,11 +84,14 @@ module _ {p : List ℕ} (c : ClearPlan p) where
   minutes-chargeable f ride h =
       chargeable f few-minutes (segments-modest (minuteBytes p)) (room-less (length (byMinute p)) (omega (arith, few-minutes)) price-room) h
 
+  pub timed-room : (ride : ℕ) → ride ≤ mostMinutes → Room (length (byKilometre p)) (withCharges (price p) (byMinute p) ride)
+  timed-room ride h =
+      room-charges (length (byKilometre p)) (byMinute p) (price p) ride (segments-modest (minuteBytes p)) h
+      (room-less (length (byKilometre p) + length (byMinute p)) (omega (arith, few-minutes, few-kilometres)) price-room)
+
   pub kilometres-chargeable : {l : Segments} → Fills l (byKilometre p) → (ride far : ℕ) → ride ≤ mostMinutes → far ≤ mostKilometres → Chargeable (withCharges (price p) (byMinute p) ride) l far
   kilometres-chargeable f ride far h k =
-      let modest = segments-modest (minuteBytes p) in
-      let room = room-less (length (byKilometre p) + length (byMinute p)) (omega (arith, few-minutes, few-kilometres)) price-room in
-      chargeable f few-kilometres (segments-modest (kilometreBytes p)) (room-charges (length (byKilometre p)) (byMinute p) (price p) ride modest h room) (omega arith)
+      chargeable f few-kilometres (segments-modest (kilometreBytes p)) (timed-room ride h) (omega arith)
 
   -- the plan is within the ceilings, for a ride that is
   pub quotable : (seconds metres : ℕ) → seconds ≤ mostSeconds → metres ≤ mostMetres

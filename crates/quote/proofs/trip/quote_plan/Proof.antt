@@ -3,6 +3,7 @@ use borrow.Author.Needs.{needs}
 use mathlib.Core.List.{List}
 use mathlib.Core.Path.{_≡_, sym, ap, ap₂, subst, _∙_}
 use Prim.Native.Nat.{_-_, _^_, _<_}
+use native.Mathlib.Omega.{arith}
 use lib.IntN.{ℤ}
 use lib.Signed.{mag}
 use mir.Syntax.{w64}
@@ -18,7 +19,7 @@ use Rattle.fare.proofs.Worth.{clamped-difference}
 use Rattle.fare.proofs.Bound.{minutes-short, kilometres-short}
 use Rattle.quote.specs.Quote.{priced}
 use Rattle.quote.proofs.Fields.{minutes-clear, kilometres-clear}
-use Rattle.quote.proofs.Trips.{price, byMinute, byKilometre, minutes-chargeable, kilometres-chargeable, amount-room, plan-quoted}
+use Rattle.quote.proofs.Trips.{price, byMinute, byKilometre, timed-room, minutes-chargeable, kilometres-chargeable, amount-room, plan-quoted}
 use Rattle.quote.proofs.trip.quote_plan.Statement.{statement}
 use Rattle.quote.proofs.trip.quote_plan.Tie as tie
 
@@ -58,17 +59,21 @@ with-kilometres-requires c κs =
     (kilometres-chargeable (k .pre .2) (c .segments-of2 .ensures) (minutesOf (k .args .seconds) .count) (kilometresOf (k .args .metres) .count)
     (minutes-short (k .args .seconds) (k .pre .0)) (kilometres-short (k .args .metres) (k .pre .1)))
 
--- what both came to is a number of 63 bits
-room : (c : tie.After-with-kilometres) → c .with-kilometres .result .sum .added - c .with-kilometres .result .sum .taken < 2 ^ 63
-room c =
+-- either sum comes to a number of 63 bits, so that the amount alone tells which is asked for
+room-timed : (c : tie.After-with-kilometres) → let s = c .before .before .before .before .with-minutes .result .sum in s .added - s .taken < 2 ^ 63
+room-timed c =
+    let t = c .before .before .before .before in let k = t .before .before .before .before .before .before .before in
+    rw (timed t) (omega (arith, timed-room (k .pre .2) (minutesOf (k .args .seconds) .count) (minutes-short (k .args .seconds) (k .pre .0)) .added))
+
+room-all : (c : tie.After-with-kilometres) → c .with-kilometres .result .sum .added - c .with-kilometres .result .sum .taken < 2 ^ 63
+room-all c =
     let t = c .before .before .before .before in let k = t .before .before .before .before .before .before .before in
     rw (all c) (amount-room (k .pre .2) (k .args .seconds) (k .args .metres) (k .pre .0) (k .pre .1))
 
 returns : tie.Need-returns
 returns c =
     let w = c .before .before in let t = w .before .before .before .before in let k = t .before .before .before .before .before .before .before in
-    let s = w .with-kilometres .result .sum in
-    let fits = subst (λ (z : ℤ). mag z < 2 ^ 63) (sym (c .amount .ensures ∙ clamped-difference (s .added) (s .taken))) (room w) in
+    let fits = subst (λ (z : ℤ). mag z < 2 ^ 63) (sym (c .amount .ensures ∙ clamped-difference _ _)) (omega (arith, room-timed w, room-all w)) in
     ap (λ (z : ℤ). priced z (t .with-minutes .result .past) (w .with-kilometres .result .past)) (toZ-ofZ w64 (c .amount .result) (record { sfits = fits }))
     ∙ rw (c .amount .ensures, all w, timed t) (plan-quoted (k .pre .2) (k .args .seconds) (k .args .metres))
 
@@ -85,5 +90,5 @@ quote-plan-spec =
     (λ c. search needs)
     segments-of-requires-2
     with-kilometres-requires
-    (λ c κs. room (c .before))
+    (λ c κs. omega (arith, room-timed (c .before), room-all (c .before)))
     returns)
