@@ -51,18 +51,17 @@ extern "C" {
 
 /* Numbers that are returned. */
 enum {
-    SKAVELDRO_ACCEPTED = 0,       /* verdict: the set keeps every rule; the word is written */
-    SKAVELDRO_NOT_ACCEPTED = 1,   /* verdict: it breaks one; the word, which names the first, is written */
-    SKAVELDRO_ANSWERED = 0,       /* any other question: the values are written */
-    SKAVELDRO_NO_ROOM = 2,        /* any question: there is a word or values to write and no room for them; nothing is written */
-    SKAVELDRO_NO_WORD = 3,        /* read word: the bytes are no word; nothing is written */
-    SKAVELDRO_RIDE_TOO_LONG = 4,  /* quote: over 2,678,400 seconds or 1,000,000 metres; nothing is written */
-    SKAVELDRO_NOT_CLEAN = 5,      /* quote, zone rule, show record: the file breaks a rule; its parts are written, 0 for all further values */
-    SKAVELDRO_NO_PLAN = 6,        /* quote: no plan has the id; nothing is written */
-    SKAVELDRO_AMOUNT_OUTSIDE = 7, /* quote: the amount is no signed number of 64 bits; nothing is written */
-    SKAVELDRO_POINT_OFF_MAP = 8,  /* zone rule: past 180 degrees of longitude or 90 of latitude; nothing is written */
-    SKAVELDRO_NO_RULE = 9,        /* zone rule: none applies; nothing is written */
-    SKAVELDRO_NO_RECORD = 10      /* show record: there is no such file or record; nothing is written */
+    SKAVELDRO_ACCEPTED = 0,      /* verdict: the set keeps every rule; the word is written */
+    SKAVELDRO_NOT_ACCEPTED = 1,  /* verdict: it breaks one; the word, which names the first, is written */
+    SKAVELDRO_ANSWERED = 0,      /* any other question: the values are written */
+    SKAVELDRO_NO_ROOM = 2,       /* any question: there is a word or values to write and no room for them; nothing is written */
+    SKAVELDRO_NO_WORD = 3,       /* read word: the bytes are no word; nothing is written */
+    SKAVELDRO_RIDE_TOO_LONG = 4, /* quote: over 2,678,400 seconds or 1,000,000 metres; nothing is written */
+    SKAVELDRO_NOT_CLEAN = 5,     /* quote, zone rule, show record: the file breaks a rule; its parts are written, 0 for all further values */
+    SKAVELDRO_NO_PLAN = 6,       /* quote: no plan has the id; nothing is written */
+    SKAVELDRO_POINT_OFF_MAP = 8, /* zone rule: past 180 degrees of longitude or 90 of latitude; nothing is written */
+    SKAVELDRO_NO_RULE = 9,       /* zone rule: none applies; nothing is written */
+    SKAVELDRO_NO_RECORD = 10     /* show record: there is no such file or record; nothing is written */
 };
 
 /* Indices of the values that every answer but the verdict's begins with: the parts of a verdict word. All are 0 for an accepted set. */
@@ -121,9 +120,9 @@ uint8_t skaveldro_read_word(const uint8_t *word, size_t word_length,
 /*
  * What a ride costs under the plan of that id, by the bytes of file 5. Returns, in this order of checking: SKAVELDRO_RIDE_TOO_LONG over
  * 2,678,400 seconds or 1,000,000 metres; SKAVELDRO_NOT_CLEAN if the file is not sound by itself, with the parts of its word;
- * SKAVELDRO_NO_PLAN; SKAVELDRO_AMOUNT_OUTSIDE if the amount is no signed number of 64 bits; SKAVELDRO_ANSWERED with amount and marks.
- * In place of the two that write values, SKAVELDRO_NO_ROOM under 72 bytes. Nine values: the parts, amount, past minutes, past
- * kilometres. Where discounts outweigh the price and the charges the amount is 0: a ride is never credited.
+ * SKAVELDRO_NO_PLAN; SKAVELDRO_ANSWERED with amount and marks. In place of the two that write values, SKAVELDRO_NO_ROOM under 72 bytes.
+ * Nine values: the parts, amount, past minutes, past kilometres. Where discounts outweigh the price and the charges the amount is 0: a
+ * ride is never credited. The largest amount that the ceilings allow is 7,302,730,000,000,000.
  */
 uint8_t skaveldro_quote(const uint8_t *plans, size_t plans_length,
                         const uint8_t *id, size_t id_length,

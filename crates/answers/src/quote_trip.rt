@@ -49,9 +49,6 @@ fn print_quote(q: Quote) {
         Quote::NoPlan => {
             print::first(6);
         }
-        Quote::Outside => {
-            print::first(7);
-        }
         Quote::Fare(amount, past_minutes, past_kilometres) => {
             print::first(0);
             print::amount(amount);

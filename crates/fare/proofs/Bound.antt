@@ -1,46 +1,37 @@
--- Nothing overflows: a segment charges its rate at most once for each number up to the ride's length, so within the ceilings every charge is at
--- most `mostCharge`, and a price with the charges of all segments of a plan stays far below 2^63 on both sides.
+-- Nothing overflows on the way: a segment charges its rate at most once for each number up to the ride's length, which is at most `mostCharge`, and a price
+-- leaves room for the charges of all segments of a plan.
 use mathlib.Core.Bool.{Bool, true, false}
 use mathlib.Core.List.{List, [], _∷_, List·Memᴰ·head, List·Memᴰ·tail}
 use mathlib.Core.Path.{_≡_, refl}
-use Prim.Native.Nat.{ℕ, suc, _+_, _*_, _^_, _≤_, _<_}
+use Prim.Native.Nat.{ℕ, suc, _+_, _*_, _≤_}
 use native.Mathlib.Nat.{mul-le-mul}
 use native.Mathlib.Omega.{arith}
 use lib.ListN.{length}
-use lib.IntN.{ℤ, pos, negsuc}
-use lib.Signed.{mag}
-use borrow.Author.Tests.{lt-ltb}
 use Rattle.limits.specs.Ceilings.{segments}
-use Rattle.signed.proofs.Gap.{gap, gap-mag}
 use Rattle.decimal.specs.declared.Amount.{Amount}
-use Rattle.decimal.specs.Exact.{tenThousandths}
-use Rattle.fare.specs.declared.Minutes.{Minutes}
-use Rattle.fare.specs.declared.Kilometres.{Kilometres}
 use Rattle.fare.specs.declared.Segment.{Segment}
 use Rattle.fare.specs.declared.Sum.{Sum}
-use Rattle.fare.specs.declared.Total.the-variants.{Is}
-use Rattle.fare.specs.Charges.{minutesOf, kilometresOf, moments, sum, clamped, amount, total}
+use Rattle.fare.specs.Charges.{minutesOf, kilometresOf, moments}
 use Rattle.fare.specs.Folds.{withAmount, ofPrice, withCharge, withCharges}
-use Rattle.fare.specs.Bounds.{mostMoney, mostRide, mostCharge, Room, Payable, Modest, Quotable}
-use Rattle.fare.proofs.Fold.{sum-kept}
+use Rattle.fare.specs.Bounds.{mostMoney, mostMinutes, mostKilometres, mostRide, mostCharge, Room, Payable, Modest}
 use Rattle.fare.proofs.Moments.{moments-most}
 
 -- the longest rides that are asked for
-pub minutes-short : (seconds : ℕ) → seconds ≤ 2_678_400 → minutesOf seconds .count ≤ mostRide
+pub minutes-short : (seconds : ℕ) → seconds ≤ 2_678_400 → minutesOf seconds .count ≤ mostMinutes
 minutes-short seconds h = omega arith
 
-pub kilometres-short : (metres : ℕ) → metres ≤ 1_000_000 → kilometresOf metres .count ≤ mostRide
+pub kilometres-short : (metres : ℕ) → metres ≤ 1_000_000 → kilometresOf metres .count ≤ mostKilometres
 kilometres-short metres h = omega arith
 
-pub charge-most : (s : Segment) (ride n : ℕ) → s .rate .size ≤ mostMoney → ride ≤ mostRide → n ≡ length (moments s ride) → s .rate .size * n ≤ mostCharge
-charge-most s ride n h l e =
-    let k : n ≤ mostRide + 1 = omega (arith, moments-most s ride) in mul-le-mul h k
+pub charge-most : (s : Segment) (ride n : ℕ) → s .rate .size ≤ mostMoney → n ≡ length (moments s ride) → s .rate .size * n ≤ mostCharge ride
+charge-most s ride n h e =
+    let k : n ≤ ride + 1 = omega (arith, moments-most s ride) in mul-le-mul h k
 
 -- room for fewer; and one less is left after a charge
 pub room-less : {n : ℕ} {sum : Sum} (k : ℕ) → k ≤ n → Room n sum → Room k sum
 room-less k h r = record { added = omega arith; taken = omega arith }
 
-room-amount : (n size : ℕ) (sum : Sum) (negative : Bool) → size ≤ mostCharge → Room (suc n) sum → Room n (withAmount sum negative size)
+room-amount : (n size : ℕ) (sum : Sum) (negative : Bool) → size ≤ mostCharge mostRide → Room (suc n) sum → Room n (withAmount sum negative size)
 unfolding withAmount
 room-amount n size sum true h r = record { added = omega arith; taken = omega arith }
 room-amount n size sum false h r = record { added = omega arith; taken = omega arith }
@@ -48,7 +39,7 @@ room-amount n size sum false h r = record { added = omega arith; taken = omega a
 pub room-next : {n : ℕ} {sum : Sum} (s : Segment) (ride : ℕ) → s .rate .size ≤ mostMoney → ride ≤ mostRide → Room (suc n) sum → Room n (withCharge sum s ride)
 unfolding withCharge
 room-next {n} {sum} s ride h l r =
-    room-amount n (s .rate .size * length (moments s ride)) sum (s .rate .negative) (charge-most s ride _ h l refl) r
+    room-amount n (s .rate .size * length (moments s ride)) sum (s .rate .negative) (omega (arith, charge-most s ride _ h refl)) r
 
 pub payable : {n : ℕ} {sum : Sum} (s : Segment) (ride : ℕ) → s .rate .size ≤ mostMoney → ride ≤ mostRide → Room (suc n) sum → Payable sum s ride
 payable s ride h l r = record { room = room-less 1 (omega arith) r; modest = h; short = l }
@@ -67,37 +58,3 @@ room-charges n [] sum ride m h r = room-less n (omega arith) r
 room-charges n (s ∷ l) sum ride m h r =
     room-charges n l (withCharge sum s ride) ride (λ t i. m t (List·Memᴰ·tail i)) h
     (room-next s ride (m s (List·Memᴰ·head refl)) h (room-less (suc (n + length l)) (omega arith) r))
-
--- a negative number becomes smaller in size
-clamped-below : (z : ℤ) (k : ℕ) → mag z < k → mag (clamped z) < k
-clamped-below (pos n) k h = h
-clamped-below (negsuc n) k h = omega arith
-
--- so sum and amount of a plan and a ride within the ceilings have their place in signed 64 bits
-module _ (price : Amount) (perMinute perKilometre : List Segment) (minutes : Minutes) (kilometres : Kilometres)
-    (q : Quotable price perMinute perKilometre minutes kilometres) where
-  all : Sum
-  all = withCharges (withCharges (ofPrice price) perMinute (minutes .count)) perKilometre (kilometres .count)
-
-  room-all : Room 0 all
-  unfolding all
-  room-all =
-      room-charges 0 perKilometre _ (kilometres .count) (q .modest-kilometres) (q .short-kilometres)
-      (room-less (0 + length perKilometre) (omega arith)
-      (room-charges (length perKilometre) perMinute (ofPrice price) (minutes .count) (q .modest-minutes) (q .short-minutes)
-      (room-less (length perKilometre + length perMinute) (omega (arith, q .few-minutes, q .few-kilometres)) (room-price price (q .cheap)))))
-
-  pub sum-fits : mag (sum (tenThousandths price) perMinute perKilometre minutes kilometres) < 2 ^ 63
-  unfolding all
-  sum-fits =
-      rw (← sum-kept price perMinute perKilometre minutes kilometres)
-      (gap-mag (gap (all .added) (all .taken)) (2 ^ 63) (omega (arith, room-all .added)) (omega (arith, room-all .taken)))
-
-  pub amount-fits : mag (amount (tenThousandths price) perMinute perKilometre minutes kilometres) < 2 ^ 63
-  unfolding amount
-  amount-fits = clamped-below (sum (tenThousandths price) perMinute perKilometre minutes kilometres) (2 ^ 63) sum-fits
-
-  pub amount-total : total (amount (tenThousandths price) perMinute perKilometre minutes kilometres)
-      ≡ Is (amount (tenThousandths price) perMinute perKilometre minutes kilometres)
-  unfolding total
-  amount-total = rw (lt-ltb _ (2 ^ 63) amount-fits)

@@ -2,6 +2,7 @@ pub mod Moments
 pub mod Worth
 pub mod Fold
 pub mod Bound
+pub mod Size
 pub mod Charging
 pub mod Ends
 pub mod Past

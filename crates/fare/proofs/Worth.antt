@@ -1,20 +1,19 @@
--- What the two sums come to: an amount goes in with its sign, and a charge is the segment's. The total is their difference, and zero where that is negative.
+-- What the two sums come to: an amount goes in with its sign, and a charge is the segment's. The amount is their difference, and zero where that is negative.
 use mathlib.Core.Bool.{Bool, true, false}
 use mathlib.Core.Path.{_≡_, refl, ap, _∙_}
-use Prim.Native.Nat.{ℕ, zero, suc, _+_, _-_, _*_, _^_, _≤_, _<_}
+use Prim.Native.Nat.{ℕ, zero, suc, _+_, _-_, _*_}
 use native.Mathlib.Omega.{arith}
 use lib.IntN.{ℤ, pos, negℤ, _+ℤ_, _*ℤ_}
 use lib.ListN.{length}
 use lib.Dec.{leb}
-use borrow.Author.Tests.{leb-true, leb-false, lt-ltb, le-ltb}
+use borrow.Author.Tests.{leb-true, leb-false}
 use Rattle.signed.specs.Signed.{signed, difference}
 use Rattle.signed.proofs.Gap.{gap, gap-pos, gap-neg, gap-add, gap-mul, gap-same, difference-up, difference-down}
 use Rattle.decimal.specs.declared.Amount.{Amount}
 use Rattle.decimal.specs.Exact.{tenThousandths}
 use Rattle.fare.specs.declared.Segment.{Segment}
 use Rattle.fare.specs.declared.Sum.{Sum}
-use Rattle.fare.specs.declared.Total.the-variants.{Is, Outside}
-use Rattle.fare.specs.Charges.{moments, charge, clamped, total}
+use Rattle.fare.specs.Charges.{moments, charge, clamped}
 use Rattle.fare.specs.Folds.{worth, withAmount, ofPrice, withCharge}
 
 abbrev sums : ℕ → ℕ → Sum
@@ -54,7 +53,7 @@ unfolding withCharge
 charge-is sum s ride n e = rw e
 
 -- a size and its sign, so many times
-signed-times : (negative : Bool) (size n : ℕ) → signed negative (size * n) ≡ signed negative size *ℤ pos n
+pub signed-times : (negative : Bool) (size n : ℕ) → signed negative (size * n) ≡ signed negative size *ℤ pos n
 signed-times true size n = gap-same (gap-neg (size * n)) (gap-mul (gap-neg size) (gap-pos n)) (omega arith)
 signed-times false size n = gap-same (gap-pos (size * n)) (gap-mul (gap-pos size) (gap-pos n)) (omega arith)
 
@@ -71,7 +70,7 @@ clamped-below (suc n) = refl
 
 -- what the two sums come to for the rider is the difference of natural numbers, which stops at zero
 module _ (a b : ℕ) where
-  clamped-difference : clamped (difference a b) ≡ pos (a - b)
+  pub clamped-difference : clamped (difference a b) ≡ pos (a - b)
   clamped-difference = go (leb a b) refl
     where
       go : (t : Bool) → leb a b ≡ t → clamped (difference a b) ≡ pos (a - b)
@@ -79,12 +78,3 @@ module _ (a b : ℕ) where
           let h = leb-true a b e in let z : 0 ≡ a - b = omega arith in
           ap clamped (difference-down a b h) ∙ clamped-below (b - a) ∙ ap pos z
       go false e = let h = leb-false a b e in ap clamped (difference-up a b (omega arith))
-
-  -- the ways through the total: the difference fits, or not
-  pub total-fits : a - b < 2 ^ 63 → Is (pos (a - b)) ≡ total (clamped (difference a b))
-  unfolding total
-  total-fits l = rw (clamped-difference, lt-ltb (a - b) (2 ^ 63) l)
-
-  pub total-outside : 2 ^ 63 ≤ a - b → Outside ≡ total (clamped (difference a b))
-  unfolding total
-  total-outside l = rw (clamped-difference, le-ltb (a - b) (2 ^ 63) l)

@@ -16,18 +16,29 @@ use Rattle.fare.specs.Folds.{listed}
 abbrev pub mostMoney : ℕ
 mostMoney = 10_000_000_000
 
--- the longest ride: 2,678,400 seconds in minutes. In kilometres a ride is at most 1,000 long.
+-- the longest ride: 2,678,400 seconds in minutes, and 1,000,000 metres in kilometres
+abbrev pub mostMinutes : ℕ
+mostMinutes = 44_640
+
+abbrev pub mostKilometres : ℕ
+mostKilometres = 1_000
+
+-- in either measure
 abbrev pub mostRide : ℕ
-mostRide = 44_640
+mostRide = mostMinutes
 
 -- the most that one segment charges: its rate at every moment from 0 to the ride's length
-abbrev pub mostCharge : ℕ
-mostCharge = mostMoney * (mostRide + 1)
+abbrev pub mostCharge : ℕ → ℕ
+mostCharge ride = mostMoney * (ride + 1)
+
+-- the most that a plan's price and all its charges come to, on either side of zero
+abbrev pub mostSum : ℕ
+mostSum = mostMoney + segments * mostCharge mostMinutes + segments * mostCharge mostKilometres
 
 -- so many segments more and neither side of the sum leaves 63 bits
 pub record Room (more : ℕ) (sum : Sum) : Type 0 where
-  pub added : sum .added + more * mostCharge < 2 ^ 63
-  pub taken : sum .taken + more * mostCharge < 2 ^ 63
+  pub added : sum .added + more * mostCharge mostRide < 2 ^ 63
+  pub taken : sum .taken + more * mostCharge mostRide < 2 ^ 63
 
 -- a segment's charge can be added
 pub record Payable (sum : Sum) (s : Segment) (ride : ℕ) : Type 0 where
@@ -53,5 +64,5 @@ pub record Quotable (price : Amount) (perMinute perKilometre : List Segment) (mi
   pub few-kilometres : length perKilometre ≤ segments
   pub modest-minutes : Modest perMinute
   pub modest-kilometres : Modest perKilometre
-  pub short-minutes : minutes .count ≤ mostRide
-  pub short-kilometres : kilometres .count ≤ mostRide
+  pub short-minutes : minutes .count ≤ mostMinutes
+  pub short-kilometres : kilometres .count ≤ mostKilometres

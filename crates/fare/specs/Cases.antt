@@ -6,10 +6,11 @@ use Prim.Native.Nat.{ℕ}
 use lib.IntN.{pos, negℤ}
 use Rattle.decimal.specs.Exact.{tenThousandths}
 use Rattle.fare.specs.declared.Segment.{Segment}
-use Rattle.fare.specs.Charges.{minutesOf, kilometresOf, charged, momentsFrom, moments, charge, charges, sum, amount, allEnded, greatestEnd, past, total}
+use Rattle.fare.specs.Charges.{minutesOf, kilometresOf, charged, momentsFrom, moments, charge, charges, sum, amount, allEnded, greatestEnd, past}
+use Rattle.fare.specs.Bounds.{mostSum}
 
 unfoldable pub charging : Unit {0}
-unfolding tenThousandths charged momentsFrom moments charge charges sum amount allEnded greatestEnd past total
+unfolding tenThousandths charged momentsFrom moments charge charges sum amount allEnded greatestEnd past
 charging = tt
 
 -- a segment without an end, its rate in ten-thousandths; and one with an end
@@ -96,3 +97,7 @@ kilometres : map (λ metres. amount (pos 0) [] (open′ 1 10000 1 ∷ []) (minut
     ≡ pos 0 ∷ pos 10000 ∷ pos 10000 ∷ pos 20000 ∷ []
 unfolding charging
 kilometres = refl
+
+-- the largest sum that the ceilings allow, in ten-thousandths
+largest : mostSum ≡ 7_302_730_000_000_000
+largest = refl

@@ -1,18 +1,15 @@
 -- What a ride costs: document 01, "Charges", with document 02's W2. Lengths are whole minutes or kilometres; amounts are ten-thousandths, of any size.
 use mathlib.Core.Bool.{Bool, true, false}
 use mathlib.Core.List.{List, [], _∷_}
-use Prim.Native.Nat.{ℕ, zero, suc, _+_, _/_, _^_, max}
+use Prim.Native.Nat.{ℕ, zero, suc, _+_, _/_, max}
 use lib.Dec.{eqb, leb, ltb}
 use lib.ListN.{length}
 use lib.IntN.{ℤ, pos, negsuc, _+ℤ_, _*ℤ_}
-use lib.Signed.{mag}
 use Rattle.notation.specs.Choice.{_⇒_else_, _and_}
 use Rattle.decimal.specs.Exact.{tenThousandths}
 use Rattle.fare.specs.declared.Minutes.{Minutes}
 use Rattle.fare.specs.declared.Kilometres.{Kilometres}
 use Rattle.fare.specs.declared.Segment.{Segment}
-use Rattle.fare.specs.declared.Total.{Total}
-use Rattle.fare.specs.declared.Total.the-variants.{Is, Outside}
 
 -- a ride's length, the rest dropped
 abbrev pub minutesOf : ℕ → Minutes
@@ -68,7 +65,3 @@ greatestEnd (s ∷ l) = max (s .end) (greatestEnd l)
 unfoldable pub past : List Segment → ℕ → Bool
 past [] ride = false
 past (s ∷ l) ride = allEnded (s ∷ l) and leb (greatestEnd (s ∷ l)) ride
-
--- an amount that has a place in signed 64 bits
-unfoldable pub total : ℤ → Total
-total z = ltb (mag z) (2 ^ 63) ⇒ Is z else Outside

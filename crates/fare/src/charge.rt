@@ -7,13 +7,12 @@ use crate::Minutes;
 use crate::Segment;
 use crate::Segments;
 use crate::Sum;
-use crate::Total;
 use decimal::Amount;
 ghost use mathlib.Core.Path.{_≡_};
 ghost use Prim.Native.Nat.{_+_, _-_, _^_, _≤_, _<_};
 ghost use lib.ListN.{length};
 ghost use Rattle.signed.specs.Signed.{difference};
-ghost use Rattle.fare.specs.Charges.{moments, clamped, total as totalOf};
+ghost use Rattle.fare.specs.Charges.{moments, clamped};
 ghost use Rattle.fare.specs.Folds.{boundOf, withAmount, ofPrice, withCharge, marked, listed, withAll};
 ghost use Rattle.fare.specs.Bounds.{mostRide, Payable, Chargeable};
 
@@ -152,14 +151,11 @@ impl Sum {
         return self.added - self.taken;
     }
 
-    // The amount, of any two sums.
-    pub fn total(self) -> Total
-        ensures { λ r. ⌜ r ≡ totalOf (clamped (difference (self .added) (self .taken))) ⌝ }
+    // The amount, of sums that the ceilings keep apart by less than 2^63.
+    pub fn amount(self) -> i64
+        requires { ⌜ self .added - self .taken < 2 ^ 63 ⌝ }
+        ensures { λ r. ⌜ r ≡ clamped (difference (self .added) (self .taken)) ⌝ }
     {
-        let amount = self.excess();
-        if amount < 0x8000_0000_0000_0000 {
-            return Total::Is(amount as i64);
-        }
-        return Total::Outside;
+        self.excess() as i64
     }
 }

@@ -40,12 +40,6 @@ pub struct Sum {
     pub taken: u64,
 }
 
-// An amount in ten-thousandths, or one that does not fit in 64 bits with a sign.
-pub enum Total {
-    Is(i64),
-    Outside,
-}
-
 // What the mark needs of the segments so far: whether there is one, whether all have an end, and the greatest end.
 pub struct Marks {
     pub some: bool,

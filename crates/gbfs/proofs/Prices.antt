@@ -1,15 +1,15 @@
--- Demand 2 on prices. A quote asks in order whether the ride is short, the file clean and the plan there; one that gives a price has passed all three, and its
--- total is the plan's amount itself. A ride past the ends is quoted as the shortest that is, which passes them too.
+-- Demand 2 on prices. A quote asks in order whether the ride is short, the file clean and the plan there, and gives the plan's price where all three hold.
+-- A ride past the ends is quoted as the shortest that is, which passes them too.
 use mathlib.Core.Bool.{Bool, true, false}
 use mathlib.Core.List.{List, [], _∷_, List·Memᴰ, List·Memᴰ·head, List·Memᴰ·tail, List·Memᴰ·not-nil, List·Memᴰ·cases-cons}
 use mathlib.Core.Logic.{⊎-elim}
 use mathlib.Core.Path.{_≡_, refl, sym, ap, _∙_}
-use Prim.Native.Nat.{ℕ, _*_, _/_, _^_, _≤_, _<_}
+use Prim.Native.Nat.{ℕ, _*_, _/_, _≤_}
 use native.Mathlib.Omega.{arith}
-use lib.Dec.{leb, ltb}
-use lib.IntN.{ℤ, pos}
-use lib.Signed.{leZ, mag}
-use borrow.Author.Tests.{leb-true, le-leb, lt-ltb}
+use lib.Dec.{leb}
+use lib.IntN.{pos}
+use lib.Signed.{leZ}
+use borrow.Author.Tests.{leb-true, le-leb}
 use Rattle.notation.specs.Choice.{_⇒_else_}
 use Rattle.schema.specs.Shape.{fileShape}
 use Rattle.schema.specs.Table23.{table23}
@@ -18,8 +18,6 @@ use Rattle.schema.proofs.Tests.{and-left, and-right}
 use Rattle.document.specs.Document.{Maybe, none, some}
 use Rattle.decimal.specs.Exact.{tenThousandths}
 use Rattle.fare.specs.declared.Segment.{Segment}
-use Rattle.fare.specs.declared.Total.{Total}
-use Rattle.fare.specs.declared.Total.the-variants as total
 use Rattle.fare.specs.Charges as charges
 use Rattle.fare.specs.Charges.{minutesOf, kilometresOf, sum, amount, allEnded, greatestEnd}
 use Rattle.fare.proofs.Past as ends
@@ -29,40 +27,10 @@ use Rattle.clean.specs.declared.Cleanness.{Cleanness}
 use Rattle.clean.specs.declared.Cleanness.the-variants.{Clean, Broken}
 use Rattle.clean.specs.Clean.{treeOf, cleanOf}
 use Rattle.quote.specs.Plan.{priceAt, perMinute, perKilometre, tripAmount, pastMinutes, pastKilometres}
-use Rattle.quote.specs.Quote.{Answer, refused, priced, fareOf, planQuote, cleanQuote, short, ofClean, quoteOf, mostSeconds, mostMetres}
+use Rattle.quote.specs.Quote.{Answer, refused, planQuote, cleanQuote, short, ofClean, quoteOf, mostSeconds, mostMetres}
 use Rattle.quote.proofs.Past as past
 use Rattle.quote.proofs.Past.{ended-minutes, ended-kilometres}
 use Rattle.gbfs.specs.Demand2.{planIn, fare, PastEnds}
-
--- a total that is given is the amount
-priced-total : (z : ℤ) (m k : Bool) → fareOf (charges.total z) m k .number ≡ 0 → fareOf (charges.total z) m k ≡ priced z m k
-unfolding charges.total
-priced-total z m k e = go (ltb (mag z) (2 ^ 63)) e
-  where
-    go : (t : Bool) → fareOf (t ⇒ total.Is z else total.Outside) m k .number ≡ 0 → fareOf (t ⇒ total.Is z else total.Outside) m k ≡ priced z m k
-    go true e = refl
-    go false e = absurd (omega arith)
-
-total-priced : (z : ℤ) (m k : Bool) → mag z < 2 ^ 63 → fareOf (charges.total z) m k ≡ priced z m k
-unfolding charges.total
-total-priced z m k h = ap (λ (t : Bool). fareOf (t ⇒ total.Is z else total.Outside) m k) (lt-ltb (mag z) (2 ^ 63) h)
-
-marked-minutes : (t : Total) (k : Bool) → fareOf t true k .number ≡ 0 → fareOf t true k .pastMinutes ≡ true
-marked-minutes (total.Is z) k e = refl
-marked-minutes total.Outside k e = absurd (omega arith)
-
-marked-kilometres : (t : Total) (m : Bool) → fareOf t m true .number ≡ 0 → fareOf t m true .pastKilometres ≡ true
-marked-kilometres (total.Is z) m e = refl
-marked-kilometres total.Outside m e = absurd (omega arith)
-
--- no total makes a natural number negative
-natural-total : (z : ℤ) (m k : Bool) → leZ (pos 0) z ≡ true → leZ (pos 0) (fareOf (charges.total z) m k .amount) ≡ true
-unfolding charges.total
-natural-total z m k h = go (ltb (mag z) (2 ^ 63))
-  where
-    go : (t : Bool) → leZ (pos 0) (fareOf (t ⇒ total.Is z else total.Outside) m k .amount) ≡ true
-    go true = h
-    go false = refl
 
 -- what a quote asks, in order
 abbrev asked : Bool → Cleanness → Maybe Picked → (seconds metres : ℕ) → Answer
@@ -87,32 +55,23 @@ asked-natural false c m seconds metres = refl
 asked-natural true (Broken p) m seconds metres = refl
 asked-natural true Clean none seconds metres = refl
 asked-natural true Clean (some plan) seconds metres =
-    natural-total _ (pastMinutes plan seconds) (pastKilometres plan metres)
-    (amount-natural (tenThousandths (priceAt plan)) (perMinute plan) (perKilometre plan) (minutesOf seconds) (kilometresOf metres))
+    amount-natural (tenThousandths (priceAt plan)) (perMinute plan) (perKilometre plan) (minutesOf seconds) (kilometresOf metres)
 
 -- a mark that a quote gives is its plan's
-given-mark : (t : Total) (m k : Bool) → fareOf t m k .pastMinutes ≡ true → m ≡ true
-given-mark (total.Is z) m k e = e
-given-mark total.Outside m k e = true-false e refl
-
-given-far-mark : (t : Total) (m k : Bool) → fareOf t m k .pastKilometres ≡ true → k ≡ true
-given-far-mark (total.Is z) m k e = e
-given-far-mark total.Outside m k e = true-false e refl
-
 module _ (seconds metres : ℕ) (plan : Picked) where
   asked-minutes : (t : Bool) (c : Cleanness) (m : Maybe Picked) → m ≡ some plan → asked t c m seconds metres .pastMinutes ≡ true → pastMinutes plan seconds ≡ true
   asked-minutes false c m f e = true-false e refl
   asked-minutes true (Broken p) m f e = true-false e refl
   asked-minutes true Clean none f e = true-false e refl
   asked-minutes true Clean (some x) f e =
-      let p : x ≡ plan = cc in ap (λ (y : Picked). pastMinutes y seconds) (sym p) ∙ given-mark (charges.total (tripAmount x seconds metres)) (pastMinutes x seconds) (pastKilometres x metres) e
+      let p : x ≡ plan = cc in ap (λ (y : Picked). pastMinutes y seconds) (sym p) ∙ e
 
   asked-kilometres : (t : Bool) (c : Cleanness) (m : Maybe Picked) → m ≡ some plan → asked t c m seconds metres .pastKilometres ≡ true → pastKilometres plan metres ≡ true
   asked-kilometres false c m f e = true-false e refl
   asked-kilometres true (Broken p) m f e = true-false e refl
   asked-kilometres true Clean none f e = true-false e refl
   asked-kilometres true Clean (some x) f e =
-      let p : x ≡ plan = cc in ap (λ (y : Picked). pastKilometres y metres) (sym p) ∙ given-far-mark (charges.total (tripAmount x seconds metres)) (pastMinutes x seconds) (pastKilometres x metres) e
+      let p : x ≡ plan = cc in ap (λ (y : Picked). pastKilometres y metres) (sym p) ∙ e
 
 -- segments that have all ended
 all-ended : (l : List Segment) → ((x : Segment) → List·Memᴰ x l → x .ended ≡ true) → allEnded l ≡ true
@@ -173,13 +132,11 @@ module _ (s id : List ℕ) where
   quote-clean seconds metres h c = rw (h, c)
 
   pub price : (seconds metres : ℕ) (plan : Picked) → seconds ≤ mostSeconds → metres ≤ mostMetres → cleanOf 5 s ≡ Clean
-      → planIn s id ≡ some plan → mag (fare plan seconds metres .amount) < 2 ^ 63 → quoteOf s id seconds metres ≡ fare plan seconds metres
+      → planIn s id ≡ some plan → quoteOf s id seconds metres ≡ fare plan seconds metres
   unfolding short cleanQuote tripAmount sum amount pastMinutes pastKilometres
-  price seconds metres plan a b c found h =
+  price seconds metres plan a b c found =
       let brief : short seconds metres ≡ true = rw (le-leb seconds mostSeconds a, le-leb metres mostMetres b, short) in
-      quote-clean seconds metres brief c
-      ∙ ap (planQuote seconds metres) found
-      ∙ total-priced (tripAmount plan seconds metres) (pastMinutes plan seconds) (pastKilometres plan metres) h
+      quote-clean seconds metres brief c ∙ ap (planQuote seconds metres) found
 
   pub no-credit : (seconds metres : ℕ) → leZ (pos 0) (quoteOf s id seconds metres .amount) ≡ true
   unfolding quoteOf cleanQuote
@@ -209,9 +166,7 @@ module _ (s id : List ℕ) where
     price-given =
         let a = leb-true seconds mostSeconds (and-left (leb seconds mostSeconds) _ (through .brief)) in
         let b = leb-true metres mostMetres (and-right (leb seconds mostSeconds) _ (through .brief)) in
-        let plan = through .plan in
-        let is : quoteOf s id seconds metres ≡ planQuote seconds metres (some plan) = by-plan ∙ ap (planQuote seconds metres) (through .found) in
-        (a, b, through .clean, plan, through .found, is ∙ priced-total (tripAmount plan seconds metres) (pastMinutes plan seconds) (pastKilometres plan metres) (ap (λ (a : Answer). a .number) (sym is) ∙ e))
+        (a, b, through .clean, through .plan, through .found, by-plan ∙ ap (planQuote seconds metres) (through .found))
 
     module _ (plan : Picked) (found : planIn s id ≡ some plan) where
       pub past-minutes : PastEnds (perMinute plan) (seconds / 60)
@@ -224,8 +179,7 @@ module _ (s id : List ℕ) where
           let brief : short last metres ≡ true = rw (le-leb last mostSeconds (omega arith), short) (and-right (leb seconds mostSeconds) _ (through .brief)) in
           let one = by-plan ∙ ended-minutes file id found seconds metres p in
           let two = quote-clean last metres brief (through .clean) ∙ ended-minutes file id found last metres (ended-at (last / 60) (omega arith) p) in
-          let t = charges.total (tripAmount plan last metres) in let k = pastKilometres plan metres in
-          (one ∙ sym two, ap (λ (x : Answer). x .pastMinutes) one ∙ marked-minutes t k (ap (λ (x : Answer). x .number) (sym one) ∙ e))
+          (one ∙ sym two, ap (λ (x : Answer). x .pastMinutes) one)
 
       pub past-kilometres : PastEnds (perKilometre plan) (metres / 1000)
           → (quoteOf s id seconds metres ≡ quoteOf s id seconds (greatestEnd (perKilometre plan) * 1000)) × (quoteOf s id seconds metres .pastKilometres ≡ true)
@@ -237,5 +191,4 @@ module _ (s id : List ℕ) where
           let brief : short seconds last ≡ true = rw (and-left (leb seconds mostSeconds) _ (through .brief), short) (le-leb last mostMetres (omega arith)) in
           let one = by-plan ∙ ended-kilometres file id found seconds metres p in
           let two = quote-clean seconds last brief (through .clean) ∙ ended-kilometres file id found seconds last (ended-at (last / 1000) (omega arith) p) in
-          let t = charges.total (tripAmount plan seconds last) in let m = pastMinutes plan seconds in
-          (one ∙ sym two, ap (λ (x : Answer). x .pastKilometres) one ∙ marked-kilometres t m (ap (λ (x : Answer). x .number) (sym one) ∙ e))
+          (one ∙ sym two, ap (λ (x : Answer). x .pastKilometres) one)

@@ -3,10 +3,10 @@
 use mathlib.Core.Bool.{Bool, true, false}
 use mathlib.Core.List.{List, [], _∷_, _++_, map, List·Memᴰ}
 use mathlib.Core.Path.{_≡_}
-use Prim.Native.Nat.{ℕ, _+_, _*_, _/_, _^_, _≤_, _<_}
+use Prim.Native.Nat.{ℕ, _+_, _*_, _/_, _≤_, _<_}
 use lib.IntN.{pos, _+ℤ_, _*ℤ_}
 use lib.ListN.{length, take}
-use lib.Signed.{leZ, mag}
+use lib.Signed.{leZ}
 use Rattle.radix.specs.Fields.{Bytes}
 use Rattle.word.specs.declared.Parts.{Parts}
 use Rattle.word.specs.Form.{form1}
@@ -168,11 +168,12 @@ pub record Demand2 : Type 0 where
   -- A segment asks its rate at its start and after every interval, as long as the ride has come so far and the segment has not ended.
   -- Shut out: a charge at the end minute, or past it; one at the start missed.
   pub charged : (x : Segment) (ride : ℕ) → DueCharges x ride
-  -- A ride within the limits, on a plan of a clean file, costs the plan's price and all charges of its segments, or nothing where that sum is negative, if
-  -- signed 64 bits hold the amount; and no other quote gives a price.
-  -- Shut out: one amount for everything; a ride rounded up to the next minute; a quote that always refuses; a price out of a file that is not clean.
+  -- A ride within the limits, on a plan of a clean file, costs the plan's price and all charges of its segments, or nothing where that sum is negative; and
+  -- no other quote gives a price.
+  -- Shut out: one amount for everything; a ride rounded up to the next minute; a quote that always refuses, or refuses a large amount; a price out of a file
+  -- that is not clean.
   pub price : (s id : List ℕ) (seconds metres : ℕ) (plan : Picked) → seconds ≤ mostSeconds → metres ≤ mostMetres → cleanOf 5 s ≡ Clean
-      → planIn s id ≡ some plan → mag (fare plan seconds metres .amount) < 2 ^ 63 → quoteOf s id seconds metres ≡ fare plan seconds metres
+      → planIn s id ≡ some plan → quoteOf s id seconds metres ≡ fare plan seconds metres
   pub priced : (s id : List ℕ) (seconds metres : ℕ) → quoteOf s id seconds metres .number ≡ 0
       → (seconds ≤ mostSeconds) × (metres ≤ mostMetres) × (cleanOf 5 s ≡ Clean)
       × (plan : Picked) × (planIn s id ≡ some plan) × (quoteOf s id seconds metres ≡ fare plan seconds metres)

@@ -5,9 +5,9 @@ use mathlib.Core.List.{List, [], _∷_, map, List·Memᴰ, List·Memᴰ·head, L
 use mathlib.Core.Path.{_≡_, refl, sym, ap, subst, _∙_}
 use Prim.Native.Nat.{ℕ, _≤_, _<_}
 use native.Mathlib.Omega.{arith}
-use lib.Dec.{leb}
-use lib.ListN.{length}
-use borrow.Author.Tests.{le-leb, lt-leb, leb-true}
+use lib.Dec.{eqb, leb}
+use lib.ListN.{length, drop, length-drop}
+use borrow.Author.Tests.{le-leb, lt-leb, leb-true, eqb-true, eqb-false}
 use Rattle.lexeme.proofs.Steps.{by-test}
 use Rattle.lexeme.specs.Read as read
 use Rattle.lexeme.specs.Tokens.{blanks}
@@ -23,15 +23,16 @@ use Rattle.schema.specs.Pick.{Picked, pick}
 use Rattle.schema.proofs.Tests.{and-left, and-right}
 use Rattle.judge.specs.declared.Place.{Place}
 use Rattle.judge.specs.Faults.{faults}
-use Rattle.document.specs.Document.{some, field, along}
+use Rattle.document.specs.Document.{none, some, field, along}
 use Rattle.document.specs.Spans.{RecordsFrom}
 use Rattle.document.proofs.Records.{recordShape, pickedItems}
 use Rattle.document.proofs.Rests.{rest-along, rest-picked}
 use Rattle.clean.specs.declared.Cleanness.{Cleanness}
+use Rattle.clean.specs.declared.Cleanness.the-variants.{Clean}
 use Rattle.clean.specs.Clean as clean
 use Rattle.clean.specs.Clean.{recordsOf, cleanOf}
 use Rattle.clean.proofs.Repeated.{Held}
-use Rattle.clean.proofs.Cleans.{Sound, clean-held}
+use Rattle.clean.proofs.Cleans.{Sound, clean-sound, clean-held}
 use Rattle.quote.specs.declared.Lookup.{Lookup}
 use Rattle.quote.specs.declared.Lookup.the-variants as found
 use Rattle.quote.specs.Plan.{planOf, plans}
@@ -75,10 +76,23 @@ module _ (p id : List ℕ) (φ from upto : ℕ) where
           rw (← a, ← b) (record { whole = w m (List·Memᴰ·head refl); place = n .0; field = φ; clear = n .1 })
 
 -- an absent file has no plans
+plans-absent : (s id : List ℕ) → length s ≡ 0 → planOf (plans (pick (fileShape table23 5) (clean.treeOf s))) id ≡ none
+unfolding planOf plans along field pick fileShape table23 listing file clean.treeOf text blanks value valueBy read.then
+plans-absent [] id e = refl
+plans-absent (b ∷ s) id e = absurd (omega arith)
+
 pub quote-absent : (s id : List ℕ) (seconds metres : ℕ) → length s ≡ 0 → refused 6 ≡ cleanQuote (pick (fileShape table23 5) (clean.treeOf s)) id seconds metres
-unfolding cleanQuote planOf plans along field pick fileShape table23 listing file clean.treeOf text blanks value valueBy read.then
-quote-absent [] id seconds metres e = refl
-quote-absent (b ∷ s) id seconds metres e = absurd (omega arith)
+unfolding cleanQuote
+quote-absent s id seconds metres e = ap (planQuote seconds metres) (sym (plans-absent s id e))
+
+-- the rest of a sound file from its plans on
+plans-from : {s : List ℕ} (k : Sound 5 s) → RecordsFrom 5 s (drop (clean-held 5 (omega arith) (omega arith) s k .there .start) s)
+plans-from {s} k =
+    let there = clean-held 5 (omega arith) (omega arith) s k .there in
+    record {
+      inside = omega (arith, length-drop (there .start) s);
+      starts = λ reads from upto e. let i = there .is in let n : there .start ≡ from = cc in ap (λ (m : ℕ). drop m s) n;
+    }
 
 -- the file, and its rest p from the plans on
 module _ {s p : List ℕ} (k : Sound 5 s) (f : RecordsFrom 5 s p) where
@@ -114,6 +128,23 @@ module _ {s p : List ℕ} (k : Sound 5 s) (f : RecordsFrom 5 s p) where
       pub quote-some : (seconds metres : ℕ) → planQuote seconds metres (some (pick plan (treeOf (part p start end))))
           ≡ cleanQuote (pick (fileShape table23 5) (clean.treeOf s)) id seconds metres
       quote-some seconds metres = quoted (found.Plan start end) e seconds metres
+
+    -- and a plan that is there is found so
+    pub plan-clear : (y : Picked) → planOf (plans (pick (fileShape table23 5) (clean.treeOf s))) id ≡ some y → (q : List ℕ) × ClearPlan q × (y ≡ pick plan (treeOf q))
+    plan-clear y e = go (lookup p id) refl
+      where
+        go : (o : Lookup) → lookup p id ≡ o → (q : List ℕ) × ClearPlan q × (y ≡ pick plan (treeOf q))
+        go found.Nothing h = let n : none ≡ some y = ap (planAt p) (sym h) ∙ plans-are ∙ e in let z : _≡_ {A = ℕ} 0 1 = cc in absurd (omega arith)
+        go (found.Plan start end) h =
+            let n : some (pick plan (treeOf (part p start end))) ≡ some y = ap (planAt p) (sym h) ∙ plans-are ∙ e in (part p start end, quote-clear start end h, cc)
+
+-- so the plan of an id in a clean file is clear
+pub found-clear : (s id : List ℕ) (y : Picked) → cleanOf 5 s ≡ Clean → planOf (plans (pick (fileShape table23 5) (clean.treeOf s))) id ≡ some y
+    → (q : List ℕ) × ClearPlan q × (y ≡ pick plan (treeOf q))
+found-clear s id y c e =
+    by-test (eqb (length s) 0)
+    (λ t. let n : none ≡ some y = sym (plans-absent s id (eqb-true _ _ t)) ∙ e in let z : _≡_ {A = ℕ} 0 1 = cc in absurd (omega arith))
+    (λ t. let k = clean-sound 5 s (eqb-false _ _ t) c in plan-clear k (plans-from k) id y e)
 
 -- the question, by what is found of the ride and of the file
 module _ (s id : List ℕ) (seconds metres : ℕ) where

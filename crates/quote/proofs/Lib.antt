@@ -5,4 +5,5 @@ pub mod Looking
 pub mod Segments
 pub mod Trips
 pub mod Files
+pub mod Size
 pub mod Past

@@ -9,11 +9,10 @@ use Rattle.schema.specs.Pick.{Picked}
 use Rattle.document.specs.Document.{some}
 use Rattle.decimal.specs.Exact.{tenThousandths}
 use Rattle.fare.specs.declared.Segment.{Segment}
-use Rattle.fare.specs.Charges as charges
 use Rattle.fare.specs.Charges.{minutesOf, kilometresOf, amount, allEnded, greatestEnd, past}
 use Rattle.fare.proofs.Past.{past-set, amount-past-minutes, amount-past-kilometres}
 use Rattle.quote.specs.Plan.{priceAt, perMinute, perKilometre, planOf, plans, tripAmount, pastMinutes, pastKilometres}
-use Rattle.quote.specs.Quote.{fareOf, planQuote, cleanQuote}
+use Rattle.quote.specs.Quote.{priced, planQuote, cleanQuote}
 
 -- the shortest ride at the greatest end
 abbrev pub lastSeconds : Picked → ℕ
@@ -37,7 +36,7 @@ ended-marked {l} {ride} e =
 
 module _ (file : Picked) (id : List ℕ) {plan : Picked} (found : planOf (plans file) id ≡ some plan) (seconds metres : ℕ) where
   pub ended-minutes : Ended (perMinute plan) (minutesOf seconds .count)
-      → cleanQuote file id seconds metres ≡ fareOf (charges.total (tripAmount plan (lastSeconds plan) metres)) true (pastKilometres plan metres)
+      → cleanQuote file id seconds metres ≡ priced (tripAmount plan (lastSeconds plan) metres) true (pastKilometres plan metres)
   unfolding cleanQuote tripAmount pastMinutes
   ended-minutes e =
       let t = ended-marked e in
@@ -45,11 +44,11 @@ module _ (file : Picked) (id : List ℕ) {plan : Picked} (found : planOf (plans 
       let same =
       amount-past-minutes (tenThousandths (priceAt plan)) (perMinute plan) (perKilometre plan) (minutesOf seconds) (kilometresOf metres) t
       ∙ ap (λ (k : ℕ). amount (tenThousandths (priceAt plan)) (perMinute plan) (perKilometre plan) (record { count = k }) (kilometresOf metres)) (sym n) in
-      ap (planQuote seconds metres) found ∙ ap (λ z. fareOf (charges.total z) (past (perMinute plan) (minutesOf seconds .count)) (pastKilometres plan metres)) same
-      ∙ ap (λ m. fareOf (charges.total (tripAmount plan (lastSeconds plan) metres)) m (pastKilometres plan metres)) t
+      ap (planQuote seconds metres) found ∙ ap (λ z. priced z (past (perMinute plan) (minutesOf seconds .count)) (pastKilometres plan metres)) same
+      ∙ ap (λ m. priced (tripAmount plan (lastSeconds plan) metres) m (pastKilometres plan metres)) t
 
   pub ended-kilometres : Ended (perKilometre plan) (kilometresOf metres .count)
-      → cleanQuote file id seconds metres ≡ fareOf (charges.total (tripAmount plan seconds (lastMetres plan))) (pastMinutes plan seconds) true
+      → cleanQuote file id seconds metres ≡ priced (tripAmount plan seconds (lastMetres plan)) (pastMinutes plan seconds) true
   unfolding cleanQuote tripAmount pastKilometres
   ended-kilometres e =
       let t = ended-marked e in
@@ -57,5 +56,5 @@ module _ (file : Picked) (id : List ℕ) {plan : Picked} (found : planOf (plans 
       let same =
       amount-past-kilometres (tenThousandths (priceAt plan)) (perMinute plan) (perKilometre plan) (minutesOf seconds) (kilometresOf metres) t
       ∙ ap (λ (k : ℕ). amount (tenThousandths (priceAt plan)) (perMinute plan) (perKilometre plan) (minutesOf seconds) (record { count = k })) (sym n) in
-      ap (planQuote seconds metres) found ∙ ap (λ z. fareOf (charges.total z) (pastMinutes plan seconds) (past (perKilometre plan) (kilometresOf metres .count))) same
-      ∙ ap (λ m. fareOf (charges.total (tripAmount plan seconds (lastMetres plan))) (pastMinutes plan seconds) m) t
+      ap (planQuote seconds metres) found ∙ ap (λ z. priced z (pastMinutes plan seconds) (past (perKilometre plan) (kilometresOf metres .count))) same
+      ∙ ap (λ m. priced (tripAmount plan seconds (lastMetres plan)) (pastMinutes plan seconds) m) t

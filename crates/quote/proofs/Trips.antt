@@ -2,9 +2,10 @@
 -- of both, and price and charges make the amount.
 use mathlib.Core.List.{List}
 use mathlib.Core.Path.{_≡_, sym, ap, subst, _∙_}
-use Prim.Native.Nat.{ℕ, _+_, _≤_}
+use Prim.Native.Nat.{ℕ, _+_, _-_, _^_, _≤_, _<_}
 use native.Mathlib.Omega.{arith}
 use lib.ListN.{length}
+use lib.IntN.{natAbs}
 use Rattle.notation.specs.Ascii.{bytes}
 use Rattle.limits.specs.Ceilings.{segments}
 use Rattle.walk.specs.Part.{treeOf}
@@ -17,14 +18,16 @@ use Rattle.fare.specs.declared.Sum.{Sum}
 use Rattle.fare.specs.Charges as charges
 use Rattle.fare.specs.Charges.{minutesOf, kilometresOf}
 use Rattle.fare.specs.Folds.{worth, ofPrice, withCharges, Fills, withAll}
-use Rattle.fare.specs.Bounds.{mostRide, Room, Modest, Chargeable}
+use Rattle.fare.specs.Bounds.{mostMinutes, mostKilometres, mostRide, Room, Modest, Chargeable, Quotable}
+use Rattle.fare.proofs.Worth.{clamped-difference}
 use Rattle.fare.proofs.Fold.{sum-kept}
-use Rattle.fare.proofs.Bound.{room-price, room-less, room-charges}
+use Rattle.fare.proofs.Bound.{minutes-short, kilometres-short, room-price, room-less, room-charges}
+use Rattle.fare.proofs.Size.{amount-size}
 use Rattle.quote.specs.Plan.{priceAt, perMinute, perKilometre, tripAmount, pastMinutes, pastKilometres}
 use Rattle.fields.specs.Values.{memberOf, arrayBy}
 use Rattle.quote.specs.Values.{priceBy, segmentsBy}
 use Rattle.quote.specs.Clear.{ClearPlan}
-use Rattle.quote.specs.Quote.{fareOf, planQuote}
+use Rattle.quote.specs.Quote.{mostSeconds, mostMetres, priced, planQuote}
 use Rattle.quote.proofs.Fields.{plan-price, plan-minutes, plan-kilometres, minutes-clear, kilometres-clear}
 use Rattle.quote.proofs.Segments.{price-most, segments-modest, segments-few, segments-picked}
 
@@ -77,15 +80,32 @@ module _ {p : List ℕ} (c : ClearPlan p) where
   price-room : Room (segments + segments) (price p)
   price-room = room-less (segments + segments) (omega arith) (room-price (priceBy (memberOf p (bytes "price"))) (price-most (memberOf p (bytes "price"))))
 
-  pub minutes-chargeable : {l : Segments} → Fills l (byMinute p) → (ride : ℕ) → ride ≤ mostRide → Chargeable (price p) l ride
+  pub minutes-chargeable : {l : Segments} → Fills l (byMinute p) → (ride : ℕ) → ride ≤ mostMinutes → Chargeable (price p) l ride
   minutes-chargeable f ride h =
       chargeable f few-minutes (segments-modest (minuteBytes p)) (room-less (length (byMinute p)) (omega (arith, few-minutes)) price-room) h
 
-  pub kilometres-chargeable : {l : Segments} → Fills l (byKilometre p) → (ride far : ℕ) → ride ≤ mostRide → far ≤ mostRide → Chargeable (withCharges (price p) (byMinute p) ride) l far
+  pub timed-room : (ride : ℕ) → ride ≤ mostMinutes → Room (length (byKilometre p)) (withCharges (price p) (byMinute p) ride)
+  timed-room ride h =
+      room-charges (length (byKilometre p)) (byMinute p) (price p) ride (segments-modest (minuteBytes p)) h
+      (room-less (length (byKilometre p) + length (byMinute p)) (omega (arith, few-minutes, few-kilometres)) price-room)
+
+  pub kilometres-chargeable : {l : Segments} → Fills l (byKilometre p) → (ride far : ℕ) → ride ≤ mostMinutes → far ≤ mostKilometres → Chargeable (withCharges (price p) (byMinute p) ride) l far
   kilometres-chargeable f ride far h k =
-      let modest = segments-modest (minuteBytes p) in
-      let room = room-less (length (byKilometre p) + length (byMinute p)) (omega (arith, few-minutes, few-kilometres)) price-room in
-      chargeable f few-kilometres (segments-modest (kilometreBytes p)) (room-charges (length (byKilometre p)) (byMinute p) (price p) ride modest h room) k
+      chargeable f few-kilometres (segments-modest (kilometreBytes p)) (timed-room ride h) (omega arith)
+
+  -- the plan is within the ceilings, for a ride that is
+  pub quotable : (seconds metres : ℕ) → seconds ≤ mostSeconds → metres ≤ mostMetres
+      → Quotable (priceAt plan) (perMinute plan) (perKilometre plan) (minutesOf seconds) (kilometresOf metres)
+  quotable seconds metres short near =
+      record {
+        cheap = rw (plan-price (c .whole)) at (price-most (memberOf p (bytes "price")));
+        few-minutes = rw minutes-are at few-minutes;
+        few-kilometres = rw kilometres-are at few-kilometres;
+        modest-minutes = subst Modest minutes-are (segments-modest (minuteBytes p));
+        modest-kilometres = subst Modest kilometres-are (segments-modest (kilometreBytes p));
+        short-minutes = minutes-short seconds short;
+        short-kilometres = kilometres-short metres near;
+      }
 
   module _ (seconds metres : ℕ) where
     amount-is : charges.clamped (worth (withCharges (withCharges (price p) (byMinute p) (minutesOf seconds .count)) (byKilometre p) (kilometresOf metres .count))) ≡ tripAmount plan seconds metres
@@ -94,8 +114,17 @@ module _ {p : List ℕ} (c : ClearPlan p) where
         rw (minutes-are, kilometres-are, plan-price (c .whole))
         (ap charges.clamped (sum-kept (priceAt plan) (perMinute plan) (perKilometre plan) (minutesOf seconds) (kilometresOf metres)))
 
+    -- what is added and what is taken off are apart by no more than the largest sum
+    pub amount-room : seconds ≤ mostSeconds → metres ≤ mostMetres
+        → let all = withCharges (withCharges (price p) (byMinute p) (minutesOf seconds .count)) (byKilometre p) (kilometresOf metres .count) in all .added - all .taken < 2 ^ 63
+    unfolding tripAmount
+    amount-room short near =
+        let all = withCharges (withCharges (price p) (byMinute p) (minutesOf seconds .count)) (byKilometre p) (kilometresOf metres .count) in
+        let is : natAbs (tripAmount plan seconds metres) ≡ all .added - all .taken = ap natAbs (sym amount-is ∙ clamped-difference (all .added) (all .taken)) in
+        omega (arith, amount-size _ _ _ _ _ (quotable seconds metres short near))
+
     pub plan-quoted : let timed = withAll (price p) (byMinute p) (minutesOf seconds .count) in let all = withAll (timed .sum) (byKilometre p) (kilometresOf metres .count) in
-        fareOf (charges.total (charges.clamped (worth (all .sum)))) (timed .past) (all .past) ≡ planQuote seconds metres (some plan)
+        priced (charges.clamped (worth (all .sum))) (timed .past) (all .past) ≡ planQuote seconds metres (some plan)
     unfolding pastMinutes pastKilometres
     plan-quoted =
         rw (amount-is, ap (λ (l : List Segment). charges.past l (minutesOf seconds .count)) minutes-are, ap (λ (l : List Segment). charges.past l (kilometresOf metres .count)) kilometres-are)

@@ -1,5 +1,6 @@
 pub mod Plan
 pub mod Quote
+pub mod Size
 pub mod Values
 pub mod Lookup
 pub mod Clear

@@ -1,5 +1,5 @@
--- The question "quote" of document 01, "Questions and their numbers", in that table's numbers and order of checking. An amount, a mark or parts that an
--- answer does not give are zero or no.
+-- The question "quote" of document 01, "Questions and their numbers", as document 02's W6 leaves it, in that table's numbers and order of checking. An
+-- amount, a mark or parts that an answer does not give are zero or no.
 use mathlib.Core.Bool.{Bool, false}
 use mathlib.Core.List.{List}
 use Prim.Native.Nat.{ℕ}
@@ -12,14 +12,11 @@ use Rattle.schema.specs.Shape.{fileShape}
 use Rattle.schema.specs.Table23.{table23}
 use Rattle.schema.specs.Pick.{Picked, pick}
 use Rattle.document.specs.Document.{Maybe, none, some}
-use Rattle.fare.specs.declared.Total.{Total}
-use Rattle.fare.specs.declared.Total.the-variants as total
-use Rattle.fare.specs.Charges as charges
 use Rattle.clean.specs.declared.Cleanness.{Cleanness}
 use Rattle.clean.specs.declared.Cleanness.the-variants.{Clean, Broken}
 use Rattle.clean.specs.Clean.{treeOf, cleanOf}
 use Rattle.quote.specs.declared.Quote.{Quote}
-use Rattle.quote.specs.declared.Quote.the-variants.{TooLong, NotClean, NoPlan, Outside, Fare}
+use Rattle.quote.specs.declared.Quote.the-variants.{TooLong, NotClean, NoPlan, Fare}
 use Rattle.quote.specs.Plan.{planOf, plans, tripAmount, pastMinutes, pastKilometres}
 
 -- the longest ride
@@ -52,19 +49,12 @@ abbrev pub answer : Quote → Answer
 answer TooLong = refused 4
 answer (NotClean p) = unclean p
 answer NoPlan = refused 6
-answer Outside = refused 7
 answer (Fare z m k) = priced z m k
 
--- a total with its marks: 7 where the amount is outside signed 64 bits
-abbrev pub fareOf : Total → Bool → Bool → Answer
-fareOf (total.Is amount) m k = priced amount m k
-fareOf total.Outside m k = refused 7
-
--- 6 where there is no such plan
+-- 6 where there is no such plan, and otherwise what the plan asks, with its marks
 abbrev pub planQuote : ℕ → ℕ → Maybe Picked → Answer
 planQuote seconds metres none = refused 6
-planQuote seconds metres (some plan) =
-    fareOf (charges.total (tripAmount plan seconds metres)) (pastMinutes plan seconds) (pastKilometres plan metres)
+planQuote seconds metres (some plan) = priced (tripAmount plan seconds metres) (pastMinutes plan seconds) (pastKilometres plan metres)
 
 -- of a clean file of plans
 unfoldable pub cleanQuote : Picked → List ℕ → ℕ → ℕ → Answer

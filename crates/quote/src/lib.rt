@@ -20,13 +20,11 @@ mod plans;
 mod segment;
 mod trip;
 
-// The answer to "quote": the ride is too long, the file is not clean, there is no such plan, the amount has no place in signed 64 bits, or the
-// amount in ten-thousandths with its two marks.
+// The answer to "quote": the ride is too long, the file is not clean, there is no such plan, or the amount in ten-thousandths with its two marks.
 pub enum Quote {
     TooLong,
     NotClean(Parts),
     NoPlan,
-    Outside,
     Fare(i64, bool, bool),
 }
 

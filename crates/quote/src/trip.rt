@@ -6,7 +6,6 @@ use fare::Kilometres;
 use fare::Minutes;
 use fare::Segments;
 use fare::Sum;
-use fare::Total;
 use fields::array_in;
 use fields::member;
 ghost use mathlib.Core.Path.{_≡_};
@@ -20,17 +19,7 @@ ghost use Rattle.fare.specs.Folds.{ofPrice, Fills};
 ghost use Rattle.fields.specs.Values.{memberOf, arrayBy};
 ghost use Rattle.quote.specs.Values.{priceBy, segmentsBy};
 ghost use Rattle.quote.specs.Clear.{ClearPlan, ClearSegments};
-ghost use Rattle.quote.specs.Quote.{mostSeconds, mostMetres, answer, fareOf, planQuote};
-
-// A total with its marks.
-fn fare_of(total: Total, past_minutes: bool, past_kilometres: bool) -> Quote
-    ensures { λ r. ⌜ answer r ≡ fareOf total «past_minutes» «past_kilometres» ⌝ }
-{
-    let Total::Is(amount) = total else {
-        return Quote::Outside;
-    };
-    Quote::Fare(amount, past_minutes, past_kilometres)
-}
+ghost use Rattle.quote.specs.Quote.{mostSeconds, mostMetres, answer, planQuote};
 
 // The price of a plan alone.
 fn price_of(p: &[u8]) -> Sum
@@ -61,5 +50,5 @@ pub fn quote_plan(p: &[u8], seconds: u64, metres: u64) -> Quote
     let sum = timed.sum;
     let all = sum.with_kilometres(segments_of(p, b"per_km_pricing"), kilometres);
     let total = all.sum;
-    fare_of(total.total(), timed.past, all.past)
+    Quote::Fare(total.amount(), timed.past, all.past)
 }

@@ -16,7 +16,6 @@ pub fn number(q: Quote) -> u8
         Quote::TooLong => 4,
         Quote::NotClean(_) => 5,
         Quote::NoPlan => 6,
-        Quote::Outside => 7,
         Quote::Fare(_, _, _) => 0,
     }
 }
@@ -33,9 +32,6 @@ pub fn values(q: Quote) -> [u64; 12]
             return parts_then_zeros(p);
         }
         Quote::NoPlan => {
-            return [0; 12];
-        }
-        Quote::Outside => {
             return [0; 12];
         }
         Quote::Fare(amount, minutes, kilometres) => {

@@ -53,7 +53,6 @@ macro_rules! answers_of {
                     Quote::TooLong => Answer::refusal(4),
                     Quote::NotClean(found) => Answer::giving(5, parts(found), &[0; 3]),
                     Quote::NoPlan => Answer::refusal(6),
-                    Quote::Outside => Answer::refusal(7),
                     $fare => Answer::giving(0, [0; 6], &$fare_values),
                 }
             }

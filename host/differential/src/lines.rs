@@ -6,7 +6,7 @@
 //! |---|---|
 //! | `verdict LENGTH F1 F2 F3 F4 F5 F6` | `2`, `0 WORD` or `1 WORD` |
 //! | `word BYTES` | `3` or `0 PARTS` |
-//! | `quote F5 ID SECONDS METRES` | `4`, `5 PARTS`, `6`, `7` or `0 AMOUNT PAST_MINUTES PAST_KILOMETRES` |
+//! | `quote F5 ID SECONDS METRES` | `4`, `5 PARTS`, `6` or `0 AMOUNT PAST_MINUTES PAST_KILOMETRES` |
 //! | `zone F6 LAT LON TYPE MOMENT` | `8`, `5 PARTS`, `9` or `0 RIDE THROUGH SPEED PARKING` |
 //! | `show F1 F2 F3 F4 F5 F6 FILE RECORD` | `10`, `5 PARTS` or `0 START END` |
 //!

@@ -4,7 +4,7 @@ use differential::ask::ask;
 use differential::case::{Case, Scale, Sort};
 use differential::tally::Tally;
 
-/// Every answer of every question turns up, but for the amount past 64 bits, which the ceilings leave no room for.
+/// Every answer of every question turns up.
 #[test]
 fn every_answer_is_met() {
     let mut total = Tally::default();

@@ -13,8 +13,6 @@ pub enum Quote {
     NotClean(Parts),
     /// 6: no plan has that id.
     NoPlan,
-    /// 7: the amount is no signed number of 64 bits.
-    Outside,
     /// 0: the amount in ten-thousandths, never negative, and whether the ride is past all that the plan's segments cover.
     Fare { amount: i64, past_minutes: bool, past_kilometres: bool },
 }
@@ -36,10 +34,8 @@ pub fn quote(plans: &[u8], id: &[u8], seconds: u64, metres: u64) -> Quote {
     let minutes = Leg { length: seconds / 60, segments: segments(plan, 61) };
     let price = plan.decimal(53).unwrap_or(0) / TEN_THOUSANDTH;
     let sum = price + kilometres.charges() + minutes.charges();
-    match i64::try_from(sum.max(0)) {
-        Ok(amount) => Quote::Fare { amount, past_minutes: minutes.is_past(), past_kilometres: kilometres.is_past() },
-        Err(_) => Quote::Outside,
-    }
+    let amount = i64::try_from(sum.max(0)).expect("the ceilings keep every amount in 64 bits");
+    Quote::Fare { amount, past_minutes: minutes.is_past(), past_kilometres: kilometres.is_past() }
 }
 
 /// A ride's length in one measure, and the segments that charge by it.
@@ -160,6 +156,14 @@ mod tests {
         assert_eq!(fare(600, 1999), expected(120000, false));
         assert_eq!(fare(600, 2999), expected(130000, false));
         assert_eq!(fare(600, 3000), expected(130000, true));
+    }
+
+    #[test]
+    fn the_largest_amount() {
+        let segments = [r#"{"start":0,"rate":1000000,"interval":1}"#; 16].join(",");
+        let arrays = format!(r#","per_km_pricing":[{segments}],"per_min_pricing":[{segments}]"#);
+        let fare = Quote::Fare { amount: 7_302_730_000_000_000, past_minutes: false, past_kilometres: false };
+        assert_eq!(quote(&plans("1000000", &arrays), b"p", 2_678_400, 1_000_000), fare);
     }
 
     #[test]

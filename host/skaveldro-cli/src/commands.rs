@@ -41,7 +41,6 @@ pub fn quote(path: &str, plan: &str, seconds: &str, metres: &str) -> Result<Repo
         Quote::TooLong => refused("a ride is priced up to 2678400 seconds and 1000000 metres".into()),
         Quote::NotClean(parts) => tell::unclean(answer.number(), parts, &plans),
         Quote::NoPlan => refused(format!("no plan has the id {plan:?}")),
-        Quote::Outside => refused("the amount does not fit 64 bits".into()),
         Quote::Fare(fare) => tell::fare(fare),
     };
     Ok(report.noting(note))

@@ -12,8 +12,6 @@ pub enum Quote {
     NotClean(Parts),
     /// 6: no plan has that id.
     NoPlan,
-    /// 7: the amount is no signed number of 64 bits.
-    Outside,
     /// 0: the fare.
     Fare(Fare),
 }
@@ -21,7 +19,8 @@ pub enum Quote {
 /// What a ride costs under a plan.
 #[derive(Clone, Copy, Debug, PartialEq, Eq, Hash)]
 pub struct Fare {
-    /// In ten-thousandths of the plan's currency. Never negative: where discounts outweigh the price and the charges it is 0.
+    /// In ten-thousandths of the plan's currency: 0 to 7,302,730,000,000,000, which is the most that the ceilings on money, segments,
+    /// minutes and kilometres allow. Where discounts outweigh the price and the charges it is 0.
     pub amount: i64,
     /// Has the ride come to the end of all per-minute segments, past which the plan says no price?
     pub past_minutes: bool,
@@ -36,7 +35,6 @@ pub fn quote(plans: &[u8], id: &[u8], seconds: u64, metres: u64) -> Quote {
         4 => Quote::TooLong,
         5 => Quote::NotClean(answer.parts()),
         6 => Quote::NoPlan,
-        7 => Quote::Outside,
         0 => Quote::Fare(Fare { amount: answer.at(6).cast_signed(), past_minutes: answer.is(7), past_kilometres: answer.is(8) }),
         _ => answer.unknown(),
     }
@@ -49,7 +47,6 @@ impl Quote {
             Quote::TooLong => 4,
             Quote::NotClean(_) => 5,
             Quote::NoPlan => 6,
-            Quote::Outside => 7,
             Quote::Fare(_) => 0,
         }
     }

@@ -86,7 +86,7 @@ pub fn read_word(word: &[u8], answer: &mut [u8]) -> u8 {
     unsafe { skaveldro_read_word(word.as_ptr(), word.len(), answer.as_mut_ptr(), answer.len()) }
 }
 
-/// A quote as nine numbers: 4, 5, 6, 7, 2 or 0.
+/// A quote as nine numbers: 4, 5, 6, 2 or 0.
 pub fn quote(plans: &[u8], id: &[u8], seconds: u64, metres: u64, answer: &mut [u8]) -> u8 {
     // SAFETY: as above.
     unsafe {

@@ -63,6 +63,15 @@ fn fares_f_to_i() {
     assert_eq!(fare("0", i, 1200), (0, true));
 }
 
+/// All money at its ceiling, sixteen segments of each sort, the longest ride.
+#[test]
+fn the_largest_amount() {
+    let segments = [r#"{"start":0,"rate":1000000,"interval":1}"#; 16].join(",");
+    let both = format!(r#"{segments}],"per_km_pricing":[{segments}"#);
+    let fare = Fare { amount: 7_302_730_000_000_000, past_minutes: false, past_kilometres: false };
+    assert_eq!(quote(&plans("1000000", &both), b"p", 2_678_400, 1_000_000), Quote::Fare(fare));
+}
+
 #[test]
 fn points_j() {
     let is_held = |ring, point| match zone_rule(&zones(ring, RULE), point, b"", 0) {

@@ -11,14 +11,14 @@ mul-size : tie.Need-mul-size
 mul-size c =
     let n = c .before .count-moments in
     let a = c .before .before .before in
-    omega (arith, charge-most (a .args .s) (a .args .ride) (n .result) (a .pre .modest) (a .pre .short) (n .ensures))
+    omega (arith, charge-most (a .args .s) (a .args .ride) (n .result) (a .pre .modest) (n .ensures))
 
 with-requires : tie.Need-with-requires
 with-requires c κs =
     let n = c .before .count-moments in
     let a = c .before .before .before in
     let r = a .pre .room in
-    omega (arith, charge-most (a .args .s) (a .args .ride) (n .result) (a .pre .modest) (a .pre .short) (n .ensures), r .added, r .taken)
+    omega (arith, charge-most (a .args .s) (a .args .ride) (n .result) (a .pre .modest) (n .ensures), r .added, r .taken)
 
 returns : tie.Need-returns
 returns c =

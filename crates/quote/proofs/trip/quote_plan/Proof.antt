@@ -1,7 +1,13 @@
 -- Both sorts one after the other, each with room for its charges; what they come to is the plan's quote.
 use borrow.Author.Needs.{needs}
 use mathlib.Core.List.{List}
-use mathlib.Core.Path.{_≡_, ap, ap₂, _∙_}
+use mathlib.Core.Path.{_≡_, sym, ap, ap₂, subst, _∙_}
+use Prim.Native.Nat.{_-_, _^_, _<_}
+use native.Mathlib.Omega.{arith}
+use lib.IntN.{ℤ}
+use lib.Signed.{mag}
+use mir.Syntax.{w64}
+use mir.ValLaws.{toZ-ofZ}
 use Rattle.fare.specs.declared.Segment.{Segment}
 use Rattle.fare.specs.declared.Sum.{Sum}
 use Rattle.fare.specs.declared.Minutes.{Minutes}
@@ -9,9 +15,11 @@ use Rattle.fare.specs.declared.Kilometres.{Kilometres}
 use Rattle.fare.specs.declared.Charged.{Charged}
 use Rattle.fare.specs.Charges.{minutesOf, kilometresOf}
 use Rattle.fare.specs.Folds.{withAll}
+use Rattle.fare.proofs.Worth.{clamped-difference}
 use Rattle.fare.proofs.Bound.{minutes-short, kilometres-short}
+use Rattle.quote.specs.Quote.{priced}
 use Rattle.quote.proofs.Fields.{minutes-clear, kilometres-clear}
-use Rattle.quote.proofs.Trips.{price, byMinute, byKilometre, minutes-chargeable, kilometres-chargeable, plan-quoted}
+use Rattle.quote.proofs.Trips.{price, byMinute, byKilometre, timed-room, minutes-chargeable, kilometres-chargeable, amount-room, plan-quoted}
 use Rattle.quote.proofs.trip.quote_plan.Statement.{statement}
 use Rattle.quote.proofs.trip.quote_plan.Tie as tie
 
@@ -51,10 +59,23 @@ with-kilometres-requires c κs =
     (kilometres-chargeable (k .pre .2) (c .segments-of2 .ensures) (minutesOf (k .args .seconds) .count) (kilometresOf (k .args .metres) .count)
     (minutes-short (k .args .seconds) (k .pre .0)) (kilometres-short (k .args .metres) (k .pre .1)))
 
+-- either sum comes to a number of 63 bits, so that the amount alone tells which is asked for
+room-timed : (c : tie.After-with-kilometres) → let s = c .before .before .before .before .with-minutes .result .sum in s .added - s .taken < 2 ^ 63
+room-timed c =
+    let t = c .before .before .before .before in let k = t .before .before .before .before .before .before .before in
+    rw (timed t) (omega (arith, timed-room (k .pre .2) (minutesOf (k .args .seconds) .count) (minutes-short (k .args .seconds) (k .pre .0)) .added))
+
+room-all : (c : tie.After-with-kilometres) → c .with-kilometres .result .sum .added - c .with-kilometres .result .sum .taken < 2 ^ 63
+room-all c =
+    let t = c .before .before .before .before in let k = t .before .before .before .before .before .before .before in
+    rw (all c) (amount-room (k .pre .2) (k .args .seconds) (k .args .metres) (k .pre .0) (k .pre .1))
+
 returns : tie.Need-returns
 returns c =
-    let w = c .before .before .before in let t = w .before .before .before .before in let k = t .before .before .before .before .before .before .before in
-    c .fare-of .ensures ∙ rw (c .before .total2 .ensures, all w, timed t) (plan-quoted (k .pre .2) (k .args .seconds) (k .args .metres))
+    let w = c .before .before in let t = w .before .before .before .before in let k = t .before .before .before .before .before .before .before in
+    let fits = subst (λ (z : ℤ). mag z < 2 ^ 63) (sym (c .amount .ensures ∙ clamped-difference _ _)) (omega (arith, room-timed w, room-all w)) in
+    ap (λ (z : ℤ). priced z (t .with-minutes .result .past) (w .with-kilometres .result .past)) (toZ-ofZ w64 (c .amount .result) (record { sfits = fits }))
+    ∙ rw (c .amount .ensures, all w, timed t) (plan-quoted (k .pre .2) (k .args .seconds) (k .args .metres))
 
 pub quote-plan-spec : {M : Type 1} → statement M
 quote-plan-spec =
@@ -69,6 +90,5 @@ quote-plan-spec =
     (λ c. search needs)
     segments-of-requires-2
     with-kilometres-requires
-    (λ c κs. search needs)
-    (λ c κs. search needs)
+    (λ c κs. omega (arith, room-timed (c .before), room-all (c .before)))
     returns)

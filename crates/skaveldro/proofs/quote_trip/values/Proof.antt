@@ -15,10 +15,7 @@ returns-3 : tie.Need-returns-3
 returns-3 c = rw (c .enum-told2 .given .1)
 
 returns-4 : tie.Need-returns-4
-returns-4 c = rw (c .enum-told3 .given .1)
-
-returns-5 : tie.Need-returns-5
-returns-5 c =
+returns-4 c =
     let b = c .before in let t = b .before in let k = t .before in let q = k .before in
     let same = toZ-ofZ w64 (q .q2 .given .0 .0) (record { sfits = k .known-told2 .given .0 .1 }) in
     rw (q .q2 .given .1, rw same at (t .signed-bits .ensures), b .bit .ensures, c .bit2 .ensures)
@@ -35,9 +32,7 @@ values-spec =
     (λ c. search needs)
     returns-3
     (λ c. search needs)
-    returns-4
-    (λ c. search needs)
     (λ c κs. search needs)
     (λ c κs. search needs)
     (λ c κs. search needs)
-    returns-5)
+    returns-4)
