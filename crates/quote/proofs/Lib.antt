@@ -7,3 +7,4 @@ pub mod Trips
 pub mod Files
 pub mod Size
 pub mod Past
+pub mod Longer
