@@ -1,27 +1,24 @@
 -- The promises on longer rides. A plan in a clean file is quoted with its amount for every ride within the ceilings (`Size`), so what holds of amounts and marks
 -- (`fare/proofs/Longer`) holds of the answers; and only such an answer has a mark, so a marked answer alone tells that there is such a plan.
-use mathlib.Core.Bool.{Bool, true, false, true≢false}
+use mathlib.Core.Bool.{true}
 use mathlib.Core.List.{List}
 use mathlib.Core.Path.{_≡_, refl, sym, ap, _∙_}
 use Prim.Native.Nat.{ℕ}
 use native.Mathlib.Omega.{arith}
 use borrow.Author.Tests.{le-leb}
-use Rattle.notation.specs.Choice.{_⇒_else_}
 use Rattle.schema.specs.Shape.{fileShape}
 use Rattle.schema.specs.Table23.{table23}
 use Rattle.schema.specs.Pick.{Picked, pick}
-use Rattle.document.specs.Document.{Maybe, none, some}
 use Rattle.decimal.specs.Exact.{tenThousandths}
 use Rattle.fare.proofs.Longer.{amount-longer, amount-settled, past-settled, settled-past}
-use Rattle.clean.specs.declared.Cleanness.{Cleanness}
-use Rattle.clean.specs.declared.Cleanness.the-variants.{Clean, Broken}
 use Rattle.clean.specs.Clean.{treeOf, cleanOf}
 use Rattle.quote.specs.Plan.{priceAt, perMinute, perKilometre, planOf, plans, tripAmount, pastMinutes, pastKilometres}
-use Rattle.quote.specs.Quote.{mostSeconds, mostMetres, Answer, refused, priced, planQuote, cleanQuote, short, ofClean, quoteOf}
+use Rattle.quote.specs.Quote.{mostSeconds, mostMetres, Answer, priced, cleanQuote, short, quoteOf}
 use Rattle.quote.specs.Size.{PlanIn}
 use Rattle.quote.specs.Longer.{NoNegativeRates, Ride, quoteFor, Short, NotShorter, NoFewer, AllSettled, InOrder, LongerRides}
 use Rattle.quote.proofs.Files.{short-both}
 use Rattle.quote.proofs.Size.{sized}
+use Rattle.quote.proofs.Asked.{passed}
 
 -- what a plan answers
 abbrev planAnswer : Picked → Ride → Answer
@@ -65,24 +62,12 @@ shorter {a} {b} l k =
     let m = short-both (b .seconds) (b .metres) k in
     rw (le-leb (a .seconds) mostSeconds (omega (arith, l .seconds, m .0)), le-leb (a .metres) mostMetres (omega (arith, l .metres, m .1)), short)
 
--- an answer with a mark has passed every refusal
-record Passed (t : Bool) (c : Cleanness) (m : Maybe Picked) : Type 0 where
-  brief : t ≡ true
-  clean : c ≡ Clean
-  plan : Picked
-  found : m ≡ some plan
-
-passed : (t : Bool) (c : Cleanness) (m : Maybe Picked) (seconds metres : ℕ) → (t ⇒ ofClean c (planQuote seconds metres m) else refused 4) .pastMinutes ≡ true → Passed t c m
-passed false c m seconds metres e = absurd (true≢false (sym e))
-passed true (Broken p) m seconds metres e = absurd (true≢false (sym e))
-passed true Clean none seconds metres e = absurd (true≢false (sym e))
-passed true Clean (some plan) seconds metres e = record { brief = refl; clean = refl; plan = plan; found = refl }
-
+-- the marks of one answer tell that there is such a plan
 past-both : (s id : List ℕ) (a b : Ride) → quoteFor s id a .pastMinutes ≡ true → quoteFor s id a .pastKilometres ≡ true → Short b → NotShorter a b
     → quoteFor s id b ≡ quoteFor s id a
 unfolding cleanQuote quoteOf pastMinutes pastKilometres
 past-both s id a b m k h l =
-    let through = passed (short (a .seconds) (a .metres)) (cleanOf 5 s) (planOf (plans (pick (fileShape table23 5) (treeOf s))) id) (a .seconds) (a .metres) m in
+    let through = passed (λ (x : Answer). x .pastMinutes) refl (λ q. refl) refl (short (a .seconds) (a .metres)) (cleanOf 5 s) (planOf (plans (pick (fileShape table23 5) (treeOf s))) id) (a .seconds) (a .metres) m in
     let plan = through .plan in
     let p : PlanIn s id plan = record { clean = through .clean; found = through .found } in
     let is = quoted p a (through .brief) in
