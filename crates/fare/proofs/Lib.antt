@@ -7,3 +7,4 @@ pub mod Charging
 pub mod Ends
 pub mod Past
 pub mod Amounts
+pub mod Longer

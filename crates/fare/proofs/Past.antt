@@ -17,11 +17,11 @@ use Rattle.fare.specs.Charges.{charge, charges, sum, amount, allEnded, g
 use Rattle.fare.specs.Folds.{countBelow}
 use Rattle.fare.proofs.Moments.{bound-end, moments-counted}
 
-and-left : (a b : Bool) → a and b ≡ true → a ≡ true
+pub and-left : (a b : Bool) → a and b ≡ true → a ≡ true
 and-left true b e = refl
 and-left false b e = e
 
-and-right : (a b : Bool) → a and b ≡ true → b ≡ true
+pub and-right : (a b : Bool) → a and b ≡ true → b ≡ true
 and-right true b e = e
 and-right false b e = absurd (true≢false (sym e))
 
@@ -33,7 +33,7 @@ charge-past s a b e h k =
     ∙ ap (λ (bound : ℕ). countBelow bound (s .start) (s .interval)) (bound-end s a e h ∙ sym (bound-end s b e k))
     ∙ sym (moments-counted s b))
 
-charges-same : (l : List Segment) (a b : ℕ) → allEnded l ≡ true → greatestEnd l ≤ a → greatestEnd l ≤ b → charges l a ≡ charges l b
+pub charges-same : (l : List Segment) (a b : ℕ) → allEnded l ≡ true → greatestEnd l ≤ a → greatestEnd l ≤ b → charges l a ≡ charges l b
 unfolding charges allEnded greatestEnd
 charges-same [] a b e h k = refl
 charges-same (s ∷ l) a b e h k =

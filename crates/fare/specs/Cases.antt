@@ -4,6 +4,7 @@ use mathlib.Core.List.{[], _∷_, map}
 use mathlib.Core.Path.{_≡_, refl}
 use Prim.Native.Nat.{ℕ}
 use lib.IntN.{pos, negℤ}
+use lib.Signed.{leZ}
 use Rattle.decimal.specs.Exact.{tenThousandths}
 use Rattle.fare.specs.declared.Segment.{Segment}
 use Rattle.fare.specs.Charges.{minutesOf, kilometresOf, charged, momentsFrom, moments, charge, charges, sum, amount, allEnded, greatestEnd, past}
@@ -41,6 +42,11 @@ g = refl
 g-sum : map (λ seconds. sum (pos 0) (rebate 10 5000 ∷ []) [] (minutesOf seconds) (kilometresOf 0)) (599 ∷ 600 ∷ []) ≡ pos 0 ∷ negℤ (pos 5000) ∷ []
 unfolding charging
 g-sum = refl
+
+-- 0, -0 and 0.0001 are rates of zero or more, and -0.0001 is not
+natural-rates : map (λ (s : Segment). leZ (pos 0) (tenThousandths (s .rate))) (open′ 0 0 0 ∷ rebate 0 0 ∷ open′ 0 1 0 ∷ rebate 0 1 ∷ []) ≡ true ∷ true ∷ true ∷ false ∷ []
+unfolding charging
+natural-rates = refl
 
 -- discounts that leave a part of the price, then none of it; later charges are added to the sum, not to zero
 discounts : map (λ seconds. amount (pos 12000) (rebate 10 5000 ∷ rebate 20 8000 ∷ open′ 30 500 0 ∷ open′ 40 2500 0 ∷ []) [] (minutesOf seconds) (kilometresOf 0)) (599 ∷ 600 ∷ 1200 ∷ 1800 ∷ 2400 ∷ [])

@@ -1,4 +1,5 @@
 pub mod Charges
 pub mod Folds
 pub mod Bounds
+pub mod Longer
 pub mod Cases

@@ -6,11 +6,10 @@ use mathlib.Core.Logic.{⊎-elim}
 use mathlib.Core.Path.{_≡_, refl, sym, ap, _∙_}
 use Prim.Native.Nat.{ℕ, _*_, _/_, _≤_}
 use native.Mathlib.Omega.{arith}
-use lib.Dec.{leb}
+use lib.Dec.{eqb, leb}
 use lib.IntN.{pos}
 use lib.Signed.{leZ}
-use borrow.Author.Tests.{leb-true, le-leb}
-use Rattle.notation.specs.Choice.{_⇒_else_}
+use borrow.Author.Tests.{leb-true, le-leb, eq-eqb}
 use Rattle.schema.specs.Shape.{fileShape}
 use Rattle.schema.specs.Table23.{table23}
 use Rattle.schema.specs.Pick.{Picked, pick}
@@ -27,26 +26,11 @@ use Rattle.clean.specs.declared.Cleanness.{Cleanness}
 use Rattle.clean.specs.declared.Cleanness.the-variants.{Clean, Broken}
 use Rattle.clean.specs.Clean.{treeOf, cleanOf}
 use Rattle.quote.specs.Plan.{priceAt, perMinute, perKilometre, tripAmount, pastMinutes, pastKilometres}
-use Rattle.quote.specs.Quote.{Answer, refused, planQuote, cleanQuote, short, ofClean, quoteOf, mostSeconds, mostMetres}
+use Rattle.quote.specs.Quote.{Answer, planQuote, cleanQuote, short, quoteOf, mostSeconds, mostMetres}
+use Rattle.quote.proofs.Asked.{asked, Passed, passed}
 use Rattle.quote.proofs.Past as past
 use Rattle.quote.proofs.Past.{ended-minutes, ended-kilometres}
 use Rattle.gbfs.specs.Demand2.{planIn, fare, PastEnds}
-
--- what a quote asks, in order
-abbrev asked : Bool → Cleanness → Maybe Picked → (seconds metres : ℕ) → Answer
-asked t c m seconds metres = t ⇒ ofClean c (planQuote seconds metres m) else refused 4
-
-record Passed (t : Bool) (c : Cleanness) (m : Maybe Picked) : Type 0 where
-  brief : t ≡ true
-  clean : c ≡ Clean
-  plan : Picked
-  found : m ≡ some plan
-
-passed : (t : Bool) (c : Cleanness) (m : Maybe Picked) (seconds metres : ℕ) → asked t c m seconds metres .number ≡ 0 → Passed t c m
-passed false c m seconds metres e = absurd (omega arith)
-passed true (Broken p) m seconds metres e = absurd (omega arith)
-passed true Clean none seconds metres e = absurd (omega arith)
-passed true Clean (some plan) seconds metres e = record { brief = refl; clean = refl; plan = plan; found = refl }
 
 -- whatever it answers, the amount is not negative
 asked-natural : (t : Bool) (c : Cleanness) (m : Maybe Picked) (seconds metres : ℕ) → leZ (pos 0) (asked t c m seconds metres .amount) ≡ true
@@ -155,7 +139,9 @@ module _ (s id : List ℕ) where
   module _ (seconds metres : ℕ) (e : quoteOf s id seconds metres .number ≡ 0) where
     through : Passed (short seconds metres) (cleanOf 5 s) (planIn s id)
     unfolding quoteOf cleanQuote
-    through = passed (short seconds metres) (cleanOf 5 s) (planIn s id) seconds metres e
+    through =
+        passed (λ (x : Answer). eqb (x .number) 0) refl (λ p. refl) refl (short seconds metres) (cleanOf 5 s) (planIn s id) seconds metres
+        (eq-eqb (quoteOf s id seconds metres .number) 0 e)
 
     by-plan : quoteOf s id seconds metres ≡ cleanQuote file id seconds metres
     by-plan = quote-clean seconds metres (through .brief) (through .clean)

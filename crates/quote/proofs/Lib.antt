@@ -7,3 +7,5 @@ pub mod Trips
 pub mod Files
 pub mod Size
 pub mod Past
+pub mod Asked
+pub mod Longer

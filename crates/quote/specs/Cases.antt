@@ -16,6 +16,7 @@ use Rattle.judge.specs.Cases.{judging}
 use Rattle.clean.specs.Clean.{treeOf, idField, recordsOf, usedBefore, repeatedId, repeatsFrom, repeats, cleanOf}
 use Rattle.quote.specs.Plan.{priceAt, segment, perKilometre, perMinute, planOf, plans, tripAmount, pastMinutes, pastKilometres}
 use Rattle.quote.specs.Quote.{Answer, refused, unclean, priced, cleanQuote, short, quoteOf}
+use Rattle.quote.specs.Longer.{Ride, quoteFor}
 
 -- opens every definition of a quote
 unfoldable pub quoting : Unit {0}
@@ -75,6 +76,55 @@ by-both : map (quoteOf (file (plan "p" "3,'per_km_pricing':[{'start':0,'rate':0.
     ≡ fare 90000 ∷ fare 87500 ∷ []
 unfolding quoting file plan
 by-both = refl
+
+-- Longer rides (docs/LONGER-RIDES.md): what a plan quotes for seconds and metres
+
+unfoldable rides : String → List Ride → List Answer
+rides s l = map (quoteFor (file (plan "p" s)) (bytes "p")) l
+
+abbrev ride : ℕ → ℕ → Ride
+ride seconds metres = record { seconds = seconds; metres = metres }
+
+-- with a negative rate a longer ride may cost less: a discount from the tenth minute on, and one from the fifth kilometre on
+less-after-minutes : quotes "1,'per_min_pricing':[{'start':10,'rate':-0.5,'interval':0}]" (599 ∷ 600 ∷ 6000 ∷ []) ≡ fare 10000 ∷ fare 5000 ∷ fare 5000 ∷ []
+unfolding quoting file plan quotes
+less-after-minutes = refl
+
+less-after-kilometres : rides "2,'per_km_pricing':[{'start':5,'rate':-1.5,'interval':0}]" (ride 600 4999 ∷ ride 600 5000 ∷ []) ≡ fare 20000 ∷ fare 5000 ∷ []
+unfolding quoting file plan rides
+less-after-kilometres = refl
+
+-- a discount that later charges make up for: at 14 minutes the ride costs what it did at 9
+less-for-a-while : quotes "0,'per_min_pricing':[{'start':0,'rate':0.1,'interval':1},{'start':10,'rate':-0.5,'interval':0}]" (540 ∷ 600 ∷ 840 ∷ 900 ∷ []) ≡ fare 10000 ∷ fare 6000 ∷ fare 10000 ∷ fare 11000 ∷ []
+unfolding quoting file plan quotes
+less-for-a-while = refl
+
+-- where all segments end too; past the mark the amount stays
+less-before-mark : quotes "0,'per_min_pricing':[{'start':0,'rate':1,'interval':0,'end':5},{'start':5,'rate':-0.25,'interval':0,'end':6}]" (240 ∷ 300 ∷ 360 ∷ 2_678_400 ∷ [])
+    ≡ fare 10000 ∷ fare 7500 ∷ endedFare 7500 ∷ endedFare 7500 ∷ []
+unfolding quoting file plan quotes
+less-before-mark = refl
+
+-- a negative rate that only takes off what another goes on to charge: from 20 minutes on the amount stays, without a mark
+capped : quotes "0,'per_min_pricing':[{'start':0,'rate':0.1,'interval':1},{'start':20,'rate':-0.1,'interval':1}]" (1139 ∷ 1140 ∷ 1200 ∷ 6000 ∷ []) ≡ fare 19000 ∷ fare 20000 ∷ fare 20000 ∷ fare 20000 ∷ []
+unfolding quoting file plan quotes
+capped = refl
+
+abbrev bothEnded : Answer
+bothEnded = priced (pos 12500) true true
+
+-- past one mark the amount goes on by the other measure; past both it stays, a negative rate or not
+past-both : rides "1,'per_km_pricing':[{'start':2,'rate':-0.5,'interval':0,'end':3}],'per_min_pricing':[{'start':0,'rate':0.25,'interval':15,'end':45}]"
+    (ride 2700 1999 ∷ ride 2700 2000 ∷ ride 2699 3000 ∷ ride 2700 3000 ∷ ride 2_678_400 3000 ∷ ride 2700 1_000_000 ∷ ride 2_678_400 1_000_000 ∷ [])
+    ≡ endedFare 17500 ∷ endedFare 12500 ∷ priced (pos 12500) false true ∷ bothEnded ∷ bothEnded ∷ bothEnded ∷ bothEnded ∷ []
+unfolding quoting file plan rides
+past-both = refl
+
+-- with segments per minute alone the mark per kilometre is never set, and past the other the amount stays
+past-the-only : rides "1,'per_min_pricing':[{'start':0,'rate':0.25,'interval':15,'end':45}]" (ride 2699 0 ∷ ride 2700 0 ∷ ride 2700 1_000_000 ∷ ride 2_678_400 1_000_000 ∷ [])
+    ≡ fare 17500 ∷ endedFare 17500 ∷ endedFare 17500 ∷ endedFare 17500 ∷ []
+unfolding quoting file plan rides
+past-the-only = refl
 
 -- refusals
 

@@ -4,4 +4,5 @@ pub mod Size
 pub mod Values
 pub mod Lookup
 pub mod Clear
+pub mod Longer
 pub mod Cases
