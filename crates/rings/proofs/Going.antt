@@ -1,5 +1,6 @@
 -- A loop over items that are judged and numbered one after the other, for any way to judge one: what has been found so far, with what is
--- left, is what is found in all. The items' bytes lie one behind the other, in any bytes, so there are no more positions than bytes.
+-- left, is what is found in all. The items' bytes lie one behind the other, in any bytes, so there are no more positions than bytes. A count alone is
+-- such a loop in which nothing is found.
 use mathlib.Core.List.{List, [], _∷_}
 use mathlib.Core.Path.{_≡_, refl, sym, ap, _∙_}
 use Prim.Native.Nat.{ℕ, _+_, _-_, _≤_, _<_}
@@ -44,6 +45,9 @@ passed-start p = record { few = omega arith; room = omega arith; inside = omega 
 module _ {p : List ℕ} {at items positions : ℕ} (g : Passed p at items positions) where
   pub passed-within : positions ≤ length p
   passed-within = omega (arith, g .room, g .inside)
+
+  pub passed-few : items ≤ length p
+  passed-few = omega (arith, g .few, g .inside)
 
   -- where an item is found: its bytes, with the positions passed, are no more than all
   module _ {m : Item} (k : ItemPlaced p at m) where
@@ -161,3 +165,26 @@ module _ (e : ℕ → Picked → List Found) (c : Picked → ℕ) where
 
         pub going-more : Going (m .next) (items + 1) (positions + q) next
         going-more = going-next .0
+
+-- A count over items, with nothing asked of them but that.
+module _ (c : Picked → ℕ) (σ : Shape) (p : List ℕ) where
+  abbrev nothing : ℕ → Picked → List Found
+  nothing n x = []
+
+  nothing-found : None ≡ leastFound []
+  unfolding leastFound
+  nothing-found = refl
+
+  -- at the place `at` of an array, with so many items passed that count so much
+  abbrev pub Counting : (at items total : ℕ) → Type 0
+  Counting at items total = Going nothing c σ 0 p at items total None
+
+  abbrev pub counting-start : Listing p → Counting 1 0 0
+  counting-start w = going-start nothing c σ 0 p w
+
+  module _ {at items total : ℕ} (g : Counting at items total) {o : ItemStep} (f : ItemPassed p at o) where
+    pub counting-end : o ≡ step.End → total ≡ positionsIn c (partsOf σ p)
+    counting-end h = going-end nothing c σ 0 p g f h .positions
+
+    pub counting-more : (m : Item) → o ≡ step.Found m → (q : ℕ) → q ≡ c (picked σ p m) → Counting (m .next) (items + 1) (total + q)
+    counting-more m h q many = going-more nothing c σ 0 p g f m h None None q nothing-found (sym (none-lesser None)) many

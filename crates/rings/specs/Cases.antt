@@ -1,5 +1,5 @@
 -- Field 73 on cases, computed: every rule at its limit, with all that is found, each as the position's number and the kind.
-use mathlib.Core.List.{List, [], _∷_, map}
+use mathlib.Core.List.{List, [], _∷_, _++_, map}
 use mathlib.Core.Path.{_≡_, refl}
 use Prim.Native.Nat.{ℕ, zero, suc}
 use Prim.Native.String.{String}
@@ -11,15 +11,15 @@ use Rattle.geometry.specs.Cases.{holding}
 use Rattle.schema.specs.Table23.{coordinates, written23}
 use Rattle.schema.specs.Pick.{Picked, PickedItems, bare, items, slots, noItem, item, each, pick, listOf}
 use Rattle.scalar.specs.Scalars as scalar
-use Rattle.rings.specs.Rings.{Found, at, count, ordinateKinds, numberKinds, positionKinds, pointOf, position, none, allSound, positionsFound, ringFound, ringsFound, ringsPositions, polygonsFound, coordinatesFound}
+use Rattle.rings.specs.Rings.{Found, at, count, ordinateKinds, numberKinds, positionKinds, pointOf, position, none, allSound, positionsFound, ringFound, ringsFound, ringsPositions, polygonsRings, polygonsFound, coordinatesFound}
 use Rattle.rings.specs.Least.{earlier, lesser, leastFound}
-use Rattle.rings.specs.Parts.{polygonShape, positionShape}
+use Rattle.rings.specs.Parts.{polygonShape, ringShape, positionShape}
 use Rattle.rings.specs.declared.LeastFound.{LeastFound}
 use Rattle.rings.specs.declared.LeastFound.the-variants.{None, At}
 
 -- opens every definition of this layer
 unfoldable pub ringing : Unit {0}
-unfolding reading treeOf deciding holding written23 each pick scalar.formed scalar.numberKinds scalar.textKinds scalar.booleanKinds scalar.kindsOf at listOf count ordinateKinds numberKinds positionKinds pointOf position none allSound positionsFound ringFound ringsFound ringsPositions polygonsFound coordinatesFound earlier lesser leastFound
+unfolding reading treeOf deciding holding written23 each pick scalar.formed scalar.numberKinds scalar.textKinds scalar.booleanKinds scalar.kindsOf at listOf count ordinateKinds numberKinds positionKinds pointOf position none allSound positionsFound ringFound ringsFound ringsPositions polygonsRings polygonsFound coordinatesFound earlier lesser leastFound
 ringing = tt
 
 abbrev pairs : List Found → List (ℕ × ℕ)
@@ -105,19 +105,40 @@ whole-rings : asFound rings ≡ asSaid rings
 unfolding ringing found
 whole-rings = refl
 
--- no ring and two; rings and polygons that are no arrays take no number; numbers go on over polygons; what is wrong with a count hides nothing
+-- rings and polygons that are no arrays take no number; numbers go on over polygons
 abbrev polygons : List (String × List (ℕ × ℕ))
 polygons =
-    ("[[]]", (1, 11) ∷ []) ∷
-    ("[[[[0,0],[0,2],[2,2],[0,0]],[[0,0],[0,2],[2,2],[0,7]]]]", (1, 11) ∷ (5, 11) ∷ []) ∷
     ("[7,[7],[[[0,0],[0,2],7,[0,0]]]]", (1, 7) ∷ (1, 7) ∷ (3, 7) ∷ []) ∷
     ("[[[[0,0],[0,2],[2,2],[0,0]]],[[[0,0],[0,2,1,1],[2,2],[0,0]]]]", (6, 11) ∷ []) ∷
-    ("[[[],[[0,91]]]]", (1, 11) ∷ (1, 11) ∷ (1, 11) ∷ (1, 11) ∷ (1, 9) ∷ []) ∷
     []
 
 whole-polygons : asFound polygons ≡ asSaid polygons
 unfolding ringing found
 whole-polygons = refl
+
+-- Two sound rings, wound alike and otherwise, and one ring twice; the second of three positions, open, without an area, of a position that is not sound, no
+-- array; the first open before a sound one; a second polygon whose second ring is open; no ring, alone and behind four positions; no position in the
+-- first of two, which takes no number.
+abbrev holes : List (String × List (ℕ × ℕ))
+holes =
+    ("[[[[0,0],[0,9],[9,9],[0,0]],[[1,2],[1,3],[2,3],[1,2]]]]", []) ∷
+    ("[[[[0,0],[0,9],[9,9],[0,0]],[[1,2],[2,3],[1,3],[1,2]]]]", []) ∷
+    ("[[[[0,0],[0,9],[9,9],[0,0]],[[0,0],[0,9],[9,9],[0,0]]]]", []) ∷
+    ("[[[[0,0],[0,9],[9,9],[0,0]],[[1,2],[1,3],[1,2]]]]", (5, 11) ∷ (5, 11) ∷ []) ∷
+    ("[[[[0,0],[0,9],[9,9],[0,0]],[[1,2],[1,3],[2,3],[1,7]]]]", (5, 11) ∷ []) ∷
+    ("[[[[0,0],[0,9],[9,9],[0,0]],[[1,2],[1,3],[1,4],[1,2]]]]", (5, 11) ∷ []) ∷
+    ("[[[[0,0],[0,9],[9,9],[0,0]],[[1,2],[1,91],[2,3],[1,2]]]]", (6, 9) ∷ []) ∷
+    ("[[[[0,0],[0,9],[9,9],[0,0]],null]]", (5, 7) ∷ []) ∷
+    ("[[[[0,0],[0,9],[9,9],[0,1]],[[1,2],[1,3],[2,3],[1,2]]]]", (1, 11) ∷ []) ∷
+    ("[[[[0,0],[0,9],[9,9],[0,0]]],[[[0,0],[0,9],[9,9],[0,0]],[[1,2],[1,3],[2,3],[1,7]]]]", (9, 11) ∷ []) ∷
+    ("[[]]", (1, 11) ∷ []) ∷
+    ("[[[[0,0],[0,9],[9,9],[0,0]]],[]]", (5, 11) ∷ []) ∷
+    ("[[[],[[0,91]]]]", (1, 11) ∷ (1, 11) ∷ (1, 11) ∷ (1, 9) ∷ []) ∷
+    []
+
+further-rings : asFound holes ≡ asSaid holes
+unfolding ringing found
+further-rings = refl
 
 -- many positions and polygons: a triangle whose third corner is named n times
 unfoldable repeated : {A : Type 0} → ℕ → A → List A → List A
@@ -152,3 +173,43 @@ zoneOf n last =
 polygons-15-and-16 : zoneOf 14 "[[[0,0],[0,2],[2,2],[0,0]]]" ∷ zoneOf 14 "[7]" ∷ zoneOf 15 "[7]" ∷ [] ≡ None ∷ At 57 7 ∷ At 0 10 ∷ []
 unfolding ringing repeated itemsOf
 polygons-15-and-16 = refl
+
+-- many rings in a polygon, the last of them another
+abbrev ringed : ℕ → String → Picked
+ringed n last =
+    let r = pick ringShape (treeOf (bytes "[[0,0],[0,2],[2,2],[0,0]]")) in
+    items (itemsOf (repeated n r (pick ringShape (treeOf (bytes last)) ∷ [])))
+
+abbrev polygonsOf : List Picked → LeastFound
+polygonsOf l = leastFound (coordinatesFound (itemsOf l))
+
+-- eight and nine, of which the last, no array, is counted: alone, and behind another polygon; nine whose first fault comes before their count, and nine empty ones
+rings-8-and-9 :
+    polygonsOf (ringed 7 "[[0,0],[0,2],[2,2],[0,0]]" ∷ []) ∷
+    polygonsOf (ringed 7 "7" ∷ []) ∷
+    polygonsOf (ringed 8 "7" ∷ []) ∷
+    polygonsOf (ringed 0 "[[0,0],[0,2],[2,2],[0,0]]" ∷ ringed 8 "7" ∷ []) ∷
+    polygonsOf (items (itemsOf (repeated 9 (placed "7") [])) ∷ []) ∷
+    polygonsOf (items (itemsOf (repeated 9 (items noItem) [])) ∷ []) ∷
+    []
+    ≡ None ∷ At 29 7 ∷ At 1 11 ∷ At 5 11 ∷ At 1 7 ∷ At 1 11 ∷ []
+unfolding ringing repeated itemsOf
+rings-8-and-9 = refl
+
+-- seven polygons of two rings, and more polygons before and behind them
+abbrev fourteen : List Picked → List Picked → LeastFound
+fourteen before behind = polygonsOf (before ++ repeated 7 (ringed 1 "[[0,0],[0,2],[2,2],[0,0]]") behind)
+
+-- fifteen rings over eight polygons, and sixteen, which come before all else: with faults behind them, and before. What is no array counts among a polygon's
+-- rings; as a polygon it has none.
+rings-15-and-16 :
+    fourteen [] (ringed 0 "[[0,0],[0,2],[2,2],[0,0]]" ∷ []) ∷
+    fourteen [] (ringed 0 "7" ∷ []) ∷
+    fourteen [] (ringed 1 "[[0,0],[0,2],[2,2],[0,0]]" ∷ []) ∷
+    fourteen [] (ringed 1 "7" ∷ []) ∷
+    fourteen (placed "7" ∷ []) (ringed 1 "7" ∷ []) ∷
+    fourteen (placed "7" ∷ []) (ringed 0 "7" ∷ []) ∷
+    []
+    ≡ None ∷ At 57 7 ∷ At 0 10 ∷ At 0 10 ∷ At 0 10 ∷ At 1 7 ∷ []
+unfolding ringing repeated itemsOf
+rings-15-and-16 = refl

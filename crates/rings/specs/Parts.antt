@@ -24,7 +24,7 @@ use Rattle.schema.specs.Shape as shape
 use Rattle.schema.specs.Shape.{Shape}
 use Rattle.schema.specs.Pick.{Picked, bare, items, slots, pick}
 use Rattle.scalar.specs.Scalars.{unless, formed}
-use Rattle.rings.specs.Rings.{Found, at, ordinate, ordinateKinds, numberKinds, position, allSound, positionsFound}
+use Rattle.rings.specs.Rings.{Found, at, ordinate, ordinateKinds, numberKinds, position, allSound, positionsFound, polygon, polygonPositions, polygonRings}
 use Rattle.rings.specs.Least.{leastFound}
 use Rattle.rings.specs.declared.LeastFound.{LeastFound}
 use Rattle.rings.specs.declared.LeastFound.the-variants.{None, At}
@@ -33,6 +33,8 @@ use Rattle.rings.specs.declared.Spot.{Spot}
 use Rattle.rings.specs.declared.RingPoints.{RingPoints}
 use Rattle.rings.specs.declared.Judged.{Judged}
 use Rattle.rings.specs.declared.Tally.{Tally}
+use Rattle.rings.specs.declared.JudgedPolygon.{JudgedPolygon}
+use Rattle.rings.specs.declared.ZoneTally.{ZoneTally}
 
 -- the shapes inside field 73
 abbrev pub numberShape : Shape
@@ -45,7 +47,7 @@ abbrev pub ringShape : Shape
 ringShape = shape.array shape.positions ceiling.positions positionShape
 
 abbrev pub polygonShape : Shape
-polygonShape = shape.array shape.positions 1 ringShape
+polygonShape = shape.array shape.positions ceiling.rings ringShape
 
 -- p is an array, whole; or there is nothing
 pub record Listing (p : List ℕ) : Type 0 where
@@ -129,6 +131,26 @@ pub record Tallied (e : ℕ → Picked → List Found) (c : Picked → ℕ) (n :
   pub items : r .items ≡ length l
   pub positions : r .positions ≡ positionsIn c l
   pub least : r .least ≡ leastFound (foundIn e c n l)
+
+-- the polygon x, its first position with the number n; and polygons one after another
+pub record TellsPolygon (n : ℕ) (x : Picked) (r : JudgedPolygon) : Type 0 where
+  pub rings : r .rings ≡ polygonRings x
+  pub positions : r .positions ≡ polygonPositions x
+  pub least : r .least ≡ leastFound (polygon n x)
+
+pub record ZoneTallied (n : ℕ) (l : List Picked) (r : ZoneTally) : Type 0 where
+  pub items : r .items ≡ length l
+  pub rings : r .rings ≡ positionsIn polygonRings l
+  pub least : r .least ≡ leastFound (foundIn polygon polygonPositions n l)
+
+-- what is counted in any bytes: no more than there are bytes
+pub record TallyRoom (bytes : ℕ) (r : Tally) : Type 0 where
+  pub items : r .items ≤ bytes
+  pub positions : r .positions ≤ bytes
+
+pub record PolygonRoom (bytes : ℕ) (r : JudgedPolygon) : Type 0 where
+  pub rings : r .rings ≤ bytes
+  pub positions : r .positions ≤ bytes
 
 -- the points of a ring, two lists of one length of which the first are filled
 pub record Charted (lons lats : List ℕ) : Type 0 where

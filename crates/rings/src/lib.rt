@@ -32,13 +32,27 @@ pub struct RingPoints {
     pub least: LeastFound,
 }
 
-// A ring or polygon: how many positions it has, and its first fault.
+// A ring: how many positions it has, and its first fault.
 pub struct Judged {
     pub positions: u32,
     pub least: LeastFound,
 }
 
-// The rings of a polygon, or the polygons of a zone: how many they are, how many positions they have, and their first fault.
+// A polygon: how many rings and positions it has, and its first fault.
+pub struct JudgedPolygon {
+    pub rings: u32,
+    pub positions: u32,
+    pub least: LeastFound,
+}
+
+// The polygons of a zone: how many they are, how many rings they have, and their first fault.
+pub struct ZoneTally {
+    pub items: u32,
+    pub rings: u32,
+    pub least: LeastFound,
+}
+
+// The rings of a polygon: how many they are, how many positions they have, and their first fault.
 pub struct Tally {
     pub items: u32,
     pub positions: u32,

@@ -6,7 +6,7 @@ use borrow.Author.Needs.{needs}
 use Rattle.walk.specs.Along.{ItemPlaced}
 use Rattle.rings.specs.Rings.{ring, ringPositions}
 use Rattle.rings.specs.Parts.{ringShape, Listing}
-use Rattle.rings.proofs.Going.{Room, Passed, passed-start, passed-within, passed-room, passed-more, Going, going-start, going-end, going-whole, going-more}
+use Rattle.rings.proofs.Going.{Room, Passed, passed-start, passed-within, passed-few, passed-room, passed-more, Going, going-start, going-end, going-whole, going-more}
 use Rattle.rings.proofs.zone.judge_rings.Statement.{statement}
 use Rattle.rings.proofs.zone.judge_rings.Tie as tie
 
@@ -23,7 +23,7 @@ loop-holds c = (passed-start _, λ w. going-start ring ringPositions ringShape _
 returns : tie.Need-returns Inv-loop μ-loop
 returns c =
     let l = c .before .before .before .loop in
-    (passed-within (l .inv .0), λ w. going-end ring ringPositions ringShape _ _ (l .inv .1 w) (c .before .before .pass-item .ensures) (c .enum-told .given .1))
+    (record { items = passed-few (l .inv .0); positions = passed-within (l .inv .0) }, λ w. going-end ring ringPositions ringShape _ _ (l .inv .1 w) (c .before .before .pass-item .ensures) (c .enum-told .given .1))
 
 -- where an item was found
 abbrev Met : Type 0
