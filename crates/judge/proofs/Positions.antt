@@ -1,5 +1,5 @@
--- The first fault of coordinates has a number that fits the word. Up to the first ring of more than 256 positions each ring takes at most 256
--- numbers, and of rings there are at most 15; that ring's own fault has its first position's number.
+-- The first fault of coordinates has a number that fits the word. Where a zone has more than 15 rings, that stands at 0. Else each ring takes at most 256
+-- numbers up to the first ring of more positions, whose own fault has its first position's number: 1 + 15 · 256 is the greatest.
 use mathlib.Core.Bool.{Bool, true, false}
 use mathlib.Core.List.{List, [], _∷_, _++_, map}
 use mathlib.Core.Path.{_≡_, refl, ap, _∙_}
@@ -13,10 +13,10 @@ use Rattle.notation.specs.Choice.{_⇒_else_, _and_}
 use Rattle.word.specs.Kinds.{wrongType, tooMany, badRing}
 use Rattle.schema.specs.Shape as sort
 use Rattle.schema.specs.Pick.{Picked, PickedItems, bare, items, slots, listOf}
+use Rattle.schema.proofs.Tests.{and-right}
 use Rattle.fault.specs.declared.Fault.{Fault}
 use Rattle.fault.specs.declared.Least.{Least}
 use Rattle.fault.specs.Fault.{fault, lesser, least}
-use Rattle.schema.proofs.Tests.{and-right}
 use Rattle.fault.proofs.Order.{by-test}
 use Rattle.fault.proofs.Leasts.{least-one, least-append}
 use Rattle.scalar.specs.Scalars.{unless}
@@ -180,7 +180,7 @@ module _ (p : Place) (φ : ℕ) where
         (closed-upTo n top (omega arith) (allSound l) (sound (map position l)))
     long-ring n h (slots ss) o = absurd (omega arith)
 
-    -- rings that take more numbers than so many rings may: one of them is too long
+    -- rings of which one is too long: they take more numbers than as many rings may
     long-rings : (n : ℕ) (l : List Picked) → n + ceiling.positions * length l ≤ greatest → ceiling.positions * length l < ringsPositions l
         → Small (p .«record») φ (N (ringsFound n l))
     unfolding ringsFound ringsPositions
@@ -193,7 +193,7 @@ module _ (p : Place) (φ : ℕ) where
         (λ t. let k : ceiling.positions < ringPositions x = leb-false (ringPositions x) ceiling.positions t in
         then-others (ring n x) (ringsFound m l) (long-ring n (omega arith) x k) (rings-upTo m l))
 
-    -- a polygon that does
+    -- a polygon of such rings
     long-polygon : (n : ℕ) (x : Picked) → n + ceiling.positions * polygonRings x ≤ greatest → ceiling.positions * polygonRings x < polygonPositions x
         → Small (p .«record») φ (N (polygon n x))
     unfolding count
@@ -204,7 +204,7 @@ module _ (p : Place) (φ : ℕ) where
         others-then {top = n} (at n (unless t badRing)) (ringsFound n l) (at-upTo n (omega arith) (unless-kinds t badRing (omega arith))) (long-rings n l h o)
     long-polygon n (slots ss) h o = absurd (omega arith)
 
-    -- with numbers left for each ring
+    -- with numbers left for all rings
     polygons-fit : (n : ℕ) (l : List Picked) → n + ceiling.positions * polygonsRings l ≤ greatest → Holds Fitting (N (polygonsFound n l))
     unfolding polygonsFound polygonsRings numbered least
     polygons-fit n [] h = nothing
@@ -218,7 +218,7 @@ module _ (p : Place) (φ : ℕ) where
         (λ t. let o : most < polygonPositions x = leb-false (polygonPositions x) most t in
         small-fits (then-others (polygon n x) (polygonsFound m l) (long-polygon n x (omega arith) o) (polygons-upTo m l .1)))
 
-    -- of at most 15 rings; where there are more, or more polygons, that stands at 0
+    -- of at most 15 polygons and rings; where there are more of either, that stands at 0
     pub coordinates-fit : (is : PickedItems) → Holds Fitting (N (coordinatesFound is))
     unfolding coordinatesFound count
     coordinates-fit is =
