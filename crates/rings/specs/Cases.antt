@@ -116,9 +116,8 @@ whole-polygons : asFound polygons ≡ asSaid polygons
 unfolding ringing found
 whole-polygons = refl
 
--- Two sound rings, wound alike and otherwise, and one ring twice; the second of three positions, open, without an area, of a position that is not sound, no
--- array; the first open before a sound one; a second polygon whose second ring is open; no ring, alone and behind four positions; no position in the
--- first of two, which takes no number.
+-- two rings: sound, whichever way they wind, and the same twice; the second of three positions, open, without an area, with a position that is not sound,
+-- and no array; the first open; the second open in the second polygon; no ring at all, alone and behind a polygon; and an empty ring, which takes no number
 abbrev holes : List (String × List (ℕ × ℕ))
 holes =
     ("[[[[0,0],[0,9],[9,9],[0,0]],[[1,2],[1,3],[2,3],[1,2]]]]", []) ∷
@@ -148,8 +147,11 @@ repeated (suc n) x l = x ∷ repeated n x l
 abbrev placed : String → Picked
 placed s = pick positionShape (treeOf (bytes s))
 
+abbrev corners : ℕ → String → String → List Picked
+corners n first last = placed first ∷ placed "[0,2]" ∷ repeated n (placed "[2,2]") (placed last ∷ [])
+
 abbrev triangle : ℕ → String → String → LeastFound
-triangle n first last = leastFound (ringFound 1 (placed first ∷ placed "[0,2]" ∷ repeated n (placed "[2,2]") (placed last ∷ [])))
+triangle n first last = leastFound (ringFound 1 (corners n first last))
 
 positions-256 : triangle 253 "[0,0]" "[0,0]" ≡ None
 unfolding ringing repeated
@@ -174,34 +176,50 @@ polygons-15-and-16 : zoneOf 14 "[[[0,0],[0,2],[2,2],[0,0]]]" ∷ zoneOf 14 "[7]"
 unfolding ringing repeated itemsOf
 polygons-15-and-16 = refl
 
--- many rings in a polygon, the last of them another
-abbrev ringed : ℕ → String → Picked
-ringed n last =
-    let r = pick ringShape (treeOf (bytes "[[0,0],[0,2],[2,2],[0,0]]")) in
-    items (itemsOf (repeated n r (pick ringShape (treeOf (bytes last)) ∷ [])))
-
+-- these polygons, and a polygon of these rings
 abbrev polygonsOf : List Picked → LeastFound
 polygonsOf l = leastFound (coordinatesFound (itemsOf l))
 
--- eight and nine, of which the last, no array, is counted: alone, and behind another polygon; nine whose first fault comes before their count, and nine empty ones
+abbrev ofRings : List Picked → Picked
+ofRings l = items (itemsOf l)
+
+-- sixteen polygons are too many, even where they have no rings
+polygons-without-rings : polygonsOf (repeated 15 (ofRings []) []) ∷ polygonsOf (repeated 16 (ofRings []) []) ∷ [] ≡ At 1 11 ∷ At 0 10 ∷ []
+unfolding ringing repeated itemsOf
+polygons-without-rings = refl
+
+-- each of two rings may have 256 positions
+abbrev closed : ℕ → Picked
+closed n = items (itemsOf (corners n "[0,0]" "[0,0]"))
+
+positions-of-each :
+    polygonsOf (ofRings (closed 253 ∷ closed 253 ∷ []) ∷ []) ∷ polygonsOf (ofRings (closed 253 ∷ closed 254 ∷ []) ∷ []) ∷ [] ≡ None ∷ At 257 10 ∷ []
+unfolding ringing repeated itemsOf
+positions-of-each = refl
+
+-- a polygon of n sound rings and another
+abbrev ringed : ℕ → String → Picked
+ringed n last = ofRings (repeated n (pick ringShape (treeOf (bytes "[[0,0],[0,2],[2,2],[0,0]]"))) (pick ringShape (treeOf (bytes last)) ∷ []))
+
+-- eight rings; eight and nine of which the last is no array, which counts; nine behind another polygon; nine that are no arrays, and nine that are empty
 rings-8-and-9 :
     polygonsOf (ringed 7 "[[0,0],[0,2],[2,2],[0,0]]" ∷ []) ∷
     polygonsOf (ringed 7 "7" ∷ []) ∷
     polygonsOf (ringed 8 "7" ∷ []) ∷
     polygonsOf (ringed 0 "[[0,0],[0,2],[2,2],[0,0]]" ∷ ringed 8 "7" ∷ []) ∷
-    polygonsOf (items (itemsOf (repeated 9 (placed "7") [])) ∷ []) ∷
-    polygonsOf (items (itemsOf (repeated 9 (items noItem) [])) ∷ []) ∷
+    polygonsOf (ofRings (repeated 9 (placed "7") []) ∷ []) ∷
+    polygonsOf (ofRings (repeated 9 (ofRings []) []) ∷ []) ∷
     []
     ≡ None ∷ At 29 7 ∷ At 1 11 ∷ At 5 11 ∷ At 1 7 ∷ At 1 11 ∷ []
 unfolding ringing repeated itemsOf
 rings-8-and-9 = refl
 
--- seven polygons of two rings, and more polygons before and behind them
+-- seven polygons of two rings, with others before and behind them
 abbrev fourteen : List Picked → List Picked → LeastFound
 fourteen before behind = polygonsOf (before ++ repeated 7 (ringed 1 "[[0,0],[0,2],[2,2],[0,0]]") behind)
 
--- fifteen rings over eight polygons, and sixteen, which come before all else: with faults behind them, and before. What is no array counts among a polygon's
--- rings; as a polygon it has none.
+-- Fifteen rings over eight polygons, and sixteen, which come ahead of every position, whatever is found before or behind. What is no array counts in a polygon as
+-- a ring; a polygon that is none has no rings.
 rings-15-and-16 :
     fourteen [] (ringed 0 "[[0,0],[0,2],[2,2],[0,0]]" ∷ []) ∷
     fourteen [] (ringed 0 "7" ∷ []) ∷
