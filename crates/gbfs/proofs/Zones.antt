@@ -22,7 +22,7 @@ use Rattle.geometry.proofs.Polygon.{edge-held}
 use Rattle.clean.specs.declared.Cleanness.{Cleanness}
 use Rattle.clean.specs.declared.Cleanness.the-variants.{Clean, Broken}
 use Rattle.clean.specs.Clean.{treeOf, cleanOf}
-use Rattle.zone.specs.Zone.{outline, counts, ringsHold, polygonsHold, applies, zoneRulesBy, zoneRules, rulesBy, rules, applicable, rulesAt, otherwise, firstGiven}
+use Rattle.zone.specs.Zone.{outline, counts, ringsHold, polygonsHold, polygonsOf, applies, zoneRulesBy, zoneRules, rulesBy, rules, applicable, rulesAt, otherwise, firstGiven}
 use Rattle.zone.specs.Answer.{Answer, refused, found, ruleOf, values, onMap, ofRules, ofClean, rulingOf}
 use Rattle.gbfs.specs.Demand2.{ZoneRule, everyRule, rulesIn, HeldBy, onEdge, byFirst, Holding, Applies, FirstWith, here, later, NoneWith, Giving, FirstValue, by, byNone, Together}
 
@@ -82,9 +82,6 @@ module _ (q : Point) where
 
   abbrev inPolygon : Picked → Bool
   inPolygon p = ringsHold (elements p) q
-
-  abbrev polygonsOf : Picked → List Picked
-  polygonsOf z = elementsOf (along (71 ∷ 73 ∷ []) z)
 
   held-holding : (z : Picked) → polygonsHold (polygonsOf z) q ≡ true → Holding z q
   unfolding polygonsHold
@@ -208,7 +205,7 @@ module _ (q : Point) (type : List ℕ) (moment : ℕ) where
 
     module _ (p : Picked) (e : field 74 z ≡ some p) where
       abbrev holding : Bool
-      holding = counts p moment and polygonsHold (polygonsOf q z) q
+      holding = counts p moment and polygonsHold (polygonsOf z) q
 
       rules-some : zoneRules z q moment ≡ (holding ⇒ fieldItems 77 p else [])
       unfolding zoneRulesBy
@@ -240,7 +237,7 @@ module _ (q : Point) (type : List ℕ) (moment : ℕ) where
           → Applying (everyRule (z ∷ zs)) (applicable (rules (z ∷ zs) q moment) type)
       go none e ih = applying-as z zs (every-none z zs e) (rules-none z zs e) ih
       go (some p) e ih =
-          let held = polygonsHold (polygonsOf q z) q in
+          let held = polygonsHold (polygonsOf z) q in
           by-test (counts p moment and held)
           (λ t.
           applying-as z zs (every-some z zs p e) (rules-held z zs p e t)

@@ -1,5 +1,5 @@
--- What document 02's request W13 lets a reader count on, beyond the definition of `polygonHolds`. `proofs/Polygon` shows it. Only what is said of a move depends on
--- which side its first ring holds.
+-- What document 02's request W13 lets a reader count on, beyond the definition of `polygonHolds`. `proofs/Polygon` shows it. What is said of edges and of holes is
+-- said whichever side the first ring holds.
 use mathlib.Core.Bool.{Bool, true, false}
 use mathlib.Core.List.{List, [], _∷_, map, reverse, List·Memᴰ}
 use mathlib.Core.Path.{_≡_}

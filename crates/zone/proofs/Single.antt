@@ -13,9 +13,9 @@ use Rattle.geometry.specs.Held.{holds, polygonHolds}
 use Rattle.geometry.proofs.Polygon.{polygons}
 use Rattle.document.specs.Document.{Maybe, none, some, elements, field, fieldItems}
 use Rattle.clean.specs.Clean.{cleanOf}
-use Rattle.zone.specs.Zone.{outline, counts, ringsHold, polygonsHold, zoneHolds, zoneRulesBy, rulesBy, applicable, rulesAt}
+use Rattle.zone.specs.Zone.{outline, counts, ringsHold, polygonsHold, polygonsOf, zoneHolds, zoneRulesBy, rulesBy, applicable, rulesAt}
 use Rattle.zone.specs.Answer.{refused, onMap, ofRules, ofClean, rulingOf}
-use Rattle.zone.specs.Single.{polygonsOf, zonesOf, OneRingAtMost, ringsHeld, polygonsHeld, zoneHeld, answered01, Single}
+use Rattle.zone.specs.Single.{zonesOf, OneRingAtMost, ringsHeld, polygonsHeld, zoneHeld, rulingOfOne, Single}
 
 either-false : (b : Bool) → b ≡ (b ⇒ true else false)
 either-false true = refl
@@ -50,7 +50,7 @@ module _ (q : Point) where
         (zones-same zs (λ x m. f x (List·Memᴰ·tail m)))
 
 answered : (s : List ℕ) (q : Point) (type : List ℕ) (moment : ℕ) → ((z : Picked) → List·Memᴰ z (zonesOf s) → OneRingAtMost z)
-    → rulingOf s q type moment ≡ answered01 s q type moment
+    → rulingOf s q type moment ≡ rulingOfOne s q type moment
 unfolding rulingOf rulesAt
 answered s q type moment f =
     ap (λ (l : List Picked). onMap q ⇒ ofClean (cleanOf 6 s) (ofRules (applicable l type)) else refused 8 noParts) (zones-same q moment (zonesOf s) f)

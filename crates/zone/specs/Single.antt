@@ -13,13 +13,10 @@ use Rattle.geometry.specs.Ring.{Point}
 use Rattle.geometry.specs.Held.{holds}
 use Rattle.document.specs.Document.{elements, elementsOf, along}
 use Rattle.clean.specs.Clean.{treeOf, cleanOf}
-use Rattle.zone.specs.Zone.{outline, ringsHold, zoneHolds, rulesBy, applicable}
+use Rattle.zone.specs.Zone.{outline, ringsHold, polygonsOf, zoneHolds, rulesBy, applicable}
 use Rattle.zone.specs.Answer.{Answer, refused, onMap, ofRules, ofClean, rulingOf}
 
--- the polygons of a zone, and the zones of a file
-abbrev pub polygonsOf : Picked → List Picked
-polygonsOf zone = elementsOf (along (71 ∷ 73 ∷ []) zone)
-
+-- the zones of a file
 abbrev pub zonesOf : List ℕ → List Picked
 zonesOf s = elementsOf (along (4 ∷ 5 ∷ 7 ∷ []) (pick (fileShape table23 6) (treeOf s)))
 
@@ -39,12 +36,12 @@ polygonsHeld (p ∷ ps) q = ringsHeld (elements p) q ⇒ true else polygonsHeld 
 abbrev pub zoneHeld : Picked → Point → Bool
 zoneHeld zone q = polygonsHeld (polygonsOf zone) q
 
-abbrev pub answered01 : (s : List ℕ) → Point → (type : List ℕ) → (moment : ℕ) → Answer
-answered01 s q type moment =
+abbrev pub rulingOfOne : (s : List ℕ) → Point → (type : List ℕ) → (moment : ℕ) → Answer
+rulingOfOne s q type moment =
     onMap q ⇒ ofClean (cleanOf 6 s) (ofRules (applicable (rulesBy zoneHeld (zonesOf s) q moment) type)) else refused 8 noParts
 
 pub record Single : Type 0 where
   pub polygon : (p : Picked) (q : Point) → length (elements p) ≤ 1 → ringsHold (elements p) q ≡ ringsHeld (elements p) q
   pub zone : (z : Picked) (q : Point) → OneRingAtMost z → zoneHolds z q ≡ zoneHeld z q
   pub answer : (s : List ℕ) (q : Point) (type : List ℕ) (moment : ℕ) → ((z : Picked) → List·Memᴰ z (zonesOf s) → OneRingAtMost z)
-      → rulingOf s q type moment ≡ answered01 s q type moment
+      → rulingOf s q type moment ≡ rulingOfOne s q type moment

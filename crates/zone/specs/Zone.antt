@@ -33,7 +33,7 @@ counts properties moment = begun (integer (spelling 75 properties)) moment and u
 abbrev pub outline : Picked → List Point
 outline ring = map position (elements ring)
 
--- the rings of a polygon; the polygons of a zone, of which one that holds the point is enough; and the zone
+-- the rings of a polygon; the polygons of a zone, of which one that holds the point is enough
 unfoldable pub ringsHold : List Picked → Point → Bool
 ringsHold rs q = polygonHolds sideOf (map outline rs) q
 
@@ -41,8 +41,11 @@ unfoldable pub polygonsHold : List Picked → Point → Bool
 polygonsHold [] q = false
 polygonsHold (p ∷ ps) q = ringsHold (elements p) q ⇒ true else polygonsHold ps q
 
+abbrev pub polygonsOf : Picked → List Picked
+polygonsOf zone = elementsOf (along (71 ∷ 73 ∷ []) zone)
+
 abbrev pub zoneHolds : Picked → Point → Bool
-zoneHolds zone q = polygonsHold (elementsOf (along (71 ∷ 73 ∷ []) zone)) q
+zoneHolds zone q = polygonsHold (polygonsOf zone) q
 
 -- a rule is for this type where it names it, or has no field 78
 unfoldable pub anyText : List Picked → List ℕ → Bool

@@ -7,7 +7,6 @@ use geometry::held::stand;
 use rings::ring::ring_points;
 use walk::ItemStep;
 use walk::pass_item;
-ghost use mathlib.Core.List.{[], _∷_};
 ghost use mathlib.Core.Path.{_≡_};
 ghost use Rattle.walk.specs.Part.{treeOf};
 ghost use Rattle.schema.specs.Pick.{pick};
@@ -15,8 +14,7 @@ ghost use Rattle.schema.specs.Table23.{zone};
 ghost use Rattle.geometry.specs.Shifted.{OnMap, point, stands};
 ghost use Rattle.rings.specs.Rings.{ringsFound, polygonsFound};
 ghost use Rattle.rings.specs.Parts.{ringShape, polygonShape, partsOf};
-ghost use Rattle.document.specs.Document.{along, elementsOf};
-ghost use Rattle.zone.specs.Zone.{outline, ringsHold, polygonsHold};
+ghost use Rattle.zone.specs.Zone.{outline, ringsHold, polygonsHold, zoneHolds};
 ghost use Rattle.zone.specs.Clean.{CleanRing, CleanItems, CleanZone};
 
 // Where the point stands to a polygon's rings once the ring `p` was asked too.
@@ -88,7 +86,7 @@ fn polygons_hold(p: &[u8], q: Position) -> bool
 // Whether the zone `p` does.
 pub fn zone_holds(p: &[u8], q: Position) -> bool
     requires { ⌜ CleanZone (now p) × OnMap q ⌝ }
-    ensures { λ r. ⌜ r ≡ polygonsHold (elementsOf (along (71 ∷ 73 ∷ []) (pick zone (treeOf (now (p .entry)))))) (point q) ⌝ }
+    ensures { λ r. ⌜ r ≡ zoneHolds (pick zone (treeOf (now (p .entry)))) (point q) ⌝ }
 {
     polygons_hold(array_in(member(member(p, b"geometry"), b"coordinates")), q)
 }
