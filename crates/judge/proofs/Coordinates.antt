@@ -45,7 +45,7 @@ coordinates =
           let most : polygonsRings l ≤ ceiling.zoneRings =
           leb-true (polygonsRings l) ceiling.zoneRings (and-right (leb (count is) ceiling.polygons) _ (w .counts)) in
           omega (arith, polygons-room l (w .positions));
-      fifteen = omega arith;
+      sixteen = omega arith;
       firstFits = λ p field is f fits known e. holds-is (coordinates-fit p field fits known is) e;
       oneRing = λ p field is one. ap (numbered p field) (coordinates-one is one);
     }

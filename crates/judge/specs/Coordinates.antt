@@ -16,12 +16,13 @@ use Rattle.judge.specs.declared.Place.{Place}
 use Rattle.judge.specs.Faults.{numbered, coordinateFaults}
 use Rattle.judge.specs.Bounds.{Fitting, greatest, fields}
 
+-- the rings of a polygon
 abbrev pub ringsOf : Picked → List Picked
 ringsOf (items is) = listOf is
 ringsOf (bare x) = []
 ringsOf (slots ss) = []
 
--- as many polygons, rings and positions as there may be
+-- no more polygons and rings than a zone may have, and no ring of more positions than it may have
 pub record WithinCeilings (is : PickedItems) : Type 0 where
   pub counts : zoneCounts (count is) (polygonsRings (listOf is)) ≡ true
   pub positions : (polygon ring : Picked) → List·Memᴰ polygon (listOf is) → List·Memᴰ ring (ringsOf polygon) → ringPositions ring ≤ ceiling.positions
@@ -31,10 +32,10 @@ abbrev pub lastNumber : PickedItems → ℕ
 lastNumber is = positionsIn polygonPositions (listOf is)
 
 pub record Coordinates : Type 0 where
-  -- the last position's number fits the word, and so does the next, where a polygon without a ring would stand
+  -- the last position's number fits the word, and so does the next one, where a polygon without a ring would stand: 3,841 at most
   pub lastFits : (is : PickedItems) → WithinCeilings is → lastNumber is + 1 ≤ greatest
-  -- with one ring more in a zone it might not
-  pub fifteen : greatest < (ceiling.zoneRings + 1) * ceiling.positions
+  -- sixteen full rings would go past it
+  pub sixteen : greatest < (ceiling.zoneRings + 1) * ceiling.positions
   -- whatever a zone holds, its first fault fits the word
   pub firstFits : (p : Place) (field : ℕ) (is : PickedItems) (f : Fault) → p .«record» ≤ greatest → field ≤ fields
       → least (coordinateFaults p field (items is)) ≡ Is f → Fitting f

@@ -18,11 +18,13 @@ returns c = (record { rings = omega arith; positions = omega arith }, λ x w. po
 
 returns-2 : tie.Need-returns-2
 returns-2 c =
-    let q = c .before .before in let r = q .before .judge-rings in (
+    let q = c .before .before in let r = q .before .judge-rings in let o = q .before .before in
+    let n = o .before .before .before .args .n in
+    let counted = c .before .unless .ensures ∙ ap (λ (t : Bool). leastFound (at n (unless t badRing))) (q .is-ring-count .ensures) in (
       record { rings = r .ensures .0 .items; positions = r .ensures .0 .positions },
       λ x w.
-          polygon-array w _ (r .result) _ (sym (q .before .before .before .is-array .ensures) ∙ not-false _ (q .before .before .if1 .left)) (r .ensures .1)
-          (c .lesser .ensures ∙ ap (λ (z : LeastFound). lesser z (r .result .least)) (c .before .unless .ensures ∙ ap (λ (b : Bool). leastFound (at (q .before .before .before .before .before .args .n) (unless b badRing))) (q .is-ring-count .ensures))),
+          polygon-array w _ (r .result) _ (sym (o .before .is-array .ensures) ∙ not-false _ (o .if1 .left)) (r .ensures .1)
+          (c .lesser .ensures ∙ ap (λ (z : LeastFound). lesser z (r .result .least)) counted),
     )
 
 pub judge-polygon-spec : {M : Type 1} → statement M
