@@ -6,7 +6,7 @@ use Rattle.rings.proofs.zone.is_ring_count.Statement.{statement}
 use Rattle.rings.proofs.zone.is_ring_count.Tie as tie
 
 returns : tie.Need-returns
-returns c = rw (lt-leb 1 (c .before .args .rings) (c .if1 .taken))
+returns c = rw (lt-leb 1 (c .before .args .rings) (omega (arith, c .if1 .taken)))
 
 returns-2 : tie.Need-returns-2
 returns-2 c = rw (le-leb 1 (c .before .args .rings) (omega (arith, c .if1 .left)))

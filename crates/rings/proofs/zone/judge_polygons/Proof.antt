@@ -1,5 +1,5 @@
 -- Each turn judges one polygon more: what is found and counted so far, with what is left, is what is found and counted in all.
-use Prim.Native.Nat.{_+_, _-_}
+use Prim.Native.Nat.{_+_, _-_, _<_}
 use native.Mathlib.Omega.{arith}
 use lib.ListN.{length}
 use borrow.Author.Needs.{needs}
@@ -12,7 +12,7 @@ use Rattle.rings.proofs.zone.judge_polygons.Tie as tie
 
 abbrev Inv-loop : tie.InvT-loop
 Inv-loop p n items₀ rings₀ positions₀ least₀ at₀ items rings positions least at =
-    Passed p at items positions × Passed p at items rings
+    Passed p at items positions × (rings < at)
     × (Listing p → Going polygon polygonPositions polygonShape n p at items positions least × Counting polygonRings polygonShape p at items rings)
 
 abbrev μ-loop : tie.MeasureT-loop
@@ -20,7 +20,7 @@ abbrev μ-loop : tie.MeasureT-loop
 
 loop-holds : tie.Need-loop-holds Inv-loop μ-loop
 loop-holds c =
-    (passed-start _, passed-start _, λ w. (going-start polygon polygonPositions polygonShape _ _ w, counting-start polygonRings polygonShape _ w))
+    (passed-start _, omega arith, λ w. (going-start polygon polygonPositions polygonShape _ _ w, counting-start polygonRings polygonShape _ w))
 
 returns : tie.Need-returns Inv-loop μ-loop
 returns c w =
@@ -51,15 +51,10 @@ add-items : tie.Need-add-items Inv-loop μ-loop
 add-items c =
     let d = c .before .before .before in let k = room d in omega (arith, d .before .before .before .before .before .before .pre, k .count)
 
--- and with the rings passed
-room-rings : (c : Met) → let l = c .before .before .before .before .loop in
-    Room (c .before .before .before .before .before .before .args .p .now) (l .at) (l .items) (l .rings) (c .before .item .given .0 .0)
-room-rings c = passed-room (c .before .before .before .before .loop .inv .1) (placed c)
-
 add-rings : tie.Need-add-rings Inv-loop μ-loop
 add-rings c =
-    let d = c .before .before .before .before in let k = room-rings d in
-    omega (arith, d .before .before .before .before .before .before .pre, k .number, k .size, c .before .before .judge-polygon .ensures .0 .rings)
+    let d = c .before .before .before .before in let k = room d in let few = d .before .before .before .before .loop .inv .1 in let m = placed d in
+    omega (arith, d .before .before .before .before .before .before .pre, few, m .later, k .ends, k .size, c .before .before .judge-polygon .ensures .0 .rings)
 
 add-positions : tie.Need-add-positions Inv-loop μ-loop
 add-positions c =
@@ -74,7 +69,7 @@ loop-again c =
     let d = c .before .before .before .before .before in let k = room d in let l = d .before .before .before .before .loop in
     let f = d .before .before .before .pass-item .ensures in let h = d .before .item .given .1 in let r = c .before .before .before .judge-polygon .ensures in (
       passed-more (l .inv .0) (placed d) _ (omega (arith, k .size, r .0 .positions)),
-      passed-more (l .inv .1) (placed d) _ (omega (arith, k .size, r .0 .rings)),
+      (let few = l .inv .1 in let m = placed d in omega (arith, few, m .later, m .value, m .next, k .size, r .0 .rings)),
       λ w.
           let g = l .inv .2 w in
           let j = r .1 _ (going-whole polygon polygonPositions polygonShape _ _ (g .0) f _ h) in (
