@@ -11,7 +11,7 @@ use Rattle.limits.specs.Ceilings as ceiling
 use Rattle.schema.specs.Pick.{Picked, PickedItems, bare, items, slots, listOf}
 use Rattle.schema.proofs.Tests.{and-right}
 use Rattle.rings.specs.Rings.{count, ringPositions, ringsPositions, polygonPositions, polygonRings, polygonsRings}
-use Rattle.rings.specs.Parts.{positionsIn}
+use Rattle.rings.specs.Parts.{sumOver}
 use Rattle.rings.proofs.OneRing.{coordinates-one}
 use Rattle.judge.specs.Faults.{numbered}
 use Rattle.judge.specs.Coordinates.{Coordinates, WithinCeilings, ringsOf}
@@ -30,8 +30,8 @@ polygon-room (bare x) few = omega arith
 polygon-room (slots ss) few = omega arith
 
 polygons-room : (l : List Picked) → ((x r : Picked) → List·Memᴰ x l → List·Memᴰ r (ringsOf x) → ringPositions r ≤ ceiling.positions)
-    → positionsIn polygonPositions l ≤ ceiling.positions * polygonsRings l
-unfolding positionsIn polygonsRings
+    → sumOver polygonPositions l ≤ ceiling.positions * polygonsRings l
+unfolding sumOver polygonsRings
 polygons-room [] few = omega arith
 polygons-room (x ∷ l) few =
     omega (arith, polygon-room x (λ r i. few x r (List·Memᴰ·head refl) i), polygons-room l (λ y r i j. few y r (List·Memᴰ·tail i) j))

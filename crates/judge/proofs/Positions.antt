@@ -21,7 +21,7 @@ use Rattle.fault.proofs.Order.{by-test}
 use Rattle.fault.proofs.Leasts.{least-one, least-append}
 use Rattle.scalar.specs.Scalars.{unless}
 use Rattle.geometry.specs.Ring.{sound}
-use Rattle.rings.specs.Rings.{Found, at, count, ordinateKinds, numberKinds, positionKinds, position, allSound, positionsFound, ringFound, ring, ringPositions, ringsFound, ringsPositions, polygon, polygonPositions, polygonRings, polygonsRings, ringCount, zoneCounts, polygonsFound, coordinatesFound}
+use Rattle.rings.specs.Rings.{Found, at, count, ordinateKinds, numberKinds, positionKinds, position, allSound, positionsFound, ringFound, ring, ringPositions, ringsFound, ringsPositions, polygon, polygonPositions, polygonRings, polygonsRings, isRingCount, areZoneCounts, polygonsFound, coordinatesFound}
 use Rattle.judge.specs.declared.Place.{Place}
 use Rattle.judge.specs.Faults.{numbered}
 use Rattle.judge.specs.Bounds.{OfStageB, Fitting, greatest, fields}
@@ -103,7 +103,7 @@ rings-upTo n (x ∷ l) = all-append (upTo-more (omega arith) (ring-upTo n x)) (u
 
 polygon-upTo : (n : ℕ) (x : Picked) → AllUpTo (n + polygonPositions x) (polygon n x)
 polygon-upTo n (bare x) = no-array n
-polygon-upTo n (items is) = all-append (at-upTo n (omega arith) (unless-kinds (ringCount (count is)) badRing (omega arith))) (rings-upTo n (listOf is))
+polygon-upTo n (items is) = all-append (at-upTo n (omega arith) (unless-kinds (isRingCount (count is)) badRing (omega arith))) (rings-upTo n (listOf is))
 polygon-upTo n (slots ss) = no-array n
 
 -- all of them, up to some number
@@ -200,7 +200,7 @@ module _ (p : Place) (φ : ℕ) where
     long-polygon n (bare x) h o = absurd (omega arith)
     long-polygon n (items is) h o =
         let l = listOf is in
-        let t = ringCount (length l) in
+        let t = isRingCount (length l) in
         others-then {top = n} (at n (unless t badRing)) (ringsFound n l) (at-upTo n (omega arith) (unless-kinds t badRing (omega arith))) (long-rings n l h o)
     long-polygon n (slots ss) h o = absurd (omega arith)
 
@@ -223,7 +223,7 @@ module _ (p : Place) (φ : ℕ) where
     unfolding coordinatesFound count
     coordinates-fit is =
         let l = listOf is in
-        let t = zoneCounts (length l) (polygonsRings l) in
+        let t = areZoneCounts (length l) (polygonsRings l) in
         let many = at 0 (unless t tooMany) in
         by-test t
         (λ e. let o : polygonsRings l ≤ ceiling.zoneRings = leb-true (polygonsRings l) ceiling.zoneRings (and-right (leb (length l) ceiling.polygons) _ e) in
@@ -235,6 +235,6 @@ module _ (p : Place) (φ : ℕ) where
   pub coordinates-of : (is : PickedItems) → Holds (Of (p .«record») φ) (N (coordinatesFound is))
   unfolding coordinatesFound
   coordinates-of is =
-      let t = zoneCounts (count is) (polygonsRings (listOf is)) in
+      let t = areZoneCounts (count is) (polygonsRings (listOf is)) in
       rw (N-append (at 0 (unless t tooMany)) (polygonsFound 1 (listOf is)))
       (holds-lesser (numbered-of {top = 0} (at-upTo 0 (omega arith) (unless-kinds t tooMany (omega arith)))) (numbered-of (polygons-upTo 1 (listOf is) .1)))

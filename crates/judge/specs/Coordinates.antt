@@ -9,9 +9,9 @@ use Rattle.schema.specs.Pick.{Picked, PickedItems, bare, items, slots, listOf}
 use Rattle.fault.specs.declared.Fault.{Fault}
 use Rattle.fault.specs.declared.Least.the-variants.{Is}
 use Rattle.fault.specs.Fault.{least}
-use Rattle.rings.specs.Rings.{count, ringPositions, polygonPositions, polygonsRings, zoneCounts}
+use Rattle.rings.specs.Rings.{count, ringPositions, polygonPositions, polygonsRings, areZoneCounts}
 use Rattle.rings.specs.OneRing.{coordinatesOfOne, OneRingAtMost}
-use Rattle.rings.specs.Parts.{positionsIn}
+use Rattle.rings.specs.Parts.{sumOver}
 use Rattle.judge.specs.declared.Place.{Place}
 use Rattle.judge.specs.Faults.{numbered, coordinateFaults}
 use Rattle.judge.specs.Bounds.{Fitting, greatest, fields}
@@ -24,12 +24,12 @@ ringsOf (slots ss) = []
 
 -- no more polygons and rings than a zone may have, and no ring of more positions than it may have
 pub record WithinCeilings (is : PickedItems) : Type 0 where
-  pub counts : zoneCounts (count is) (polygonsRings (listOf is)) ≡ true
+  pub counts : areZoneCounts (count is) (polygonsRings (listOf is)) ≡ true
   pub positions : (polygon ring : Picked) → List·Memᴰ polygon (listOf is) → List·Memᴰ ring (ringsOf polygon) → ringPositions ring ≤ ceiling.positions
 
 -- the number of the last position: they count from 1, over all rings of all polygons
 abbrev pub lastNumber : PickedItems → ℕ
-lastNumber is = positionsIn polygonPositions (listOf is)
+lastNumber is = sumOver polygonPositions (listOf is)
 
 pub record Coordinates : Type 0 where
   -- the last position's number fits the word, and so does the next one, where a polygon without a ring would stand: 3,841 at most

@@ -17,7 +17,7 @@ use Rattle.schema.specs.Shape.{Shape}
 use Rattle.schema.specs.Pick.{Picked}
 use Rattle.rings.specs.Rings.{Found}
 use Rattle.rings.specs.Least.{lesser, leastFound}
-use Rattle.rings.specs.Parts.{Listing, picked, partsOf, Left, positionsIn, foundIn, Tallied}
+use Rattle.rings.specs.Parts.{Listing, picked, partsOf, Left, sumOver, foundIn, Tallied}
 use Rattle.rings.specs.declared.LeastFound.{LeastFound}
 use Rattle.rings.specs.declared.LeastFound.the-variants.{None}
 use Rattle.rings.proofs.Order.{lesser-none, none-lesser, lesser-assoc, least-append}
@@ -75,13 +75,13 @@ module _ {p : List ℕ} {at items positions : ℕ} (g : Passed p at items positi
 
 module _ (e : ℕ → Picked → List Found) (c : Picked → ℕ) where
   -- the definitions, step by step
-  positions-none : positionsIn c [] ≡ 0
-  unfolding positionsIn
-  positions-none = refl
+  sum-none : sumOver c [] ≡ 0
+  unfolding sumOver
+  sum-none = refl
 
-  positions-next : (x : Picked) (l : List Picked) → positionsIn c (x ∷ l) ≡ c x + positionsIn c l
-  unfolding positionsIn
-  positions-next x l = refl
+  sum-next : (x : Picked) (l : List Picked) → sumOver c (x ∷ l) ≡ c x + sumOver c l
+  unfolding sumOver
+  sum-next x l = refl
 
   found-none : (n : ℕ) → leastFound (foundIn e c n []) ≡ None
   unfolding foundIn leastFound
@@ -98,7 +98,7 @@ module _ (e : ℕ → Picked → List Found) (c : Picked → ℕ) where
       pub left : List Picked
       pub here : Left σ p at left
       pub counted : items + length left ≡ length (partsOf σ p)
-      pub numbered : positions + positionsIn c left ≡ positionsIn c (partsOf σ p)
+      pub numbered : positions + sumOver c left ≡ sumOver c (partsOf σ p)
       pub found : lesser least (leastFound (foundIn e c (n + positions) left)) ≡ leastFound (foundIn e c n (partsOf σ p))
 
     abbrev pub going-start : Listing p → Going 1 0 0 None
@@ -128,7 +128,7 @@ module _ (e : ℕ → Picked → List Found) (c : Picked → ℕ) where
 
         pub going-end : Tallied e c n (partsOf σ p) (record { items = items; positions = positions; least = least })
         going-end =
-            let z : positionsIn c (g .left) ≡ 0 = ap (positionsIn c) none-left ∙ positions-none in
+            let z : sumOver c (g .left) ≡ 0 = ap (sumOver c) none-left ∙ sum-none in
             record { items = end-counted; positions = omega (arith, g .numbered); least = end-found }
 
       -- where one is found, its bytes are whole
@@ -143,8 +143,8 @@ module _ (e : ℕ → Picked → List Found) (c : Picked → ℕ) where
             let o = left-more σ p at (g .left) (g .here) f m h in
             let x = picked σ p m in
             let a : length (g .left) ≡ length (o .rest) + 1 = omega (arith, ap length (o .is)) in
-            let b : positionsIn c (g .left) ≡ q + positionsIn c (o .rest) =
-            ap (positionsIn c) (o .is) ∙ positions-next x (o .rest) ∙ ap (λ (z : ℕ). z + positionsIn c (o .rest)) (sym many) in
+            let b : sumOver c (g .left) ≡ q + sumOver c (o .rest) =
+            ap (sumOver c) (o .is) ∙ sum-next x (o .rest) ∙ ap (λ (z : ℕ). z + sumOver c (o .rest)) (sym many) in
             let s : n + (positions + q) ≡ n + positions + c x = omega (arith, many) in
             let rest = leastFound (foundIn e c (n + positions + c x) (o .rest)) in (
               record {
@@ -183,7 +183,7 @@ module _ (c : Picked → ℕ) (σ : Shape) (p : List ℕ) where
   counting-start w = going-start nothing c σ 0 p w
 
   module _ {at items total : ℕ} (g : Counting at items total) {o : ItemStep} (f : ItemPassed p at o) where
-    pub counting-end : o ≡ step.End → total ≡ positionsIn c (partsOf σ p)
+    pub counting-end : o ≡ step.End → total ≡ sumOver c (partsOf σ p)
     counting-end h = going-end nothing c σ 0 p g f h .positions
 
     pub counting-more : (m : Item) → o ≡ step.Found m → (q : ℕ) → q ≡ c (picked σ p m) → Counting (m .next) (items + 1) (total + q)

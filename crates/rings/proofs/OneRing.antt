@@ -13,11 +13,11 @@ use Rattle.notation.specs.Choice.{_and_}
 use Rattle.word.specs.Kinds.{tooMany, badRing}
 use Rattle.schema.specs.Pick.{Picked, PickedItems, bare, items, slots, listOf}
 use Rattle.scalar.specs.Scalars.{unless}
-use Rattle.rings.specs.Rings.{Found, at, count, ringsFound, polygon, polygonPositions, polygonRings, polygonsRings, ringCount, zoneCounts, polygonsFound, coordinatesFound}
+use Rattle.rings.specs.Rings.{Found, at, count, ringsFound, polygon, polygonPositions, polygonRings, polygonsRings, isRingCount, areZoneCounts, polygonsFound, coordinatesFound}
 use Rattle.rings.specs.OneRing.{polygonOfOne, polygonsOfOne, coordinatesOfOne, OneRingAtMost}
 
 -- of no ring and of one the rules agree
-counts-agree : (m : ℕ) → m ≤ 1 → ringCount m ≡ eqb m 1
+counts-agree : (m : ℕ) → m ≤ 1 → isRingCount m ≡ eqb m 1
 counts-agree zero h = refl
 counts-agree (suc zero) h = refl
 counts-agree (suc (suc m)) h = absurd (omega (arith, h))
@@ -42,7 +42,7 @@ rings-few [] one = omega arith
 rings-few (x ∷ l) one = omega (arith, one x (List·Memᴰ·head refl), rings-few l (λ y i. one y (List·Memᴰ·tail i)))
 
 -- a zone with no more rings than polygons
-zone-few : (m k : ℕ) → k ≤ m → zoneCounts m k ≡ leb m ceiling.polygons
+zone-few : (m k : ℕ) → k ≤ m → areZoneCounts m k ≡ leb m ceiling.polygons
 zone-few m k h = go (leb m ceiling.polygons) refl
   where
     go : (t : Bool) → leb m ceiling.polygons ≡ t → t and leb k ceiling.zoneRings ≡ t

@@ -12,9 +12,9 @@ use Rattle.schema.specs.Shape as shape
 use Rattle.schema.specs.Table23.{coordinates}
 use Rattle.schema.specs.Pick.{Picked, PickedItems, items, pick, listOf}
 use Rattle.scalar.specs.Scalars.{unless}
-use Rattle.rings.specs.Rings.{Found, at, count, ring, ringPositions, ringFound, ringsFound, ringsPositions, polygon, polygonPositions, polygonRings, polygonsRings, ringCount, zoneCounts, polygonsFound, coordinatesFound}
+use Rattle.rings.specs.Rings.{Found, at, count, ring, ringPositions, ringFound, ringsFound, ringsPositions, polygon, polygonPositions, polygonRings, polygonsRings, isRingCount, areZoneCounts, polygonsFound, coordinatesFound}
 use Rattle.rings.specs.Least.{lesser, leastFound}
-use Rattle.rings.specs.Parts.{positionShape, ringShape, polygonShape, Listing, partsOf, isArray, positionsIn, foundIn, Tells, Tallied, TellsPolygon, ZoneTallied}
+use Rattle.rings.specs.Parts.{positionShape, ringShape, polygonShape, Listing, partsOf, isArray, sumOver, foundIn, Tells, Tallied, TellsPolygon, ZoneTallied}
 use Rattle.rings.specs.declared.LeastFound.{LeastFound}
 use Rattle.rings.specs.declared.LeastFound.the-variants.{At}
 use Rattle.rings.specs.declared.Judged.{Judged}
@@ -30,8 +30,8 @@ unfolding ringsFound foundIn
 rings-found n [] = refl
 rings-found n (x ∷ l) = ap (λ (fs : List Found). ring n x ++ fs) (rings-found (n + ringPositions x) l)
 
-rings-positions : (l : List Picked) → ringsPositions l ≡ positionsIn ringPositions l
-unfolding ringsPositions positionsIn
+rings-positions : (l : List Picked) → ringsPositions l ≡ sumOver ringPositions l
+unfolding ringsPositions sumOver
 rings-positions [] = refl
 rings-positions (x ∷ l) = ap (λ k. ringPositions x + k) (rings-positions l)
 
@@ -40,8 +40,8 @@ unfolding polygonsFound foundIn
 polygons-found n [] = refl
 polygons-found n (x ∷ l) = ap (λ (fs : List Found). polygon n x ++ fs) (polygons-found (n + polygonPositions x) l)
 
-polygons-rings : (l : List Picked) → polygonsRings l ≡ positionsIn polygonRings l
-unfolding polygonsRings positionsIn
+polygons-rings : (l : List Picked) → polygonsRings l ≡ sumOver polygonRings l
+unfolding polygonsRings sumOver
 polygons-rings [] = refl
 polygons-rings (x ∷ l) = ap (λ k. polygonRings x + k) (polygons-rings l)
 
@@ -62,7 +62,7 @@ module _ {p : List ℕ} {x : Json} (w : Whole p x) (n : ℕ) where
 
   -- an item of the coordinates
   pub polygon-array : (t : Tally) (found : LeastFound) → isArray (kindAt p) ≡ true → (Listing p → Tallied ring ringPositions n (partsOf ringShape p) t)
-      → found ≡ lesser (leastFound (at n (unless (ringCount (t .items)) badRing))) (t .least)
+      → found ≡ lesser (leastFound (at n (unless (isRingCount (t .items)) badRing))) (t .least)
       → TellsPolygon n (pick polygonShape x) (record { rings = t .items; positions = t .positions; least = found })
   unfolding count
   polygon-array t found e g f =
@@ -75,8 +75,8 @@ module _ {p : List ℕ} {x : Json} (w : Whole p x) (n : ℕ) where
         positions = rw (k .listed .parts) (h .positions ∙ sym (rings-positions l));
         least =
             rw (k .listed .parts)
-            (f ∙ ap₂ lesser (ap (λ m. leastFound (at n (unless (ringCount m) badRing))) (h .items)) (h .least ∙ ap leastFound (sym (rings-found n l)))
-            ∙ sym (least-append (at n (unless (ringCount (length l)) badRing)) (ringsFound n l)));
+            (f ∙ ap₂ lesser (ap (λ m. leastFound (at n (unless (isRingCount m) badRing))) (h .items)) (h .least ∙ ap leastFound (sym (rings-found n l)))
+            ∙ sym (least-append (at n (unless (isRingCount (length l)) badRing)) (ringsFound n l)));
       }
 
   pub polygon-other : isArray (kindAt p) ≡ false → TellsPolygon n (pick polygonShape x) (record { rings = 0; positions = 0; least = At n wrongType })
@@ -85,17 +85,17 @@ module _ {p : List ℕ} {x : Json} (w : Whole p x) (n : ℕ) where
       rw (k .1) record { rings = refl; positions = refl; least = sym (least-one n wrongType) }
 
 abbrev counts : (m k : ℕ) → List Found
-counts m k = at 0 (unless (zoneCounts m k) tooMany)
+counts m k = at 0 (unless (areZoneCounts m k) tooMany)
 
 -- all of field 73
 pub coordinates-found : {p : List ℕ} (t : ZoneTally) → (Listing p → ZoneTallied 1 (partsOf polygonShape p) t)
     → (x : Json) (is : PickedItems) → Whole p x → pick coordinates x ≡ items is
-    → lesser (leastFound (counts (t .items) (t .rings))) (t .least) ≡ leastFound (coordinatesFound is)
+    → lesser (leastFound (counts (t .polygons) (t .rings))) (t .least) ≡ leastFound (coordinatesFound is)
 unfolding coordinatesFound count coordinates
 coordinates-found {p} t g x is w e =
     let k = items-parts shape.positions ceiling.polygons polygonShape x is w e in
     let h = g (k .listing) in let l = k .parts in
     ap₂ lesser
-    (ap₂ (λ m j. leastFound (counts m j)) (h .items ∙ ap length (sym l)) (h .rings ∙ sym (polygons-rings (partsOf polygonShape p)) ∙ ap polygonsRings (sym l)))
+    (ap₂ (λ m j. leastFound (counts m j)) (h .polygons ∙ ap length (sym l)) (h .rings ∙ sym (polygons-rings (partsOf polygonShape p)) ∙ ap polygonsRings (sym l)))
     (h .least ∙ ap leastFound (sym (polygons-found 1 (partsOf polygonShape p)) ∙ ap (polygonsFound 1) (sym l)))
     ∙ sym (least-append (counts (length (listOf is)) (polygonsRings (listOf is))) (polygonsFound 1 (listOf is)))

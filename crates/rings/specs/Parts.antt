@@ -113,11 +113,12 @@ pub record Spotted (n : ℕ) (kinds : List ℕ) (q : Point) (s : Spot) : Type 0 
   pub least : s .least ≡ leastFound (at n kinds)
   pub point : s .least ≡ None → point (s .point) ≡ q
 
--- Several items after another, numbered: e tells what is found in one, and c how many positions it has.
-unfoldable pub positionsIn : (Picked → ℕ) → List Picked → ℕ
-positionsIn c [] = 0
-positionsIn c (x ∷ l) = c x + positionsIn c l
+-- what c counts in each of several items, added up
+unfoldable pub sumOver : (Picked → ℕ) → List Picked → ℕ
+sumOver c [] = 0
+sumOver c (x ∷ l) = c x + sumOver c l
 
+-- several items one after the other, numbered: e tells what is found in one, and c how many positions it has
 unfoldable pub foundIn : (ℕ → Picked → List Found) → (Picked → ℕ) → ℕ → List Picked → List Found
 foundIn e c n [] = []
 foundIn e c n (x ∷ l) = e n x ++ foundIn e c (n + c x) l
@@ -129,7 +130,7 @@ pub record Tells (found : List Found) (count : ℕ) (r : Judged) : Type 0 where
 
 pub record Tallied (e : ℕ → Picked → List Found) (c : Picked → ℕ) (n : ℕ) (l : List Picked) (r : Tally) : Type 0 where
   pub items : r .items ≡ length l
-  pub positions : r .positions ≡ positionsIn c l
+  pub positions : r .positions ≡ sumOver c l
   pub least : r .least ≡ leastFound (foundIn e c n l)
 
 -- the polygon x, its first position with the number n; and polygons one after another
@@ -139,8 +140,8 @@ pub record TellsPolygon (n : ℕ) (x : Picked) (r : JudgedPolygon) : Type 0 wher
   pub least : r .least ≡ leastFound (polygon n x)
 
 pub record ZoneTallied (n : ℕ) (l : List Picked) (r : ZoneTally) : Type 0 where
-  pub items : r .items ≡ length l
-  pub rings : r .rings ≡ positionsIn polygonRings l
+  pub polygons : r .polygons ≡ length l
+  pub rings : r .rings ≡ sumOver polygonRings l
   pub least : r .least ≡ leastFound (foundIn polygon polygonPositions n l)
 
 -- what is counted in any bytes: no more than there are bytes

@@ -120,12 +120,12 @@ ringsPositions [] = 0
 ringsPositions (x ∷ l) = ringPositions x + ringsPositions l
 
 -- how many rings a polygon may have
-abbrev pub ringCount : ℕ → Bool
-ringCount m = leb 1 m and leb m rings
+abbrev pub isRingCount : ℕ → Bool
+isRingCount m = leb 1 m and leb m rings
 
 -- a polygon: rings, one at least
 abbrev pub polygon : ℕ → Picked → List Found
-polygon n (items is) = at n (unless (ringCount (count is)) badRing) ++ ringsFound n (listOf is)
+polygon n (items is) = at n (unless (isRingCount (count is)) badRing) ++ ringsFound n (listOf is)
 polygon n (bare x) = at n (wrongType ∷ [])
 polygon n (slots ss) = at n (wrongType ∷ [])
 
@@ -149,9 +149,9 @@ polygonsFound n [] = []
 polygonsFound n (x ∷ l) = polygon n x ++ polygonsFound (n + polygonPositions x) l
 
 -- how many polygons a zone may have, and how many rings over all of them
-abbrev pub zoneCounts : (m k : ℕ) → Bool
-zoneCounts m k = leb m polygons and leb k zoneRings
+abbrev pub areZoneCounts : (m k : ℕ) → Bool
+areZoneCounts m k = leb m polygons and leb k zoneRings
 
 -- all of field 73, where it is an array: too many polygons stand at 0, and so do too many rings
 unfoldable pub coordinatesFound : PickedItems → List Found
-coordinatesFound is = at 0 (unless (zoneCounts (count is) (polygonsRings (listOf is))) tooMany) ++ polygonsFound 1 (listOf is)
+coordinatesFound is = at 0 (unless (areZoneCounts (count is) (polygonsRings (listOf is))) tooMany) ++ polygonsFound 1 (listOf is)

@@ -47,7 +47,7 @@ pub struct JudgedPolygon {
 
 // The polygons of a zone: how many they are, how many rings they have, and their first fault.
 pub struct ZoneTally {
-    pub items: u32,
+    pub polygons: u32,
     pub rings: u32,
     pub least: LeastFound,
 }

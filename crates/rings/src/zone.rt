@@ -17,7 +17,7 @@ ghost use Rattle.json.specs.Tree.{Json};
 ghost use Rattle.walk.specs.Part.{Whole};
 ghost use Rattle.schema.specs.Pick.{PickedItems, items as itemsAre, pick};
 ghost use Rattle.schema.specs.Table23.{coordinates};
-ghost use Rattle.rings.specs.Rings.{ring, ringPositions, ringCount, zoneCounts, coordinatesFound};
+ghost use Rattle.rings.specs.Rings.{ring, ringPositions, isRingCount, areZoneCounts, coordinatesFound};
 ghost use Rattle.rings.specs.Least.{leastFound};
 ghost use Rattle.rings.specs.Parts.{ringShape, polygonShape, Listing, partsOf, Tallied, TallyRoom, TellsPolygon, PolygonRoom, ZoneTallied};
 
@@ -51,7 +51,7 @@ fn judge_rings(p: &[u8], n: u32) -> Tally
 
 // A polygon may have so many rings.
 fn is_ring_count(rings: u32) -> bool
-    ensures { λ r. ⌜ r ≡ ringCount rings ⌝ }
+    ensures { λ r. ⌜ r ≡ isRingCount rings ⌝ }
 {
     if rings < 1 {
         return false;
@@ -85,7 +85,7 @@ fn judge_polygons(p: &[u8], n: u32) -> ZoneTally
     requires { ⌜ n + length (now p) < 2 ^ 32 ⌝ }
     ensures { λ r. ⌜ (Listing (now (p .entry)) → ZoneTallied n (partsOf polygonShape (now (p .entry))) r) ⌝ }
 {
-    let mut items: u32 = 0;
+    let mut polygons: u32 = 0;
     let mut rings: u32 = 0;
     let mut positions: u32 = 0;
     let mut least = LeastFound::None;
@@ -93,7 +93,7 @@ fn judge_polygons(p: &[u8], n: u32) -> ZoneTally
     loop {
         let ItemStep::Found(item) = pass_item(p, at) else {
             return ZoneTally {
-                items,
+                polygons,
                 rings,
                 least,
             };
@@ -103,7 +103,7 @@ fn judge_polygons(p: &[u8], n: u32) -> ZoneTally
         let judged = judge_polygon(&p[from..upto], n + positions);
         let first = judged.least;
         least = least.lesser(first);
-        items += 1;
+        polygons += 1;
         rings += judged.rings;
         positions += judged.positions;
         at = item.next;
@@ -112,7 +112,7 @@ fn judge_polygons(p: &[u8], n: u32) -> ZoneTally
 
 // A zone may have so many polygons and rings.
 fn are_zone_counts(polygons: u32, rings: u32) -> bool
-    ensures { λ r. ⌜ r ≡ zoneCounts polygons rings ⌝ }
+    ensures { λ r. ⌜ r ≡ areZoneCounts polygons rings ⌝ }
 {
     if (Limits::POLYGONS as u32) < polygons {
         return false;
@@ -127,10 +127,10 @@ pub fn judge_coordinates(p: &[u8]) -> LeastFound
     requires { ⌜ length (now p) ≤ fileBytes ⌝ }
     ensures { λ r. ⌜ ((x : Json) (is : PickedItems) → Whole (now (p .entry)) x → pick coordinates x ≡ itemsAre is → r ≡ leastFound (coordinatesFound is)) ⌝ }
 {
-    let polygons = judge_polygons(p, 1);
-    let found = polygons.least;
+    let zone = judge_polygons(p, 1);
+    let found = zone.least;
     LeastFound::unless(
-        are_zone_counts(polygons.items, polygons.rings),
+        are_zone_counts(zone.polygons, zone.rings),
         0,
         Kind::TOO_MANY,
     ).lesser(found)

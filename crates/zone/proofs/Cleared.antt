@@ -18,7 +18,7 @@ use Rattle.schema.specs.Table23.{zone, coordinates}
 use Rattle.schema.specs.Pick.{Picked, PickedItems, bare, items, slots, pick, listOf}
 use Rattle.word.specs.Kinds.{tooMany, badRing}
 use Rattle.scalar.specs.Scalars.{unless}
-use Rattle.rings.specs.Rings.{Found, at, count, ring, ringFound, ringsFound, position, ringCount, polygon, polygonsRings, polygonsFound, zoneCounts, coordinatesFound}
+use Rattle.rings.specs.Rings.{Found, at, count, ring, ringFound, ringsFound, position, isRingCount, polygon, polygonsRings, polygonsFound, areZoneCounts, coordinatesFound}
 use Rattle.rings.specs.Parts.{ringShape, polygonShape, picked, partsOf, Outlined}
 use Rattle.rings.specs.declared.RingPoints.{RingPoints}
 use Rattle.geometry.specs.Shifted.{InRange, points}
@@ -83,7 +83,7 @@ module _ {p : List ℕ} (c : CleanRing p) {r : RingPoints}
 
 polygon-items : (n : ℕ) (x : Picked) → polygon n x ≡ [] → (is : PickedItems) × (x ≡ items is) × (ringsFound n (listOf is) ≡ [])
 unfolding at
-polygon-items n (items is) e = (is, refl, append-eq-nil-iff {p = at n (unless (ringCount (count is)) badRing)} .0 e .1)
+polygon-items n (items is) e = (is, refl, append-eq-nil-iff {p = at n (unless (isRingCount (count is)) badRing)} .0 e .1)
 polygon-items n (bare x) e = cons-nil e
 polygon-items n (slots ss) e = cons-nil e
 
@@ -95,7 +95,7 @@ numbered-none p field (x ∷ l) e = cons-nil e
 coordinates-clear : (p : Place) (field : ℕ) (x : Picked) → faults coordinates p field x ≡ [] → polygonsFound 1 (elements x) ≡ []
 unfolding coordinates faults faulty coordinatesFound
 coordinates-clear p field (items is) e =
-    let many = at 0 (unless (zoneCounts (count is) (polygonsRings (listOf is))) tooMany) in
+    let many = at 0 (unless (areZoneCounts (count is) (polygonsRings (listOf is))) tooMany) in
     append-eq-nil-iff {p = many} .0 (numbered-none p field (coordinatesFound is) e) .1
 coordinates-clear p field (bare x) e = cons-nil e
 coordinates-clear p field (slots ss) e = cons-nil e

@@ -11,12 +11,12 @@ use Rattle.rings.proofs.zone.judge_polygons.Statement.{statement}
 use Rattle.rings.proofs.zone.judge_polygons.Tie as tie
 
 abbrev Inv-loop : tie.InvT-loop
-Inv-loop p n items₀ rings₀ positions₀ least₀ at₀ items rings positions least at =
-    Passed p at items positions × (rings < at)
-    × (Listing p → Going polygon polygonPositions polygonShape n p at items positions least × Counting polygonRings polygonShape p at items rings)
+Inv-loop p n polygons₀ rings₀ positions₀ least₀ at₀ polygons rings positions least at =
+    Passed p at polygons positions × (rings < at)
+    × (Listing p → Going polygon polygonPositions polygonShape n p at polygons positions least × Counting polygonRings polygonShape p at polygons rings)
 
 abbrev μ-loop : tie.MeasureT-loop
-μ-loop p n items₀ rings₀ positions₀ least₀ at₀ items rings positions least at = length p + 1 - at
+μ-loop p n polygons₀ rings₀ positions₀ least₀ at₀ polygons rings positions least at = length p + 1 - at
 
 loop-holds : tie.Need-loop-holds Inv-loop μ-loop
 loop-holds c =
@@ -26,7 +26,7 @@ returns : tie.Need-returns Inv-loop μ-loop
 returns c w =
     let l = c .before .before .before .loop in let f = c .before .before .pass-item .ensures in let g = l .inv .2 w in
     let t = going-end polygon polygonPositions polygonShape _ _ (g .0) f (c .enum-told .given .1) in
-    record { items = t .items; rings = counting-end polygonRings polygonShape _ (g .1) f (c .enum-told .given .1); least = t .least }
+    record { polygons = t .items; rings = counting-end polygonRings polygonShape _ (g .1) f (c .enum-told .given .1); least = t .least }
 
 -- where an item was found
 abbrev Met : Type 0
@@ -37,7 +37,7 @@ placed : (c : Met) →
 placed c = c .before .before .before .pass-item .ensures .placed _ (c .before .item .given .1)
 
 room : (c : Met) → let l = c .before .before .before .before .loop in
-    Room (c .before .before .before .before .before .before .args .p .now) (l .at) (l .items) (l .positions) (c .before .item .given .0 .0)
+    Room (c .before .before .before .before .before .before .args .p .now) (l .at) (l .polygons) (l .positions) (c .before .item .given .0 .0)
 room c = passed-room (c .before .before .before .before .loop .inv .0) (placed c)
 
 add-judge-polygon : tie.Need-add-judge-polygon Inv-loop μ-loop
@@ -47,8 +47,8 @@ judge-polygon-requires : tie.Need-judge-polygon-requires Inv-loop μ-loop
 judge-polygon-requires c κs =
     let k = room (c .before) in omega (arith, c .before .before .before .before .before .before .before .pre, k .number, k .size)
 
-add-items : tie.Need-add-items Inv-loop μ-loop
-add-items c =
+add-polygons : tie.Need-add-polygons Inv-loop μ-loop
+add-polygons c =
     let d = c .before .before .before in let k = room d in omega (arith, d .before .before .before .before .before .before .pre, k .count)
 
 add-rings : tie.Need-add-rings Inv-loop μ-loop
@@ -82,4 +82,4 @@ pub judge-polygons-spec : {M : Type 1} → statement M
 judge-polygons-spec =
     tie.close
     (tie.spec Inv-loop μ-loop loop-holds (λ c κs. search needs) (λ c. search needs) (λ c. search needs) returns (λ c. let k = room c in omega (arith, k .some)) (λ c. let k = room c in omega (arith, k .some)) (λ c. room c .ends)
-    add-judge-polygon judge-polygon-requires (λ c κs. search needs) add-items add-rings add-positions loop-less loop-again)
+    add-judge-polygon judge-polygon-requires (λ c κs. search needs) add-polygons add-rings add-positions loop-less loop-again)
