@@ -11,10 +11,9 @@ use Rattle.limits.specs.Ceilings as ceiling
 use Rattle.schema.specs.Pick.{Picked, PickedItems, bare, items, slots, listOf}
 use Rattle.schema.proofs.Tests.{and-right}
 use Rattle.rings.specs.Rings.{count, ringPositions, ringsPositions, polygonPositions, polygonRings, polygonsRings}
-use Rattle.rings.specs.Parts.{sumOver}
 use Rattle.rings.proofs.OneRing.{coordinates-one}
 use Rattle.judge.specs.Faults.{numbered}
-use Rattle.judge.specs.Coordinates.{Coordinates, WithinCeilings, ringsOf}
+use Rattle.judge.specs.Coordinates.{Coordinates, WithinCeilings, ringsOf, polygonsPositions}
 use Rattle.judge.proofs.Holds.{holds-is}
 use Rattle.judge.proofs.Positions.{coordinates-fit}
 
@@ -30,8 +29,8 @@ polygon-room (bare x) few = omega arith
 polygon-room (slots ss) few = omega arith
 
 polygons-room : (l : List Picked) → ((x r : Picked) → List·Memᴰ x l → List·Memᴰ r (ringsOf x) → ringPositions r ≤ ceiling.positions)
-    → sumOver polygonPositions l ≤ ceiling.positions * polygonsRings l
-unfolding sumOver polygonsRings
+    → polygonsPositions l ≤ ceiling.positions * polygonsRings l
+unfolding polygonsPositions polygonsRings
 polygons-room [] few = omega arith
 polygons-room (x ∷ l) few =
     omega (arith, polygon-room x (λ r i. few x r (List·Memᴰ·head refl) i), polygons-room l (λ y r i j. few y r (List·Memᴰ·tail i) j))

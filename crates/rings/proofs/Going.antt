@@ -1,7 +1,7 @@
 -- A loop over items that are judged and numbered one after the other, for any way to judge one: what has been found so far, with what is
 -- left, is what is found in all. The items' bytes lie one behind the other, in any bytes, so there are no more positions than bytes. A count alone is
 -- such a loop in which nothing is found.
-use mathlib.Core.List.{List, [], _∷_}
+use mathlib.Core.List.{List, [], _∷_, _++_}
 use mathlib.Core.Path.{_≡_, refl, sym, ap, _∙_}
 use Prim.Native.Nat.{ℕ, _+_, _-_, _≤_, _<_}
 use native.Mathlib.Omega.{arith}
@@ -17,7 +17,7 @@ use Rattle.schema.specs.Shape.{Shape}
 use Rattle.schema.specs.Pick.{Picked}
 use Rattle.rings.specs.Rings.{Found}
 use Rattle.rings.specs.Least.{lesser, leastFound}
-use Rattle.rings.specs.Parts.{Listing, picked, partsOf, Left, sumOver, foundIn, Tallied}
+use Rattle.rings.specs.Parts.{Listing, picked, partsOf, Left}
 use Rattle.rings.specs.declared.LeastFound.{LeastFound}
 use Rattle.rings.specs.declared.LeastFound.the-variants.{None}
 use Rattle.rings.proofs.Order.{lesser-none, none-lesser, lesser-assoc, least-append}
@@ -73,6 +73,16 @@ module _ {p : List ℕ} {at items positions : ℕ} (g : Passed p at items positi
           inside = omega (arith, k .inside);
         }
 
+-- what c counts in each of several items, added up
+unfoldable pub sumOver : (Picked → ℕ) → List Picked → ℕ
+sumOver c [] = 0
+sumOver c (x ∷ l) = c x + sumOver c l
+
+-- several items one after the other, numbered: e tells what is found in one, and c how many positions it has
+unfoldable pub foundIn : (ℕ → Picked → List Found) → (Picked → ℕ) → ℕ → List Picked → List Found
+foundIn e c n [] = []
+foundIn e c n (x ∷ l) = e n x ++ foundIn e c (n + c x) l
+
 module _ (e : ℕ → Picked → List Found) (c : Picked → ℕ) where
   -- the definitions, step by step
   sum-none : sumOver c [] ≡ 0
@@ -101,6 +111,12 @@ module _ (e : ℕ → Picked → List Found) (c : Picked → ℕ) where
       pub numbered : positions + sumOver c left ≡ sumOver c (partsOf σ p)
       pub found : lesser least (leastFound (foundIn e c (n + positions) left)) ≡ leastFound (foundIn e c n (partsOf σ p))
 
+    -- and at its end
+    pub record Ended (items positions : ℕ) (least : LeastFound) : Type 0 where
+      pub counted : items ≡ length (partsOf σ p)
+      pub numbered : positions ≡ sumOver c (partsOf σ p)
+      pub found : least ≡ leastFound (foundIn e c n (partsOf σ p))
+
     abbrev pub going-start : Listing p → Going 1 0 0 None
     going-start w =
         let z : n + 0 ≡ n = omega arith in
@@ -126,10 +142,10 @@ module _ (e : ℕ → Picked → List Found) (c : Picked → ℕ) where
             sym (lesser-none least) ∙ ap (lesser least) (sym (found-none (n + positions)))
             ∙ ap (λ (l : List Picked). lesser least (leastFound (foundIn e c (n + positions) l))) (sym none-left) ∙ g .found
 
-        pub going-end : Tallied e c n (partsOf σ p) (record { items = items; positions = positions; least = least })
+        pub going-end : Ended items positions least
         going-end =
             let z : sumOver c (g .left) ≡ 0 = ap (sumOver c) none-left ∙ sum-none in
-            record { items = end-counted; positions = omega (arith, g .numbered); least = end-found }
+            record { counted = end-counted; numbered = omega (arith, g .numbered); found = end-found }
 
       -- where one is found, its bytes are whole
       pub going-whole : (m : Item) → o ≡ step.Found m → Whole (itemOf p m) (treeOf (itemOf p m))
@@ -184,7 +200,7 @@ module _ (c : Picked → ℕ) (σ : Shape) (p : List ℕ) where
 
   module _ {at items total : ℕ} (g : Counting at items total) {o : ItemStep} (f : ItemPassed p at o) where
     pub counting-end : o ≡ step.End → total ≡ sumOver c (partsOf σ p)
-    counting-end h = going-end nothing c σ 0 p g f h .positions
+    counting-end h = going-end nothing c σ 0 p g f h .numbered
 
     pub counting-more : (m : Item) → o ≡ step.Found m → (q : ℕ) → q ≡ c (picked σ p m) → Counting (m .next) (items + 1) (total + q)
     counting-more m h q many = going-more nothing c σ 0 p g f m h None None q nothing-found (sym (none-lesser None)) many

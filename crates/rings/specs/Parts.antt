@@ -24,7 +24,7 @@ use Rattle.schema.specs.Shape as shape
 use Rattle.schema.specs.Shape.{Shape}
 use Rattle.schema.specs.Pick.{Picked, bare, items, slots, pick}
 use Rattle.scalar.specs.Scalars.{unless, formed}
-use Rattle.rings.specs.Rings.{Found, at, ordinate, ordinateKinds, numberKinds, position, allSound, positionsFound, polygon, polygonPositions, polygonRings}
+use Rattle.rings.specs.Rings.{Found, at, ordinate, ordinateKinds, numberKinds, position, allSound, positionsFound, ringsFound, ringsPositions, polygon, polygonPositions, polygonRings, polygonsRings, polygonsFound}
 use Rattle.rings.specs.Least.{leastFound}
 use Rattle.rings.specs.declared.LeastFound.{LeastFound}
 use Rattle.rings.specs.declared.LeastFound.the-variants.{None, At}
@@ -32,8 +32,7 @@ use Rattle.rings.specs.declared.Ordinate.{Ordinate}
 use Rattle.rings.specs.declared.Spot.{Spot}
 use Rattle.rings.specs.declared.RingPoints.{RingPoints}
 use Rattle.rings.specs.declared.Judged.{Judged}
-use Rattle.rings.specs.declared.Tally.{Tally}
-use Rattle.rings.specs.declared.JudgedPolygon.{JudgedPolygon}
+use Rattle.rings.specs.declared.PolygonTally.{PolygonTally}
 use Rattle.rings.specs.declared.ZoneTally.{ZoneTally}
 
 -- the shapes inside field 73
@@ -113,43 +112,29 @@ pub record Spotted (n : ℕ) (kinds : List ℕ) (q : Point) (s : Spot) : Type 0 
   pub least : s .least ≡ leastFound (at n kinds)
   pub point : s .least ≡ None → point (s .point) ≡ q
 
--- what c counts in each of several items, added up
-unfoldable pub sumOver : (Picked → ℕ) → List Picked → ℕ
-sumOver c [] = 0
-sumOver c (x ∷ l) = c x + sumOver c l
-
--- several items one after the other, numbered: e tells what is found in one, and c how many positions it has
-unfoldable pub foundIn : (ℕ → Picked → List Found) → (Picked → ℕ) → ℕ → List Picked → List Found
-foundIn e c n [] = []
-foundIn e c n (x ∷ l) = e n x ++ foundIn e c (n + c x) l
-
 -- a value in which that much is found, with its positions
 pub record Tells (found : List Found) (count : ℕ) (r : Judged) : Type 0 where
   pub least : r .least ≡ leastFound found
   pub positions : r .positions ≡ count
 
-pub record Tallied (e : ℕ → Picked → List Found) (c : Picked → ℕ) (n : ℕ) (l : List Picked) (r : Tally) : Type 0 where
-  pub items : r .items ≡ length l
-  pub positions : r .positions ≡ sumOver c l
-  pub least : r .least ≡ leastFound (foundIn e c n l)
+-- the rings of a polygon, the first position with the number n; a polygon; and the polygons of a zone
+pub record TellsRings (n : ℕ) (l : List Picked) (r : PolygonTally) : Type 0 where
+  pub rings : r .rings ≡ length l
+  pub positions : r .positions ≡ ringsPositions l
+  pub least : r .least ≡ leastFound (ringsFound n l)
 
--- the polygon x, its first position with the number n; and polygons one after another
-pub record TellsPolygon (n : ℕ) (x : Picked) (r : JudgedPolygon) : Type 0 where
+pub record TellsPolygon (n : ℕ) (x : Picked) (r : PolygonTally) : Type 0 where
   pub rings : r .rings ≡ polygonRings x
   pub positions : r .positions ≡ polygonPositions x
   pub least : r .least ≡ leastFound (polygon n x)
 
-pub record ZoneTallied (n : ℕ) (l : List Picked) (r : ZoneTally) : Type 0 where
+pub record TellsPolygons (n : ℕ) (l : List Picked) (r : ZoneTally) : Type 0 where
   pub polygons : r .polygons ≡ length l
-  pub rings : r .rings ≡ sumOver polygonRings l
-  pub least : r .least ≡ leastFound (foundIn polygon polygonPositions n l)
+  pub rings : r .rings ≡ polygonsRings l
+  pub least : r .least ≡ leastFound (polygonsFound n l)
 
 -- what is counted in any bytes: no more than there are bytes
-pub record TallyRoom (bytes : ℕ) (r : Tally) : Type 0 where
-  pub items : r .items ≤ bytes
-  pub positions : r .positions ≤ bytes
-
-pub record PolygonRoom (bytes : ℕ) (r : JudgedPolygon) : Type 0 where
+pub record PolygonRoom (bytes : ℕ) (r : PolygonTally) : Type 0 where
   pub rings : r .rings ≤ bytes
   pub positions : r .positions ≤ bytes
 

@@ -38,8 +38,8 @@ pub struct Judged {
     pub least: LeastFound,
 }
 
-// A polygon: how many rings and positions it has, and its first fault.
-pub struct JudgedPolygon {
+// A polygon, or its rings alone: how many rings and positions there are, and the first fault.
+pub struct PolygonTally {
     pub rings: u32,
     pub positions: u32,
     pub least: LeastFound,
@@ -49,12 +49,5 @@ pub struct JudgedPolygon {
 pub struct ZoneTally {
     pub polygons: u32,
     pub rings: u32,
-    pub least: LeastFound,
-}
-
-// The rings of a polygon: how many they are, how many positions they have, and their first fault.
-pub struct Tally {
-    pub items: u32,
-    pub positions: u32,
     pub least: LeastFound,
 }

@@ -1,7 +1,6 @@
 // All of a zone's coordinates: polygons of rings.
-use crate::JudgedPolygon;
 use crate::LeastFound;
-use crate::Tally;
+use crate::PolygonTally;
 use crate::ZoneTally;
 use crate::position::is_array;
 use crate::ring::judge_ring;
@@ -17,23 +16,23 @@ ghost use Rattle.json.specs.Tree.{Json};
 ghost use Rattle.walk.specs.Part.{Whole};
 ghost use Rattle.schema.specs.Pick.{PickedItems, items as itemsAre, pick};
 ghost use Rattle.schema.specs.Table23.{coordinates};
-ghost use Rattle.rings.specs.Rings.{ring, ringPositions, isRingCount, areZoneCounts, coordinatesFound};
+ghost use Rattle.rings.specs.Rings.{isRingCount, areZoneCounts, coordinatesFound};
 ghost use Rattle.rings.specs.Least.{leastFound};
-ghost use Rattle.rings.specs.Parts.{ringShape, polygonShape, Listing, partsOf, Tallied, TallyRoom, TellsPolygon, PolygonRoom, ZoneTallied};
+ghost use Rattle.rings.specs.Parts.{ringShape, polygonShape, Listing, partsOf, PolygonRoom, TellsRings, TellsPolygon, TellsPolygons};
 
 // The items of the polygon p, the first position of which has the number n.
-fn judge_rings(p: &[u8], n: u32) -> Tally
+fn judge_rings(p: &[u8], n: u32) -> PolygonTally
     requires { ⌜ n + length (now p) < 2 ^ 32 ⌝ }
-    ensures { λ r. ⌜ TallyRoom (length (now (p .entry))) r × (Listing (now (p .entry)) → Tallied ring ringPositions n (partsOf ringShape (now (p .entry))) r) ⌝ }
+    ensures { λ r. ⌜ PolygonRoom (length (now (p .entry))) r × (Listing (now (p .entry)) → TellsRings n (partsOf ringShape (now (p .entry))) r) ⌝ }
 {
-    let mut items: u32 = 0;
+    let mut rings: u32 = 0;
     let mut positions: u32 = 0;
     let mut least = LeastFound::None;
     let mut at: usize = 1;
     loop {
         let ItemStep::Found(item) = pass_item(p, at) else {
-            return Tally {
-                items,
+            return PolygonTally {
+                rings,
                 positions,
                 least,
             };
@@ -43,7 +42,7 @@ fn judge_rings(p: &[u8], n: u32) -> Tally
         let judged = judge_ring(&p[from..upto], n + positions);
         let first = judged.least;
         least = least.lesser(first);
-        items += 1;
+        rings += 1;
         positions += judged.positions;
         at = item.next;
     }
@@ -60,30 +59,30 @@ fn is_ring_count(rings: u32) -> bool
 }
 
 // An item of the coordinates, whose first position has the number n.
-fn judge_polygon(p: &[u8], n: u32) -> JudgedPolygon
+fn judge_polygon(p: &[u8], n: u32) -> PolygonTally
     requires { ⌜ n + length (now p) < 2 ^ 32 ⌝ }
     ensures { λ r. ⌜ PolygonRoom (length (now (p .entry))) r × ((x : Json) → Whole (now (p .entry)) x → TellsPolygon n (pick polygonShape x) r) ⌝ }
 {
     if !is_array(p) {
-        return JudgedPolygon {
+        return PolygonTally {
             rings: 0,
             positions: 0,
             least: LeastFound::At(n, Kind::WRONG_TYPE),
         };
     }
-    let rings = judge_rings(p, n);
-    let found = rings.least;
-    JudgedPolygon {
-        rings: rings.items,
-        positions: rings.positions,
-        least: LeastFound::unless(is_ring_count(rings.items), n, Kind::BAD_RING).lesser(found),
+    let tally = judge_rings(p, n);
+    let found = tally.least;
+    PolygonTally {
+        rings: tally.rings,
+        positions: tally.positions,
+        least: LeastFound::unless(is_ring_count(tally.rings), n, Kind::BAD_RING).lesser(found),
     }
 }
 
 // The items of the coordinates p, the first position of which has the number n.
 fn judge_polygons(p: &[u8], n: u32) -> ZoneTally
     requires { ⌜ n + length (now p) < 2 ^ 32 ⌝ }
-    ensures { λ r. ⌜ (Listing (now (p .entry)) → ZoneTallied n (partsOf polygonShape (now (p .entry))) r) ⌝ }
+    ensures { λ r. ⌜ (Listing (now (p .entry)) → TellsPolygons n (partsOf polygonShape (now (p .entry))) r) ⌝ }
 {
     let mut polygons: u32 = 0;
     let mut rings: u32 = 0;

@@ -21,7 +21,7 @@ returns-2 c =
     let q = c .before .before in let r = q .before .judge-rings in let o = q .before .before in
     let n = o .before .before .before .args .n in
     let counted = c .before .unless .ensures ∙ ap (λ (t : Bool). leastFound (at n (unless t badRing))) (q .is-ring-count .ensures) in (
-      record { rings = r .ensures .0 .items; positions = r .ensures .0 .positions },
+      record { rings = r .ensures .0 .rings; positions = r .ensures .0 .positions },
       λ x w.
           polygon-array w _ (r .result) _ (sym (o .before .is-array .ensures) ∙ not-false _ (o .if1 .left)) (r .ensures .1)
           (c .lesser .ensures ∙ ap (λ (z : LeastFound). lesser z (r .result .least)) counted),

@@ -1,12 +1,15 @@
 -- Each turn judges one polygon more: what is found and counted so far, with what is left, is what is found and counted in all.
+use mathlib.Core.Path.{sym, ap, _∙_}
 use Prim.Native.Nat.{_+_, _-_, _<_}
 use native.Mathlib.Omega.{arith}
 use lib.ListN.{length}
 use borrow.Author.Needs.{needs}
 use Rattle.walk.specs.Along.{ItemPlaced}
 use Rattle.rings.specs.Rings.{polygon, polygonPositions, polygonRings}
+use Rattle.rings.specs.Least.{leastFound}
 use Rattle.rings.specs.Parts.{polygonShape, Listing}
 use Rattle.rings.proofs.Going.{Room, Passed, passed-start, passed-room, passed-more, Going, going-start, going-end, going-whole, going-more, Counting, counting-start, counting-end, counting-more}
+use Rattle.rings.proofs.Zones.{polygons-found, polygons-rings}
 use Rattle.rings.proofs.zone.judge_polygons.Statement.{statement}
 use Rattle.rings.proofs.zone.judge_polygons.Tie as tie
 
@@ -26,7 +29,8 @@ returns : tie.Need-returns Inv-loop μ-loop
 returns c w =
     let l = c .before .before .before .loop in let f = c .before .before .pass-item .ensures in let g = l .inv .2 w in
     let t = going-end polygon polygonPositions polygonShape _ _ (g .0) f (c .enum-told .given .1) in
-    record { polygons = t .items; rings = counting-end polygonRings polygonShape _ (g .1) f (c .enum-told .given .1); least = t .least }
+    let rings = counting-end polygonRings polygonShape _ (g .1) f (c .enum-told .given .1) in
+    record { polygons = t .counted; rings = rings ∙ sym (polygons-rings _); least = t .found ∙ ap leastFound (sym (polygons-found _ _)) }
 
 -- where an item was found
 abbrev Met : Type 0
