@@ -1,7 +1,7 @@
 //! What the rules say together for a vehicle type at a point and a moment.
 
 use crate::clean::{clean, Row};
-use crate::coordinates::{area_sum, polygons, Point, Polygon};
+use crate::coordinates::{area_sum, polygons, Point};
 use crate::Parts;
 
 /// The answer to a zone question.
@@ -98,7 +98,7 @@ pub fn side(ring: &[Point], point: Point) -> Side {
 
 /// Does a polygon hold the point? The edges of all its rings belong to it, and what a further ring encloses does not. For the rest its
 /// first ring decides: a clockwise one holds what it encloses, the other sort all else.
-fn holds(polygon: &Polygon, point: Point) -> bool {
+fn holds(polygon: &[Vec<Point>], point: Point) -> bool {
     let sides: Vec<Side> = polygon.iter().map(|ring| side(ring, point)).collect();
     let Some((&first, further)) = sides.split_first() else { return false };
     if sides.contains(&Side::Edge) {
@@ -163,12 +163,12 @@ mod tests {
         }
     }
 
-    /// A ring around the degrees from one number to another, both ways.
+    /// A clockwise ring around the square between the same two degrees of longitude and of latitude.
     fn square(from: i64, to: i64) -> String {
         format!("[[{from},{from}],[{from},{to}],[{to},{to}],[{to},{from}],[{from},{from}]]")
     }
 
-    /// The same, counterclockwise.
+    /// The same counterclockwise.
     fn reversed(from: i64, to: i64) -> String {
         format!("[[{from},{from}],[{to},{from}],[{to},{to}],[{from},{to}],[{from},{from}]]")
     }
@@ -230,7 +230,7 @@ mod tests {
         let at = |lon: i64| is_held(&rings, lon, 3 * DEGREE);
         assert_eq!([2 * DEGREE - 1, 2 * DEGREE, 2 * DEGREE + 1].map(at), [true, true, false]);
         assert_eq!([5 * DEGREE - 1, 5 * DEGREE, 5 * DEGREE + 1].map(at), [false, true, true]);
-        // The hole's corner is east of these points: it is crossed once and no more.
+        // The hole's lower edge lies east of these points, on their parallel.
         assert_eq!([0, DEGREE].map(|lon| is_held(&rings, lon, 2 * DEGREE)), [true, true]);
     }
 
