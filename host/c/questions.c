@@ -32,7 +32,8 @@ static const char DISCOUNTS[] = HEADER
     "\"per_min_pricing\":[{\"start\":10,\"rate\":-3,\"interval\":0,\"end\":20}]}]}}";
 static const char ZONES[] = HEADER
     "{\"geofencing_zones\":{\"type\":\"FeatureCollection\",\"features\":[{\"type\":\"Feature\",\"geometry\":{\"type\":\"MultiPolygon\","
-    "\"coordinates\":[[[[0,0],[0,2],[2,2],[2,0],[0,0]]]]},\"properties\":{\"rules\":[{\"vehicle_type_id\":[\"t\"],"
+    "\"coordinates\":[[[[0,0],[0,2],[2,2],[2,0],[0,0]],[[0.5,0.5],[1,0.5],[1,1],[0.5,1],[0.5,0.5]]]]},"
+    "\"properties\":{\"rules\":[{\"vehicle_type_id\":[\"t\"],"
     "\"ride_allowed\":true,\"ride_through_allowed\":false,\"maximum_speed_kph\":20,\"station_parking\":true}]}}]}}}";
 static const uint8_t WORD[] = {0x14, 0x62, 0x80, 0x03, 0, 0, 0, 0};
 
@@ -123,6 +124,17 @@ static uint8_t zone_ruled(uint8_t *answer, size_t length)
     return skaveldro_zone_rule(FILE_OF(ZONES), 1000000, 2000000, FILE_OF("t"), 0, answer, length);
 }
 
+/* The edge of a hole belongs to the zone, its inside does not. */
+static uint8_t zone_on_hole(uint8_t *answer, size_t length)
+{
+    return skaveldro_zone_rule(FILE_OF(ZONES), 1000000, 750000, FILE_OF("t"), 0, answer, length);
+}
+
+static uint8_t zone_in_hole(uint8_t *answer, size_t length)
+{
+    return skaveldro_zone_rule(FILE_OF(ZONES), 999999, 750000, FILE_OF("t"), 0, answer, length);
+}
+
 /* A point off the map comes ahead of a file that is not clean. */
 static uint8_t zone_off_map(uint8_t *answer, size_t length)
 {
@@ -200,6 +212,8 @@ static const struct asked ASKED[] = {
     {"quote, no id", quote_of_no_id, SKAVELDRO_QUOTE_BYTES, SKAVELDRO_NO_PLAN, 0, {0}},
     {"quote, no file", quote_of_no_file, SKAVELDRO_QUOTE_BYTES, SKAVELDRO_NO_PLAN, 0, {0}},
     {"zone rule", zone_ruled, SKAVELDRO_ZONE_RULE_BYTES, SKAVELDRO_ANSWERED, 12, {0, 0, 0, 0, 0, 0, 1, 0, 1, 20, 1, 1}},
+    {"zone rule, a hole's edge", zone_on_hole, SKAVELDRO_ZONE_RULE_BYTES, SKAVELDRO_ANSWERED, 12, {0, 0, 0, 0, 0, 0, 1, 0, 1, 20, 1, 1}},
+    {"zone rule, in a hole", zone_in_hole, SKAVELDRO_ZONE_RULE_BYTES, SKAVELDRO_NO_RULE, 0, {0}},
     {"zone rule, off the map", zone_off_map, SKAVELDRO_ZONE_RULE_BYTES, SKAVELDRO_POINT_OFF_MAP, 0, {0}},
     {"zone rule, not clean", zone_not_clean, SKAVELDRO_ZONE_RULE_BYTES, SKAVELDRO_NOT_CLEAN, 12, {6, 2, 0, 0, 0, 1, 0, 0, 0, 0, 0, 0}},
     {"zone rule, none", zone_of_no_rule, SKAVELDRO_ZONE_RULE_BYTES, SKAVELDRO_NO_RULE, 0, {0}},

@@ -135,6 +135,9 @@ uint8_t skaveldro_quote(const uint8_t *plans, size_t plans_length,
  * checking: SKAVELDRO_POINT_OFF_MAP past 180 or 90 degrees; SKAVELDRO_NOT_CLEAN if the file is not sound by itself, with the parts of its
  * word; SKAVELDRO_NO_RULE; SKAVELDRO_ANSWERED with the values. In place of the two that write values, SKAVELDRO_NO_ROOM under 96 bytes.
  * Twelve values: the parts, ride, through, whether a speed is given, the speed, whether parking is given, parking.
+ *
+ * A zone is where any of its polygons is. The edges of all rings of a polygon are in it; what a further ring encloses is not, whichever
+ * way that ring winds; for the rest the first ring decides: clockwise it holds its inside, counterclockwise its outside.
  */
 uint8_t skaveldro_zone_rule(const uint8_t *zones, size_t zones_length,
                             int64_t lon, int64_t lat,

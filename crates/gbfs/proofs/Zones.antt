@@ -1,5 +1,5 @@
 -- Demand 2 on zones. The definition takes the rules of the zones that count and hold the point, and of these the ones for the type: these are, of all rules in
--- file order, the ones that apply, since a ring or polygon is found to hold a point exactly where one does. So a value that is first among them is first
+-- file order, the ones that apply, since a polygon is found to hold a point exactly where one does. So a value that is first among them is first
 -- among all that apply.
 use mathlib.Core.Bool.{Bool, true, false}
 use mathlib.Core.List.{List, [], _∷_, _++_, map, List·Memᴰ, List·Memᴰ·head, List·Memᴰ·tail, List·Memᴰ·not-nil, List·Memᴰ·cases-cons}
@@ -16,56 +16,83 @@ use Rattle.schema.proofs.Tests.{and-left, and-right}
 use Rattle.document.specs.Document.{Maybe, none, some, elements, elementsOf, field, fieldItems, along, spelling, truth, given}
 use Rattle.fault.proofs.Order.{by-test, true-false}
 use Rattle.geometry.specs.Ring.{Point}
-use Rattle.geometry.specs.Held.{holds}
-use Rattle.rings.specs.Rings.{position}
+use Rattle.geometry.specs.Held.{onRing, odd, sideOf, holds, onAny, inAny, polygonHolds}
+use Rattle.geometry.proofs.Any.{any-one, one-any}
+use Rattle.geometry.proofs.Polygon.{edge-held}
 use Rattle.clean.specs.declared.Cleanness.{Cleanness}
 use Rattle.clean.specs.declared.Cleanness.the-variants.{Clean, Broken}
 use Rattle.clean.specs.Clean.{treeOf, cleanOf}
-use Rattle.zone.specs.Zone.{counts, ringsHold, polygonsHold, applies, zoneRules, rules, applicable, rulesAt, otherwise, firstGiven}
+use Rattle.zone.specs.Zone.{outline, counts, ringsHold, polygonsHold, polygonsOf, applies, zoneRulesBy, zoneRules, rulesBy, rules, applicable, rulesAt, otherwise, firstGiven}
 use Rattle.zone.specs.Answer.{Answer, refused, found, ruleOf, values, onMap, ofRules, ofClean, rulingOf}
-use Rattle.gbfs.specs.Demand2.{ZoneRule, everyRule, rulesIn, Holding, Applies, FirstWith, here, later, NoneWith, Giving, FirstValue, by, byNone, Together}
+use Rattle.gbfs.specs.Demand2.{ZoneRule, everyRule, rulesIn, HeldBy, onEdge, byFirst, Holding, Applies, FirstWith, here, later, NoneWith, Giving, FirstValue, by, byNone, Together}
 
--- one of a list passes a test
-module _ (test : Picked → Bool) (any : List Picked → Bool) (none-passes : any [] ≡ false)
-    (next : (x : Picked) (l : List Picked) → any (x ∷ l) ≡ (test x ⇒ true else any l)) where
-  any-one : (l : List Picked) → any l ≡ true → (x : Picked) × List·Memᴰ x l × (test x ≡ true)
-  any-one [] e = true-false e none-passes
-  any-one (x ∷ l) e =
-      by-test (test x) (λ t. (x, List·Memᴰ·head refl, t)) λ f.
-      let k = any-one l (sym (next x l ∙ ap (λ (b : Bool). b ⇒ true else any l) f) ∙ e) in
-      (k .0, List·Memᴰ·tail (k .1), k .2)
+-- a polygon's tests, in their order: on the first ring, on more of them, inside a further one, on the first one's side
+choose-first : (on more cut side : Bool) → (on ⇒ true else side) ≡ true → cut ≡ false → ((on ⇒ true else more) ⇒ true else cut ⇒ false else side) ≡ true
+choose-first true more cut side e f = refl
+choose-first false true cut side e f = refl
+choose-first false false cut side e f = ap (λ (b : Bool). b ⇒ false else side) f ∙ e
 
-  one-any : (l : List Picked) (x : Picked) → List·Memᴰ x l → test x ≡ true → any l ≡ true
-  one-any [] x m t = absurd (List·Memᴰ·not-nil m)
-  one-any (y ∷ l) x m t =
-      let ih = one-any l x in
-      next y l ∙
-      by-test (test y) (λ u. ap (λ (b : Bool). b ⇒ true else any l) u) λ f.
-      ap (λ (b : Bool). b ⇒ true else any l) f
-      ∙ ⊎-elim (λ (e : x ≡ y). true-false (ap test (sym e) ∙ t) f) (λ (k : List·Memᴰ x l). ih k t) (List·Memᴰ·cases-cons m)
+first-chosen : (on more cut side : Bool) → (on ⇒ true else more) ≡ false → ((on ⇒ true else more) ⇒ true else cut ⇒ false else side) ≡ true
+    → ((on ⇒ true else side) ≡ true) × (cut ≡ false)
+first-chosen true more cut side f e = true-false refl f
+first-chosen false true cut side f e = true-false refl f
+first-chosen false false true side f e = true-false e refl
+first-chosen false false false side f e = (e, refl)
 
 module _ (q : Point) where
-  abbrev inRing : Picked → Bool
-  inRing r = holds (map position (elements r)) q
+  -- of the rings of a polygon: one has the point on an edge, or has it inside, exactly where that is found
+  abbrev onOne : List Picked → Bool
+  onOne l = onAny (map outline l) q
+
+  abbrev inOne : List Picked → Bool
+  inOne l = inAny (map outline l) q
+
+  on-one : (l : List Picked) → onOne l ≡ true → (r : Picked) × List·Memᴰ r l × (onRing (outline r) q ≡ true)
+  unfolding onAny
+  on-one = any-one (λ r. onRing (outline r) q) onOne refl (λ r l. refl)
+
+  one-on : (l : List Picked) (r : Picked) → List·Memᴰ r l → onRing (outline r) q ≡ true → onOne l ≡ true
+  unfolding onAny
+  one-on = one-any (λ r. onRing (outline r) q) onOne refl (λ r l. refl)
+
+  in-one : (l : List Picked) → inOne l ≡ true → (r : Picked) × List·Memᴰ r l × (odd (outline r) q ≡ true)
+  unfolding inAny
+  in-one = any-one (λ r. odd (outline r) q) inOne refl (λ r l. refl)
+
+  one-in : (l : List Picked) (r : Picked) → List·Memᴰ r l → odd (outline r) q ≡ true → inOne l ≡ true
+  unfolding inAny
+  one-in = one-any (λ r. odd (outline r) q) inOne refl (λ r l. refl)
+
+  rings-by : (l : List Picked) → ringsHold l q ≡ true → HeldBy q l
+  unfolding ringsHold polygonHolds onAny holds
+  rings-by [] e = true-false e refl
+  rings-by (r ∷ rs) e =
+      by-test (onOne (r ∷ rs))
+      (λ t. let o = on-one (r ∷ rs) t in onEdge (o .0) (o .1) (o .2))
+      (λ f.
+      let c = first-chosen (onRing (outline r) q) (onOne rs) (inOne rs) (sideOf (outline r) q) f e in
+      byFirst (c .0) (λ h m. by-test (odd (outline h) q) (λ t. true-false (one-in rs h m t) (c .1)) (λ n. n)))
+
+  by-rings : {l : List Picked} → HeldBy q l → ringsHold l q ≡ true
+  unfolding ringsHold polygonHolds onAny holds
+  by-rings {l} (onEdge r m e) = edge-held sideOf q (map outline l) (one-on l r m e)
+  by-rings (byFirst {r} {holes} e n) =
+      choose-first (onRing (outline r) q) (onOne holes) (inOne holes) (sideOf (outline r) q) e
+      (by-test (inOne holes) (λ t. let o = in-one holes t in true-false (o .2) (n (o .0) (o .1))) (λ f. f))
 
   abbrev inPolygon : Picked → Bool
   inPolygon p = ringsHold (elements p) q
 
-  abbrev polygonsOf : Picked → List Picked
-  polygonsOf z = elementsOf (along (71 ∷ 73 ∷ []) z)
-
   held-holding : (z : Picked) → polygonsHold (polygonsOf z) q ≡ true → Holding z q
-  unfolding ringsHold polygonsHold
+  unfolding polygonsHold
   held-holding z e =
       let p = any-one inPolygon (λ l. polygonsHold l q) refl (λ x l. refl) (polygonsOf z) e in
-      let r = any-one inRing (λ l. ringsHold l q) refl (λ x l. refl) (elements (p .0)) (p .2) in
-      record { polygon = p .0; ring = r .0; ofZone = p .1; ofPolygon = r .1; held = r .2 }
+      record { polygon = p .0; ofZone = p .1; held = rings-by (elements (p .0)) (p .2) }
 
   holding-held : (z : Picked) → Holding z q → polygonsHold (polygonsOf z) q ≡ true
-  unfolding ringsHold polygonsHold
+  unfolding polygonsHold
   holding-held z h =
-      one-any inPolygon (λ l. polygonsHold l q) refl (λ x l. refl) (polygonsOf z) (h .polygon) (h .ofZone)
-      (one-any inRing (λ l. ringsHold l q) refl (λ x l. refl) (elements (h .polygon)) (h .ring) (h .ofPolygon) (h .held))
+      one-any inPolygon (λ l. polygonsHold l q) refl (λ x l. refl) (polygonsOf z) (h .polygon) (h .ofZone) (by-rings (h .held))
 
 -- what is first has the property, and stands in the list
 module _ {A : Type 0} {P : A → Type 0} where
@@ -173,23 +200,23 @@ module _ (q : Point) (type : List ℕ) (moment : ℕ) where
     every-some p e = rw (e, everyRule)
 
     rules-none : field 74 z ≡ none → rules (z ∷ zs) q moment ≡ rules zs q moment
-    unfolding rules zoneRules
-    rules-none e = let k : zoneRules z q moment ≡ [] = rw (e, zoneRules) in ap (λ (l : List Picked). l ++ rules zs q moment) k
+    unfolding rulesBy zoneRulesBy
+    rules-none e = let k : zoneRules z q moment ≡ [] = rw (e, zoneRulesBy) in ap (λ (l : List Picked). l ++ rules zs q moment) k
 
     module _ (p : Picked) (e : field 74 z ≡ some p) where
       abbrev holding : Bool
-      holding = counts p moment and polygonsHold (polygonsOf q z) q
+      holding = counts p moment and polygonsHold (polygonsOf z) q
 
       rules-some : zoneRules z q moment ≡ (holding ⇒ fieldItems 77 p else [])
-      unfolding zoneRules
-      rules-some = rw (e, zoneRules)
+      unfolding zoneRulesBy
+      rules-some = rw (e, zoneRulesBy)
 
       rules-held : holding ≡ true → rules (z ∷ zs) q moment ≡ fieldItems 77 p ++ rules zs q moment
-      unfolding rules
+      unfolding rulesBy
       rules-held t = ap (λ (l : List Picked). l ++ rules zs q moment) (rules-some ∙ ap (λ (b : Bool). b ⇒ fieldItems 77 p else []) t)
 
       rules-other : holding ≡ false → rules (z ∷ zs) q moment ≡ rules zs q moment
-      unfolding rules
+      unfolding rulesBy
       rules-other f = ap (λ (l : List Picked). l ++ rules zs q moment) (rules-some ∙ ap (λ (b : Bool). b ⇒ fieldItems 77 p else []) f)
 
     applying-as : {l : List ZoneRule} {rs : List Picked} → everyRule (z ∷ zs) ≡ l → rules (z ∷ zs) q moment ≡ rs → Applying l (applicable rs type)
@@ -202,7 +229,7 @@ module _ (q : Point) (type : List ℕ) (moment : ℕ) where
   both false b e f = true-false e refl
 
   applying : (zs : List Picked) → Applying (everyRule zs) (applicable (rules zs q moment) type)
-  unfolding everyRule rules applicable
+  unfolding everyRule rulesBy applicable
   applying [] = end
   applying (z ∷ zs) = go (field 74 z) refl (applying zs)
     where
@@ -210,7 +237,7 @@ module _ (q : Point) (type : List ℕ) (moment : ℕ) where
           → Applying (everyRule (z ∷ zs)) (applicable (rules (z ∷ zs) q moment) type)
       go none e ih = applying-as z zs (every-none z zs e) (rules-none z zs e) ih
       go (some p) e ih =
-          let held = polygonsHold (polygonsOf q z) q in
+          let held = polygonsHold (polygonsOf z) q in
           by-test (counts p moment and held)
           (λ t.
           applying-as z zs (every-some z zs p e) (rules-held z zs p e t)

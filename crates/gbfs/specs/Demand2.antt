@@ -20,14 +20,13 @@ use Rattle.decimal.specs.Exact.{tenThousandths}
 use Rattle.fare.specs.declared.Segment.{Segment}
 use Rattle.fare.specs.Charges.{charge, charges, clamped, greatestEnd, past}
 use Rattle.geometry.specs.Ring.{Point}
-use Rattle.geometry.specs.Held.{holds}
-use Rattle.rings.specs.Rings.{position}
+use Rattle.geometry.specs.Held.{onRing, odd, holds}
 use Rattle.clean.specs.declared.Cleanness.the-variants.{Clean}
 use Rattle.clean.specs.Clean.{treeOf, cleanOf}
 use Rattle.quote.specs.Plan.{priceAt, perMinute, perKilometre, planOf, plans}
 use Rattle.quote.specs.Quote as quote
 use Rattle.quote.specs.Quote.{mostSeconds, mostMetres, quoteOf}
-use Rattle.zone.specs.Zone.{counts, applies}
+use Rattle.zone.specs.Zone.{outline, counts, applies}
 use Rattle.zone.specs.Answer as zone
 use Rattle.zone.specs.Answer.{ruleOf, onMap, rulingOf}
 use Rattle.gbfs.specs.Verdict.{Feeds, rules, before, numberOf, bufferOf}
@@ -103,13 +102,17 @@ everyRule (z ∷ zs) =
 abbrev pub rulesIn : List ℕ → List ZoneRule
 rulesIn s = everyRule (elementsOf (along (4 ∷ 5 ∷ 7 ∷ []) (pick (fileShape table23 6) (treeOf s))))
 
--- a zone holds the point: the ring of one of its polygons does
+-- a polygon of these rings holds the point: it is on an edge of one of them; or the first of them holds it, and it is inside no further one
+pub data HeldBy (q : Point) : List Picked → Type 0 where
+  onEdge : {rings : List Picked} (r : Picked) → List·Memᴰ r rings → onRing (outline r) q ≡ true → HeldBy q rings
+  byFirst : {r : Picked} {holes : List Picked} → holds (outline r) q ≡ true → ((h : Picked) → List·Memᴰ h holes → odd (outline h) q ≡ false)
+      → HeldBy q (r ∷ holes)
+
+-- a zone holds the point: one of its polygons does
 pub record Holding (zone : Picked) (q : Point) : Type 0 where
   pub polygon : Picked
-  pub ring : Picked
   pub ofZone : List·Memᴰ polygon (elementsOf (along (71 ∷ 73 ∷ []) zone))
-  pub ofPolygon : List·Memᴰ ring (elements polygon)
-  pub held : holds (map position (elements ring)) q ≡ true
+  pub held : HeldBy q (elements polygon)
 
 -- a rule applies: its zone holds the point and counts at the moment, and it names the type or has no field 78
 pub record Applies (q : Point) (type : List ℕ) (moment : ℕ) (r : ZoneRule) : Type 0 where

@@ -1,4 +1,5 @@
 pub mod Tests
+pub mod Any
 pub mod Edges
 pub mod Closed
 pub mod Started
@@ -8,5 +9,7 @@ pub mod Ends
 pub mod Added
 pub mod Rest
 pub mod Ways
+pub mod Holed
 pub mod Signs
 pub mod Rectangle
+pub mod Polygon

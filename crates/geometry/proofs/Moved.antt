@@ -10,12 +10,10 @@ use Rattle.signed.proofs.Gap.{gap-same, gap-add, gap-minus, gap-mul}
 use Rattle.signed.proofs.Sums.{parts}
 use Rattle.geometry.specs.Ring.{Point, equal, turn, areaSum, clockwise, sound}
 use Rattle.geometry.specs.Held.{side, between, onEdge, crosses, onRing, odd, holds}
+use Rattle.geometry.specs.Polygon.{moved}
 use Rattle.geometry.proofs.Closed.{closed, sound-area}
 use Rattle.geometry.proofs.Edges.{total-same, total-map, some, flip, on-total, odd-total}
 use Rattle.geometry.proofs.Tests.{minus-moved, le-moved, lt-moved}
-
-abbrev pub moved : Point → Point → Point
-moved d p = record { lon = p .lon +ℤ d .lon; lat = p .lat +ℤ d .lat }
 
 -- one edge
 side-moved : (d a b q : Point) → side (moved d a) (moved d b) (moved d q) ≡ side a b q

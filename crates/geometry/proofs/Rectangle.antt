@@ -1,4 +1,4 @@
--- A rectangle that goes clockwise holds what lies in its range of lon and of lat, ends included, and nothing else. Each of its edges has a
+-- A rectangle that goes clockwise holds what lies in its range of lon and of lat, ends included, and nothing else; off its edges it has inside what lies strictly between. Each of its edges has a
 -- side whose sign is the order of two coordinates, so all tests are of these orders; a lon, and a lat, has five places to them.
 use mathlib.Core.Bool.{Bool, true, false, not}
 use mathlib.Core.List.{List, [], _∷_}
@@ -112,15 +112,21 @@ level a b y q =
     rw (less-is (q .lat) y)
     (never (leZ y (q .lat)) (ltZ (pos 0) (side (corner a y) (corner b y) q)) (ltZ (side (corner a y) (corner b y) q) (pos 0)))
 
--- the tests of all four edges, at each of the places
-settled : {a b c d a′ b′ c′ d′ : Bool} → Spot a b c d → Spot a′ b′ c′ d′ →
-    (some ((a and b) and ((a and b) and (a′ and c′)))
+-- the tests of all four edges: one has the point on it; an odd number cross
+abbrev onFour : (a b c d a′ b′ c′ d′ : Bool) → Bool
+onFour a b c d a′ b′ c′ d′ =
+    some ((a and b) and ((a and b) and (a′ and c′)))
     (some ((c′ and d′) and ((a and c) and (d′ and c′)))
     (some ((c and d) and ((d and c) and (a′ and c′))) (some ((a′ and b′) and ((a and c) and (a′ and b′))) false)))
-    ⇒ true else
+
+abbrev oddOfFour : (a b c d a′ b′ c′ d′ : Bool) → Bool
+oddOfFour a b c d a′ b′ c′ d′ =
     flip (a′ and not d′ ⇒ not a else d′ and not a′ ⇒ not b else false)
-    (flip false (flip (d′ and not a′ ⇒ not c else a′ and not d′ ⇒ not d else false) (flip false false))))
-    ≡ ((a and c) and (a′ and c′))
+    (flip false (flip (d′ and not a′ ⇒ not c else a′ and not d′ ⇒ not d else false) (flip false false)))
+
+-- at each of the places: what is held, and what is inside and on no edge
+settled : {a b c d a′ b′ c′ d′ : Bool} → Spot a b c d → Spot a′ b′ c′ d′
+    → (onFour a b c d a′ b′ c′ d′ ⇒ true else oddOfFour a b c d a′ b′ c′ d′) ≡ ((a and c) and (a′ and c′))
 settled before before = refl
 settled before first = refl
 settled before within = refl
@@ -146,6 +152,34 @@ settled after first = refl
 settled after within = refl
 settled after last = refl
 settled after after = refl
+
+strictly : {a b c d a′ b′ c′ d′ : Bool} → Spot a b c d → Spot a′ b′ c′ d′
+    → (onFour a b c d a′ b′ c′ d′ ⇒ false else oddOfFour a b c d a′ b′ c′ d′) ≡ ((not b and not d) and (not b′ and not d′))
+strictly before before = refl
+strictly before first = refl
+strictly before within = refl
+strictly before last = refl
+strictly before after = refl
+strictly first before = refl
+strictly first first = refl
+strictly first within = refl
+strictly first last = refl
+strictly first after = refl
+strictly within before = refl
+strictly within first = refl
+strictly within within = refl
+strictly within last = refl
+strictly within after = refl
+strictly last before = refl
+strictly last first = refl
+strictly last within = refl
+strictly last last = refl
+strictly last after = refl
+strictly after before = refl
+strictly after first = refl
+strictly after within = refl
+strictly after last = refl
+strictly after after = refl
 
 module _ (w e s n : ℤ) (wide : leZ e w ≡ false) (high : leZ n s ≡ false) (q : Point) where
   width : ltZ (pos 0) (e -ℤ w) ≡ true
@@ -224,3 +258,11 @@ module _ (w e s n : ℤ) (wide : leZ e w ≡ false) (high : leZ n s ≡ false) (
   rectangle-holds =
       rw (on-west, on-north, on-east, on-south, across-west, level w e n q, across-east, level e w s q, area-below)
       (settled (spot w e (q .lon) wide) (spot s n (q .lat) high))
+
+  -- as a hole it takes away what lies strictly between
+  pub rectangle-inside : (onRing (rectangle w e s n) q ⇒ false else odd (rectangle w e s n) q)
+      ≡ ((not (leZ (q .lon) w) and not (leZ e (q .lon))) and (not (leZ (q .lat) s) and not (leZ n (q .lat))))
+  unfolding onRing odd
+  rectangle-inside =
+      rw (on-west, on-north, on-east, on-south, across-west, level w e n q, across-east, level e w s q)
+      (strictly (spot w e (q .lon) wide) (spot s n (q .lat) high))

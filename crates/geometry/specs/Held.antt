@@ -1,4 +1,4 @@
--- Which points a ring holds: document 01, "Zones".
+-- Which points a ring holds, and which a polygon of several: document 01, "Zones", with document 02's request W13.
 use mathlib.Core.Bool.{Bool, true, false, not}
 use mathlib.Core.List.{List, [], _∷_}
 use lib.IntN.{ℤ, pos, _-ℤ_, _*ℤ_}
@@ -37,6 +37,25 @@ odd [] q = false
 odd (a ∷ []) q = false
 odd (a ∷ b ∷ l) q = crosses a b q ⇒ not (odd (b ∷ l) q) else odd (b ∷ l) q
 
--- a ring holds its edges; beyond them its inside where it is clockwise, and its outside where it is not
+-- beyond its edges a ring holds its inside where it is clockwise, and its outside where it is not
+abbrev pub sideOf : List Point → Point → Bool
+sideOf l q = clockwise l ⇒ odd l q else not (odd l q)
+
+-- a ring holds its edges, and beyond them its side
 unfoldable pub holds : List Point → Point → Bool
-holds l q = onRing l q ⇒ true else clockwise l ⇒ odd l q else not (odd l q)
+holds l q = onRing l q ⇒ true else sideOf l q
+
+-- several rings: q is on an edge of one; an odd number of the edges of one cross
+unfoldable pub onAny : List (List Point) → Point → Bool
+onAny [] q = false
+onAny (r ∷ rs) q = onRing r q ⇒ true else onAny rs q
+
+unfoldable pub inAny : List (List Point) → Point → Bool
+inAny [] q = false
+inAny (r ∷ rs) q = odd r q ⇒ true else inAny rs q
+
+-- A polygon holds the edges of all its rings, first of all; beyond them nothing that is inside a further ring, whichever way round that goes; and of the rest
+-- what is on the side of its first ring.
+unfoldable pub polygonHolds : (firstSide : List Point → Point → Bool) → List (List Point) → Point → Bool
+polygonHolds firstSide [] q = false
+polygonHolds firstSide (r ∷ rs) q = onAny (r ∷ rs) q ⇒ true else inAny rs q ⇒ false else firstSide r q

@@ -1,5 +1,6 @@
 -- Rings as code holds them: two lists of one length, of naturals in millionths of a degree, moved up by half the range so that none is
 -- negative. Document 01's range of lon and lat, and its ceiling of positions, are the bounds.
+use mathlib.Core.Bool.{Bool, false}
 use mathlib.Core.List.{List, [], _∷_}
 use Prim.Native.Nat.{ℕ, _+_, _*_, _^_, _≤_, _<_}
 use mathlib.Core.Path.{_≡_}
@@ -9,11 +10,13 @@ use Rattle.limits.specs.Ceilings.{positions}
 use Rattle.notation.specs.Choice.{_⇒_else_}
 use Rattle.signed.specs.Signed.{difference}
 use Rattle.geometry.specs.Ring.{Point}
-use Rattle.geometry.specs.Held.{onRing, odd}
+use Rattle.geometry.specs.Held.{onRing, odd, sideOf}
 use Rattle.geometry.specs.declared.Balance.{Balance}
 use Rattle.geometry.specs.declared.Place.{Place}
 use Rattle.geometry.specs.declared.Place.the-variants.{Edge, Inside, Outside}
 use Rattle.geometry.specs.declared.Position.{Position}
+use Rattle.geometry.specs.declared.Standing.{Standing}
+use Rattle.geometry.specs.declared.Standing.the-variants as standing
 
 -- 180 and 90 degrees
 abbrev pub halfLon : ℕ
@@ -72,3 +75,7 @@ pub record InRange (xs ys : List ℕ) : Type 0 where
 -- where a point lies to a ring, whichever way round that goes
 unfoldable pub place : List Point → Point → Place
 place l q = onRing l q ⇒ Edge else odd l q ⇒ Inside else Outside
+
+-- where it stands to a polygon's rings once this one was asked too: an edge settles it; the first ring holds its side, and a further one takes its inside away
+unfoldable pub stands : (first held : Bool) → List Point → Point → Standing
+stands first held l q = onRing l q ⇒ standing.Edge else standing.Is (first ⇒ sideOf l q else odd l q ⇒ false else held)

@@ -1,12 +1,15 @@
-// A ring and a point.
+// The rings of a polygon, one at a time, and a point.
 use crate::Place;
 use crate::Position;
+use crate::Standing;
 use crate::edge::crosses;
 use crate::edge::on_edge;
 use crate::ring::clockwise;
+ghost use mathlib.Core.Bool.{not};
 ghost use mathlib.Core.Path.{_≡_};
-ghost use Rattle.geometry.specs.Held.{holds as holdsOf};
-ghost use Rattle.geometry.specs.Shifted.{InRange, OnMap, points, point, shifted, place};
+ghost use Rattle.notation.specs.Choice.{_⇒_else_};
+ghost use Rattle.geometry.specs.Ring.{clockwise as clockwiseOf};
+ghost use Rattle.geometry.specs.Shifted.{InRange, OnMap, points, point, place, stands};
 
 // On an edge, or inside where an odd number of edges cross east of the point.
 pub fn locate(xs: &[u64], ys: &[u64], q: Position) -> Place
@@ -30,21 +33,38 @@ pub fn locate(xs: &[u64], ys: &[u64], q: Position) -> Place
     return Place::Outside;
 }
 
-// The ring holds the point: it holds its edges, and its inside or its outside by the way round that it goes.
-pub fn holds(xs: &[u64], ys: &[u64], x: u64, y: u64) -> bool
-    requires { ⌜ InRange (now xs) (now ys) × OnMap (record { lon = x; lat = y }) ⌝ }
-    ensures { λ r. ⌜ r ≡ holdsOf (points (now (xs .entry)) (now (ys .entry))) (shifted x y) ⌝ }
+// Whether a ring holds what is inside it, or what is outside: by the way round that it goes.
+fn holds_side(xs: &[u64], ys: &[u64], inside: bool) -> bool
+    requires { ⌜ InRange (now xs) (now ys) ⌝ }
+    ensures { λ r. ⌜ r ≡ (clockwiseOf (points (now (xs .entry)) (now (ys .entry))) ⇒ inside else not inside) ⌝ }
 {
-    let found = locate(xs, ys, Position { lon: x, lat: y });
-    match found {
+    if inside {
+        return clockwise(xs, ys);
+    }
+    return !clockwise(xs, ys);
+}
+
+// Where the point stands to a polygon's rings once this one was asked too: the first of them, or a further one, with whether the point is held so far.
+// Shut out: a hole's edge left out; a hole that cuts by the way round that it goes; a point inside two holes held again.
+pub fn stand(xs: &[u64], ys: &[u64], q: Position, first: bool, held: bool) -> Standing
+    requires { ⌜ InRange (now xs) (now ys) × OnMap q ⌝ }
+    ensures { λ r. ⌜ r ≡ stands first held (points (now (xs .entry)) (now (ys .entry))) (point q) ⌝ }
+{
+    match locate(xs, ys, q) {
         Place::Edge => {
-            return true;
+            return Standing::Edge;
         }
         Place::Inside => {
-            return clockwise(xs, ys);
+            if first {
+                return Standing::Is(holds_side(xs, ys, true));
+            }
+            return Standing::Is(false);
         }
         Place::Outside => {
-            return !clockwise(xs, ys);
+            if first {
+                return Standing::Is(holds_side(xs, ys, false));
+            }
+            return Standing::Is(held);
         }
     }
 }

@@ -24,3 +24,9 @@ pub enum Place {
     Inside,
     Outside,
 }
+
+// Where a point stands to those rings of a polygon that were asked: on an edge of one, or held by them or not.
+pub enum Standing {
+    Edge,
+    Is(bool),
+}

@@ -1,6 +1,7 @@
 pub mod Holds
 pub mod Broken
 pub mod Positions
+pub mod Coordinates
 pub mod Fits
 pub mod Lines
 pub mod Values

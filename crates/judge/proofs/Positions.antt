@@ -1,18 +1,19 @@
--- The first fault of coordinates has a number that fits the word. Up to the first polygon that has not one ring of at most 256 positions,
--- each polygon takes at most 256 numbers, and of polygons there are at most 15; that polygon's own fault has its first position's number.
+-- The first fault of coordinates has a number that fits the word. Where a zone has more than 15 rings, that stands at 0. Else each ring takes at most 256
+-- numbers up to the first ring of more positions, whose own fault has its first position's number: 1 + 15 · 256 is the greatest.
 use mathlib.Core.Bool.{Bool, true, false}
 use mathlib.Core.List.{List, [], _∷_, _++_, map}
 use mathlib.Core.Path.{_≡_, refl, ap, _∙_}
 use Prim.Native.Nat.{ℕ, _+_, _*_, _≤_, _<_}
 use native.Mathlib.Omega.{arith}
-use lib.Dec.{eqb, leb}
+use lib.Dec.{leb}
 use lib.ListN.{length}
-use borrow.Author.Tests.{eqb-true, leb-true, leb-false, lt-leb}
+use borrow.Author.Tests.{leb-true, leb-false, lt-leb}
 use Rattle.limits.specs.Ceilings as ceiling
 use Rattle.notation.specs.Choice.{_⇒_else_, _and_}
 use Rattle.word.specs.Kinds.{wrongType, tooMany, badRing}
 use Rattle.schema.specs.Shape as sort
 use Rattle.schema.specs.Pick.{Picked, PickedItems, bare, items, slots, listOf}
+use Rattle.schema.proofs.Tests.{and-right}
 use Rattle.fault.specs.declared.Fault.{Fault}
 use Rattle.fault.specs.declared.Least.{Least}
 use Rattle.fault.specs.Fault.{fault, lesser, least}
@@ -20,7 +21,7 @@ use Rattle.fault.proofs.Order.{by-test}
 use Rattle.fault.proofs.Leasts.{least-one, least-append}
 use Rattle.scalar.specs.Scalars.{unless}
 use Rattle.geometry.specs.Ring.{sound}
-use Rattle.rings.specs.Rings.{Found, at, count, ordinateKinds, numberKinds, positionKinds, position, allSound, positionsFound, ringFound, ring, ringPositions, ringsFound, ringsPositions, polygon, polygonPositions, polygonsFound, coordinatesFound}
+use Rattle.rings.specs.Rings.{Found, at, count, ordinateKinds, numberKinds, positionKinds, position, allSound, positionsFound, ringFound, ring, ringPositions, ringsFound, ringsPositions, polygon, polygonPositions, polygonRings, polygonsRings, isRingCount, areZoneCounts, polygonsFound, coordinatesFound}
 use Rattle.judge.specs.declared.Place.{Place}
 use Rattle.judge.specs.Faults.{numbered}
 use Rattle.judge.specs.Bounds.{OfStageB, Fitting, greatest, fields}
@@ -102,7 +103,7 @@ rings-upTo n (x ∷ l) = all-append (upTo-more (omega arith) (ring-upTo n x)) (u
 
 polygon-upTo : (n : ℕ) (x : Picked) → AllUpTo (n + polygonPositions x) (polygon n x)
 polygon-upTo n (bare x) = no-array n
-polygon-upTo n (items is) = all-append (at-upTo n (omega arith) (unless-kinds (eqb (count is) 1) badRing (omega arith))) (rings-upTo n (listOf is))
+polygon-upTo n (items is) = all-append (at-upTo n (omega arith) (unless-kinds (isRingCount (count is)) badRing (omega arith))) (rings-upTo n (listOf is))
 polygon-upTo n (slots ss) = no-array n
 
 -- all of them, up to some number
@@ -179,47 +180,53 @@ module _ (p : Place) (φ : ℕ) where
         (closed-upTo n top (omega arith) (allSound l) (sound (map position l)))
     long-ring n h (slots ss) o = absurd (omega arith)
 
-    one-ring : (n : ℕ) → n ≤ greatest → (l : List Picked) → length l ≡ 1 → ceiling.positions < ringsPositions l → Small (p .«record») φ (N (ringsFound n l))
+    -- rings of which one is too long: they take more numbers than as many rings may
+    long-rings : (n : ℕ) (l : List Picked) → n + ceiling.positions * length l ≤ greatest → ceiling.positions * length l < ringsPositions l
+        → Small (p .«record») φ (N (ringsFound n l))
     unfolding ringsFound ringsPositions
-    one-ring n h [] e o = absurd (omega arith)
-    one-ring n h (x ∷ []) e o = then-others {top = 0} (ring n x) [] (long-ring n h x (omega arith)) none
-    one-ring n h (x ∷ y ∷ l) e o = absurd (omega arith)
+    long-rings n [] h o = absurd (omega arith)
+    long-rings n (x ∷ l) h o =
+        let m = n + ringPositions x in
+        by-test (leb (ringPositions x) ceiling.positions)
+        (λ t. let k : ringPositions x ≤ ceiling.positions = leb-true (ringPositions x) ceiling.positions t in
+        others-then (ring n x) (ringsFound m l) (ring-upTo n x) (long-rings m l (omega arith) (omega arith)))
+        (λ t. let k : ceiling.positions < ringPositions x = leb-false (ringPositions x) ceiling.positions t in
+        then-others (ring n x) (ringsFound m l) (long-ring n (omega arith) x k) (rings-upTo m l))
 
-    -- a polygon that takes more numbers than one ring may
-    odd-polygon : (n : ℕ) → n ≤ greatest → (x : Picked) → ceiling.positions < polygonPositions x → Small (p .«record») φ (N (polygon n x))
+    -- a polygon of such rings
+    long-polygon : (n : ℕ) (x : Picked) → n + ceiling.positions * polygonRings x ≤ greatest → ceiling.positions * polygonRings x < polygonPositions x
+        → Small (p .«record») φ (N (polygon n x))
     unfolding count
-    odd-polygon n h (bare x) o = absurd (omega arith)
-    odd-polygon n h (items is) o =
+    long-polygon n (bare x) h o = absurd (omega arith)
+    long-polygon n (items is) h o =
         let l = listOf is in
-        let count = at n (unless (eqb (length l) 1) badRing) in
-        by-test (eqb (length l) 1)
-        (λ t. others-then {top = n} count (ringsFound n l) (at-upTo n (omega arith) (unless-kinds (eqb (length l) 1) badRing (omega arith)))
-        (one-ring n h l (eqb-true (length l) 1 t) o))
-        (λ t. then-others count (ringsFound n l) (failed-small n badRing h (omega arith) _ t) (rings-upTo n l))
-    odd-polygon n h (slots ss) o = absurd (omega arith)
+        let t = isRingCount (length l) in
+        others-then {top = n} (at n (unless t badRing)) (ringsFound n l) (at-upTo n (omega arith) (unless-kinds t badRing (omega arith))) (long-rings n l h o)
+    long-polygon n (slots ss) h o = absurd (omega arith)
 
-    -- with numbers left for a ring each
-    polygons-fit : (n : ℕ) (l : List Picked) → n + ceiling.positions * length l ≤ greatest → Holds Fitting (N (polygonsFound n l))
-    unfolding polygonsFound numbered least
+    -- with numbers left for all rings
+    polygons-fit : (n : ℕ) (l : List Picked) → n + ceiling.positions * polygonsRings l ≤ greatest → Holds Fitting (N (polygonsFound n l))
+    unfolding polygonsFound polygonsRings numbered least
     polygons-fit n [] h = nothing
     polygons-fit n (x ∷ l) h =
         let m = n + polygonPositions x in
-        by-test (leb (polygonPositions x) ceiling.positions)
-        (λ t. let o : polygonPositions x ≤ ceiling.positions = leb-true (polygonPositions x) ceiling.positions t in
+        let most : ℕ = ceiling.positions * polygonRings x in
+        by-test (leb (polygonPositions x) most)
+        (λ t. let o : polygonPositions x ≤ most = leb-true (polygonPositions x) most t in
         rw (N-append (polygon n x) (polygonsFound m l))
         (holds-lesser (numbered-fit (omega arith) (polygon-upTo n x)) (polygons-fit m l (omega arith))))
-        (λ t. let o : ceiling.positions < polygonPositions x = leb-false (polygonPositions x) ceiling.positions t in
-        small-fits (then-others (polygon n x) (polygonsFound m l) (odd-polygon n (omega arith) x o) (polygons-upTo m l .1)))
+        (λ t. let o : most < polygonPositions x = leb-false (polygonPositions x) most t in
+        small-fits (then-others (polygon n x) (polygonsFound m l) (long-polygon n x (omega arith) o) (polygons-upTo m l .1)))
 
-    -- of at most 15 polygons; where there are more, that stands at 0
+    -- of at most 15 polygons and rings; where there are more of either, that stands at 0
     pub coordinates-fit : (is : PickedItems) → Holds Fitting (N (coordinatesFound is))
     unfolding coordinatesFound count
     coordinates-fit is =
         let l = listOf is in
-        let t = leb (length l) ceiling.polygons in
+        let t = areZoneCounts (length l) (polygonsRings l) in
         let many = at 0 (unless t tooMany) in
         by-test t
-        (λ e. let o : length l ≤ ceiling.polygons = leb-true (length l) ceiling.polygons e in
+        (λ e. let o : polygonsRings l ≤ ceiling.zoneRings = leb-true (polygonsRings l) ceiling.zoneRings (and-right (leb (length l) ceiling.polygons) _ e) in
         rw (N-append many (polygonsFound 1 l))
         (holds-lesser (numbered-fit {top = 0} (omega arith) (at-upTo 0 (omega arith) (unless-kinds t tooMany (omega arith)))) (polygons-fit 1 l (omega arith))))
         (λ e. small-fits (then-others many (polygonsFound 1 l) (failed-small 0 tooMany (omega arith) (omega arith) t e) (polygons-upTo 1 l .1)))
@@ -228,6 +235,6 @@ module _ (p : Place) (φ : ℕ) where
   pub coordinates-of : (is : PickedItems) → Holds (Of (p .«record») φ) (N (coordinatesFound is))
   unfolding coordinatesFound
   coordinates-of is =
-      let t = leb (count is) ceiling.polygons in
+      let t = areZoneCounts (count is) (polygonsRings (listOf is)) in
       rw (N-append (at 0 (unless t tooMany)) (polygonsFound 1 (listOf is)))
       (holds-lesser (numbered-of {top = 0} (at-upTo 0 (omega arith) (unless-kinds t tooMany (omega arith)))) (numbered-of (polygons-upTo 1 (listOf is) .1)))

@@ -166,3 +166,16 @@ position-in-second-polygon = refl
 ring-not-closed : polygons "[[[0,0],[0,2],[2,2],[2,0]]]" ≡ broken 1 73 1 11
 unfolding judging firstOf
 ring-not-closed = refl
+
+second-ring-not-closed : polygons "[[[0,0],[0,9],[9,9],[0,0]],[[1,2],[1,3],[2,3],[1,7]]]" ≡ broken 1 73 5 11
+unfolding judging firstOf
+second-ring-not-closed = refl
+
+polygon-without-ring : polygons "[[[0,0],[0,9],[9,9],[0,0]],[[1,2],[1,3],[2,3],[1,2]]],[]" ≡ broken 1 73 9 11
+unfolding judging firstOf
+polygon-without-ring = refl
+
+-- items of a polygon that are no arrays count as rings
+fifteen-rings-and-sixteen : polygons "[7,7,7,7,7,7,7,7],[7,7,7,7,7,7,7]" ∷ polygons "[7,7,7,7,7,7,7,7],[7,7,7,7,7,7,7,7]" ∷ [] ≡ broken 1 73 1 7 ∷ broken 1 73 0 10 ∷ []
+unfolding judging firstOf
+fifteen-rings-and-sixteen = refl

@@ -3,3 +3,4 @@ pub mod Cases
 pub mod Bounds
 pub mod Ready
 pub mod Judged
+pub mod Coordinates

@@ -1,4 +1,4 @@
--- The ceilings of document 01, "The feed set", one name each. Contracts cite these names and no number.
+-- The ceilings of document 01, "The feed set", and those of rings, document 02's request W13, one name each. Contracts cite these names and no number.
 use Prim.Native.Nat.{ℕ}
 use Rattle.limits.specs.declared.Limits.{Limits}
 
@@ -21,6 +21,14 @@ segments = 16
 -- polygons of a zone
 abbrev pub polygons : ℕ
 polygons = 15
+
+-- rings of a polygon
+abbrev pub rings : ℕ
+rings = 8
+
+-- rings of a zone, over all its polygons
+abbrev pub zoneRings : ℕ
+zoneRings = 15
 
 -- rules of a zone
 abbrev pub rules : ℕ
@@ -47,6 +55,8 @@ ceilings =
       records = records;
       segments = segments;
       polygons = polygons;
+      rings = rings;
+      «zone_rings» = zoneRings;
       rules = rules;
       positions = positions;
       items = items;

@@ -8,6 +8,8 @@ pub struct Limits {
     pub records: u16,
     pub segments: u16,
     pub polygons: u16,
+    pub rings: u16,
+    pub zone_rings: u16,
     pub rules: u16,
     pub positions: u16,
     pub items: u16,
@@ -25,6 +27,10 @@ impl Limits {
     pub const SEGMENTS: u16 = 16;
     // Polygons of a zone.
     pub const POLYGONS: u16 = 15;
+    // Rings of a polygon.
+    pub const RINGS: u16 = 8;
+    // Rings of a zone, over all its polygons.
+    pub const ZONE_RINGS: u16 = 15;
     // Rules of a zone.
     pub const RULES: u16 = 32;
     // Positions of a ring.
@@ -44,6 +50,8 @@ impl Limits {
             records: Limits::RECORDS,
             segments: Limits::SEGMENTS,
             polygons: Limits::POLYGONS,
+            rings: Limits::RINGS,
+            zone_rings: Limits::ZONE_RINGS,
             rules: Limits::RULES,
             positions: Limits::POSITIONS,
             items: Limits::ITEMS,

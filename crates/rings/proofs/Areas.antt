@@ -21,12 +21,12 @@ use Rattle.schema.specs.Pick.{Picked}
 use Rattle.scalar.specs.Scalars.{unless}
 use Rattle.rings.specs.Rings.{Found, at, positionKinds, position, none, allSound, positionsFound, ringFound}
 use Rattle.rings.specs.Least.{lesser, leastFound}
-use Rattle.rings.specs.Parts.{positionShape, partsOf, foundIn, Charted, RingRead, RingRoom, Outlined, areaLeast, Tells}
+use Rattle.rings.specs.Parts.{positionShape, partsOf, Charted, RingRead, RingRoom, Outlined, areaLeast, Tells}
 use Rattle.rings.specs.declared.LeastFound.{LeastFound}
 use Rattle.rings.specs.declared.LeastFound.the-variants.{None, At}
 use Rattle.rings.specs.declared.RingPoints.{RingPoints}
 use Rattle.rings.proofs.Order.{lesser-none, lesser-assoc, both-none, least-append, least-of-none, least-nothing, at-nothing, later-kind}
-use Rattle.rings.proofs.Going.{Going, going-end, none-left}
+use Rattle.rings.proofs.Going.{foundIn, Going, going-end, none-left}
 use Rattle.rings.proofs.Numbers.{least-one, least-empty, not-none}
 use Rattle.rings.proofs.Charts.{Drawn, drawn-end}
 
@@ -68,12 +68,12 @@ module _ (n : ℕ) (p : List ℕ) {at₀ count : ℕ} {least : LeastFound} {lons
   pub ring-read : RingRead n (partsOf positionShape p) (record { lons = lons; lats = lats; count = count; least = least })
   ring-read =
       let t = going-end spotFound single positionShape n p g f h in
-      let found = t .least ∙ ap leastFound (sym (spots-found n (partsOf positionShape p))) in
+      let found = t .found ∙ ap leastFound (sym (spots-found n (partsOf positionShape p))) in
       record {
-        count = t .items;
+        count = t .counted;
         least = found;
         points = λ s i.
-            drawn-end d (none-left spotFound single positionShape n p g f h) (found ∙ sound-found n (partsOf positionShape p) s) (omega (arith, t .items));
+            drawn-end d (none-left spotFound single positionShape n p g f h) (found ∙ sound-found n (partsOf positionShape p) s) (omega (arith, t .counted));
       }
 
 -- the part that is filled

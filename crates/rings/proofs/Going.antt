@@ -1,6 +1,7 @@
 -- A loop over items that are judged and numbered one after the other, for any way to judge one: what has been found so far, with what is
--- left, is what is found in all. The items' bytes lie one behind the other, in any bytes, so there are no more positions than bytes.
-use mathlib.Core.List.{List, [], _∷_}
+-- left, is what is found in all. The items' bytes lie one behind the other, in any bytes, so there are no more positions than bytes. A count alone is
+-- such a loop in which nothing is found.
+use mathlib.Core.List.{List, [], _∷_, _++_}
 use mathlib.Core.Path.{_≡_, refl, sym, ap, _∙_}
 use Prim.Native.Nat.{ℕ, _+_, _-_, _≤_, _<_}
 use native.Mathlib.Omega.{arith}
@@ -16,7 +17,7 @@ use Rattle.schema.specs.Shape.{Shape}
 use Rattle.schema.specs.Pick.{Picked}
 use Rattle.rings.specs.Rings.{Found}
 use Rattle.rings.specs.Least.{lesser, leastFound}
-use Rattle.rings.specs.Parts.{Listing, picked, partsOf, Left, positionsIn, foundIn, Tallied}
+use Rattle.rings.specs.Parts.{Listing, picked, partsOf, Left}
 use Rattle.rings.specs.declared.LeastFound.{LeastFound}
 use Rattle.rings.specs.declared.LeastFound.the-variants.{None}
 use Rattle.rings.proofs.Order.{lesser-none, none-lesser, lesser-assoc, least-append}
@@ -45,6 +46,9 @@ module _ {p : List ℕ} {at items positions : ℕ} (g : Passed p at items positi
   pub passed-within : positions ≤ length p
   passed-within = omega (arith, g .room, g .inside)
 
+  pub passed-few : items ≤ length p
+  passed-few = omega (arith, g .few, g .inside)
+
   -- where an item is found: its bytes, with the positions passed, are no more than all
   module _ {m : Item} (k : ItemPlaced p at m) where
     pub passed-room : Room p at items positions m
@@ -69,15 +73,25 @@ module _ {p : List ℕ} {at items positions : ℕ} (g : Passed p at items positi
           inside = omega (arith, k .inside);
         }
 
+-- what c counts in each of several items, added up
+unfoldable pub sumOver : (Picked → ℕ) → List Picked → ℕ
+sumOver c [] = 0
+sumOver c (x ∷ l) = c x + sumOver c l
+
+-- several items one after the other, numbered: e tells what is found in one, and c how many positions it has
+unfoldable pub foundIn : (ℕ → Picked → List Found) → (Picked → ℕ) → ℕ → List Picked → List Found
+foundIn e c n [] = []
+foundIn e c n (x ∷ l) = e n x ++ foundIn e c (n + c x) l
+
 module _ (e : ℕ → Picked → List Found) (c : Picked → ℕ) where
   -- the definitions, step by step
-  positions-none : positionsIn c [] ≡ 0
-  unfolding positionsIn
-  positions-none = refl
+  sum-none : sumOver c [] ≡ 0
+  unfolding sumOver
+  sum-none = refl
 
-  positions-next : (x : Picked) (l : List Picked) → positionsIn c (x ∷ l) ≡ c x + positionsIn c l
-  unfolding positionsIn
-  positions-next x l = refl
+  sum-next : (x : Picked) (l : List Picked) → sumOver c (x ∷ l) ≡ c x + sumOver c l
+  unfolding sumOver
+  sum-next x l = refl
 
   found-none : (n : ℕ) → leastFound (foundIn e c n []) ≡ None
   unfolding foundIn leastFound
@@ -94,8 +108,14 @@ module _ (e : ℕ → Picked → List Found) (c : Picked → ℕ) where
       pub left : List Picked
       pub here : Left σ p at left
       pub counted : items + length left ≡ length (partsOf σ p)
-      pub numbered : positions + positionsIn c left ≡ positionsIn c (partsOf σ p)
+      pub numbered : positions + sumOver c left ≡ sumOver c (partsOf σ p)
       pub found : lesser least (leastFound (foundIn e c (n + positions) left)) ≡ leastFound (foundIn e c n (partsOf σ p))
+
+    -- and at its end
+    pub record Ended (items positions : ℕ) (least : LeastFound) : Type 0 where
+      pub counted : items ≡ length (partsOf σ p)
+      pub numbered : positions ≡ sumOver c (partsOf σ p)
+      pub found : least ≡ leastFound (foundIn e c n (partsOf σ p))
 
     abbrev pub going-start : Listing p → Going 1 0 0 None
     going-start w =
@@ -122,10 +142,10 @@ module _ (e : ℕ → Picked → List Found) (c : Picked → ℕ) where
             sym (lesser-none least) ∙ ap (lesser least) (sym (found-none (n + positions)))
             ∙ ap (λ (l : List Picked). lesser least (leastFound (foundIn e c (n + positions) l))) (sym none-left) ∙ g .found
 
-        pub going-end : Tallied e c n (partsOf σ p) (record { items = items; positions = positions; least = least })
+        pub going-end : Ended items positions least
         going-end =
-            let z : positionsIn c (g .left) ≡ 0 = ap (positionsIn c) none-left ∙ positions-none in
-            record { items = end-counted; positions = omega (arith, g .numbered); least = end-found }
+            let z : sumOver c (g .left) ≡ 0 = ap (sumOver c) none-left ∙ sum-none in
+            record { counted = end-counted; numbered = omega (arith, g .numbered); found = end-found }
 
       -- where one is found, its bytes are whole
       pub going-whole : (m : Item) → o ≡ step.Found m → Whole (itemOf p m) (treeOf (itemOf p m))
@@ -139,8 +159,8 @@ module _ (e : ℕ → Picked → List Found) (c : Picked → ℕ) where
             let o = left-more σ p at (g .left) (g .here) f m h in
             let x = picked σ p m in
             let a : length (g .left) ≡ length (o .rest) + 1 = omega (arith, ap length (o .is)) in
-            let b : positionsIn c (g .left) ≡ q + positionsIn c (o .rest) =
-            ap (positionsIn c) (o .is) ∙ positions-next x (o .rest) ∙ ap (λ (z : ℕ). z + positionsIn c (o .rest)) (sym many) in
+            let b : sumOver c (g .left) ≡ q + sumOver c (o .rest) =
+            ap (sumOver c) (o .is) ∙ sum-next x (o .rest) ∙ ap (λ (z : ℕ). z + sumOver c (o .rest)) (sym many) in
             let s : n + (positions + q) ≡ n + positions + c x = omega (arith, many) in
             let rest = leastFound (foundIn e c (n + positions + c x) (o .rest)) in (
               record {
@@ -161,3 +181,26 @@ module _ (e : ℕ → Picked → List Found) (c : Picked → ℕ) where
 
         pub going-more : Going (m .next) (items + 1) (positions + q) next
         going-more = going-next .0
+
+-- A count over items, with nothing asked of them but that.
+module _ (c : Picked → ℕ) (σ : Shape) (p : List ℕ) where
+  abbrev nothing : ℕ → Picked → List Found
+  nothing n x = []
+
+  nothing-found : None ≡ leastFound []
+  unfolding leastFound
+  nothing-found = refl
+
+  -- at the place `at` of an array, with so many items passed that count so much
+  abbrev pub Counting : (at items total : ℕ) → Type 0
+  Counting at items total = Going nothing c σ 0 p at items total None
+
+  abbrev pub counting-start : Listing p → Counting 1 0 0
+  counting-start w = going-start nothing c σ 0 p w
+
+  module _ {at items total : ℕ} (g : Counting at items total) {o : ItemStep} (f : ItemPassed p at o) where
+    pub counting-end : o ≡ step.End → total ≡ sumOver c (partsOf σ p)
+    counting-end h = going-end nothing c σ 0 p g f h .numbered
+
+    pub counting-more : (m : Item) → o ≡ step.Found m → (q : ℕ) → q ≡ c (picked σ p m) → Counting (m .next) (items + 1) (total + q)
+    counting-more m h q many = going-more nothing c σ 0 p g f m h None None q nothing-found (sym (none-lesser None)) many

@@ -6,3 +6,4 @@ pub mod Positions
 pub mod Charts
 pub mod Areas
 pub mod Zones
+pub mod OneRing

@@ -3,7 +3,6 @@ use mathlib.Core.Bool.{true, false}
 use mathlib.Core.List.{List, [], _∷_, _++_}
 use mathlib.Core.Path.{_≡_, refl, sym, ap, ap₂, _∙_}
 use Prim.Native.Nat.{ℕ, _+_}
-use lib.Dec.{eqb, leb}
 use lib.ListN.{length}
 use Rattle.limits.specs.Ceilings as ceiling
 use Rattle.word.specs.Kinds.{wrongType, tooMany, badRing}
@@ -13,32 +12,39 @@ use Rattle.schema.specs.Shape as shape
 use Rattle.schema.specs.Table23.{coordinates}
 use Rattle.schema.specs.Pick.{Picked, PickedItems, items, pick, listOf}
 use Rattle.scalar.specs.Scalars.{unless}
-use Rattle.rings.specs.Rings.{Found, at, count, ring, ringPositions, ringFound, ringsFound, ringsPositions, polygon, polygonPositions, polygonsFound, coordinatesFound}
+use Rattle.rings.specs.Rings.{Found, at, count, ring, ringPositions, ringFound, ringsFound, ringsPositions, polygon, polygonPositions, polygonRings, polygonsRings, isRingCount, areZoneCounts, polygonsFound, coordinatesFound}
 use Rattle.rings.specs.Least.{lesser, leastFound}
-use Rattle.rings.specs.Parts.{positionShape, ringShape, polygonShape, Listing, partsOf, isArray, positionsIn, foundIn, Tells, Tallied}
+use Rattle.rings.specs.Parts.{positionShape, ringShape, polygonShape, Listing, partsOf, isArray, Tells, TellsRings, TellsPolygon, TellsPolygons}
 use Rattle.rings.specs.declared.LeastFound.{LeastFound}
 use Rattle.rings.specs.declared.LeastFound.the-variants.{At}
 use Rattle.rings.specs.declared.Judged.{Judged}
-use Rattle.rings.specs.declared.Tally.{Tally}
+use Rattle.rings.specs.declared.PolygonTally.{PolygonTally}
+use Rattle.rings.specs.declared.ZoneTally.{ZoneTally}
 use Rattle.rings.proofs.Order.{least-append}
+use Rattle.rings.proofs.Going.{sumOver, foundIn}
 use Rattle.rings.proofs.Picked.{array-picked, other-picked, items-parts}
 use Rattle.rings.proofs.Numbers.{least-one}
 
 -- the definitions, as items after another
-rings-found : (n : ℕ) (l : List Picked) → ringsFound n l ≡ foundIn ring ringPositions n l
+pub rings-found : (n : ℕ) (l : List Picked) → ringsFound n l ≡ foundIn ring ringPositions n l
 unfolding ringsFound foundIn
 rings-found n [] = refl
 rings-found n (x ∷ l) = ap (λ (fs : List Found). ring n x ++ fs) (rings-found (n + ringPositions x) l)
 
-rings-positions : (l : List Picked) → ringsPositions l ≡ positionsIn ringPositions l
-unfolding ringsPositions positionsIn
+pub rings-positions : (l : List Picked) → ringsPositions l ≡ sumOver ringPositions l
+unfolding ringsPositions sumOver
 rings-positions [] = refl
 rings-positions (x ∷ l) = ap (λ k. ringPositions x + k) (rings-positions l)
 
-polygons-found : (n : ℕ) (l : List Picked) → polygonsFound n l ≡ foundIn polygon polygonPositions n l
+pub polygons-found : (n : ℕ) (l : List Picked) → polygonsFound n l ≡ foundIn polygon polygonPositions n l
 unfolding polygonsFound foundIn
 polygons-found n [] = refl
 polygons-found n (x ∷ l) = ap (λ (fs : List Found). polygon n x ++ fs) (polygons-found (n + polygonPositions x) l)
+
+pub polygons-rings : (l : List Picked) → polygonsRings l ≡ sumOver polygonRings l
+unfolding polygonsRings sumOver
+polygons-rings [] = refl
+polygons-rings (x ∷ l) = ap (λ k. polygonRings x + k) (polygons-rings l)
 
 abbrev broken : ℕ → Judged
 broken n = record { positions = 0; least = At n wrongType }
@@ -56,35 +62,41 @@ module _ {p : List ℕ} {x : Json} (w : Whole p x) (n : ℕ) where
       rw (k .1) record { least = sym (least-one n wrongType); positions = refl }
 
   -- an item of the coordinates
-  pub polygon-array : (t : Tally) (found : LeastFound) → isArray (kindAt p) ≡ true → (Listing p → Tallied ring ringPositions n (partsOf ringShape p) t)
-      → found ≡ lesser (leastFound (at n (unless (eqb (t .items) 1) badRing))) (t .least)
-      → Tells (polygon n (pick polygonShape x)) (polygonPositions (pick polygonShape x)) (record { positions = t .positions; least = found })
+  pub polygon-array : (t : PolygonTally) (found : LeastFound) → isArray (kindAt p) ≡ true → (Listing p → TellsRings n (partsOf ringShape p) t)
+      → found ≡ lesser (leastFound (at n (unless (isRingCount (t .rings)) badRing))) (t .least)
+      → TellsPolygon n (pick polygonShape x) (record { rings = t .rings; positions = t .positions; least = found })
   unfolding count
   polygon-array t found e g f =
-      let k = array-picked shape.positions 1 ringShape x w e in
+      let k = array-picked shape.positions ceiling.rings ringShape x w e in
       let h = g (k .listed .listing) in
       let l = partsOf ringShape p in
-      rw (k .picks) (rw (k .listed .parts)
+      rw (k .picks)
       record {
+        rings = rw (k .listed .parts) (h .rings);
+        positions = rw (k .listed .parts) (h .positions);
         least =
-            f ∙ ap₂ lesser (ap (λ m. leastFound (at n (unless (eqb m 1) badRing))) (h .items)) (h .least ∙ ap leastFound (sym (rings-found n l)))
-            ∙ sym (least-append (at n (unless (eqb (length l) 1) badRing)) (ringsFound n l));
-        positions = h .positions ∙ sym (rings-positions l);
-      })
+            rw (k .listed .parts)
+            (f ∙ ap₂ lesser (ap (λ m. leastFound (at n (unless (isRingCount m) badRing))) (h .rings)) (h .least)
+            ∙ sym (least-append (at n (unless (isRingCount (length l)) badRing)) (ringsFound n l)));
+      }
 
-  pub polygon-other : isArray (kindAt p) ≡ false → Tells (polygon n (pick polygonShape x)) (polygonPositions (pick polygonShape x)) (broken n)
+  pub polygon-other : isArray (kindAt p) ≡ false → TellsPolygon n (pick polygonShape x) (record { rings = 0; positions = 0; least = At n wrongType })
   polygon-other e =
-      let k = other-picked shape.positions 1 ringShape x w e in
-      rw (k .1) record { least = sym (least-one n wrongType); positions = refl }
+      let k = other-picked shape.positions ceiling.rings ringShape x w e in
+      rw (k .1) record { rings = refl; positions = refl; least = sym (least-one n wrongType) }
+
+abbrev counts : (m k : ℕ) → List Found
+counts m k = at 0 (unless (areZoneCounts m k) tooMany)
 
 -- all of field 73
-pub coordinates-found : {p : List ℕ} (t : Tally) → (Listing p → Tallied polygon polygonPositions 1 (partsOf polygonShape p) t)
+pub coordinates-found : {p : List ℕ} (t : ZoneTally) → (Listing p → TellsPolygons 1 (partsOf polygonShape p) t)
     → (x : Json) (is : PickedItems) → Whole p x → pick coordinates x ≡ items is
-    → lesser (leastFound (at 0 (unless (leb (t .items) ceiling.polygons) tooMany))) (t .least) ≡ leastFound (coordinatesFound is)
+    → lesser (leastFound (counts (t .polygons) (t .rings))) (t .least) ≡ leastFound (coordinatesFound is)
 unfolding coordinatesFound count coordinates
 coordinates-found {p} t g x is w e =
     let k = items-parts shape.positions ceiling.polygons polygonShape x is w e in
     let h = g (k .listing) in let l = k .parts in
-    ap₂ lesser (ap (λ m. leastFound (at 0 (unless (leb m ceiling.polygons) tooMany))) (h .items ∙ ap length (sym l)))
-    (h .least ∙ ap leastFound (sym (polygons-found 1 (partsOf polygonShape p)) ∙ ap (polygonsFound 1) (sym l)))
-    ∙ sym (least-append (at 0 (unless (leb (length (listOf is)) ceiling.polygons) tooMany)) (polygonsFound 1 (listOf is)))
+    ap₂ lesser
+    (ap₂ (λ m j. leastFound (counts m j)) (h .polygons ∙ ap length (sym l)) (h .rings ∙ ap polygonsRings (sym l)))
+    (h .least ∙ ap (λ (ps : List Picked). leastFound (polygonsFound 1 ps)) (sym l))
+    ∙ sym (least-append (counts (length (listOf is)) (polygonsRings (listOf is))) (polygonsFound 1 (listOf is)))

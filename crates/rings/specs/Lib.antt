@@ -1,4 +1,5 @@
 pub mod Rings
 pub mod Least
 pub mod Parts
+pub mod OneRing
 pub mod Cases

@@ -24,7 +24,7 @@ use Rattle.schema.specs.Shape as shape
 use Rattle.schema.specs.Shape.{Shape}
 use Rattle.schema.specs.Pick.{Picked, bare, items, slots, pick}
 use Rattle.scalar.specs.Scalars.{unless, formed}
-use Rattle.rings.specs.Rings.{Found, at, ordinate, ordinateKinds, numberKinds, position, allSound, positionsFound}
+use Rattle.rings.specs.Rings.{Found, at, ordinate, ordinateKinds, numberKinds, position, allSound, positionsFound, ringsFound, ringsPositions, polygon, polygonPositions, polygonRings, polygonsRings, polygonsFound}
 use Rattle.rings.specs.Least.{leastFound}
 use Rattle.rings.specs.declared.LeastFound.{LeastFound}
 use Rattle.rings.specs.declared.LeastFound.the-variants.{None, At}
@@ -32,7 +32,8 @@ use Rattle.rings.specs.declared.Ordinate.{Ordinate}
 use Rattle.rings.specs.declared.Spot.{Spot}
 use Rattle.rings.specs.declared.RingPoints.{RingPoints}
 use Rattle.rings.specs.declared.Judged.{Judged}
-use Rattle.rings.specs.declared.Tally.{Tally}
+use Rattle.rings.specs.declared.PolygonTally.{PolygonTally}
+use Rattle.rings.specs.declared.ZoneTally.{ZoneTally}
 
 -- the shapes inside field 73
 abbrev pub numberShape : Shape
@@ -45,7 +46,7 @@ abbrev pub ringShape : Shape
 ringShape = shape.array shape.positions ceiling.positions positionShape
 
 abbrev pub polygonShape : Shape
-polygonShape = shape.array shape.positions 1 ringShape
+polygonShape = shape.array shape.positions ceiling.rings ringShape
 
 -- p is an array, whole; or there is nothing
 pub record Listing (p : List ℕ) : Type 0 where
@@ -111,24 +112,31 @@ pub record Spotted (n : ℕ) (kinds : List ℕ) (q : Point) (s : Spot) : Type 0 
   pub least : s .least ≡ leastFound (at n kinds)
   pub point : s .least ≡ None → point (s .point) ≡ q
 
--- Several items after another, numbered: e tells what is found in one, and c how many positions it has.
-unfoldable pub positionsIn : (Picked → ℕ) → List Picked → ℕ
-positionsIn c [] = 0
-positionsIn c (x ∷ l) = c x + positionsIn c l
-
-unfoldable pub foundIn : (ℕ → Picked → List Found) → (Picked → ℕ) → ℕ → List Picked → List Found
-foundIn e c n [] = []
-foundIn e c n (x ∷ l) = e n x ++ foundIn e c (n + c x) l
-
 -- a value in which that much is found, with its positions
 pub record Tells (found : List Found) (count : ℕ) (r : Judged) : Type 0 where
   pub least : r .least ≡ leastFound found
   pub positions : r .positions ≡ count
 
-pub record Tallied (e : ℕ → Picked → List Found) (c : Picked → ℕ) (n : ℕ) (l : List Picked) (r : Tally) : Type 0 where
-  pub items : r .items ≡ length l
-  pub positions : r .positions ≡ positionsIn c l
-  pub least : r .least ≡ leastFound (foundIn e c n l)
+-- the rings of a polygon, the first position with the number n; a polygon; and the polygons of a zone
+pub record TellsRings (n : ℕ) (l : List Picked) (r : PolygonTally) : Type 0 where
+  pub rings : r .rings ≡ length l
+  pub positions : r .positions ≡ ringsPositions l
+  pub least : r .least ≡ leastFound (ringsFound n l)
+
+pub record TellsPolygon (n : ℕ) (x : Picked) (r : PolygonTally) : Type 0 where
+  pub rings : r .rings ≡ polygonRings x
+  pub positions : r .positions ≡ polygonPositions x
+  pub least : r .least ≡ leastFound (polygon n x)
+
+pub record TellsPolygons (n : ℕ) (l : List Picked) (r : ZoneTally) : Type 0 where
+  pub polygons : r .polygons ≡ length l
+  pub rings : r .rings ≡ polygonsRings l
+  pub least : r .least ≡ leastFound (polygonsFound n l)
+
+-- what is counted in any bytes: no more than there are bytes
+pub record PolygonRoom (bytes : ℕ) (r : PolygonTally) : Type 0 where
+  pub rings : r .rings ≤ bytes
+  pub positions : r .positions ≤ bytes
 
 -- the points of a ring, two lists of one length of which the first are filled
 pub record Charted (lons lats : List ℕ) : Type 0 where

@@ -1,11 +1,12 @@
--- Field 73, coordinates: document 01's rules on polygons, rings and positions, with the numbers that positions count over the whole zone.
+-- Field 73, coordinates: document 01's rules on polygons, rings and positions, with the numbers that positions count over the whole zone; how many rings
+-- a polygon and a zone may have is document 02's request W13.
 use mathlib.Core.Bool.{Bool, true, false}
 use mathlib.Core.List.{List, [], _∷_, _++_, map}
 use Prim.Native.Nat.{ℕ, _+_}
-use lib.Dec.{eqb, leb}
+use lib.Dec.{leb}
 use lib.ListN.{length}
 use lib.IntN.{ℤ, pos}
-use Rattle.limits.specs.Ceilings.{polygons, positions}
+use Rattle.limits.specs.Ceilings.{polygons, rings, zoneRings, positions}
 use Rattle.notation.specs.Choice.{_⇒_else_, _and_}
 use Rattle.word.specs.Kinds.{wrongType, tooMany, badRing}
 use Rattle.json.specs.Tree as tree
@@ -118,9 +119,13 @@ unfoldable pub ringsPositions : List Picked → ℕ
 ringsPositions [] = 0
 ringsPositions (x ∷ l) = ringPositions x + ringsPositions l
 
--- a polygon: one ring
+-- how many rings a polygon may have
+abbrev pub isRingCount : ℕ → Bool
+isRingCount m = leb 1 m and leb m rings
+
+-- a polygon: rings, one at least
 abbrev pub polygon : ℕ → Picked → List Found
-polygon n (items is) = at n (unless (eqb (count is) 1) badRing) ++ ringsFound n (listOf is)
+polygon n (items is) = at n (unless (isRingCount (count is)) badRing) ++ ringsFound n (listOf is)
 polygon n (bare x) = at n (wrongType ∷ [])
 polygon n (slots ss) = at n (wrongType ∷ [])
 
@@ -129,10 +134,24 @@ polygonPositions (items is) = ringsPositions (listOf is)
 polygonPositions (bare x) = 0
 polygonPositions (slots ss) = 0
 
+-- its rings: every item counts as one, an array or not
+abbrev pub polygonRings : Picked → ℕ
+polygonRings (items is) = count is
+polygonRings (bare x) = 0
+polygonRings (slots ss) = 0
+
+unfoldable pub polygonsRings : List Picked → ℕ
+polygonsRings [] = 0
+polygonsRings (x ∷ l) = polygonRings x + polygonsRings l
+
 unfoldable pub polygonsFound : ℕ → List Picked → List Found
 polygonsFound n [] = []
 polygonsFound n (x ∷ l) = polygon n x ++ polygonsFound (n + polygonPositions x) l
 
--- all of field 73, where it is an array: too many polygons stand at 0
+-- how many polygons a zone may have, and how many rings over all of them
+abbrev pub areZoneCounts : (m k : ℕ) → Bool
+areZoneCounts m k = leb m polygons and leb k zoneRings
+
+-- all of field 73, where it is an array: too many polygons stand at 0, and so do too many rings
 unfoldable pub coordinatesFound : PickedItems → List Found
-coordinatesFound is = at 0 (unless (leb (count is) polygons) tooMany) ++ polygonsFound 1 (listOf is)
+coordinatesFound is = at 0 (unless (areZoneCounts (count is) (polygonsRings (listOf is))) tooMany) ++ polygonsFound 1 (listOf is)

@@ -32,15 +32,22 @@ pub struct RingPoints {
     pub least: LeastFound,
 }
 
-// A ring or polygon: how many positions it has, and its first fault.
+// A ring: how many positions it has, and its first fault.
 pub struct Judged {
     pub positions: u32,
     pub least: LeastFound,
 }
 
-// The rings of a polygon, or the polygons of a zone: how many they are, how many positions they have, and their first fault.
-pub struct Tally {
-    pub items: u32,
+// A polygon, or its rings alone: how many rings and positions there are, and the first fault.
+pub struct PolygonTally {
+    pub rings: u32,
     pub positions: u32,
+    pub least: LeastFound,
+}
+
+// The polygons of a zone: how many they are, how many rings they have, and their first fault.
+pub struct ZoneTally {
+    pub polygons: u32,
+    pub rings: u32,
     pub least: LeastFound,
 }

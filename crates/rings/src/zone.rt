@@ -1,7 +1,7 @@
-// All of a zone's coordinates: polygons of one ring each.
-use crate::Judged;
+// All of a zone's coordinates: polygons of rings.
 use crate::LeastFound;
-use crate::Tally;
+use crate::PolygonTally;
+use crate::ZoneTally;
 use crate::position::is_array;
 use crate::ring::judge_ring;
 use limits::Limits;
@@ -16,23 +16,23 @@ ghost use Rattle.json.specs.Tree.{Json};
 ghost use Rattle.walk.specs.Part.{Whole};
 ghost use Rattle.schema.specs.Pick.{PickedItems, items as itemsAre, pick};
 ghost use Rattle.schema.specs.Table23.{coordinates};
-ghost use Rattle.rings.specs.Rings.{ring, ringPositions, polygon, polygonPositions, coordinatesFound};
+ghost use Rattle.rings.specs.Rings.{isRingCount, areZoneCounts, coordinatesFound};
 ghost use Rattle.rings.specs.Least.{leastFound};
-ghost use Rattle.rings.specs.Parts.{ringShape, polygonShape, Listing, partsOf, Tells, Tallied};
+ghost use Rattle.rings.specs.Parts.{ringShape, polygonShape, Listing, partsOf, PolygonRoom, TellsRings, TellsPolygon, TellsPolygons};
 
 // The items of the polygon p, the first position of which has the number n.
-fn judge_rings(p: &[u8], n: u32) -> Tally
+fn judge_rings(p: &[u8], n: u32) -> PolygonTally
     requires { ⌜ n + length (now p) < 2 ^ 32 ⌝ }
-    ensures { λ r. ⌜ (r .positions ≤ length (now (p .entry))) × (Listing (now (p .entry)) → Tallied ring ringPositions n (partsOf ringShape (now (p .entry))) r) ⌝ }
+    ensures { λ r. ⌜ PolygonRoom (length (now (p .entry))) r × (Listing (now (p .entry)) → TellsRings n (partsOf ringShape (now (p .entry))) r) ⌝ }
 {
-    let mut items: u32 = 0;
+    let mut rings: u32 = 0;
     let mut positions: u32 = 0;
     let mut least = LeastFound::None;
     let mut at: usize = 1;
     loop {
         let ItemStep::Found(item) = pass_item(p, at) else {
-            return Tally {
-                items,
+            return PolygonTally {
+                rings,
                 positions,
                 least,
             };
@@ -42,45 +42,58 @@ fn judge_rings(p: &[u8], n: u32) -> Tally
         let judged = judge_ring(&p[from..upto], n + positions);
         let first = judged.least;
         least = least.lesser(first);
-        items += 1;
+        rings += 1;
         positions += judged.positions;
         at = item.next;
     }
 }
 
+// A polygon may have so many rings.
+fn is_ring_count(rings: u32) -> bool
+    ensures { λ r. ⌜ r ≡ isRingCount rings ⌝ }
+{
+    if rings < 1 {
+        return false;
+    }
+    rings <= Limits::RINGS as u32
+}
+
 // An item of the coordinates, whose first position has the number n.
-fn judge_polygon(p: &[u8], n: u32) -> Judged
+fn judge_polygon(p: &[u8], n: u32) -> PolygonTally
     requires { ⌜ n + length (now p) < 2 ^ 32 ⌝ }
-    ensures { λ r. ⌜ (r .positions ≤ length (now (p .entry))) × ((x : Json) → Whole (now (p .entry)) x → Tells (polygon n (pick polygonShape x)) (polygonPositions (pick polygonShape x)) r) ⌝ }
+    ensures { λ r. ⌜ PolygonRoom (length (now (p .entry))) r × ((x : Json) → Whole (now (p .entry)) x → TellsPolygon n (pick polygonShape x) r) ⌝ }
 {
     if !is_array(p) {
-        return Judged {
+        return PolygonTally {
+            rings: 0,
             positions: 0,
             least: LeastFound::At(n, Kind::WRONG_TYPE),
         };
     }
-    let rings = judge_rings(p, n);
-    let found = rings.least;
-    Judged {
-        positions: rings.positions,
-        least: LeastFound::unless(rings.items == 1, n, Kind::BAD_RING).lesser(found),
+    let tally = judge_rings(p, n);
+    let found = tally.least;
+    PolygonTally {
+        rings: tally.rings,
+        positions: tally.positions,
+        least: LeastFound::unless(is_ring_count(tally.rings), n, Kind::BAD_RING).lesser(found),
     }
 }
 
 // The items of the coordinates p, the first position of which has the number n.
-fn judge_polygons(p: &[u8], n: u32) -> Tally
+fn judge_polygons(p: &[u8], n: u32) -> ZoneTally
     requires { ⌜ n + length (now p) < 2 ^ 32 ⌝ }
-    ensures { λ r. ⌜ (r .positions ≤ length (now (p .entry))) × (Listing (now (p .entry)) → Tallied polygon polygonPositions n (partsOf polygonShape (now (p .entry))) r) ⌝ }
+    ensures { λ r. ⌜ (Listing (now (p .entry)) → TellsPolygons n (partsOf polygonShape (now (p .entry))) r) ⌝ }
 {
-    let mut items: u32 = 0;
+    let mut polygons: u32 = 0;
+    let mut rings: u32 = 0;
     let mut positions: u32 = 0;
     let mut least = LeastFound::None;
     let mut at: usize = 1;
     loop {
         let ItemStep::Found(item) = pass_item(p, at) else {
-            return Tally {
-                items,
-                positions,
+            return ZoneTally {
+                polygons,
+                rings,
                 least,
             };
         };
@@ -89,20 +102,35 @@ fn judge_polygons(p: &[u8], n: u32) -> Tally
         let judged = judge_polygon(&p[from..upto], n + positions);
         let first = judged.least;
         least = least.lesser(first);
-        items += 1;
+        polygons += 1;
+        rings += judged.rings;
         positions += judged.positions;
         at = item.next;
     }
 }
 
+// A zone may have so many polygons and rings.
+fn are_zone_counts(polygons: u32, rings: u32) -> bool
+    ensures { λ r. ⌜ r ≡ areZoneCounts polygons rings ⌝ }
+{
+    if (Limits::POLYGONS as u32) < polygons {
+        return false;
+    }
+    rings <= Limits::ZONE_RINGS as u32
+}
+
 // The first fault of the array that field 73 is.
-// Shut out: a count of polygons, rings or positions that hides another fault; a ring compared before it is rounded to six decimals; a number
-// that is off by one.
+// Shut out: a count of polygons, rings or positions that hides another fault; rings of a zone counted in one polygon only; a ring compared
+// before it is rounded to six decimals; a number that is off by one.
 pub fn judge_coordinates(p: &[u8]) -> LeastFound
     requires { ⌜ length (now p) ≤ fileBytes ⌝ }
     ensures { λ r. ⌜ ((x : Json) (is : PickedItems) → Whole (now (p .entry)) x → pick coordinates x ≡ itemsAre is → r ≡ leastFound (coordinatesFound is)) ⌝ }
 {
-    let polygons = judge_polygons(p, 1);
-    let found = polygons.least;
-    LeastFound::unless(polygons.items <= Limits::POLYGONS as u32, 0, Kind::TOO_MANY).lesser(found)
+    let zone = judge_polygons(p, 1);
+    let found = zone.least;
+    LeastFound::unless(
+        are_zone_counts(zone.polygons, zone.rings),
+        0,
+        Kind::TOO_MANY,
+    ).lesser(found)
 }

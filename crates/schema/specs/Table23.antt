@@ -159,7 +159,7 @@ rule =
 unfoldable pub coordinates : Shape
 coordinates =
     array positions ceiling.polygons
-    (array positions 1 (array positions ceiling.positions (array positions 3 (scalar Sort.ordinate))))
+    (array positions ceiling.rings (array positions ceiling.positions (array positions 3 (scalar Sort.ordinate))))
 
 unfoldable pub zone : Shape
 zone =

@@ -4,7 +4,6 @@ use mathlib.Core.List.{List, [], _∷_, map, append-eq-nil-iff}
 use mathlib.Core.Path.{_≡_, refl, sym, ap, subst, _∙_}
 use Prim.Native.Nat.{ℕ, _≤_}
 use native.Mathlib.Omega.{arith}
-use lib.Dec.{eqb, leb}
 use lib.ListN.{length, take, length-take, length-map}
 use Rattle.limits.specs.Ceilings as ceiling
 use Rattle.notation.specs.Ascii.{bytes}
@@ -19,7 +18,7 @@ use Rattle.schema.specs.Table23.{zone, coordinates}
 use Rattle.schema.specs.Pick.{Picked, PickedItems, bare, items, slots, pick, listOf}
 use Rattle.word.specs.Kinds.{tooMany, badRing}
 use Rattle.scalar.specs.Scalars.{unless}
-use Rattle.rings.specs.Rings.{Found, at, count, ring, ringFound, ringsFound, position, polygon, polygonsFound, coordinatesFound}
+use Rattle.rings.specs.Rings.{Found, at, count, ring, ringFound, ringsFound, position, isRingCount, polygon, polygonsRings, polygonsFound, areZoneCounts, coordinatesFound}
 use Rattle.rings.specs.Parts.{ringShape, polygonShape, picked, partsOf, Outlined}
 use Rattle.rings.specs.declared.RingPoints.{RingPoints}
 use Rattle.geometry.specs.Shifted.{InRange, points}
@@ -84,7 +83,7 @@ module _ {p : List ℕ} (c : CleanRing p) {r : RingPoints}
 
 polygon-items : (n : ℕ) (x : Picked) → polygon n x ≡ [] → (is : PickedItems) × (x ≡ items is) × (ringsFound n (listOf is) ≡ [])
 unfolding at
-polygon-items n (items is) e = (is, refl, append-eq-nil-iff {p = at n (unless (eqb (count is) 1) badRing)} .0 e .1)
+polygon-items n (items is) e = (is, refl, append-eq-nil-iff {p = at n (unless (isRingCount (count is)) badRing)} .0 e .1)
 polygon-items n (bare x) e = cons-nil e
 polygon-items n (slots ss) e = cons-nil e
 
@@ -96,7 +95,7 @@ numbered-none p field (x ∷ l) e = cons-nil e
 coordinates-clear : (p : Place) (field : ℕ) (x : Picked) → faults coordinates p field x ≡ [] → polygonsFound 1 (elements x) ≡ []
 unfolding coordinates faults faulty coordinatesFound
 coordinates-clear p field (items is) e =
-    let many = at 0 (unless (leb (count is) ceiling.polygons) tooMany) in
+    let many = at 0 (unless (areZoneCounts (count is) (polygonsRings (listOf is))) tooMany) in
     append-eq-nil-iff {p = many} .0 (numbered-none p field (coordinatesFound is) e) .1
 coordinates-clear p field (bare x) e = cons-nil e
 coordinates-clear p field (slots ss) e = cons-nil e
@@ -116,7 +115,7 @@ module _ (p : List ℕ) (m : Item) (short : length p ≤ ceiling.fileBytes) (w :
     polygon-is = polygon-items (f .0) (picked polygonShape p m) (append-eq-nil-iff {p = polygon (f .0) (picked polygonShape p m)} .0 (f .1) .0)
 
     rings-are : Listed ringShape (itemOf p m) (listOf (polygon-is .0))
-    rings-are = items-parts shape.positions 1 ringShape (treeOf (itemOf p m)) (polygon-is .0) w (polygon-is .1)
+    rings-are = items-parts shape.positions ceiling.rings ringShape (treeOf (itemOf p m)) (polygon-is .0) w (polygon-is .1)
 
     pub polygon-rings : partsOf ringShape (itemOf p m) ≡ elements (picked polygonShape p m)
     polygon-rings = sym (ap elements (polygon-is .1) ∙ rings-are .parts)

@@ -15,7 +15,7 @@ use Rattle.zone.specs.declared.Flag.the-variants as flag
 use Rattle.zone.specs.declared.Limit.{Limit}
 use Rattle.zone.specs.declared.Limit.the-variants as limit
 use Rattle.zone.specs.declared.Given.{Given}
-use Rattle.zone.specs.Zone.{applies, zoneRules, rules, applicable, otherwise, firstGiven}
+use Rattle.zone.specs.Zone.{applies, zoneRules, rulesBy, rules, applicable, otherwise, firstGiven}
 use Rattle.zone.specs.Answer.{answer, yes, values, ofRules}
 use Rattle.zone.specs.Values.{flagOf, limitOf, orFlag, orLimit, nothing, orGiven, givenIn, allGiven, withRule, isFlag, isLimit, isFull, flagged, speedOf, rulingBy}
 
@@ -142,12 +142,12 @@ module _ (type : List ℕ) where
 
   module _ (q : Point) (moment : ℕ) where
     pub zones-none : (a : Given) → withRules a (rules [] q moment) ≡ a
-    unfolding rules
+    unfolding rulesBy
     zones-none a = rules-none a
 
     pub zones-next : (a : Given) (x : Picked) (l : List Picked)
         → withRules a (rules (x ∷ l) q moment) ≡ withRules (withRules a (zoneRules x q moment)) (rules l q moment)
-    unfolding rules
+    unfolding rulesBy
     zones-next a x l =
         let here = applicable (zoneRules x q moment) type in
         let later = applicable (rules l q moment) type in

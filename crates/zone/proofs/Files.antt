@@ -20,7 +20,7 @@ use Rattle.clean.specs.Clean.{treeOf, recordsOf}
 use Rattle.clean.proofs.Cleans.{Sound, clean-held}
 use Rattle.clean.proofs.Repeated.{Held}
 use Rattle.zone.specs.declared.Ruling.the-variants.{NoRule}
-use Rattle.zone.specs.Zone.{rules, applicable, rulesAt}
+use Rattle.zone.specs.Zone.{rulesBy, rules, applicable, rulesAt}
 use Rattle.zone.specs.Answer.{answer, ofRules}
 use Rattle.zone.specs.Values.{allGiven, rulingBy}
 use Rattle.zone.specs.Clean.{CleanZones}
@@ -28,7 +28,7 @@ use Rattle.zone.proofs.Combining.{given-answered}
 
 module _ (q : Point) (type : List ℕ) (moment : ℕ) where
   pub none-absent : (s : List ℕ) → length s ≡ 0 → answer NoRule ≡ ofRules (rulesAt (pick (fileShape table23 6) (treeOf s)) q type moment)
-  unfolding reading treeOf fileShape table23 zones file pick field along rulesAt rules applicable
+  unfolding reading treeOf fileShape table23 zones file pick field along rulesAt rulesBy applicable
   none-absent [] e = refl
   none-absent (b ∷ s) e = absurd (omega arith)
 

@@ -2,6 +2,7 @@ pub mod Raising
 pub mod Ways
 pub mod Combining
 pub mod Combined
+pub mod Single
 pub mod Fields
 pub mod Zoned
 pub mod Cleared

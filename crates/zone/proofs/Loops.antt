@@ -7,13 +7,15 @@ use native.Mathlib.Omega.{arith}
 use Rattle.schema.specs.Table23 as table
 use Rattle.schema.specs.Pick.{Picked}
 use Rattle.geometry.specs.Ring.{Point}
-use Rattle.geometry.specs.Held.{holds}
-use Rattle.rings.specs.Rings.{position, ring, ringPositions, ringsFound, polygon, polygonPositions, polygonsFound}
+use Rattle.geometry.specs.Shifted.{stands}
+use Rattle.geometry.specs.declared.Standing.the-variants.{Edge, Is}
+use Rattle.geometry.proofs.Holed.{heldFrom, from-none, from-edge, from-next, from-first}
+use Rattle.rings.specs.Rings.{ring, ringPositions, ringsFound, polygon, polygonPositions, polygonsFound}
 use Rattle.rings.specs.Parts.{ringShape, polygonShape}
 use Rattle.document.specs.Document.{Maybe, none, some, elements, textIn}
 use Rattle.fields.specs.Values.{isId}
 use Rattle.zone.specs.declared.Given.{Given}
-use Rattle.zone.specs.Zone.{ringsHold, polygonsHold, anyText, rules}
+use Rattle.zone.specs.Zone.{outline, ringsHold, polygonsHold, anyText, rules}
 use Rattle.zone.specs.Values.{idShape}
 use Rattle.zone.specs.Clean.{Faultless}
 use Rattle.zone.proofs.Looping.{Loop}
@@ -44,26 +46,42 @@ module _ (type : List ℕ) where
       go none h i = rw (anyText, h)
       go (some t) h i = rw (anyText, h, i)
 
+-- rings: whether none was asked yet, and whether those that were hold the point
+pub record Asked : Type 0 where
+  pub first : Bool
+  pub held : Bool
+
+abbrev pub unasked : Asked
+unasked = record { first = true; held = false }
+
 -- rings and polygons
 module _ (q : Point) where
   pub rings-rest : (x : Picked) (l : List Picked) → (n : ℕ) × (ringsFound n (x ∷ l) ≡ []) → (n : ℕ) × (ringsFound n l ≡ [])
   unfolding ringsFound
   rings-rest x l (n, e) = (n + ringPositions x, append-eq-nil-iff {p = ring n x} .0 e .1)
 
-  abbrev pub rings : Loop (Unit {0}) Bool
-  rings = record { shape = ringShape; from = λ a l. ringsHold l q; Fit = λ l. (n : ℕ) × (ringsFound n l ≡ []); rest = rings-rest }
+  abbrev pub rings : Loop Asked Bool
+  rings =
+      record {
+        shape = ringShape;
+        from = λ a l. heldFrom (a .first) (a .held) (map outline l) q;
+        Fit = λ l. (n : ℕ) × (ringsFound n l ≡ []);
+        rest = rings-rest;
+      }
 
-  pub rings-none : ringsHold [] q ≡ false
+  pub rings-all : (l : List Picked) → rings .from unasked l ≡ ringsHold l q
   unfolding ringsHold
-  rings-none = refl
+  rings-all l = from-first (map outline l) q
 
-  pub rings-here : (x : Picked) (l : List Picked) → holds (map position (elements x)) q ≡ true → ringsHold (x ∷ l) q ≡ true
-  unfolding ringsHold
-  rings-here x l e = rw (ringsHold, e)
+  pub rings-none : (a : Asked) → rings .from a [] ≡ a .held
+  rings-none a = from-none (a .first) (a .held) q
 
-  pub rings-later : (x : Picked) (l : List Picked) → holds (map position (elements x)) q ≡ false → ringsHold (x ∷ l) q ≡ ringsHold l q
-  unfolding ringsHold
-  rings-later x l e = rw (ringsHold, e)
+  module _ (a : Asked) (x : Picked) (l : List Picked) where
+    pub rings-edge : Edge ≡ stands (a .first) (a .held) (outline x) q → rings .from a (x ∷ l) ≡ true
+    rings-edge e = from-edge (a .first) (a .held) q (outline x) (map outline l) e
+
+    pub rings-next : (b : Bool) → Is b ≡ stands (a .first) (a .held) (outline x) q → rings .from a (x ∷ l) ≡ rings .from (record { first = false; held = b }) l
+    rings-next b e = from-next (a .first) (a .held) q (outline x) (map outline l) b e
 
   pub polygons-rest : (x : Picked) (l : List Picked) → (n : ℕ) × (polygonsFound n (x ∷ l) ≡ []) → (n : ℕ) × (polygonsFound n l ≡ [])
   unfolding polygonsFound

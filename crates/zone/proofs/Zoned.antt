@@ -20,7 +20,7 @@ use Rattle.fields.specs.Values.{memberOf, arrayBy}
 use Rattle.fields.proofs.Values.{Holds, member-holds}
 use Rattle.fields.proofs.Fields.{field-spelled, rowOf, listed}
 use Rattle.zone.specs.declared.Given.{Given}
-use Rattle.zone.specs.Zone.{integer, begun, unended, counts, polygonsHold, zoneRules}
+use Rattle.zone.specs.Zone.{integer, begun, unended, counts, polygonsHold, zoneRulesBy, zoneRules}
 use Rattle.zone.specs.Values.{countsBy}
 use Rattle.zone.proofs.Combining.{withRules, rules-none}
 use Rattle.zone.proofs.Fields.{nothing-in, parts-field, parts-inside}
@@ -75,7 +75,7 @@ module _ {p : List ℕ} {x : Json} (w : Whole p x) where
   module _ (q : Point) (moment : ℕ) where
     zone-rules : zoneRules (pick table.zone x) q moment
         ≡ (countsBy (propertyBytes p) moment and polygonsHold polygons q ⇒ partsOf table.rule (ruleBytes (propertyBytes p)) else [])
-    unfolding table.zone rowOf zoneRules
+    unfolding table.zone rowOf zoneRulesBy
     zone-rules =
         in-properties (record { starts = listed refl; ends = listed refl; ruled = listed refl }) (propertyBytes p) (polygonsHold polygons q) moment
         (field 74 (pick table.zone x)) (member-holds (listed refl) p x w)

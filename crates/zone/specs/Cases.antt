@@ -14,19 +14,19 @@ use Rattle.geometry.specs.Ring.{Point}
 use Rattle.document.specs.Document as document
 use Rattle.judge.specs.Cases.{judging}
 use Rattle.clean.specs.Clean as clean
-use Rattle.zone.specs.Zone.{counts, ringsHold, polygonsHold, anyText, applies, zoneRules, rules, applicable, rulesAt, firstGiven}
+use Rattle.zone.specs.Zone.{counts, ringsHold, polygonsHold, anyText, applies, zoneRulesBy, rulesBy, applicable, rulesAt, firstGiven}
 use Rattle.word.specs.Word.{noParts}
 use Rattle.zone.specs.Answer.{Answer, refused, found, values, onMap, rulingOf}
 
 -- opens every definition of this layer
 unfoldable pub ruled : Unit {0}
-unfolding judging pick.at document.field document.fieldItems document.along document.text document.spelling document.truth clean.treeOf clean.idField clean.recordsOf clean.usedBefore clean.repeatedId clean.repeatsFrom clean.repeats clean.cleanOf counts ringsHold polygonsHold anyText applies zoneRules rules applicable rulesAt firstGiven values onMap rulingOf
+unfolding judging pick.at document.field document.fieldItems document.along document.text document.spelling document.truth clean.treeOf clean.idField clean.recordsOf clean.usedBefore clean.repeatedId clean.repeatsFrom clean.repeats clean.cleanOf counts ringsHold polygonsHold anyText applies zoneRulesBy rulesBy applicable rulesAt firstGiven values onMap rulingOf
 ruled = tt
 
 abbrev mark : ℕ → ℕ
 mark b = eqb b 0x27 ⇒ 0x22 else b
 
--- a file of these zones; a zone of this ring, with these other properties, and these rules
+-- a file of these zones; a zone of these polygons, and of this one ring, with these other properties, and these rules
 abbrev file : List ℕ → List ℕ
 file zones =
     map mark (
@@ -34,15 +34,18 @@ file zones =
     zones ++
     bytes "]}}}")
 
-abbrev zone : (ring window rules : String) → List ℕ
-zone ring window rules =
-    bytes "{'type':'Feature','geometry':{'type':'MultiPolygon','coordinates':[[[" ++
-    bytes ring ++
-    bytes "]]]},'properties':{" ++
+abbrev zoneOf : (polygons : List ℕ) → (window rules : String) → List ℕ
+zoneOf polygons window rules =
+    bytes "{'type':'Feature','geometry':{'type':'MultiPolygon','coordinates':[" ++
+    polygons ++
+    bytes "]},'properties':{" ++
     bytes window ++
     bytes "'rules':[" ++
     bytes rules ++
     bytes "]}}"
+
+abbrev zone : (ring window rules : String) → List ℕ
+zone ring window rules = zoneOf (bytes "[[" ++ bytes ring ++ bytes "]]") window rules
 
 -- reading (j)'s square of two degrees, clockwise from the origin, and the same the other way round
 abbrev square : String
@@ -192,3 +195,40 @@ over-and-not : when (both (zone square "'end':9," "{'ride_allowed':false,'ride_t
     ≡ limited false false 3 ∷ limited true true 20 ∷ []
 unfolding ruled
 over-and-not = refl
+
+-- Polygons of several rings, at points in quarters of a degree: whether a rule applies.
+abbrev quarters : ℕ → ℕ → Point
+quarters x y = record { lon = pos (x * 250_000); lat = pos (y * 250_000) }
+
+abbrev held : String → List Point → List Bool
+held polygons points = map (λ (a : Answer). eqb (a .number) 0) (at (file (zoneOf (bytes polygons) "" forAll)) points)
+
+-- in a hole, on its edge and beside it, whichever way round it goes
+hole : held "[[[0,0],[0,2],[2,2],[2,0],[0,0]],[[0,0],[0,1],[1,1],[1,0],[0,0]]]" (quarters 2 2 ∷ quarters 4 2 ∷ quarters 6 6 ∷ quarters 12 4 ∷ [])
+    ∷ held "[[[0,0],[0,2],[2,2],[2,0],[0,0]],[[0,0],[1,0],[1,1],[0,1],[0,0]]]" (quarters 2 2 ∷ quarters 4 2 ∷ quarters 6 6 ∷ quarters 12 4 ∷ [])
+    ∷ []
+    ≡ (false ∷ true ∷ true ∷ false ∷ []) ∷ (false ∷ true ∷ true ∷ false ∷ []) ∷ []
+unfolding ruled
+hole = refl
+
+-- two holes that overlap: inside the first alone, inside both, and inside the first on the edge of the second
+holes : held "[[[0,0],[0,2],[2,2],[2,0],[0,0]],[[0,0],[0,1],[1,1],[1,0],[0,0]],[[0.5,0.5],[0.5,1.5],[1.5,1.5],[1.5,0.5],[0.5,0.5]]]"
+    (quarters 1 1 ∷ quarters 3 3 ∷ quarters 2 3 ∷ quarters 7 7 ∷ [])
+    ≡ false ∷ false ∷ true ∷ true ∷ []
+unfolding ruled
+holes = refl
+
+-- a hole outside the first ring; one that touches it; and one in a first ring that goes counterclockwise, which holds its outside
+hole-elsewhere : held "[[[0,0],[0,1],[1,1],[1,0],[0,0]],[[2,0],[2,1],[3,1],[3,0],[2,0]]]" (quarters 2 2 ∷ quarters 10 2 ∷ quarters 8 2 ∷ [])
+    ∷ held "[[[0,0],[0,2],[2,2],[2,0],[0,0]],[[2,0],[1,1],[2,2],[2,0]]]" (quarters 7 4 ∷ quarters 8 4 ∷ quarters 3 4 ∷ [])
+    ∷ held "[[[0,0],[2,0],[2,2],[0,2],[0,0]],[[3,0],[3,1],[4,1],[4,0],[3,0]]]" (quarters 4 4 ∷ quarters 14 2 ∷ quarters 18 2 ∷ [])
+    ∷ []
+    ≡ (true ∷ false ∷ true ∷ []) ∷ (false ∷ true ∷ true ∷ []) ∷ (false ∷ false ∷ true ∷ []) ∷ []
+unfolding ruled
+hole-elsewhere = refl
+
+-- a hole cuts its own polygon alone: another of the zone may hold what is in it
+hole-covered : held "[[[0,0],[0,2],[2,2],[2,0],[0,0]],[[0,0],[0,1],[1,1],[1,0],[0,0]]],[[[0,0],[0,1],[1,0],[0,0]]]" (quarters 1 1 ∷ quarters 3 3 ∷ [])
+    ≡ true ∷ false ∷ []
+unfolding ruled
+hole-covered = refl

@@ -1,4 +1,4 @@
--- The rules that apply at a point, and what they give together: document 01, "Zones", with document 02's request W4, on a picked file of zones.
+-- The rules that apply at a point, and what they give together: document 01, "Zones", with document 02's requests W4 and W13, on a picked file of zones.
 use mathlib.Core.Bool.{Bool, true, false}
 use mathlib.Core.List.{List, [], _∷_, _++_, map}
 use Prim.Native.Nat.{ℕ}
@@ -7,7 +7,7 @@ use Rattle.notation.specs.Choice.{_⇒_else_, _and_}
 use Rattle.text.specs.Text.{same}
 use Rattle.schema.specs.Pick.{Picked}
 use Rattle.geometry.specs.Ring.{Point}
-use Rattle.geometry.specs.Held.{holds}
+use Rattle.geometry.specs.Held.{sideOf, polygonHolds}
 use Rattle.rings.specs.Rings.{position}
 use Rattle.document.specs.Document.{Maybe, none, some, along, elements, elementsOf, field, fieldItems, spelling, textIn}
 use Rattle.fields.specs.Values.{integerIn}
@@ -29,14 +29,23 @@ unended (some end) moment = ltb moment end
 unfoldable pub counts : Picked → ℕ → Bool
 counts properties moment = begun (integer (spelling 75 properties)) moment and unended (integer (spelling 76 properties)) moment
 
--- the rings of a polygon, and the polygons of a zone: one that holds the point is enough
+-- the points of a ring
+abbrev pub outline : Picked → List Point
+outline ring = map position (elements ring)
+
+-- the rings of a polygon; the polygons of a zone, of which one that holds the point is enough
 unfoldable pub ringsHold : List Picked → Point → Bool
-ringsHold [] q = false
-ringsHold (r ∷ rs) q = holds (map position (elements r)) q ⇒ true else ringsHold rs q
+ringsHold rs q = polygonHolds sideOf (map outline rs) q
 
 unfoldable pub polygonsHold : List Picked → Point → Bool
 polygonsHold [] q = false
 polygonsHold (p ∷ ps) q = ringsHold (elements p) q ⇒ true else polygonsHold ps q
+
+abbrev pub polygonsOf : Picked → List Picked
+polygonsOf zone = elementsOf (along (71 ∷ 73 ∷ []) zone)
+
+abbrev pub zoneHolds : Picked → Point → Bool
+zoneHolds zone q = polygonsHold (polygonsOf zone) q
 
 -- a rule is for this type where it names it, or has no field 78
 unfoldable pub anyText : List Picked → List ℕ → Bool
@@ -46,18 +55,23 @@ anyText (x ∷ l) type = elim (textIn x) [ none ↦ anyText l type | some t ↦ 
 unfoldable pub applies : Picked → List ℕ → Bool
 applies rule type = elim (field 78 rule) [ none ↦ true | some ids ↦ anyText (elements ids) type ]
 
--- the rules of the zones that count and hold the point, in file order
-unfoldable pub zoneRules : Picked → Point → ℕ → List Picked
-zoneRules zone q moment =
+-- the rules of the zones that count and hold the point, in file order; `holding` tells which hold it
+unfoldable pub zoneRulesBy : (holding : Picked → Point → Bool) → Picked → Point → ℕ → List Picked
+zoneRulesBy holding zone q moment =
     elim (field 74 zone) [
       | none ↦ []
-      | some properties ↦
-          counts properties moment and polygonsHold (elementsOf (along (71 ∷ 73 ∷ []) zone)) q ⇒ fieldItems 77 properties else []
+      | some properties ↦ counts properties moment and holding zone q ⇒ fieldItems 77 properties else []
     ]
 
-unfoldable pub rules : List Picked → Point → ℕ → List Picked
-rules [] q moment = []
-rules (z ∷ zs) q moment = zoneRules z q moment ++ rules zs q moment
+unfoldable pub rulesBy : (holding : Picked → Point → Bool) → List Picked → Point → ℕ → List Picked
+rulesBy holding [] q moment = []
+rulesBy holding (z ∷ zs) q moment = zoneRulesBy holding z q moment ++ rulesBy holding zs q moment
+
+abbrev pub zoneRules : Picked → Point → ℕ → List Picked
+zoneRules = zoneRulesBy zoneHolds
+
+abbrev pub rules : List Picked → Point → ℕ → List Picked
+rules = rulesBy zoneHolds
 
 -- those of them that are for the type
 unfoldable pub applicable : List Picked → List ℕ → List Picked

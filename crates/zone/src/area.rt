@@ -2,53 +2,59 @@
 use fields::array_in;
 use fields::member;
 use geometry::Position;
-use geometry::held::holds;
+use geometry::Standing;
+use geometry::held::stand;
 use rings::ring::ring_points;
 use walk::ItemStep;
 use walk::pass_item;
-ghost use mathlib.Core.List.{[], _∷_, map};
 ghost use mathlib.Core.Path.{_≡_};
 ghost use Rattle.walk.specs.Part.{treeOf};
 ghost use Rattle.schema.specs.Pick.{pick};
 ghost use Rattle.schema.specs.Table23.{zone};
-ghost use Rattle.geometry.specs.Held.{holds as holdsAt};
-ghost use Rattle.geometry.specs.Shifted.{OnMap, point};
-ghost use Rattle.rings.specs.Rings.{position, ringsFound, polygonsFound};
+ghost use Rattle.geometry.specs.Shifted.{OnMap, point, stands};
+ghost use Rattle.rings.specs.Rings.{ringsFound, polygonsFound};
 ghost use Rattle.rings.specs.Parts.{ringShape, polygonShape, partsOf};
-ghost use Rattle.document.specs.Document.{along, elements, elementsOf};
-ghost use Rattle.zone.specs.Zone.{ringsHold, polygonsHold};
+ghost use Rattle.zone.specs.Zone.{outline, ringsHold, polygonsHold, zoneHolds};
 ghost use Rattle.zone.specs.Clean.{CleanRing, CleanItems, CleanZone};
 
-// Whether the ring `p` holds the point.
-fn ring_holds(p: &[u8], q: Position) -> bool
+// Where the point stands to a polygon's rings once the ring `p` was asked too.
+fn stand_to(p: &[u8], q: Position, first: bool, held: bool) -> Standing
     requires { ⌜ CleanRing (now p) × OnMap q ⌝ }
-    ensures { λ r. ⌜ r ≡ holdsAt (map position (elements (pick ringShape (treeOf (now (p .entry)))))) (point q) ⌝ }
+    ensures { λ r. ⌜ r ≡ stands first held (outline (pick ringShape (treeOf (now (p .entry))))) (point q) ⌝ }
 {
     let ring = ring_points(p);
     let count = ring.count as usize;
     let lons = ring.lons;
     let lats = ring.lats;
-    holds(&lons[..count], &lats[..count], q.lon, q.lat)
+    stand(&lons[..count], &lats[..count], q, first, held)
 }
 
-// Whether a ring of the polygon `p` does.
+// Whether the polygon `p` holds the point. Each ring is read and walked once, and an edge ends it.
 fn rings_hold(p: &[u8], q: Position) -> bool
     requires { ⌜ CleanItems ringShape ringsFound (now p) × OnMap q ⌝ }
     ensures { λ r. ⌜ r ≡ ringsHold (partsOf ringShape (now (p .entry))) (point q) ⌝ }
 {
+    let mut first = true;
+    let mut held = false;
     let mut at: usize = 1;
     loop {
         match pass_item(p, at) {
             ItemStep::End => {
-                return false;
+                return held;
             }
             ItemStep::Found(m) => {
                 let from = m.value;
                 let upto = m.value_end;
-                if ring_holds(&p[from..upto], q) {
-                    return true;
+                match stand_to(&p[from..upto], q, first, held) {
+                    Standing::Edge => {
+                        return true;
+                    }
+                    Standing::Is(b) => {
+                        first = false;
+                        held = b;
+                        at = m.next;
+                    }
                 }
-                at = m.next;
             }
         }
     }
@@ -80,7 +86,7 @@ fn polygons_hold(p: &[u8], q: Position) -> bool
 // Whether the zone `p` does.
 pub fn zone_holds(p: &[u8], q: Position) -> bool
     requires { ⌜ CleanZone (now p) × OnMap q ⌝ }
-    ensures { λ r. ⌜ r ≡ polygonsHold (elementsOf (along (71 ∷ 73 ∷ []) (pick zone (treeOf (now (p .entry)))))) (point q) ⌝ }
+    ensures { λ r. ⌜ r ≡ zoneHolds (pick zone (treeOf (now (p .entry)))) (point q) ⌝ }
 {
     polygons_hold(array_in(member(member(p, b"geometry"), b"coordinates")), q)
 }

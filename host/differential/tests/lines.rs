@@ -16,7 +16,7 @@ fn hex(text: &str) -> String {
 fn both_answer_by_lines() {
     let plan = r#"{"plan_id":"p","name":"n","currency":"EUR","price":2,"is_taxable":false,"description":"d"}"#;
     let plans = file(&format!(r#""plans":[{plan}]"#));
-    let zone = r#"{"type":"Feature","geometry":{"type":"MultiPolygon","coordinates":[[[[0,0],[0,2],[2,2],[2,0],[0,0]]]]},"properties":{"rules":[{"ride_allowed":true,"ride_through_allowed":false,"maximum_speed_kph":20}]}}"#;
+    let zone = r#"{"type":"Feature","geometry":{"type":"MultiPolygon","coordinates":[[[[0,0],[0,2],[2,2],[2,0],[0,0]],[[0.5,0.5],[1,0.5],[1,1],[0.5,0.5]]]]},"properties":{"rules":[{"ride_allowed":true,"ride_through_allowed":false,"maximum_speed_kph":20}]}}"#;
     let zones = file(&format!(r#""geofencing_zones":{{"type":"FeatureCollection","features":[{zone}]}}"#));
     let bikes = file(r#""bikes":[{}]"#);
     let from = plans.find(&hex(plan)).expect("the plan stands in its file") / 2;
@@ -31,6 +31,8 @@ fn both_answer_by_lines() {
         ("quote 5b 70 0 99999999999999999999".into(), "4".into()),
         ("quote 5b 70 0 0".into(), "5 5 2 0 0 0 1".into()),
         (format!("zone {zones} 1000000 2000000 - 0"), "0 1 0 20 -".into()),
+        (format!("zone {zones} 500000 800000 - 0"), "0 1 0 20 -".into()),
+        (format!("zone {zones} 600000 800000 - 0"), "9".into()),
         (format!("zone {zones} -1 0 - 0"), "9".into()),
         (format!("zone {zones} -99999999999999999999 0 - 0"), "8".into()),
         (format!("show - - - - {plans} - 5 1"), format!("0 {from} {}", from + plan.len())),

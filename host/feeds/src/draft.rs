@@ -1,11 +1,12 @@
 //! Sets that keep every rule, as trees.
 
-use crate::rings::ring;
+use crate::rings::{hole, ring};
 use crate::rng::Rng;
 use crate::size::Size;
 use crate::spelling::shortest;
 use crate::tree::{Members, Tree};
 use crate::{values, Draft};
+use reference::ceiling;
 use reference::coordinates::Point;
 use reference::table::{FORM_FACTORS, PROPULSIONS};
 
@@ -230,15 +231,37 @@ impl Maker<'_> {
             return self.rng.pick(&self.areas).clone();
         }
         let polygons = self.count(self.size.polygons);
-        let area = Tree::Array((0..polygons).map(|_| Tree::Array(vec![self.ring()])).collect());
+        let mut holes_left = ceiling::ZONE_RINGS - polygons;
+        let mut polygon = |_| {
+            let rings = self.polygon(holes_left);
+            holes_left -= rings.len() - 1;
+            Tree::Array(rings)
+        };
+        let area = Tree::Array((0..polygons).map(&mut polygon).collect());
         if !self.size.full && polygons > 0 {
             self.areas.push(area.clone());
         }
         area
     }
 
-    fn ring(&mut self) -> Tree {
-        let ring = ring(self.rng, self.size.positions, self.size.full);
+    /// A ring, and at most so many holes. Half of the polygons have none, some have as many as they may.
+    fn polygon(&mut self, most_holes: usize) -> Vec<Tree> {
+        let mut rings = vec![ring(self.rng, self.size.positions, self.size.full)];
+        let most_holes = most_holes.min(self.size.holes);
+        if most_holes > 0 {
+            let holes = match self.rng.below(8) {
+                0..=3 => 0,
+                4..=6 => 1 + self.rng.below(most_holes.min(3)),
+                _ => most_holes,
+            };
+            for _ in 0..holes {
+                rings.push(hole(self.rng, &rings, self.size.positions));
+            }
+        }
+        rings.into_iter().map(|ring| self.ring(ring)).collect()
+    }
+
+    fn ring(&mut self, ring: Vec<Point>) -> Tree {
         Tree::Array(ring.into_iter().map(|point| self.position(point)).collect())
     }
 

@@ -41,6 +41,8 @@ pub struct Questions {
     bounds: Vec<u64>,
     types: Vec<String>,
     corners: Vec<Point>,
+    /// The corners of each further ring of a polygon.
+    holes: Vec<Vec<Point>>,
     moments: Vec<u64>,
     records: [usize; 6],
 }
@@ -58,12 +60,16 @@ impl Questions {
             let arrays = [56, 61].map(|field| row.get(name_of(5, field)).map(Tree::items).unwrap_or_default().to_vec());
             arrays.concat()
         };
+        let area = |row| inner(row, 71).get(name_of(6, 73)).map(Tree::items).unwrap_or_default().to_vec();
+        let polygons: Vec<Tree> = rows(6).flat_map(area).collect();
+        let holes = polygons.iter().flat_map(|polygon| polygon.items().iter().skip(1));
         Questions {
             rng: Rng::new(seed),
             plans: texts(5, 50),
             bounds: rows(5).flat_map(segments).flat_map(|segment| integers(segment.members(), &["start", "end"])).collect(),
             types: texts(1, 10),
-            corners: rows(6).flat_map(|row| corners(inner(row, 71).get(name_of(6, 73)))).collect(),
+            corners: polygons.iter().flat_map(Tree::items).flat_map(corners).collect(),
+            holes: holes.map(corners).filter(|hole| !hole.is_empty()).collect(),
             moments: rows(6).flat_map(|row| integers(Some(&inner(row, 74)), &["start", "end"])).collect(),
             records: [1, 2, 3, 4, 5, 6].map(|file| records(file, &trees[usize::from(file) - 1]).len()),
         }
@@ -116,10 +122,14 @@ impl Questions {
                 _ => anywhere,
             };
         }
-        let index = rng.below(self.corners.len());
-        let corner = self.corners[index];
-        let next = self.corners[(index + 1) % self.corners.len()];
-        let other = *rng.pick(&self.corners);
+        let corners = match self.holes.is_empty() || rng.chance(60) {
+            true => &self.corners,
+            false => rng.pick(&self.holes),
+        };
+        let index = rng.below(corners.len());
+        let corner = corners[index];
+        let next = corners[(index + 1) % corners.len()];
+        let other = *rng.pick(corners);
         let point = match rng.below(5) {
             0 => corner,
             1 => Point { lon: midpoint(corner.lon, next.lon), lat: midpoint(corner.lat, next.lat) },
@@ -186,13 +196,10 @@ fn integers(members: Option<&Members>, names: &[&str]) -> Vec<u64> {
     names.iter().filter_map(value).collect()
 }
 
-/// The positions of a zone that can be read.
-fn corners(coordinates: Option<&Tree>) -> Vec<Point> {
-    let positions = coordinates.into_iter().flat_map(Tree::items).flat_map(Tree::items).flat_map(Tree::items);
+/// The positions of a ring that can be read.
+fn corners(ring: &Tree) -> Vec<Point> {
     let millionths = |item: Option<&Tree>| i64::try_from(rounded(decimal(item?.as_number()?.as_bytes())?)).ok();
-    positions
-        .filter_map(|position| {
-            Some(Point { lon: millionths(position.items().first())?, lat: millionths(position.items().get(1))? })
-        })
-        .collect()
+    let corner =
+        |position: &Tree| Some(Point { lon: millionths(position.items().first())?, lat: millionths(position.items().get(1))? });
+    ring.items().iter().filter_map(corner).collect()
 }

@@ -26,6 +26,49 @@ pub fn ring(rng: &mut Rng, most: usize, full: bool) -> Vec<Point> {
     ring
 }
 
+/// A further ring for a polygon that has these: one of them again, shrunk, moved or as it is, or a ring that none of them tells of.
+/// It may lie inside the others, touch them, cross them or lie apart.
+pub fn hole(rng: &mut Rng, rings: &[Vec<Point>], most: usize) -> Vec<Point> {
+    let like = rng.pick(rings);
+    let mut hole = match rng.below(8) {
+        0..=2 => shrunk(rng, like),
+        3..=5 => moved(rng, like),
+        6 => like.clone(),
+        _ => return ring(rng, most, false),
+    };
+    if area_sum(&hole) == 0 {
+        hole = like.clone();
+    }
+    if rng.flip() {
+        hole.reverse();
+    }
+    hole
+}
+
+/// The ring at a half or a quarter of its size, drawn together towards a corner or halfway between two.
+fn shrunk(rng: &mut Rng, ring: &[Point]) -> Vec<Point> {
+    let (one, other) = (*rng.pick(ring), *rng.pick(ring));
+    let centre = match rng.chance(30) {
+        true => one,
+        false => Point { lon: (one.lon + other.lon) / 2, lat: (one.lat + other.lat) / 2 },
+    };
+    let part = rng.one_of(&[2, 4]);
+    let towards = |from: i64, to: i64| to + (from - to) / part;
+    ring.iter().map(|point| Point { lon: towards(point.lon, centre.lon), lat: towards(point.lat, centre.lat) }).collect()
+}
+
+/// The ring moved east and north or back, by nothing, half of its width or height, or all of it. On the map's border it is cut.
+fn moved(rng: &mut Rng, ring: &[Point]) -> Vec<Point> {
+    let mut way = |numbers: Vec<i64>| {
+        let width = numbers.iter().max().unwrap() - numbers.iter().min().unwrap();
+        rng.one_of(&[0, width / 2, -width / 2, width, -width])
+    };
+    let east = way(ring.iter().map(|point| point.lon).collect());
+    let north = way(ring.iter().map(|point| point.lat).collect());
+    let onto_map = |value: i64, end: i64| value.clamp(-end * DEGREE, end * DEGREE);
+    ring.iter().map(|point| Point { lon: onto_map(point.lon + east, 180), lat: onto_map(point.lat + north, 90) }).collect()
+}
+
 /// The ring moved to a corner of the map.
 fn at_an_end(rng: &mut Rng, ring: Vec<Point>) -> Vec<Point> {
     let mut moved = |numbers: Vec<i64>, end: i64| -> i64 {

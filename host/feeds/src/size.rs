@@ -14,6 +14,8 @@ pub struct Size {
     pub segments: usize,
     /// Polygons in a zone.
     pub polygons: usize,
+    /// Holes in a polygon, as far as its zone may have rings.
+    pub holes: usize,
     /// Positions in a ring, at least 4.
     pub positions: usize,
     /// Rules in a zone.
@@ -38,6 +40,7 @@ impl Size {
         zones: 3,
         segments: 3,
         polygons: 3,
+        holes: ceiling::RINGS - 1,
         positions: 8,
         rules: 3,
         items: 3,
@@ -55,6 +58,7 @@ impl Size {
         zones: 8,
         segments: ceiling::SEGMENTS,
         polygons: ceiling::POLYGONS,
+        holes: ceiling::RINGS - 1,
         positions: ceiling::POSITIONS,
         rules: ceiling::RULES,
         items: ceiling::ITEMS,
@@ -72,6 +76,7 @@ impl Size {
         zones: 200,
         segments: 4,
         polygons: 3,
+        holes: 0,
         positions: 32,
         rules: 4,
         items: 4,
@@ -80,13 +85,14 @@ impl Size {
         bytes: ceiling::BYTES,
     };
 
-    /// Everything at its ceiling: long ids, full plans, full zones.
+    /// Everything at its ceiling: long ids, full plans, full zones. A zone's polygons are as many as its rings may be, so none has a hole.
     pub const FULL: Size = Size {
         types: ceiling::RECORDS,
         stations: ceiling::RECORDS,
         bikes: ceiling::RECORDS,
         plans: ceiling::RECORDS,
         zones: ceiling::RECORDS,
+        holes: 0,
         full: true,
         ..Size::SOME
     };

@@ -19,7 +19,9 @@ const LEAST_POSITIONS: usize = 4;
 /// ring is blamed at the number that its first position has or would have.
 pub fn judge(coordinates: &Value, blame: &mut impl FnMut(usize, u8)) {
     let Some(polygons) = coordinates.as_array() else { return blame(0, kind::TYPE) };
-    if polygons.len() > ceiling::POLYGONS {
+    // Whatever stands in a polygon counts as a ring.
+    let rings: usize = polygons.iter().map(|polygon| polygon.items().len()).sum();
+    if polygons.len() > ceiling::POLYGONS || rings > ceiling::ZONE_RINGS {
         blame(0, kind::TOO_MANY);
     }
     let mut next = 1;
@@ -28,7 +30,7 @@ pub fn judge(coordinates: &Value, blame: &mut impl FnMut(usize, u8)) {
             blame(next, kind::TYPE);
             continue;
         };
-        if rings.len() != 1 {
+        if !(1..=ceiling::RINGS).contains(&rings.len()) {
             blame(next, kind::RING);
         }
         for ring in rings {
@@ -95,10 +97,13 @@ pub fn rounded(value: i128) -> i128 {
     (value.abs() + MILLIONTH / 2) / MILLIONTH * value.signum()
 }
 
-/// The rings of sound coordinates, one a polygon.
-pub fn rings(coordinates: &Value) -> Vec<Vec<Point>> {
-    let rings = coordinates.items().iter().flat_map(Value::items);
-    rings.map(|ring| ring.items().iter().filter_map(point).collect()).collect()
+/// The rings of a polygon: its border first, then holes.
+pub type Polygon = Vec<Vec<Point>>;
+
+/// The polygons of sound coordinates.
+pub fn polygons(coordinates: &Value) -> Vec<Polygon> {
+    let ring = |ring: &Value| ring.items().iter().filter_map(point).collect();
+    coordinates.items().iter().map(|polygon| polygon.items().iter().map(ring).collect()).collect()
 }
 
 /// Twice the signed area of a ring: negative when it runs clockwise.
@@ -125,6 +130,7 @@ mod tests {
     fn sound_coordinates() {
         assert_eq!(least("[]"), None);
         assert_eq!(least(&format!("[[{RING}],[{RING}]]")), None);
+        assert_eq!(least(&format!("[[{RING},{RING}]]")), None);
         assert_eq!(least("[[[[0,0,1e999],[0,2],[2,2,-1.5],[0.0000004,-0.0000004]]]]"), None);
     }
 
@@ -134,7 +140,6 @@ mod tests {
         assert_eq!(least(&format!("[[{RING}],7]")), Some((5, 7)));
         assert_eq!(least(&format!("[[{RING}],[7]]")), Some((5, 7)));
         assert_eq!(least(&format!("[[{RING}],[]]")), Some((5, 11)));
-        assert_eq!(least(&format!("[[{RING},{RING}]]")), Some((1, 11)));
         assert_eq!(least("[[[[0,0],[0,2],7,[0,0]]]]"), Some((3, 7)));
         assert_eq!(least("[[[[0,0],[0,2],[2,2],[0,1]]]]"), Some((1, 11)));
         assert_eq!(least("[[[[0,0],[1,1],[2,2],[0,0]]]]"), Some((1, 11)));
@@ -166,12 +171,59 @@ mod tests {
     }
 
     #[test]
+    fn further_rings_are_judged_as_the_first() {
+        let with = |ring: &str| least(&format!("[[{RING},{ring}],[{RING}]]"));
+        for sound in ["[[9,9],[8,9],[9,8],[9,9]]", "[[9,9],[9,8],[8,9],[9,9]]", RING] {
+            assert_eq!(with(sound), None, "{sound}");
+        }
+        for (broken, expected) in [
+            ("[]", (5, 11)),
+            ("[[0,0],[0,2],[0,0]]", (5, 11)),
+            ("[[0,0],[0,2],[2,2],[0,1]]", (5, 11)),
+            ("[[0,0],[1,1],[2,2],[0,0]]", (5, 11)),
+            ("7", (5, 7)),
+            ("[[0,0],[0,2],[2,2],[0,91]]", (8, 9)),
+            ("[[0,0],[0,2],[2],[0,0]]", (7, 11)),
+        ] {
+            assert_eq!(with(broken), Some(expected), "{broken}");
+        }
+        assert_eq!(least(&format!("[[{RING},{RING},{RING}],[{RING},[]]]")), Some((17, 11)));
+    }
+
+    /// Coordinates of polygons with so many rings each.
+    fn rings(counts: &[usize]) -> String {
+        let polygon = |&count: &usize| format!("[{}]", vec![RING; count].join(","));
+        format!("[{}]", counts.iter().map(polygon).collect::<Vec<_>>().join(","))
+    }
+
+    #[test]
+    fn counts_of_rings() {
+        assert_eq!(least(&rings(&[8])), None);
+        assert_eq!(least(&rings(&[9])), Some((1, 11)));
+        assert_eq!(least(&rings(&[1, 0])), Some((5, 11)));
+        assert_eq!(least(&rings(&[2, 9, 1])), Some((9, 11)));
+        assert_eq!(least(&rings(&[8, 7])), None);
+        assert_eq!(least(&rings(&[8, 8])), Some((0, 10)));
+        assert_eq!(least(&rings(&[15])), Some((1, 11)));
+        assert_eq!(least(&rings(&[16])), Some((0, 10)));
+        assert_eq!(least(&rings(&[2; 7])), None);
+        assert_eq!(least(&rings(&[2; 8])), Some((0, 10)));
+        // What is no array counts as a ring, and what is no polygon has none.
+        assert_eq!(least(&rings(&[8, 7]).replace("]]]]", "]],7]]")), Some((0, 10)));
+        assert_eq!(least(&rings(&[8, 7]).replace("]]]]", "]]],7]")), Some((61, 7)));
+        assert_eq!(least("[[7,7,7,7,7,7,7,7]]"), Some((1, 7)));
+    }
+
+    #[test]
     fn ceilings() {
-        let many = |count: usize| format!("[{}]", vec![format!("[{RING}]"); count].join(","));
-        assert_eq!(least(&many(15)), None);
-        assert_eq!(least(&many(16)), Some((0, 10)));
+        assert_eq!(least(&rings(&[1; 15])), None);
+        assert_eq!(least(&rings(&[1; 16])), Some((0, 10)));
+        assert_eq!(least(&rings(&[0; 16])), Some((0, 10)));
         let long = |count: usize| format!("[[[[0,0],{}[0,2],[2,2],[0,0]]]]", "[0,1],".repeat(count - 4));
         assert_eq!(least(&long(256)), None);
         assert_eq!(least(&long(257)), Some((1, 10)));
+        let holed = |count: usize| long(count).replacen("[[", &format!("[[{RING},"), 1);
+        assert_eq!(least(&holed(256)), None);
+        assert_eq!(least(&holed(257)), Some((5, 10)));
     }
 }

@@ -58,6 +58,10 @@ pub mod ceiling {
     pub const RECORDS: usize = 4_095;
     pub const SEGMENTS: usize = 16;
     pub const POLYGONS: usize = 15;
+    /// Rings of one polygon.
+    pub const RINGS: usize = 8;
+    /// Rings of a zone, over all its polygons.
+    pub const ZONE_RINGS: usize = 15;
     pub const RULES: usize = 32;
     pub const POSITIONS: usize = 256;
     pub const ITEMS: usize = 64;

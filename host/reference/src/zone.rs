@@ -1,7 +1,7 @@
 //! What the rules say together for a vehicle type at a point and a moment.
 
 use crate::clean::{clean, Row};
-use crate::coordinates::{area_sum, rings, Point};
+use crate::coordinates::{area_sum, polygons, Point};
 use crate::Parts;
 
 /// The answer to a zone question.
@@ -61,7 +61,7 @@ fn counts(zone: Row, moment: u64) -> bool {
 
 fn covers(zone: Row, point: Point) -> bool {
     let coordinates = zone.inner(71).and_then(|geometry| geometry.value(73));
-    coordinates.is_some_and(|polygons| rings(polygons).iter().any(|ring| holds(ring, point)))
+    coordinates.is_some_and(|coordinates| polygons(coordinates).iter().any(|polygon| holds(polygon, point)))
 }
 
 fn rules_of<'t, 'a>(zone: Row<'t, 'a>) -> impl Iterator<Item = Row<'t, 'a>> {
@@ -74,15 +74,40 @@ fn names(rule: Row, type_id: &[u8]) -> bool {
     list.is_none_or(|ids| ids.iter().any(|id| id.as_text() == Some(type_id)))
 }
 
-/// Does a ring hold the point? Its edges belong to it; a clockwise ring holds what it encloses, the other sort all the rest.
-fn holds(ring: &[Point], point: Point) -> bool {
+/// Where a point lies by a ring, whichever way the ring winds.
+#[derive(Clone, Copy, Debug, PartialEq, Eq, Hash)]
+pub enum Side {
+    Inside,
+    Edge,
+    Outside,
+}
+
+/// Where the point lies by the ring.
+pub fn side(ring: &[Point], point: Point) -> Side {
     let edges = || ring.windows(2).map(|edge| (edge[0], edge[1]));
     if edges().any(|(a, b)| is_on(a, b, point)) {
-        return true;
+        return Side::Edge;
     }
     let crossings = edges().filter(|&(a, b)| crosses(a, b, point)).count();
-    let encloses = crossings % 2 == 1;
-    encloses == (area_sum(ring) < 0)
+    if crossings % 2 == 1 {
+        Side::Inside
+    } else {
+        Side::Outside
+    }
+}
+
+/// Does a polygon hold the point? The edges of all its rings belong to it, and what a further ring encloses does not. For the rest its
+/// first ring decides: a clockwise one holds what it encloses, the other sort all else.
+fn holds(polygon: &[Vec<Point>], point: Point) -> bool {
+    let sides: Vec<Side> = polygon.iter().map(|ring| side(ring, point)).collect();
+    let Some((&first, further)) = sides.split_first() else { return false };
+    if sides.contains(&Side::Edge) {
+        return true;
+    }
+    if further.contains(&Side::Inside) {
+        return false;
+    }
+    (first == Side::Inside) == (area_sum(&polygon[0]) < 0)
 }
 
 /// (b − a) × (p − a): zero when the three are on a line.
@@ -113,9 +138,15 @@ mod tests {
         .into_bytes()
     }
 
-    fn zone(ring: &str, properties: &str) -> String {
+    /// A zone of one polygon, by its rings.
+    fn zone(rings: &str, properties: &str) -> String {
+        area(&format!("[{rings}]"), properties)
+    }
+
+    /// A zone by its polygons.
+    fn area(polygons: &str, properties: &str) -> String {
         format!(
-            r#"{{"type":"Feature","geometry":{{"type":"MultiPolygon","coordinates":[[{ring}]]}},"properties":{{{properties}}}}}"#
+            r#"{{"type":"Feature","geometry":{{"type":"MultiPolygon","coordinates":[{polygons}]}},"properties":{{{properties}}}}}"#
         )
     }
 
@@ -124,8 +155,27 @@ mod tests {
     const RULES: &str = r#""rules":[{"ride_allowed":true,"ride_through_allowed":false}]"#;
     const DEGREE: i64 = 1_000_000;
 
-    fn is_held(ring: &str, lon: i64, lat: i64) -> bool {
-        zone_rule(&zones(&zone(ring, RULES)), lon, lat, b"", 0) != Ruling::NoRule
+    fn is_held(rings: &str, lon: i64, lat: i64) -> bool {
+        match zone_rule(&zones(&zone(rings, RULES)), lon, lat, b"", 0) {
+            Ruling::Is(_) => true,
+            Ruling::NoRule => false,
+            other => panic!("{other:?}"),
+        }
+    }
+
+    /// A clockwise ring around the square between the same two degrees of longitude and of latitude.
+    fn square(from: i64, to: i64) -> String {
+        format!("[[{from},{from}],[{from},{to}],[{to},{to}],[{to},{from}],[{from},{from}]]")
+    }
+
+    /// The same counterclockwise.
+    fn reversed(from: i64, to: i64) -> String {
+        format!("[[{from},{from}],[{to},{from}],[{to},{to}],[{from},{to}],[{from},{from}]]")
+    }
+
+    /// Which points (n, n), for whole degrees n from -1 to 10, a polygon holds.
+    fn held_on_the_diagonal(rings: &[String]) -> Vec<i64> {
+        (-1..=10).filter(|&n| is_held(&rings.join(","), n * DEGREE, n * DEGREE)).collect()
     }
 
     #[test]
@@ -148,6 +198,51 @@ mod tests {
         let tips = "[[0,0],[0,2],[1,1],[2,2],[3,1],[4,1],[4,0],[0,0]]";
         for (lon, held) in [(500_000, true), (1_500_000, true), (3_500_000, true), (4_000_001, false), (-1, false)] {
             assert_eq!(is_held(tips, lon, DEGREE), held, "{lon}");
+        }
+    }
+
+    #[test]
+    fn holes() {
+        for hole in [square(2, 5), reversed(2, 5)] {
+            assert_eq!(held_on_the_diagonal(&[square(0, 8), hole.clone()]), [0, 1, 2, 5, 6, 7, 8]);
+            // A first ring that winds the other way holds its outside already; the hole's edge is in all the same.
+            assert_eq!(held_on_the_diagonal(&[reversed(0, 8), hole.clone()]), [-1, 0, 2, 5, 8, 9, 10]);
+            assert_eq!(held_on_the_diagonal(&[reversed(6, 8), hole]), [-1, 0, 1, 2, 5, 6, 8, 9, 10]);
+        }
+        assert_eq!(held_on_the_diagonal(&[square(0, 8), square(4, 8)]), [0, 1, 2, 3, 4, 8]);
+        assert_eq!(held_on_the_diagonal(&[square(0, 5), square(3, 9)]), [0, 1, 2, 3, 5, 9]);
+        assert_eq!(held_on_the_diagonal(&[square(0, 2), square(4, 6)]), [0, 1, 2, 4, 6]);
+        assert_eq!(held_on_the_diagonal(&[square(0, 3), square(0, 3)]), [0, 3]);
+        assert_eq!(held_on_the_diagonal(&[square(2, 5), square(0, 8)]), [0, 2, 5, 8]);
+    }
+
+    #[test]
+    fn holes_that_overlap() {
+        // The edge of one hole is in, also where the other encloses it.
+        assert_eq!(held_on_the_diagonal(&[square(0, 9), square(1, 5), square(3, 8)]), [0, 1, 3, 5, 8, 9]);
+        assert_eq!(held_on_the_diagonal(&[square(0, 9), square(1, 8), reversed(3, 5)]), [0, 1, 3, 5, 8, 9]);
+        assert_eq!(held_on_the_diagonal(&[square(0, 9), square(2, 4), square(2, 4)]), [0, 1, 2, 4, 5, 6, 7, 8, 9]);
+    }
+
+    #[test]
+    fn the_edge_of_a_hole_to_a_millionth() {
+        let rings = [square(0, 8), square(2, 5)].join(",");
+        let at = |lon: i64| is_held(&rings, lon, 3 * DEGREE);
+        assert_eq!([2 * DEGREE - 1, 2 * DEGREE, 2 * DEGREE + 1].map(at), [true, true, false]);
+        assert_eq!([5 * DEGREE - 1, 5 * DEGREE, 5 * DEGREE + 1].map(at), [false, true, true]);
+        // The hole's lower edge lies east of these points, on their parallel.
+        assert_eq!([0, DEGREE].map(|lon| is_held(&rings, lon, 2 * DEGREE)), [true, true]);
+    }
+
+    #[test]
+    fn a_hole_cuts_its_own_polygon_only() {
+        let holed = format!("[{},{}]", square(0, 8), square(2, 5));
+        for (other, held) in [(format!("[{}]", square(3, 4)), false), (format!("[{}]", square(1, 6)), true)] {
+            for polygons in [format!("{holed},{other}"), format!("{other},{holed}")] {
+                let file = zones(&area(&polygons, RULES));
+                let at = |lon| zone_rule(&file, lon, 2_500_000, b"", 0) != Ruling::NoRule;
+                assert_eq!([1_000_000, 2_500_000].map(at), [true, held], "{polygons}");
+            }
         }
     }
 

@@ -37,6 +37,9 @@ pub struct Rule {
 }
 
 /// What the rules at a point give together for a vehicle type at a moment, by the bytes of geofencing_zones.
+///
+/// A zone is where any of its polygons is. The edges of all rings of a polygon are in it; what a further ring encloses is not, whichever way
+/// that ring winds; for the rest the first ring decides: clockwise it holds its inside, counterclockwise its outside.
 pub fn zone_rule(zones: &[u8], point: Point, type_id: &[u8], moment: u64) -> Ruling {
     let answer = Answer::<{ room(12) }>::to(|buffer| raw::zone_rule(zones, point.lon, point.lat, type_id, moment, buffer));
     match answer.number {

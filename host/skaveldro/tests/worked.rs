@@ -19,9 +19,15 @@ fn plans(price: &str, segments: &str) -> Vec<u8> {
     ))
 }
 
+/// One zone of one ring.
 fn zones(ring: &str, rules: &str) -> Vec<u8> {
+    zones_over(&format!("[[{ring}]]"), rules)
+}
+
+/// One zone by its polygons.
+fn zones_over(polygons: &str, rules: &str) -> Vec<u8> {
     file(&format!(
-        r#""geofencing_zones":{{"type":"FeatureCollection","features":[{{"type":"Feature","geometry":{{"type":"MultiPolygon","coordinates":[[[{ring}]]]}},"properties":{{"rules":[{rules}]}}}}]}}"#
+        r#""geofencing_zones":{{"type":"FeatureCollection","features":[{{"type":"Feature","geometry":{{"type":"MultiPolygon","coordinates":[{polygons}]}},"properties":{{"rules":[{rules}]}}}}]}}"#
     ))
 }
 
@@ -105,6 +111,36 @@ fn a_park_and_its_town() {
         other => panic!("{other:?}"),
     };
     assert_eq!([0, 2, 3, 5].map(at), [Some((false, None)), Some((false, Some(20))), Some((true, Some(20))), None]);
+}
+
+/// A polygon with two holes, one of them wound the other way: their edges are in, their insides are not.
+#[test]
+fn a_zone_with_holes() {
+    let holes = "[[1,1],[1,4],[4,4],[4,1],[1,1]],[[3,3],[7,3],[7,7],[3,7],[3,3]]";
+    let zones = zones_over(&format!("[[[0,0],[0,9],[9,9],[9,0],[0,0]],{holes}]"), RULE);
+    let held = |n: i64| match zone_rule(&zones, degrees(n, n), b"", 0) {
+        Ruling::Is(_) => true,
+        Ruling::NoRule => false,
+        other => panic!("{other:?}"),
+    };
+    assert_eq!((-1..=10).filter(|&n| held(n)).collect::<Vec<_>>(), [0, 1, 3, 4, 7, 8, 9]);
+}
+
+/// A zone has at most 15 rings over all its polygons, a polygon at most 8.
+#[test]
+fn the_most_rings() {
+    let rings = |counts: &[usize]| {
+        let polygon = |&count: &usize| format!("[{}]", vec![format!("[{CLOCKWISE}]"); count].join(","));
+        let polygons: Vec<String> = counts.iter().map(polygon).collect();
+        match zone_rule(&zones_over(&polygons.join(","), RULE), degrees(0, 0), b"", 0) {
+            Ruling::NotClean(Parts { file: 6, kind, field: 73, record: 1, sub, .. }) => Some((kind, sub)),
+            Ruling::Is(_) => None,
+            other => panic!("{other:?}"),
+        }
+    };
+    assert_eq!([&[8][..], &[8, 7], &[1; 15]].map(rings), [None; 3]);
+    assert_eq!([&[9][..], &[1, 9]].map(rings), [Some((11, 1)), Some((11, 6))]);
+    assert_eq!([&[8, 8][..], &[16], &[1; 16]].map(rings), [Some((10, 0)); 3]);
 }
 
 /// A border half a millionth past two degrees lies a millionth past them.

@@ -3,6 +3,7 @@
 mod place;
 mod position;
 mod record;
+mod ring;
 mod rule;
 mod sort;
 
@@ -130,7 +131,15 @@ mod tests {
             said(6, 10, 73, 1, 5),
             "geofencing_zones.json, record 1, geometry.coordinates, position 5: a ring of more than 256 positions"
         );
-        assert_eq!(said(6, 10, 73, 1, 0), "geofencing_zones.json, record 1, geometry.coordinates: more than 15 polygons");
+        assert_eq!(
+            said(6, 10, 73, 1, 0),
+            "geofencing_zones.json, record 1, geometry.coordinates: too many polygons or rings: at most 15 of each are allowed"
+        );
+        assert_eq!(
+            said(6, 11, 73, 1, 5),
+            "geofencing_zones.json, record 1, geometry.coordinates, position 5: a polygon must have 1 to 8 rings; \
+                a ring must have 4 positions or more, end where it begins and have an area; a position must have 2 or 3 numbers"
+        );
     }
 
     #[test]
@@ -155,6 +164,18 @@ mod tests {
         assert_eq!(at(1), r#"free_bike_status.json, record 1 (id "a\"b", line 2, column 3), is_reserved: missing"#);
         assert_eq!(at(2), "free_bike_status.json, record 2 (line 2, column 27), is_reserved: missing");
         assert_eq!(at(3), "free_bike_status.json, record 3, is_reserved: missing");
+    }
+
+    /// Where the file is at hand, the one rule that a ring breaks.
+    #[test]
+    fn faults_of_rings() {
+        let zones = br#"{"data":{"geofencing_zones":{"features":[
+            {"geometry":{"coordinates":[[[[0,0],[0,2],[2,2],[0,0]],[[0,0],[0,1],[1,1],[0,0.5]]]]}}]}}}"#;
+        assert_eq!(
+            line(Parts { file: 6, kind: 11, field: 73, record: 1, sub: 5, offset: 0 }, Some(zones)),
+            "geofencing_zones.json, record 1 (line 2, column 13), geometry.coordinates, position 5: \
+                ring 2 of polygon 1 is not closed: its first and last positions differ when rounded to six decimals"
+        );
     }
 
     /// Every word that a verdict can give has words, also those that only a made-up word names.

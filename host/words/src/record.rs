@@ -21,7 +21,7 @@ pub fn record(file: u8, number: u16, bytes: &[u8]) -> Option<Record> {
 }
 
 /// Where the value of an object's first member of that name begins.
-fn member(bytes: &[u8], object: usize, name: &str) -> Option<usize> {
+pub(crate) fn member(bytes: &[u8], object: usize, name: &str) -> Option<usize> {
     let mut at = open(bytes, object, b'{')?;
     loop {
         let (found, after) = string(bytes, at)?;
@@ -34,7 +34,7 @@ fn member(bytes: &[u8], object: usize, name: &str) -> Option<usize> {
 }
 
 /// Where the items of an array begin, if there is an array.
-fn items(bytes: &[u8], array: usize) -> impl Iterator<Item = usize> + '_ {
+pub(crate) fn items(bytes: &[u8], array: usize) -> impl Iterator<Item = usize> + '_ {
     let first = open(bytes, array, b'[').filter(|&at| bytes.get(at) != Some(&b']'));
     std::iter::successors(first, |&at| next(bytes, at))
 }
@@ -52,7 +52,7 @@ fn next(bytes: &[u8], value: usize) -> Option<usize> {
 }
 
 /// The place behind a value.
-fn skip(bytes: &[u8], value: usize) -> Option<usize> {
+pub(crate) fn skip(bytes: &[u8], value: usize) -> Option<usize> {
     let mut at = value;
     let mut depth = 0;
     loop {

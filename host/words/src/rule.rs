@@ -1,8 +1,14 @@
 //! Which rule a fault breaks.
 
+use crate::ring;
 use crate::sort::{sort_of, Sort};
 use skaveldro::names::{file_name, FILE_NAMES};
 use skaveldro::{Kind, Parts, MOST_BYTES};
+
+/// Every rule of this kind, for where the file is not at hand.
+const SOUND_RINGS: &str =
+    "a polygon must have 1 to 8 rings; a ring must have 4 positions or more, end where it begins and have an area; \
+    a position must have 2 or 3 numbers";
 
 /// The rule in words.
 pub fn rule(parts: Parts, kind: Kind, bytes: Option<&[u8]>) -> String {
@@ -20,8 +26,8 @@ pub fn rule(parts: Parts, kind: Kind, bytes: Option<&[u8]>) -> String {
         Kind::Type => sort.map_or("not of its type".into(), |sort| format!("has to be {}", type_of(sort, parts))),
         Kind::Form => "a number is spelled with at most 12 digits, and 18 behind a point, without exponent".into(),
         Kind::Range => sort.map_or("not allowed".into(), |sort| format!("has to be {}", range_of(sort))),
-        Kind::TooMany => sort.map_or("too many items".into(), |sort| excess_of(sort, parts)),
-        Kind::Ring => "a polygon is one closed ring of 4 to 256 positions around an area, a position has 2 or 3 numbers".into(),
+        Kind::TooMany => sort.map_or("too many items".into(), |sort| excess_of(sort, parts, bytes)),
+        Kind::Ring => bytes.and_then(|bytes| ring::unsound(parts, bytes)).unwrap_or_else(|| SOUND_RINGS.into()),
         Kind::IdUsed => "an earlier record has this id".into(),
         Kind::Reference => match target(parts.field) {
             Some(file) => format!("names an id that no record of {file} has"),
@@ -65,13 +71,15 @@ fn range_of(sort: Sort) -> String {
     }
 }
 
-fn excess_of(sort: Sort, parts: Parts) -> String {
+fn excess_of(sort: Sort, parts: Parts, bytes: Option<&[u8]>) -> String {
     match sort {
         Sort::Records => "more than 4095 records".into(),
         Sort::Items(most) => format!("more than {most} items"),
         Sort::Ids => "more than 64 items".into(),
         Sort::Coordinates if parts.sub > 0 => "a ring of more than 256 positions".into(),
-        Sort::Coordinates => "more than 15 polygons".into(),
+        Sort::Coordinates => bytes
+            .and_then(|bytes| ring::excess(parts, bytes))
+            .unwrap_or_else(|| "too many polygons or rings: at most 15 of each are allowed".into()),
         _ => "too many items".into(),
     }
 }

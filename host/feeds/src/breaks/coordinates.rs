@@ -14,44 +14,93 @@ fn ring(positions: &[(i64, i64)]) -> Tree {
     Tree::Array(positions.iter().map(|&(lon, lat)| Tree::Array(vec![Tree::number(lon), Tree::number(lat)])).collect())
 }
 
+/// A small sound ring.
+fn triangle() -> Tree {
+    ring(&[(0, 0), (0, 1), (1, 1), (0, 0)])
+}
+
+fn rings_in(polygons: &[Tree]) -> usize {
+    polygons.iter().map(|polygon| polygon.items().len()).sum()
+}
+
+fn positions_in(rings: &[Tree]) -> usize {
+    rings.iter().map(|ring| ring.items().len()).sum()
+}
+
+/// The number of a polygon's first position, or the number that it would have.
+fn first_of(polygons: &[Tree], index: usize) -> usize {
+    1 + polygons[..index].iter().map(|polygon| positions_in(polygon.items())).sum::<usize>()
+}
+
 /// Breaks a rule about a zone's polygons, and blames the number of the position that the verdict names.
 pub fn break_coordinates(polygons: &mut Vec<Tree>, rng: &mut Rng) -> Option<Broken> {
     if polygons.is_empty() {
-        polygons.push(Tree::Array(vec![ring(&[(0, 0), (0, 1), (1, 1), (0, 0)])]));
+        polygons.push(Tree::Array(vec![triangle()]));
     }
-    let index = rng.below(polygons.len());
-    let positions_of = |polygon: &Tree| polygon.items().iter().map(|ring| ring.items().len()).sum::<usize>();
-    let first = 1 + polygons[..index].iter().map(positions_of).sum::<usize>();
-    if rng.below(12) == 0 {
-        let polygon = polygons[index].clone();
-        polygons.resize(ceiling::POLYGONS + 1, polygon);
-        return Some(Broken::at_sub(kind::TOO_MANY, 0));
+    match rng.below(12) {
+        0 => add_polygons(polygons, rng),
+        1 | 2 => add_rings(polygons, rng),
+        3..=5 => return break_polygon(polygons, rng),
+        _ => return break_in_ring(polygons, rng),
     }
-    let polygon = &mut polygons[index];
-    match rng.below(4) {
-        0 => break_polygon(polygon, rng).map(|kind| Broken::at_sub(kind, first)),
-        1 | 2 => break_ring(polygon.items_mut()?.first_mut()?, rng).map(|kind| Broken::at_sub(kind, first)),
-        _ => {
-            let positions = polygon.items_mut()?.first_mut()?.items_mut()?;
-            let index = rng.below(positions.len().max(1));
-            let kind = break_position(positions.get_mut(index)?, rng)?;
-            Some(Broken::at_sub(kind, first + index))
+    Some(Broken::at_sub(kind::TOO_MANY, 0))
+}
+
+/// Some polygon again and again, until there is one too many.
+fn add_polygons(polygons: &mut Vec<Tree>, rng: &mut Rng) {
+    let polygon = rng.pick(polygons).clone();
+    polygons.resize(ceiling::POLYGONS + 1, polygon);
+}
+
+/// Rings here and there until the zone has one too many of them, but neither too many polygons nor a polygon of too many rings.
+fn add_rings(polygons: &mut Vec<Tree>, rng: &mut Rng) {
+    while rings_in(polygons) <= ceiling::ZONE_RINGS {
+        let index = rng.below(polygons.len());
+        match polygons[index].items_mut() {
+            Some(rings) if rings.len() < ceiling::RINGS => rings.push(triangle()),
+            _ => polygons.push(Tree::Array(vec![triangle()])),
         }
     }
 }
 
 /// Breaks a polygon as a whole.
-fn break_polygon(tree: &mut Tree, rng: &mut Rng) -> Option<u8> {
-    let rings = tree.items_mut()?;
-    match rng.below(3) {
-        0 => rings.clear(),
-        1 => rings.push(rings.first()?.clone()),
-        _ => {
-            *tree = no_object(rng);
-            return Some(kind::TYPE);
+fn break_polygon(polygons: &mut [Tree], rng: &mut Rng) -> Option<Broken> {
+    let index = rng.below(polygons.len());
+    let first = first_of(polygons, index);
+    let kind = match rng.below(3) {
+        0 => {
+            polygons[index].items_mut()?.clear();
+            kind::RING
         }
+        1 => {
+            polygons[index].items_mut()?.resize(ceiling::RINGS + 1, triangle());
+            kind::RING
+        }
+        _ => {
+            polygons[index] = no_object(rng);
+            kind::TYPE
+        }
+    };
+    // Too many rings in the zone come first.
+    let is_too_many = rings_in(polygons) > ceiling::ZONE_RINGS;
+    Some(if is_too_many { Broken::at_sub(kind::TOO_MANY, 0) } else { Broken::at_sub(kind, first) })
+}
+
+/// Breaks a ring, the first of its polygon or a hole, or a position in it.
+fn break_in_ring(polygons: &mut [Tree], rng: &mut Rng) -> Option<Broken> {
+    let index = rng.below(polygons.len());
+    let first = first_of(polygons, index);
+    let rings = polygons[index].items_mut()?;
+    let index = rng.below(rings.len().max(1));
+    let first = first + positions_in(rings.get(..index)?);
+    let ring = rings.get_mut(index)?;
+    if rng.chance(60) {
+        return break_ring(ring, rng).map(|kind| Broken::at_sub(kind, first));
     }
-    Some(kind::RING)
+    let positions = ring.items_mut()?;
+    let index = rng.below(positions.len().max(1));
+    let kind = break_position(positions.get_mut(index)?, rng)?;
+    Some(Broken::at_sub(kind, first + index))
 }
 
 /// Breaks a ring as a whole.

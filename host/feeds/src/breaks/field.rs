@@ -12,7 +12,7 @@ use reference::{ceiling, kind, Parts};
 fn rows(file: u8) -> Vec<&'static Field> {
     fn collect(fields: &'static [Field], rows: &mut Vec<&'static Field>) {
         for field in fields {
-            let weight = if matches!(field.form, Form::Coordinates) { 8 } else { 1 };
+            let weight = if matches!(field.form, Form::Coordinates) { 20 } else { 1 };
             rows.extend(std::iter::repeat_n(field, weight));
             collect(field.form.members(), rows);
         }

@@ -1,7 +1,11 @@
 -- The polygons, judged from number 1 on, and their count at number 0.
+use mathlib.Core.Bool.{Bool}
 use mathlib.Core.Path.{ap, _∙_}
 use borrow.Author.Needs.{needs}
-use Rattle.rings.specs.Least.{lesser}
+use Rattle.word.specs.Kinds.{tooMany}
+use Rattle.scalar.specs.Scalars.{unless}
+use Rattle.rings.specs.Rings.{at}
+use Rattle.rings.specs.Least.{lesser, leastFound}
 use Rattle.rings.specs.declared.LeastFound.{LeastFound}
 use Rattle.rings.proofs.Zones.{coordinates-found}
 use Rattle.rings.proofs.zone.judge_coordinates.Statement.{statement}
@@ -9,8 +13,10 @@ use Rattle.rings.proofs.zone.judge_coordinates.Tie as tie
 
 returns : tie.Need-returns
 returns c x is w e =
-    let r = c .before .before .before .judge-polygons in
-    c .lesser .ensures ∙ ap (λ (z : LeastFound). lesser z (r .result .least)) (c .before .unless .ensures) ∙ coordinates-found (r .result) (r .ensures .1) x is w e
+    let q = c .before .before in let r = q .before .judge-polygons in
+    c .lesser .ensures
+    ∙ ap (λ (z : LeastFound). lesser z (r .result .least)) (c .before .unless .ensures ∙ ap (λ (b : Bool). leastFound (at 0 (unless b tooMany))) (q .are-zone-counts .ensures))
+    ∙ coordinates-found (r .result) (r .ensures) x is w e
 
 pub judge-coordinates-spec : {M : Type 1} → statement M
 judge-coordinates-spec = tie.close (tie.spec (λ c κs. search needs) (λ c. search needs) (λ c κs. search needs) (λ c κs. search needs) returns)

@@ -1,25 +1,31 @@
 -- What is no array is of the wrong type; an array is judged by its items and their count.
+use mathlib.Core.Bool.{Bool}
 use mathlib.Core.Path.{sym, ap, _∙_}
 use native.Mathlib.Omega.{arith}
 use borrow.Author.Needs.{needs}
 use borrow.Author.Tests.{not-true, not-false}
-use Rattle.rings.specs.Least.{lesser}
+use Rattle.word.specs.Kinds.{badRing}
+use Rattle.scalar.specs.Scalars.{unless}
+use Rattle.rings.specs.Rings.{at}
+use Rattle.rings.specs.Least.{lesser, leastFound}
 use Rattle.rings.specs.declared.LeastFound.{LeastFound}
 use Rattle.rings.proofs.Zones.{polygon-array, polygon-other}
 use Rattle.rings.proofs.zone.judge_polygon.Statement.{statement}
 use Rattle.rings.proofs.zone.judge_polygon.Tie as tie
 
 returns : tie.Need-returns
-returns c = (omega arith, λ x w. polygon-other w _ (sym (c .before .is-array .ensures) ∙ not-true _ (c .if1 .taken)))
+returns c = (record { rings = omega arith; positions = omega arith }, λ x w. polygon-other w _ (sym (c .before .is-array .ensures) ∙ not-true _ (c .if1 .taken)))
 
 returns-2 : tie.Need-returns-2
 returns-2 c =
-    let r = c .before .before .before .judge-rings in (
-      r .ensures .0,
+    let q = c .before .before in let r = q .before .judge-rings in let o = q .before .before in
+    let n = o .before .before .before .args .n in
+    let counted = c .before .unless .ensures ∙ ap (λ (t : Bool). leastFound (at n (unless t badRing))) (q .is-ring-count .ensures) in (
+      record { rings = r .ensures .0 .rings; positions = r .ensures .0 .positions },
       λ x w.
-          polygon-array w _ (r .result) _ (sym (c .before .before .before .before .before .is-array .ensures) ∙ not-false _ (c .before .before .before .before .if1 .left)) (r .ensures .1)
-          (c .lesser .ensures ∙ ap (λ (z : LeastFound). lesser z (r .result .least)) (c .before .unless .ensures)),
+          polygon-array w _ (r .result) _ (sym (o .before .is-array .ensures) ∙ not-false _ (o .if1 .left)) (r .ensures .1)
+          (c .lesser .ensures ∙ ap (λ (z : LeastFound). lesser z (r .result .least)) counted),
     )
 
 pub judge-polygon-spec : {M : Type 1} → statement M
-judge-polygon-spec = tie.close (tie.spec (λ c κs. search needs) returns (λ c κs. search needs) (λ c κs. search needs) (λ c κs. search needs) returns-2)
+judge-polygon-spec = tie.close (tie.spec (λ c κs. search needs) returns (λ c κs. search needs) (λ c κs. search needs) (λ c κs. search needs) (λ c κs. search needs) returns-2)

@@ -1,29 +1,36 @@
 -- Each turn judges one ring more: what is found so far, with what is left, is what is found in all.
+use mathlib.Core.Path.{sym, ap, _∙_}
 use Prim.Native.Nat.{_+_, _-_}
 use native.Mathlib.Omega.{arith}
 use lib.ListN.{length}
 use borrow.Author.Needs.{needs}
 use Rattle.walk.specs.Along.{ItemPlaced}
 use Rattle.rings.specs.Rings.{ring, ringPositions}
+use Rattle.rings.specs.Least.{leastFound}
 use Rattle.rings.specs.Parts.{ringShape, Listing}
-use Rattle.rings.proofs.Going.{Room, Passed, passed-start, passed-within, passed-room, passed-more, Going, going-start, going-end, going-whole, going-more}
+use Rattle.rings.proofs.Going.{Room, Passed, passed-start, passed-within, passed-few, passed-room, passed-more, Going, going-start, going-end, going-whole, going-more}
+use Rattle.rings.proofs.Zones.{rings-found, rings-positions}
 use Rattle.rings.proofs.zone.judge_rings.Statement.{statement}
 use Rattle.rings.proofs.zone.judge_rings.Tie as tie
 
 abbrev Inv-loop : tie.InvT-loop
-Inv-loop p n items₀ positions₀ least₀ at₀ items positions least at =
-    Passed p at items positions × (Listing p → Going ring ringPositions ringShape n p at items positions least)
+Inv-loop p n rings₀ positions₀ least₀ at₀ rings positions least at =
+    Passed p at rings positions × (Listing p → Going ring ringPositions ringShape n p at rings positions least)
 
 abbrev μ-loop : tie.MeasureT-loop
-μ-loop p n items₀ positions₀ least₀ at₀ items positions least at = length p + 1 - at
+μ-loop p n rings₀ positions₀ least₀ at₀ rings positions least at = length p + 1 - at
 
 loop-holds : tie.Need-loop-holds Inv-loop μ-loop
 loop-holds c = (passed-start _, λ w. going-start ring ringPositions ringShape _ _ w)
 
 returns : tie.Need-returns Inv-loop μ-loop
 returns c =
-    let l = c .before .before .before .loop in
-    (passed-within (l .inv .0), λ w. going-end ring ringPositions ringShape _ _ (l .inv .1 w) (c .before .before .pass-item .ensures) (c .enum-told .given .1))
+    let l = c .before .before .before .loop in (
+      record { rings = passed-few (l .inv .0); positions = passed-within (l .inv .0) },
+      λ w.
+          let t = going-end ring ringPositions ringShape _ _ (l .inv .1 w) (c .before .before .pass-item .ensures) (c .enum-told .given .1) in
+          record { rings = t .counted; positions = t .numbered ∙ sym (rings-positions _); least = t .found ∙ ap leastFound (sym (rings-found _ _)) },
+    )
 
 -- where an item was found
 abbrev Met : Type 0
@@ -34,7 +41,7 @@ placed : (c : Met) →
 placed c = c .before .before .before .pass-item .ensures .placed _ (c .before .item .given .1)
 
 room : (c : Met) → let l = c .before .before .before .before .loop in
-    Room (c .before .before .before .before .before .before .args .p .now) (l .at) (l .items) (l .positions) (c .before .item .given .0 .0)
+    Room (c .before .before .before .before .before .before .args .p .now) (l .at) (l .rings) (l .positions) (c .before .item .given .0 .0)
 room c = passed-room (c .before .before .before .before .loop .inv .0) (placed c)
 
 add-judge-ring : tie.Need-add-judge-ring Inv-loop μ-loop
@@ -44,8 +51,8 @@ judge-ring-requires : tie.Need-judge-ring-requires Inv-loop μ-loop
 judge-ring-requires c κs =
     let k = room (c .before) in omega (arith, c .before .before .before .before .before .before .before .pre, k .number, k .size)
 
-add-items : tie.Need-add-items Inv-loop μ-loop
-add-items c =
+add-rings : tie.Need-add-rings Inv-loop μ-loop
+add-rings c =
     let d = c .before .before .before in let k = room d in omega (arith, d .before .before .before .before .before .before .pre, k .count)
 
 add-positions : tie.Need-add-positions Inv-loop μ-loop
@@ -71,4 +78,4 @@ pub judge-rings-spec : {M : Type 1} → statement M
 judge-rings-spec =
     tie.close
     (tie.spec Inv-loop μ-loop loop-holds (λ c κs. search needs) (λ c. search needs) (λ c. search needs) returns (λ c. let k = room c in omega (arith, k .some)) (λ c. let k = room c in omega (arith, k .some)) (λ c. room c .ends)
-    add-judge-ring judge-ring-requires (λ c κs. search needs) add-items add-positions loop-less loop-again)
+    add-judge-ring judge-ring-requires (λ c κs. search needs) add-rings add-positions loop-less loop-again)
