@@ -1,5 +1,7 @@
 //! A verdict in words for those who have to mend a feed: which file by its standard name, where in it, and which rule it breaks.
 
+#![forbid(unsafe_code)]
+
 mod place;
 mod position;
 mod record;

@@ -88,7 +88,7 @@ fn several_at_once() {
 fn a_file_that_may_not_be_read() {
     let folder = sample("odd-denied", &[]);
     let path = Path::new(&folder).join("vehicle_types.json");
-    fs::set_permissions(&path, fs::Permissions::from_mode(0)).expect("the file is there");
+    fs::set_permissions(&path, fs::Permissions::from_mode(0o000)).expect("the file is there");
     // who may read every file, may read this one
     if fs::read(&path).is_err() {
         said(&["check", &folder], "vehicle_types.json: Permission denied\n");
