@@ -15,7 +15,7 @@ pub fn report(path: String, file: u8, content: &Content) -> Result<Report, Failu
     let fault = fault::of_file(file, &content.bytes);
     let (status, verdict) = if fault.is_none() { (YES, "clean") } else { (NO, "not clean") };
     let mut lines = vec![format!("{verdict}, judged alone as {name}, {} bytes", content.size)];
-    lines.extend(fault.iter().map(|(_, told)| told.to_string()));
+    lines.extend(fault.iter().map(|fault| fault.told.to_string()));
     lines.push("references to other files were not judged; name a folder to judge a whole set".into());
     let members = vec![
         ("status", Json::Number(status.into())),
@@ -24,7 +24,7 @@ pub fn report(path: String, file: u8, content: &Content) -> Result<Report, Failu
         ("name", Json::Text(name.into())),
         ("bytes", Json::Raw(content.size.to_string())),
         ("clean", Json::Truth(fault.is_none())),
-        ("fault", fault::json_or_null(fault.as_ref())),
+        ("fault", fault::json(fault.as_ref())),
     ];
     Ok(Report::new(status, lines.join("\n"), members))
 }

@@ -3,8 +3,9 @@
 use crate::folder;
 use crate::help::{misuse, misused};
 use crate::read;
-use crate::report::{Failure, Report, NO_ANSWER, YES};
+use crate::report::{Failure, Report, YES};
 use crate::set::{self, Set};
+use crate::several::{join, Outcome};
 use crate::shown::shown;
 use crate::source::{existing, STANDARD_INPUT};
 use crate::standard::{looks_like, name_of, named, required_role, role};
@@ -53,12 +54,6 @@ fn of_files(assigned: &[(u8, &OsStr)]) -> Result<Set, Failure> {
     Ok(Set { what: "files", path: None, files, others: Vec::new() })
 }
 
-/// What was checked, and in which words it is counted.
-struct Outcome {
-    report: Report,
-    counted: &'static str,
-}
-
 /// One folder or file, or standard input.
 fn subject(path: &OsStr, given_role: Option<u8>) -> Result<Outcome, Failure> {
     let alone = |path, file, content| {
@@ -104,38 +99,4 @@ fn misnamed_role(word: &OsStr) -> Option<Failure> {
         return None;
     }
     required_role("ROLE", OsStr::from_bytes(left)).err()
-}
-
-/// One report of one or several. Of several each begins with its name, and a line at the end counts them.
-fn join(outcomes: Vec<(&OsStr, Result<Outcome, Failure>)>) -> Report {
-    let is_one = outcomes.len() == 1;
-    let mut joined = Report { status: YES, text: String::new(), objects: Vec::new(), errors: Vec::new() };
-    let mut blocks = Vec::new();
-    let mut counts: Vec<(&str, usize)> =
-        ["accepted", "not accepted", "clean", "not clean", "with no answer"].map(|word| (word, 0)).into();
-    for (path, outcome) in outcomes {
-        let (status, counted) = match outcome {
-            Ok(Outcome { report, counted }) => {
-                blocks.push(if is_one { report.text } else { format!("{}: {}", shown(path), report.text) });
-                joined.objects.extend(report.objects);
-                (report.status, counted)
-            }
-            Err(failure) => {
-                blocks.extend((!is_one).then(|| format!("{}: no answer", shown(path))));
-                joined.objects.push(failure.json(Some(path.to_string_lossy().into_owned())));
-                joined.errors.extend(failure.0);
-                (NO_ANSWER, "with no answer")
-            }
-        };
-        joined.status = joined.status.max(status);
-        counts.iter_mut().filter(|(word, _)| *word == counted).for_each(|(_, count)| *count += 1);
-    }
-    if !is_one {
-        let total: usize = counts.iter().map(|(_, count)| count).sum();
-        let told: Vec<String> =
-            counts.iter().filter(|(_, count)| *count > 0).map(|(word, count)| format!("{count} {word}")).collect();
-        blocks.push(format!("{total} checked: {}", told.join(", ")));
-    }
-    joined.text = blocks.join("\n\n");
-    joined
 }

@@ -1,6 +1,6 @@
 //! `explain`: what a verdict word says, and whether the files at hand are those that it was given for.
 
-use crate::fault;
+use crate::fault::{self, Fault};
 use crate::folder;
 use crate::help::misuse;
 use crate::json::Json;
@@ -47,12 +47,12 @@ pub fn explain(word: &OsStr, path: Option<&OsStr>) -> Result<Report, Failure> {
     let verdict = if parts.is_accepted() { "accepted" } else { "not accepted" };
     let lines: Vec<String> =
         std::iter::once(format!("{verdict}, word {word}")).chain(known.told.iter().map(Told::to_string)).collect();
-    let fault = known.told.map(|told| (parts, told));
+    let fault = known.told.map(|told| Fault { parts, told });
     let members = vec![
         ("answer", Json::Number(reading.number().into())),
         ("accepted", Json::Truth(parts.is_accepted())),
         ("word", Json::Text(word.to_string())),
-        ("fault", fault::json_or_null(fault.as_ref())),
+        ("fault", fault::json(fault.as_ref())),
         ("matches", Json::or_null(known.matches, Json::Truth)),
     ];
     Ok(Report::new(status, lines.join("\n"), members).warning(known.warning.into_iter().collect()))
@@ -74,7 +74,7 @@ fn against_folder(word: Word, parts: Parts, path: &Path) -> Result<Known, Failur
 fn against_file(parts: Parts, path: &Path) -> Result<Known, Failure> {
     let content = read::file(path)?;
     let file = if parts.is_accepted() { path.file_name().and_then(named) } else { Some(parts.file) };
-    let own = file.and_then(|file| fault::of_file(file, &content.bytes)).map(|(own, _)| own);
+    let own = file.and_then(|file| fault::of_file(file, &content.bytes)).map(|fault| fault.parts);
     let is_own = parts.is_accepted() && own.is_some() || parts.rule().is_some_and(|kind| kind <= Kind::IdUsed);
     let name = shown(path);
     let (matches, warning) = match own {

@@ -1,11 +1,26 @@
 //! A broken rule, in words and as JSON.
 
 use crate::json::Json;
-use skaveldro::Parts;
+use skaveldro::{show_record, Parts, Shown};
 use words::Told;
 
-/// The members of a fault.
-pub fn json(parts: Parts, told: &Told) -> Json {
+/// A broken rule: the parts of its word, and what they say.
+pub struct Fault {
+    pub parts: Parts,
+    pub told: Told,
+}
+
+/// The first rule that a file breaks by itself; none if it is clean.
+pub fn of_file(file: u8, bytes: &[u8]) -> Option<Fault> {
+    match show_record(file.into(), 1, bytes) {
+        Shown::NotClean(parts) => words::tell(parts, Some(bytes)).map(|told| Fault { parts, told }),
+        _ => None,
+    }
+}
+
+/// A fault as an object; null where no rule is broken.
+pub fn json(fault: Option<&Fault>) -> Json {
+    let Some(Fault { parts, told }) = fault else { return Json::Null };
     let (line, column) = told.position.map(|position| (position.line, position.column)).unzip();
     let id = told.record.as_ref().and_then(|(_, id)| id.clone());
     Json::Object(vec![
@@ -24,17 +39,4 @@ pub fn json(parts: Parts, told: &Told) -> Json {
         ("found", Json::or_null(told.found.clone(), Json::Text)),
         ("text", Json::Text(told.to_string())),
     ])
-}
-
-/// The same, or null where no rule is broken.
-pub fn json_or_null(fault: Option<&(Parts, Told)>) -> Json {
-    fault.map_or(Json::Null, |(parts, told)| json(*parts, told))
-}
-
-/// The first rule that a file breaks by itself; none if it is clean.
-pub fn of_file(file: u8, bytes: &[u8]) -> Option<(Parts, Told)> {
-    match skaveldro::show_record(file.into(), 1, bytes) {
-        skaveldro::Shown::NotClean(parts) => words::tell(parts, Some(bytes)).map(|told| (parts, told)),
-        _ => None,
-    }
 }

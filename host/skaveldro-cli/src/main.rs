@@ -19,6 +19,7 @@ mod nearest;
 mod read;
 mod report;
 mod set;
+mod several;
 mod shown;
 mod source;
 mod standard;

@@ -1,14 +1,18 @@
 //! The verdict on a set, with what was read for it and what was not.
 
-use crate::fault;
+use crate::fault::{self, Fault};
 use crate::folder::{warnings, Contents, Other};
 use crate::json::Json;
+use crate::read::Content;
 use crate::report::{Report, NO, YES};
 use crate::shown::shown;
 use crate::standard::name_of;
 use skaveldro::names::FILE_NAMES;
-use skaveldro::{verdict, Files, Parts, Verdict};
-use words::{tell_of_set, Told};
+use skaveldro::{verdict, Files, Verdict};
+use words::tell_of_set;
+
+/// The files by number.
+const NUMBERS: [u8; 6] = [1, 2, 3, 4, 5, 6];
 
 /// The most names that are listed of what was not read.
 const MOST_LISTED: usize = 20;
@@ -29,43 +33,77 @@ pub fn bytes(files: &Contents) -> Files<'_> {
     files.each_ref().map(|slot| slot.as_ref().map_or(&[][..], |content| &content.bytes))
 }
 
-/// The verdict in words and as JSON: the first line says it, the next ones why, then what there is to know of the files.
+/// The verdict on a set, in words and as JSON.
 pub fn report(set: &Set) -> Report {
-    let files = bytes(&set.files);
-    let answer = verdict(files);
-    let fault = tell_of_set(answer.parts(), files).map(|told| (answer.parts(), told));
-    let warnings = warnings(&set.files, &set.others);
-    let own: Vec<Option<(Parts, Told)>> = (1..).zip(files).map(|(file, bytes)| fault::of_file(file, bytes)).collect();
+    let judged = Judged::of(set);
+    let status = if judged.answer == Verdict::Accepted { YES } else { NO };
+    Report::new(status, judged.lines().join("\n"), judged.members(status))
+}
 
-    let mut lines = vec![verdict_line(answer, warnings.len())];
-    lines.extend(fault.iter().map(|(_, told)| told.to_string()));
-    lines.extend(warnings.iter().map(|warning| format!("warning: {warning}")));
-    lines.push("files:".into());
-    let width = FILE_NAMES.iter().map(|name| name.len()).max().unwrap_or_default();
-    for ((slot, own), name) in set.files.iter().zip(&own).zip(FILE_NAMES) {
-        let state = match slot {
-            None => "absent".into(),
-            Some(content) if content.size == 0 => "empty, counts as absent".into(),
-            Some(content) => format!("{} bytes, {}", content.size, state(own, &fault)),
-        };
-        lines.push(format!("  {name:width$}  {state}"));
+/// A set with all that is said of it.
+struct Judged<'a> {
+    set: &'a Set,
+    answer: Verdict,
+    fault: Option<Fault>,
+    /// What each file breaks by itself.
+    own: [Option<Fault>; 6],
+    warnings: Vec<String>,
+}
+
+impl Judged<'_> {
+    fn of(set: &Set) -> Judged<'_> {
+        let files = bytes(&set.files);
+        let answer = verdict(files);
+        let fault = tell_of_set(answer.parts(), files).map(|told| Fault { parts: answer.parts(), told });
+        let own = NUMBERS.map(|file| fault::of_file(file, files[usize::from(file) - 1]));
+        Judged { set, answer, fault, own, warnings: warnings(&set.files, &set.others) }
     }
-    lines.extend(not_read(&set.others));
 
-    let status = if answer == Verdict::Accepted { YES } else { NO };
-    let members = vec![
-        ("status", Json::Number(status.into())),
-        ("what", Json::Text(set.what.into())),
-        ("path", Json::or_null(set.path.clone(), Json::Text)),
-        ("answer", Json::Number(answer.number().into())),
-        ("accepted", Json::Truth(answer == Verdict::Accepted)),
-        ("word", Json::Text(answer.word().to_string())),
-        ("fault", fault::json_or_null(fault.as_ref())),
-        ("files", Json::Array((1..).zip(&set.files).zip(&own).map(|((file, slot), own)| file_json(file, slot, own)).collect())),
-        ("not_read", Json::Array(set.others.iter().map(other_json).collect())),
-        ("warnings", Json::texts(warnings)),
-    ];
-    Report::new(status, lines.join("\n"), members)
+    /// The verdict, why, what may be a mistake, the state of each file, and what was not read.
+    fn lines(&self) -> Vec<String> {
+        let mut lines = vec![verdict_line(self.answer, self.warnings.len())];
+        lines.extend(self.fault.iter().map(|fault| fault.told.to_string()));
+        lines.extend(self.warnings.iter().map(|warning| format!("warning: {warning}")));
+        lines.push("files:".into());
+        let width = FILE_NAMES.iter().map(|name| name.len()).max().unwrap_or_default();
+        for ((slot, own), name) in self.set.files.iter().zip(&self.own).zip(FILE_NAMES) {
+            let state = match slot {
+                None => "absent".into(),
+                Some(content) if content.size == 0 => "empty, counts as absent".into(),
+                Some(content) => format!("{} bytes, {}", content.size, self.cleanness(own)),
+            };
+            lines.push(format!("  {name:width$}  {state}"));
+        }
+        lines.extend(not_read(&self.set.others));
+        lines
+    }
+
+    /// What there is to say of a file by itself. The fault that the verdict names is not said again.
+    fn cleanness(&self, own: &Option<Fault>) -> String {
+        let named = self.fault.as_ref().map(|fault| fault.parts);
+        match own {
+            None => "clean".into(),
+            Some(fault) if Some(fault.parts) == named => "not clean: see above".into(),
+            Some(fault) => format!("not clean: {}", fault.told.within_file()),
+        }
+    }
+
+    fn members(self, status: u8) -> Vec<(&'static str, Json)> {
+        let files = NUMBERS.iter().zip(&self.set.files).zip(&self.own);
+        let files = files.map(|((&file, slot), own)| file_json(file, slot.as_ref(), own.as_ref())).collect();
+        vec![
+            ("status", Json::Number(status.into())),
+            ("what", Json::Text(self.set.what.into())),
+            ("path", Json::or_null(self.set.path.clone(), Json::Text)),
+            ("answer", Json::Number(self.answer.number().into())),
+            ("accepted", Json::Truth(self.answer == Verdict::Accepted)),
+            ("word", Json::Text(self.answer.word().to_string())),
+            ("fault", fault::json(self.fault.as_ref())),
+            ("files", Json::Array(files)),
+            ("not_read", Json::Array(self.set.others.iter().map(other_json).collect())),
+            ("warnings", Json::texts(self.warnings)),
+        ]
+    }
 }
 
 /// The first line. A verdict that warnings go with does not stand alone.
@@ -79,15 +117,7 @@ fn verdict_line(answer: Verdict, warnings: usize) -> String {
     format!("{verdict}, word {}{warned}", answer.word())
 }
 
-/// What there is to say of a file by itself. The fault that the verdict names is not said again.
-fn state(own: &Option<(Parts, Told)>, fault: &Option<(Parts, Told)>) -> String {
-    match own {
-        None => "clean".into(),
-        Some((parts, _)) if fault.as_ref().is_some_and(|(named, _)| named == parts) => "not clean: see above".into(),
-        Some((_, told)) => format!("not clean: {}", told.within_file()),
-    }
-}
-
+/// The names of what was not read, if there is any.
 fn not_read(others: &[Other]) -> Option<String> {
     if others.is_empty() {
         return None;
@@ -98,8 +128,8 @@ fn not_read(others: &[Other]) -> Option<String> {
     Some(format!("not read: {}{more}", names.join(", ")))
 }
 
-fn file_json(file: u8, slot: &Option<crate::read::Content>, own: &Option<(Parts, Told)>) -> Json {
-    let state = match slot {
+fn file_json(file: u8, content: Option<&Content>, own: Option<&Fault>) -> Json {
+    let state = match content {
         None => "absent",
         Some(content) if content.size == 0 => "empty",
         Some(_) => "found",
@@ -107,9 +137,9 @@ fn file_json(file: u8, slot: &Option<crate::read::Content>, own: &Option<(Parts,
     Json::Object(vec![
         ("name", Json::Text(name_of(file).into())),
         ("state", Json::Text(state.into())),
-        ("bytes", Json::or_null(slot.as_ref(), |content| Json::Raw(content.size.to_string()))),
+        ("bytes", Json::or_null(content, |content| Json::Raw(content.size.to_string()))),
         ("clean", if state == "found" { Json::Truth(own.is_none()) } else { Json::Null }),
-        ("fault", fault::json_or_null(own.as_ref())),
+        ("fault", fault::json(own)),
     ])
 }
 

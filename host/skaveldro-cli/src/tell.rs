@@ -1,15 +1,15 @@
 //! Answers as reports.
 
-use crate::fault;
+use crate::fault::{self, Fault};
 use crate::json::Json;
 use crate::report::{Report, NO, YES};
 use skaveldro::{Fare, Parts, Rule};
 
 /// A question about a file that is not clean.
 pub fn unclean(number: u8, parts: Parts, bytes: &[u8]) -> Report {
-    let fault = words::tell(parts, Some(bytes)).map(|told| (parts, told));
-    let text = fault.as_ref().map_or(String::new(), |(_, told)| format!("\n{told}"));
-    let members = vec![("answer", Json::Number(number.into())), ("fault", fault::json_or_null(fault.as_ref()))];
+    let fault = words::tell(parts, Some(bytes)).map(|told| Fault { parts, told });
+    let text = fault.as_ref().map_or(String::new(), |fault| format!("\n{}", fault.told));
+    let members = vec![("answer", Json::Number(number.into())), ("fault", fault::json(fault.as_ref()))];
     Report::new(NO, format!("the file is not clean{text}"), members)
 }
 

@@ -2,9 +2,11 @@
 
 use std::ffi::OsStr;
 use std::fs;
-use std::io::Write;
+use std::io::{Read, Write};
 use std::path::{Path, PathBuf};
 use std::process::{Command, Output, Stdio};
+use std::thread;
+use std::time::{Duration, Instant};
 
 /// A sound feed set, seen from the folder that the tool is run in.
 pub const SAMPLE: &str = "crates/sample/data";
@@ -15,18 +17,39 @@ pub fn root() -> PathBuf {
 
 fn command<S: AsRef<OsStr>>(words: &[S]) -> Command {
     let mut command = Command::new(env!("CARGO_BIN_EXE_skaveldro"));
-    command.args(words).current_dir(root()).stdin(Stdio::null());
+    command.args(words).current_dir(root()).stdin(Stdio::null()).stdout(Stdio::piped()).stderr(Stdio::piped());
     command
 }
 
-/// Runs the tool with nothing on standard input.
+/// Runs the tool with nothing on standard input. One that does not end fails the test, and is ended.
 pub fn run<S: AsRef<OsStr>>(words: &[S]) -> Output {
-    command(words).output().expect("the tool runs")
+    let mut child = command(words).spawn().expect("the tool runs");
+    let (stdout, stderr) = (child.stdout.take(), child.stderr.take());
+    let (stdout, stderr) = (thread::spawn(|| all(stdout)), thread::spawn(|| all(stderr)));
+    let start = Instant::now();
+    let status = loop {
+        if let Some(status) = child.try_wait().expect("the tool can be waited for") {
+            break status;
+        }
+        if start.elapsed() > Duration::from_secs(60) {
+            child.kill().expect("the tool can be ended");
+            panic!("the tool does not end");
+        }
+        thread::sleep(Duration::from_millis(2));
+    };
+    let bytes = |reader: thread::JoinHandle<Vec<u8>>| reader.join().expect("what is said can be read");
+    Output { status, stdout: bytes(stdout), stderr: bytes(stderr) }
+}
+
+fn all(source: Option<impl Read>) -> Vec<u8> {
+    let mut bytes = Vec::new();
+    source.expect("there is a pipe").read_to_end(&mut bytes).expect("what is said can be read");
+    bytes
 }
 
 /// Runs the tool with these bytes on standard input.
 pub fn fed(words: &[&str], input: &[u8]) -> (i32, String) {
-    let mut child = command(words).stdin(Stdio::piped()).stdout(Stdio::piped()).spawn().expect("the tool runs");
+    let mut child = command(words).stdin(Stdio::piped()).spawn().expect("the tool runs");
     // A tool that has read enough closes the pipe.
     let _ = child.stdin.take().expect("there is a pipe").write_all(input);
     let output = child.wait_with_output().expect("the tool ends");

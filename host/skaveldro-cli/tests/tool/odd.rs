@@ -95,6 +95,16 @@ fn a_file_that_may_not_be_read() {
     }
 }
 
+/// An answer that cannot be written is none.
+#[test]
+fn a_full_device() {
+    let full = fs::OpenOptions::new().write(true).open("/dev/full").expect("there is such a device");
+    let tool = Command::new(env!("CARGO_BIN_EXE_skaveldro")).args(["check", SAMPLE]).current_dir(root()).stdout(full).output();
+    let output = tool.expect("the tool runs");
+    assert_eq!(output.status.code(), Some(2));
+    assert_eq!(text(output.stderr), "skaveldro: cannot write the answer: No space left on device\n");
+}
+
 #[test]
 fn numbers_of_any_length() {
     const HUGE: &str = "1000000000000000000000000000000";
