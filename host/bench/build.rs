@@ -1,6 +1,8 @@
 //! Compiles RapidJSON's reader into the bench where `RAPIDJSON_INCLUDE` names the directory that has `rapidjson/reader.h`. Without it
 //! the bench is built without RapidJSON.
 
+#![forbid(unsafe_code)]
+
 use std::env;
 use std::path::PathBuf;
 use std::process::Command;

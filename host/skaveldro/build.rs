@@ -1,5 +1,7 @@
 //! Finds the proved library's archive: in `SKAVELDRO_LIB_DIR`, or where `scripts/staticlib` writes it.
 
+#![forbid(unsafe_code)]
+
 use std::env;
 use std::path::{Path, PathBuf};
 

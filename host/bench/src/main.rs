@@ -7,6 +7,8 @@
 //! Sets are `many` (records up to their ceiling) and `full` (everything within a record at its ceiling). RapidJSON is there where the
 //! bench was built with `RAPIDJSON_INCLUDE` naming the directory of its headers.
 
+#![deny(unsafe_code)]
+
 mod questions;
 mod rapidjson;
 mod set;

@@ -73,9 +73,10 @@ impl Question {
     }
 }
 
-/// The library asked. The name is what instruction counting looks for.
+/// The library asked. The name is what instruction counting looks for; to keep one counts as unsafe, since two could be the same.
 #[inline(never)]
 #[no_mangle]
+#[allow(unsafe_code)]
 fn asked_library(question: Question, set: &Bench) -> u8 {
     let Bench { files, ride, place, .. } = set;
     match question {
@@ -91,6 +92,7 @@ fn asked_library(question: Question, set: &Bench) -> u8 {
 /// The reference asked; as numbers of its answers, those that this bench meets.
 #[inline(never)]
 #[no_mangle]
+#[allow(unsafe_code)]
 fn asked_reference(question: Question, set: &Bench) -> u8 {
     use reference::{quote, verdict, zone_rule, Quote, Ruling, Verdict};
     let Bench { files, ride, place, .. } = set;
@@ -110,6 +112,7 @@ fn asked_reference(question: Question, set: &Bench) -> u8 {
 /// RapidJSON asked for stage A: 1 where it reads every text to its end, the last one being cut off there.
 #[inline(never)]
 #[no_mangle]
+#[allow(unsafe_code)]
 fn asked_rapidjson(reads: Reads, set: &Bench) -> u8 {
     u8::from(set.texts.iter().all(|text| reads(text) == text.count_bytes()))
 }

@@ -14,6 +14,7 @@ const fn reads() -> Option<Reads> {
 }
 
 #[cfg(rapidjson)]
+#[allow(unsafe_code)]
 const fn reads() -> Option<Reads> {
     extern "C" {
         fn rapidjson_reads(text: *const std::ffi::c_char) -> usize;

@@ -5,6 +5,8 @@
 //!
 //! Exit status: 0 they agree; 1 they differ, and the first case that shows it is told; 2 bad use.
 
+#![forbid(unsafe_code)]
+
 use differential::ask::{ask, Difference};
 use differential::case::{Case, Scale, Sort};
 use differential::tally::Tally;

@@ -1,5 +1,7 @@
 //! A short run, and what a run meets.
 
+#![forbid(unsafe_code)]
+
 use differential::ask::ask;
 use differential::case::{Case, Scale, Sort};
 use differential::tally::Tally;

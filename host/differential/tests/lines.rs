@@ -1,5 +1,7 @@
 //! Questions by lines of text: both sides answer them alike.
 
+#![forbid(unsafe_code)]
+
 use differential::lines::answer;
 use differential::question::Side;
 

@@ -4,6 +4,8 @@
 //! blanks, escapes, member order and unlisted members at random ([`respell`], [`spelling`]); and the bytes may be damaged ([`damage`]).
 //! [`questions`] are drawn so that they fall on the borders of what the set says.
 
+#![forbid(unsafe_code)]
+
 pub mod breaks;
 pub mod damage;
 pub mod draft;

@@ -1,5 +1,7 @@
 //! Generated sets held to the reference.
 
+#![forbid(unsafe_code)]
+
 use feeds::questions::Questions;
 use feeds::{broken, damaged, files, respell, sound, Set, Size};
 use reference::json::{parse, Refusal};

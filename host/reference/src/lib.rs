@@ -7,6 +7,8 @@
 //! all three put in order by [`verdict()`]; [`clean()`] judges a file alone for the questions that ask one: [`quote()`], [`zone_rule()`] and
 //! [`show_record()`].
 
+#![forbid(unsafe_code)]
+
 pub mod clean;
 pub mod coordinates;
 pub mod decimal;

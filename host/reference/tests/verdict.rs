@@ -1,5 +1,7 @@
 //! Verdicts on small sets: a sound set of all six files, changed in one place at a time.
 
+#![forbid(unsafe_code)]
+
 use reference::{verdict, Parts, Verdict};
 
 const HEAD: &str = r#""version":"2.3","last_updated":1,"ttl":60"#;

@@ -1,5 +1,7 @@
 //! JSON that the tool writes.
 
+use std::fmt;
+
 /// A value.
 #[derive(Clone, Debug, PartialEq, Eq)]
 pub enum Json {
@@ -9,6 +11,8 @@ pub enum Json {
     Text(String),
     /// Text that is JSON already.
     Raw(String),
+    Array(Vec<Json>),
+    Object(Vec<(&'static str, Json)>),
 }
 
 impl Json {
@@ -17,25 +21,35 @@ impl Json {
         Json::Raw(count.to_string())
     }
 
+    /// An array of texts.
+    pub fn texts(texts: Vec<String>) -> Json {
+        Json::Array(texts.into_iter().map(Json::Text).collect())
+    }
+
     /// A value, or null.
     pub fn or_null<T>(value: Option<T>, json: impl FnOnce(T) -> Json) -> Json {
         value.map_or(Json::Null, json)
     }
 }
 
-/// An object on one line.
-pub fn line(members: &[(&'static str, Json)]) -> String {
-    let members: Vec<String> = members.iter().map(|(name, value)| format!("\"{name}\":{}", spell(value))).collect();
-    format!("{{{}}}", members.join(","))
-}
-
-fn spell(value: &Json) -> String {
-    match value {
-        Json::Null => "null".into(),
-        Json::Truth(truth) => truth.to_string(),
-        Json::Number(number) => number.to_string(),
-        Json::Text(text) => quoted(text),
-        Json::Raw(text) => text.clone(),
+/// A value on one line.
+impl fmt::Display for Json {
+    fn fmt(&self, out: &mut fmt::Formatter) -> fmt::Result {
+        match self {
+            Json::Null => out.write_str("null"),
+            Json::Truth(truth) => write!(out, "{truth}"),
+            Json::Number(number) => write!(out, "{number}"),
+            Json::Text(text) => out.write_str(&quoted(text)),
+            Json::Raw(text) => out.write_str(text),
+            Json::Array(items) => {
+                let items: Vec<String> = items.iter().map(Json::to_string).collect();
+                write!(out, "[{}]", items.join(","))
+            }
+            Json::Object(members) => {
+                let members: Vec<String> = members.iter().map(|(name, value)| format!("\"{name}\":{value}")).collect();
+                write!(out, "{{{}}}", members.join(","))
+            }
+        }
     }
 }
 
@@ -57,13 +71,16 @@ mod tests {
 
     #[test]
     fn an_object() {
-        let members = [
+        let members = vec![
             ("a", Json::Null),
             ("b", Json::Truth(true)),
             ("c", Json::Number(-5)),
             ("d", Json::Text("\"é\\\n".into())),
             ("e", Json::Raw("[1]".into())),
+            ("f", Json::texts(vec!["x".into(), String::new()])),
+            ("g", Json::Object(Vec::new())),
         ];
-        assert_eq!(line(&members), r#"{"a":null,"b":true,"c":-5,"d":"\"é\\\u000a","e":[1]}"#);
+        let line = r#"{"a":null,"b":true,"c":-5,"d":"\"é\\\u000a","e":[1],"f":["x",""],"g":{}}"#;
+        assert_eq!(Json::Object(members).to_string(), line);
     }
 }

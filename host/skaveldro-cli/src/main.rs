@@ -1,65 +1,91 @@
 //! `skaveldro`: the library's questions on the command line.
 //!
-//! Exit status: 0 the set is accepted, or the question is answered; 1 it is not; 2 bad use, or a file that cannot be read.
+//! Exit status: 0 the set is accepted, or the question is answered; 1 it is not; 2 there is no answer, for bad use or for something that
+//! cannot be read.
 
+#![forbid(unsafe_code)]
+
+mod alone;
 mod arguments;
+mod check;
 mod commands;
-mod files;
+mod explain;
+mod fault;
+mod folder;
 mod given;
 mod help;
 mod json;
+mod nearest;
+mod read;
 mod report;
+mod set;
+mod several;
+mod shown;
+mod source;
+mod standard;
 mod tell;
 
-use arguments::Arguments;
-use report::{Failure, Report};
+use arguments::{wants_json, Arguments};
+use json::Json;
+use report::{Failure, Report, NO_ANSWER};
+use std::ffi::{OsStr, OsString};
 use std::io::{self, Write};
 use std::process::ExitCode;
 
 fn main() -> ExitCode {
-    let arguments = match Arguments::read(std::env::args_os().skip(1)) {
-        Ok(arguments) => arguments,
-        Err(failure) => return fail(&failure),
-    };
-    match run(&arguments) {
-        Ok(report) => print(&report, arguments.json),
-        Err(failure) => fail(&failure),
-    }
+    let given: Vec<OsString> = std::env::args_os().skip(1).collect();
+    let as_json = wants_json(&given);
+    let report = Arguments::read(given).and_then(|arguments| run(&arguments)).unwrap_or_else(unanswered);
+    print(&report, as_json)
 }
 
 fn run(arguments: &Arguments) -> Result<Report, Failure> {
-    let given: Vec<&str> = arguments.words.iter().map(String::as_str).collect();
-    match given.as_slice() {
-        ["check", directory] if !arguments.help => commands::check(directory),
-        ["quote", path, plan, seconds, metres] if !arguments.help => commands::quote(path, plan, seconds, metres),
-        ["zone", path, lat, lon, vehicle_type, moment] if !arguments.help => commands::zone(path, lat, lon, vehicle_type, moment),
-        ["show", path, file, record] if !arguments.help => commands::show(path, file, record),
-        ["explain", word] if !arguments.help => commands::explain(word, None),
-        ["explain", word, path] if !arguments.help => commands::explain(word, Some(path)),
-        ["version"] if !arguments.help => Ok(Report::text(format!("skaveldro {}", env!("CARGO_PKG_VERSION")))),
-        ["help"] => help::all(),
-        [] if arguments.help => help::all(),
-        ["help", command] => help::of(command),
-        [command, ..] if arguments.help => help::of(command),
-        [] => Err(help::misuse("a command is missing")),
-        [command, ..] => Err(help::misused(command)),
+    let given: Vec<&OsStr> = arguments.words.iter().map(OsString::as_os_str).collect();
+    let name = given.first().map(|name| name.to_string_lossy().into_owned());
+    match (name.as_deref(), given.get(1..).unwrap_or_default()) {
+        (Some("help"), [command]) => help::of(&command.to_string_lossy()),
+        (Some("help"), []) | (None, _) if name.is_some() || arguments.help => help::all(),
+        (None, _) if arguments.version => Ok(Report::text(format!("skaveldro {}", env!("CARGO_PKG_VERSION")))),
+        (None, _) => Err(help::misuse("a command is missing")),
+        (Some(command), _) if arguments.help => help::of(command),
+        (Some(_), _) if arguments.version => {
+            Err(help::misuse("--version stands alone, and shows the tool's version; feeds are checked as GBFS 2.3 only"))
+        }
+        (Some("check"), _) => check::check(&arguments.words[1..], arguments.role),
+        (Some(_), _) if arguments.role.is_some() => Err(help::misuse("--as goes with check only")),
+        (Some("quote"), [path, plan, seconds, metres]) => commands::quote(path, plan, seconds, metres),
+        (Some("zone"), [path, lat, lon, vehicle_type, moment]) => commands::zone(path, lat, lon, vehicle_type, moment),
+        (Some("show"), [path, file, record]) => commands::show(path, file, record),
+        (Some("explain"), [word]) => explain::explain(word, None),
+        (Some("explain"), [word, path]) => explain::explain(word, Some(path)),
+        (Some(command), _) => Err(help::misused(command)),
     }
 }
 
-/// Prints a report on standard output, its notes on standard error.
+/// The report of a question that has no answer: its text is all on standard error.
+fn unanswered(failure: Failure) -> Report {
+    Report { status: NO_ANSWER, text: String::new(), objects: vec![failure.json(None)], errors: failure.0 }
+}
+
+/// Prints a report: its text on standard output and its errors on standard error, or its objects on standard output.
 fn print(report: &Report, as_json: bool) -> ExitCode {
-    for note in &report.notes {
-        eprintln!("skaveldro: {note}");
+    let lines: Vec<String> =
+        if as_json { report.objects.iter().map(Json::to_string).collect() } else { vec![report.text.clone()] };
+    let text = lines.iter().filter(|line| !line.is_empty()).map(|line| format!("{line}\n")).collect::<String>();
+    let written = io::stdout().lock().write_all(text.as_bytes()).and_then(|()| io::stdout().flush());
+    if !as_json {
+        report.errors.iter().for_each(|error| complain(error));
     }
-    let text = if as_json { json::line(&report.members) } else { report.text.clone() };
-    match writeln!(io::stdout().lock(), "{text}") {
-        Ok(()) => ExitCode::from(report.status),
-        Err(error) if error.kind() == io::ErrorKind::BrokenPipe => ExitCode::from(report.status),
-        Err(error) => fail(&Failure(format!("cannot write the answer: {error}"))),
+    match written {
+        Err(error) if error.kind() != io::ErrorKind::BrokenPipe => {
+            complain(&format!("cannot write the answer: {}", read::reason(&error)));
+            ExitCode::from(NO_ANSWER)
+        }
+        _ => ExitCode::from(report.status),
     }
 }
 
-fn fail(failure: &Failure) -> ExitCode {
-    eprintln!("skaveldro: {}", failure.0);
-    ExitCode::from(2)
+/// A line on standard error. Where that is closed there is nobody to tell.
+fn complain(message: &str) {
+    let _ = writeln!(io::stderr(), "skaveldro: {message}");
 }

@@ -2,29 +2,61 @@
 
 use crate::json::Json;
 
-/// An answer, in words and as the members of a JSON object.
+/// The exit statuses.
+pub const YES: u8 = 0;
+pub const NO: u8 = 1;
+pub const NO_ANSWER: u8 = 2;
+
+/// An answer, in words and as JSON objects, a line each.
 #[derive(Debug)]
 pub struct Report {
-    /// The exit status: 0, or 1 where the set is not accepted or the question has no answer.
+    /// The exit status: 0 the set is accepted or the question answered, 1 it is not, 2 a part of what was asked has no answer.
     pub status: u8,
     pub text: String,
-    pub members: Vec<(&'static str, Json)>,
-    /// What is worth knowing besides.
-    pub notes: Vec<String>,
+    pub objects: Vec<Json>,
+    /// What goes to standard error beside the text: why a part of what was asked has no answer. The objects have it already.
+    pub errors: Vec<String>,
 }
 
-/// Bad use, or a file that cannot be read.
-#[derive(Debug, PartialEq, Eq)]
-pub struct Failure(pub String);
+/// Why there is no answer: bad use, or what cannot be read. A message each.
+#[derive(Clone, Debug, PartialEq, Eq)]
+pub struct Failure(pub Vec<String>);
 
 impl Report {
-    /// A text that is no answer of the library's.
-    pub fn text(text: String) -> Report {
-        Report { status: 0, members: vec![("text", Json::Text(text.clone()))], text, notes: Vec::new() }
+    pub fn new(status: u8, text: String, members: Vec<(&'static str, Json)>) -> Report {
+        Report { status, text, objects: vec![Json::Object(members)], errors: Vec::new() }
     }
 
-    /// The same with these notes.
-    pub fn noting(self, notes: impl IntoIterator<Item = String>) -> Report {
-        Report { notes: notes.into_iter().collect(), ..self }
+    /// A text that is not an answer of the library's.
+    pub fn text(text: String) -> Report {
+        let members = vec![("text", Json::Text(text.clone()))];
+        Report::new(YES, text, members)
+    }
+
+    /// The same with these warnings at its end.
+    pub fn warning(mut self, warnings: Vec<String>) -> Report {
+        for warning in &warnings {
+            self.text.push_str(&format!("\nwarning: {warning}"));
+        }
+        if let Some(Json::Object(members)) = self.objects.last_mut() {
+            members.push(("warnings", Json::texts(warnings)));
+        }
+        self
+    }
+}
+
+impl Failure {
+    pub fn new(message: String) -> Failure {
+        Failure(vec![message])
+    }
+
+    /// As a JSON object; `path` is what was asked about, if it was one of several.
+    pub fn json(&self, path: Option<String>) -> Json {
+        Json::Object(vec![
+            ("status", Json::Number(NO_ANSWER.into())),
+            ("what", Json::Text("error".into())),
+            ("path", Json::or_null(path, Json::Text)),
+            ("errors", Json::texts(self.0.clone())),
+        ])
     }
 }

@@ -14,6 +14,8 @@
 //! Only [`raw`] speaks with the library; everything else is safe. A verdict needs up to 512 KB of stack, the other calls
 //! less, and none allocates.
 
+#![deny(unsafe_code)]
+
 mod answer;
 pub mod names;
 mod parts;

@@ -69,20 +69,20 @@ impl Kind {
     pub fn name(self) -> &'static str {
         match self {
             Kind::TooLong => "file too long",
-            Kind::NotJson => "no JSON",
-            Kind::Surrogate => "half a surrogate pair",
+            Kind::NotJson => "not valid JSON",
+            Kind::Surrogate => "unpaired surrogate",
             Kind::TooDeep => "nested too deep",
-            Kind::Twice => "given twice",
+            Kind::Twice => "duplicate member",
             Kind::Missing => "missing",
-            Kind::Type => "of another type",
-            Kind::Form => "spelled in another form",
-            Kind::Range => "not allowed here",
+            Kind::Type => "wrong type",
+            Kind::Form => "number format",
+            Kind::Range => "out of range or not a listed value",
             Kind::TooMany => "too many",
             Kind::Ring => "no sound ring",
-            Kind::IdUsed => "id used again",
-            Kind::Reference => "names nothing",
-            Kind::Condition => "needed here",
-            Kind::Sum => "other sum",
+            Kind::IdUsed => "duplicate id",
+            Kind::Reference => "reference to nothing",
+            Kind::Condition => "required by a condition",
+            Kind::Sum => "counts do not add up",
         }
     }
 }

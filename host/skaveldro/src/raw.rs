@@ -3,6 +3,8 @@
 //! A slice is a pointer and a length: the pointer is good for so many bytes, and the buffer that is written lies apart from what is read.
 //! The safe functions below lend slices of Rust, and a buffer of any length: a refusal, and 2, leave it as it is.
 
+#![allow(unsafe_code)]
+
 extern "C" {
     pub fn skaveldro_verdict(
         types: *const u8,

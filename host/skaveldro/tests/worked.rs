@@ -1,5 +1,7 @@
 //! The worked readings of the scope paper, and the edges of the boundary, asked through the wrapper.
 
+#![forbid(unsafe_code)]
+
 use skaveldro::{
     quote, raw, read_word, show_record, verdict, zone_rule, Fare, Parts, Point, Quote, Reading, Ruling, Shown, Verdict, Word,
 };

@@ -1,17 +1,24 @@
 //! A verdict in words for those who have to mend a feed: which file by its standard name, where in it, and which rule it breaks.
 
+#![forbid(unsafe_code)]
+
 mod place;
 mod position;
 mod record;
 mod ring;
 mod rule;
+mod scan;
 mod sort;
+mod text;
+mod value;
 
 pub use position::{position, Position};
 pub use record::{record, Record};
 
-use skaveldro::{Kind, Parts};
+use skaveldro::{Files, Kind, Parts};
+use sort::Sort;
 use std::fmt;
+use value::Place;
 
 /// A broken rule in words. Shown as one line.
 #[derive(Clone, Debug, PartialEq, Eq)]
@@ -24,7 +31,10 @@ pub struct Told {
     pub member: String,
     /// Which rule is broken.
     pub rule: String,
-    /// Where a text stops being JSON, or where the record begins, if the file's bytes are there to tell.
+    /// The value that breaks it, where the bytes tell and the rule does not name it.
+    pub found: Option<String>,
+    /// Where a text stops being JSON; else where the blamed value begins, or, where it is missing, what it is missing from. Only the
+    /// file's bytes tell it.
     pub position: Option<Position>,
     /// The place in the file's bytes, of kinds 2 to 4.
     pub offset: Option<u32>,
@@ -34,41 +44,74 @@ pub struct Told {
 pub fn tell(parts: Parts, bytes: Option<&[u8]>) -> Option<Told> {
     let file = parts.file_name()?;
     let kind = parts.rule()?;
-    let is_place = matches!(kind, Kind::NotJson | Kind::Surrogate | Kind::TooDeep);
+    let bytes = bytes.filter(|_| kind != Kind::TooLong);
+    let is_text = matches!(kind, Kind::NotJson | Kind::Surrogate | Kind::TooDeep);
     let blamed = (parts.record > 0).then_some(parts.record);
-    let found = blamed.and_then(|number| record(parts.file, number, bytes?));
-    let at = if is_place { Some(parts.offset as usize) } else { found.as_ref().map(|record| record.start) };
+    let place = bytes.filter(|_| kind > Kind::TooDeep).map(|bytes| value::place(parts, kind, bytes));
+    let at = if is_text { Some(parts.offset as usize) } else { place.map(Place::offset) };
     Some(Told {
         file,
-        record: blamed.map(|number| (number, found.and_then(|record| record.id))),
+        record: blamed.map(|number| (number, bytes.and_then(|bytes| record(parts.file, number, bytes)?.id))),
         member: if kind <= Kind::TooDeep { String::new() } else { place::member(parts, kind) },
-        rule: rule::rule(parts, kind, bytes),
-        position: at.and_then(|at| Some(position(bytes?, at))),
-        offset: is_place.then_some(parts.offset),
+        rule: rule::rule(parts, kind, bytes, place),
+        found: bytes.zip(place).and_then(|(bytes, place)| found(parts, kind, bytes, place)),
+        position: bytes.zip(at).map(|(bytes, at)| position(bytes, at)),
+        offset: is_text.then_some(parts.offset),
     })
+}
+
+/// The same with the whole set at hand, which tells also whether the file that a reference goes to is absent.
+pub fn tell_of_set(parts: Parts, files: Files) -> Option<Told> {
+    let bytes_of = |file: u8| files.get(usize::from(file).wrapping_sub(1)).copied().filter(|bytes| !bytes.is_empty());
+    let mut told = tell(parts, bytes_of(parts.file))?;
+    if rule::target(parts).is_some_and(|target| bytes_of(target).is_none()) {
+        told.rule.push_str(", which is absent");
+    }
+    Some(told)
+}
+
+/// The value that breaks a rule on what a value must be. Of an array that is blamed for what it holds there is nothing short to show.
+fn found(parts: Parts, kind: Kind, bytes: &[u8], place: Place) -> Option<String> {
+    let Place::Value(at) = place else { return None };
+    let is_about_values = matches!(kind, Kind::Type | Kind::Form | Kind::Range | Kind::Reference);
+    let is_array =
+        matches!(sort::sort_of(parts.file, parts.field), Some(Sort::Ids | Sort::Coordinates)) && bytes.get(at) == Some(&b'[');
+    if is_about_values && !is_array {
+        value::shown(bytes, at)
+    } else {
+        None
+    }
+}
+
+impl Told {
+    /// Where in its file the rule is broken, and which it is.
+    pub fn within_file(&self) -> String {
+        let mut place = Vec::new();
+        if let Some((number, id)) = &self.record {
+            place.push(match id {
+                Some(id) => format!("record {number} (id {id:?})"),
+                None => format!("record {number}"),
+            });
+        }
+        if !self.member.is_empty() {
+            place.push(self.member.clone());
+        }
+        match (self.position, self.offset) {
+            (Some(Position { line, column }), _) => place.push(format!("line {line}, column {column}")),
+            (None, Some(offset)) => place.push(format!("byte {offset}")),
+            (None, None) => {}
+        }
+        let found = self.found.as_ref().map_or(String::new(), |found| format!("; found {found}"));
+        let separator = if place.is_empty() { "" } else { ": " };
+        format!("{}{separator}{}{found}", place.join(", "), self.rule)
+    }
 }
 
 impl fmt::Display for Told {
     fn fmt(&self, out: &mut fmt::Formatter) -> fmt::Result {
-        out.write_str(self.file)?;
-        match (&self.record, self.position, self.offset) {
-            (Some((number, id)), position, _) => {
-                write!(out, ", record {number}")?;
-                let id = id.as_ref().map(|id| format!("id {id:?}"));
-                let line = position.map(|Position { line, column }| format!("line {line}, column {column}"));
-                let about: Vec<String> = id.into_iter().chain(line).collect();
-                if !about.is_empty() {
-                    write!(out, " ({})", about.join(", "))?;
-                }
-            }
-            (None, Some(Position { line, column }), _) => write!(out, ", line {line}, column {column}")?,
-            (None, None, Some(offset)) => write!(out, ", byte {offset}")?,
-            (None, None, None) => {}
-        }
-        if !self.member.is_empty() {
-            write!(out, ", {}", self.member)?;
-        }
-        write!(out, ": {}", self.rule)
+        let text = self.within_file();
+        let separator = if text == self.rule { ": " } else { ", " };
+        write!(out, "{}{separator}{text}", self.file)
     }
 }
 
@@ -92,44 +135,44 @@ mod tests {
     #[test]
     fn faults_of_the_text() {
         let at = |kind, offset, bytes: &[u8]| line(Parts { file: 4, kind, offset, ..Parts::default() }, Some(bytes));
-        assert_eq!(at(1, 0, b""), "free_bike_status.json: longer than 1048575 bytes");
-        assert_eq!(at(2, 4, b"[\n1,]"), "free_bike_status.json, line 2, column 3: no JSON text goes on like this");
-        assert_eq!(at(2, 2, b"[1"), "free_bike_status.json, line 1, column 3: the file ends before its JSON text does");
+        assert_eq!(at(1, 0, b""), "free_bike_status.json: longer than 1048575 bytes, which is the most that a file may have");
+        assert_eq!(at(2, 4, b"[\n1,]"), "free_bike_status.json, line 2, column 3: not valid JSON: unexpected \"]\"");
+        assert_eq!(at(2, 2, b"[1"), "free_bike_status.json, line 1, column 3: not valid JSON: the file ends before its JSON text is complete; it may have been cut off");
         assert_eq!(
             at(3, 1, br#""\ud800""#),
-            "free_bike_status.json, line 1, column 2: half of a surrogate pair is escaped here without the other half"
+            "free_bike_status.json, line 1, column 2: an escaped surrogate (\\uD800 to \\uDFFF) without its other half"
         );
-        assert_eq!(at(4, 16, &[b'['; 17]), "free_bike_status.json, line 1, column 17: nested deeper than 16");
+        assert_eq!(at(4, 16, &[b'['; 17]), "free_bike_status.json, line 1, column 17: nested deeper than 16 levels");
         let unread = Parts { file: 4, kind: 2, offset: 7, ..Parts::default() };
-        assert_eq!(line(unread, None), "free_bike_status.json, byte 7: no JSON text goes on like this");
+        assert_eq!(line(unread, None), "free_bike_status.json, byte 7: not valid JSON");
     }
 
     #[test]
     fn faults_of_fields() {
-        assert_eq!(said(4, 6, 40, 3, 0), "free_bike_status.json, record 3, bike_id: missing");
-        assert_eq!(said(1, 9, 1, 0, 0), "vehicle_types.json, version: has to be \"2.3\"");
-        assert_eq!(said(1, 7, 0, 0, 0), "vehicle_types.json, top value: has to be an object");
-        assert_eq!(said(4, 10, 5, 0, 0), "free_bike_status.json, data.bikes: more than 4095 records");
-        assert_eq!(said(4, 7, 5, 2, 0), "free_bike_status.json, record 2: has to be an object");
-        assert_eq!(said(2, 9, 22, 1, 0), "station_information.json, record 1, lat: has to be a number from -90 to 90");
-        assert_eq!(
-            said(4, 9, 46, 1, 0),
-            "free_bike_status.json, record 1, current_range_meters: has to be a number of 0 or more"
-        );
-        assert_eq!(said(5, 7, 61, 1, 2), "system_pricing_plans.json, record 1, per_min_pricing, item 2: has to be an object");
-        assert_eq!(said(5, 7, 61, 1, 0), "system_pricing_plans.json, record 1, per_min_pricing: has to be an array");
+        assert_eq!(said(4, 6, 40, 3, 0), "free_bike_status.json, record 3, bike_id: required, but missing");
+        assert_eq!(said(1, 9, 1, 0, 0), "vehicle_types.json, version: must be \"2.3\"");
+        assert_eq!(said(1, 7, 0, 0, 0), "vehicle_types.json, top value: must be an object");
+        assert_eq!(said(4, 10, 5, 0, 0), "free_bike_status.json, data.bikes: too many records: at most 4095 are allowed");
+        assert_eq!(said(4, 7, 5, 2, 0), "free_bike_status.json, record 2: must be an object");
+        assert_eq!(said(2, 9, 22, 1, 0), "station_information.json, record 1, lat: must be a number from -90 to 90");
+        assert_eq!(said(4, 9, 46, 1, 0), "free_bike_status.json, record 1, current_range_meters: must be a number of 0 or more");
+        assert_eq!(said(5, 7, 61, 1, 2), "system_pricing_plans.json, record 1, per_min_pricing, item 2: must be an object");
+        assert_eq!(said(5, 7, 61, 1, 0), "system_pricing_plans.json, record 1, per_min_pricing: must be an array");
         assert_eq!(
             said(5, 5, 64, 1, 2),
-            "system_pricing_plans.json, record 1, per_min_pricing, item 2, interval: given more than once"
+            "system_pricing_plans.json, record 1, per_min_pricing, item 2, interval: given more than once in the same object"
         );
-        assert_eq!(said(6, 10, 77, 1, 0), "geofencing_zones.json, record 1, properties.rules: more than 32 items");
+        assert_eq!(
+            said(6, 10, 77, 1, 0),
+            "geofencing_zones.json, record 1, properties.rules: too many items: at most 32 are allowed"
+        );
         assert_eq!(
             said(6, 7, 79, 1, 3),
-            "geofencing_zones.json, record 1, properties.rules, item 3, ride_allowed: has to be true or false"
+            "geofencing_zones.json, record 1, properties.rules, item 3, ride_allowed: must be true or false"
         );
         assert_eq!(
             said(6, 10, 73, 1, 5),
-            "geofencing_zones.json, record 1, geometry.coordinates, position 5: a ring of more than 256 positions"
+            "geofencing_zones.json, record 1, geometry.coordinates, position 5: too many positions in a ring: at most 256 are allowed"
         );
         assert_eq!(
             said(6, 10, 73, 1, 0),
@@ -144,16 +187,19 @@ mod tests {
 
     #[test]
     fn faults_between_files() {
-        assert_eq!(said(1, 12, 10, 2, 0), "vehicle_types.json, record 2, vehicle_type_id: an earlier record has this id");
+        assert_eq!(said(1, 12, 10, 2, 0), "vehicle_types.json, record 2, vehicle_type_id: an earlier record has the same id");
         assert_eq!(
             said(6, 13, 78, 1, 2),
-            "geofencing_zones.json, record 1, properties.rules, item 2, vehicle_type_id: names an id that no record of vehicle_types.json has"
+            "geofencing_zones.json, record 1, properties.rules, item 2, vehicle_type_id: each must be the id of a record of vehicle_types.json"
         );
-        assert_eq!(said(4, 14, 41, 1, 0), "free_bike_status.json, record 1, lat: needed where station_id is not given");
-        assert_eq!(said(3, 14, 0, 0, 0), "station_status.json: needed where station_information.json is given");
+        assert_eq!(
+            said(4, 14, 41, 1, 0),
+            "free_bike_status.json, record 1, lat: required unless station_id is given, but missing"
+        );
+        assert_eq!(said(3, 14, 0, 0, 0), "station_status.json: absent, but required since station_information.json is given");
         assert_eq!(
             said(3, 15, 37, 1, 0),
-            "station_status.json, record 1, vehicle_types_available: the counts do not add up to num_bikes_available"
+            "station_status.json, record 1, vehicle_types_available: its counts must add up to num_bikes_available"
         );
     }
 
@@ -161,9 +207,26 @@ mod tests {
     fn the_record_is_named_by_its_id() {
         let bikes = b"{\"data\":{\"bikes\":[\n  {\"bike_id\":\"a\\u0022b\"}, {}]}}";
         let at = |record| line(Parts { file: 4, kind: 6, field: 43, record, ..Parts::default() }, Some(bikes));
-        assert_eq!(at(1), r#"free_bike_status.json, record 1 (id "a\"b", line 2, column 3), is_reserved: missing"#);
-        assert_eq!(at(2), "free_bike_status.json, record 2 (line 2, column 27), is_reserved: missing");
-        assert_eq!(at(3), "free_bike_status.json, record 3, is_reserved: missing");
+        assert_eq!(at(1), r#"free_bike_status.json, record 1 (id "a\"b"), is_reserved, line 2, column 3: required, but missing"#);
+        assert_eq!(at(2), "free_bike_status.json, record 2, is_reserved, line 2, column 27: required, but missing");
+    }
+
+    #[test]
+    fn what_was_found() {
+        let bikes =
+            br#"{"version":"2.2","data":{"bikes":[{"bike_id":"","lat":470.1,"is_reserved":"no","pricing_plan_id":"p"}]}}"#;
+        let parts = |kind, field, record| Parts { file: 4, kind, field, record, ..Parts::default() };
+        let found = |kind, field, record| line(parts(kind, field, record), Some(bikes));
+        assert_eq!(found(9, 1, 0), r#"free_bike_status.json, version, line 1, column 12: must be "2.3"; found "2.2""#);
+        let at = "free_bike_status.json, record 1";
+        assert_eq!(found(6, 40, 1), format!("{at}, bike_id, line 1, column 46: required, but \"\", which counts as missing"));
+        assert_eq!(found(9, 41, 1), format!("{at}, lat, line 1, column 55: must be a number from -90 to 90; found 470.1"));
+        assert_eq!(found(7, 43, 1), format!("{at}, is_reserved, line 1, column 75: must be true or false; found \"no\""));
+        let told = |files| tell_of_set(parts(13, 48, 1), files).map(|told| (told.rule, told.found));
+        let rule = "must be the id of a record of system_pricing_plans.json";
+        let missing = Some("\"p\"".to_string());
+        assert_eq!(told([b"", b"", b"", bikes, b"{}", b""]), Some((rule.into(), missing.clone())));
+        assert_eq!(told([b"", b"", b"", bikes, b"", b""]), Some((format!("{rule}, which is absent"), missing)));
     }
 
     /// Where the file is at hand, the one rule that a ring breaks.
@@ -173,7 +236,7 @@ mod tests {
             {"geometry":{"coordinates":[[[[0,0],[0,2],[2,2],[0,0]],[[0,0],[0,1],[1,1],[0,0.5]]]]}}]}}}"#;
         assert_eq!(
             line(Parts { file: 6, kind: 11, field: 73, record: 1, sub: 5, offset: 0 }, Some(zones)),
-            "geofencing_zones.json, record 1 (line 2, column 13), geometry.coordinates, position 5: \
+            "geofencing_zones.json, record 1, geometry.coordinates, position 5, line 2, column 40: \
                 ring 2 of polygon 1 is not closed: its first and last positions differ when rounded to six decimals"
         );
     }

@@ -1,5 +1,6 @@
 //! A record of a file that is JSON but may break other rules, found to be named.
 
+use crate::scan::{items, member, string};
 use skaveldro::names::{field, records_field, way};
 
 /// Where a record begins, and its id.
@@ -18,110 +19,6 @@ pub fn record(file: u8, number: u16, bytes: &[u8]) -> Option<Record> {
     let id = field(file, 10 * file).and_then(|field| member(bytes, start, field.name));
     let id = id.and_then(|at| string(bytes, at)).map(|(id, _)| id).filter(|id| !id.is_empty());
     Some(Record { start, id })
-}
-
-/// Where the value of an object's first member of that name begins.
-pub(crate) fn member(bytes: &[u8], object: usize, name: &str) -> Option<usize> {
-    let mut at = open(bytes, object, b'{')?;
-    loop {
-        let (found, after) = string(bytes, at)?;
-        let value = blanks(bytes, blanks(bytes, after) + 1);
-        if found == name {
-            return Some(value);
-        }
-        at = next(bytes, value)?;
-    }
-}
-
-/// Where the items of an array begin, if there is an array.
-pub(crate) fn items(bytes: &[u8], array: usize) -> impl Iterator<Item = usize> + '_ {
-    let first = open(bytes, array, b'[').filter(|&at| bytes.get(at) != Some(&b']'));
-    std::iter::successors(first, |&at| next(bytes, at))
-}
-
-/// The first place inside of a bracket of that sort.
-fn open(bytes: &[u8], at: usize, bracket: u8) -> Option<usize> {
-    let at = blanks(bytes, at);
-    (bytes.get(at) == Some(&bracket)).then(|| blanks(bytes, at + 1))
-}
-
-/// The place behind the comma that follows a value, if one does.
-fn next(bytes: &[u8], value: usize) -> Option<usize> {
-    let at = blanks(bytes, skip(bytes, value)?);
-    (bytes.get(at) == Some(&b',')).then(|| blanks(bytes, at + 1))
-}
-
-/// The place behind a value.
-pub(crate) fn skip(bytes: &[u8], value: usize) -> Option<usize> {
-    let mut at = value;
-    let mut depth = 0;
-    loop {
-        match bytes.get(at)? {
-            b'"' => at = quoted(bytes, at)?.1,
-            b'{' | b'[' => {
-                depth += 1;
-                at += 1;
-            }
-            b'}' | b']' => {
-                depth -= 1;
-                at += 1;
-            }
-            _ if depth > 0 => {
-                at += 1;
-                continue;
-            }
-            _ => at += bytes[at..].iter().take_while(|byte| !b",]} \t\n\r".contains(byte)).count().max(1),
-        }
-        if depth <= 0 {
-            return Some(at);
-        }
-    }
-}
-
-fn blanks(bytes: &[u8], from: usize) -> usize {
-    let rest = bytes.get(from..).unwrap_or_default();
-    from + rest.iter().take_while(|byte| b" \t\n\r".contains(byte)).count()
-}
-
-/// What stands between the quotation marks at a place, and the place behind them.
-fn quoted(bytes: &[u8], at: usize) -> Option<(&[u8], usize)> {
-    let inner = bytes.get(at..)?.strip_prefix(b"\"")?;
-    let mut length = 0;
-    loop {
-        match inner.get(length)? {
-            b'"' => return Some((&inner[..length], at + length + 2)),
-            b'\\' => length += 2,
-            _ => length += 1,
-        }
-    }
-}
-
-/// The string at a place with its escapes decoded, and the place behind it.
-fn string(bytes: &[u8], at: usize) -> Option<(String, usize)> {
-    let (inner, after) = quoted(bytes, at)?;
-    let text = String::from_utf8_lossy(inner);
-    let mut units = Vec::new();
-    let mut characters = text.chars();
-    while let Some(character) = characters.next() {
-        if character != '\\' {
-            units.extend(character.encode_utf16(&mut [0; 2]).iter());
-            continue;
-        }
-        units.push(match characters.next()? {
-            'b' => 0x08,
-            'f' => 0x0C,
-            'n' => 0x0A,
-            'r' => 0x0D,
-            't' => 0x09,
-            'u' => {
-                let digits = characters.as_str().get(..4)?;
-                characters = characters.as_str()[4..].chars();
-                u16::from_str_radix(digits, 16).ok()?
-            }
-            other => other as u16,
-        });
-    }
-    Some((String::from_utf16_lossy(&units), after))
 }
 
 #[cfg(test)]

@@ -1,6 +1,7 @@
 //! Which of the rules about polygons, rings and positions a zone breaks, looked up in the file's bytes.
 
-use crate::record::{items, member, record, skip};
+use crate::record::record;
+use crate::scan::{items, member, skip};
 use skaveldro::names::field;
 use skaveldro::Parts;
 

@@ -2,6 +2,8 @@
 
 use crate::ring;
 use crate::sort::{sort_of, Sort};
+use crate::text::not_json;
+use crate::value::{first_with_id, is_empty_string, Place};
 use skaveldro::names::{file_name, FILE_NAMES};
 use skaveldro::{Kind, Parts, MOST_BYTES};
 
@@ -10,31 +12,45 @@ const SOUND_RINGS: &str =
     "a polygon must have 1 to 8 rings; a ring must have 4 positions or more, end where it begins and have an area; \
     a position must have 2 or 3 numbers";
 
-/// The rule in words.
-pub fn rule(parts: Parts, kind: Kind, bytes: Option<&[u8]>) -> String {
+/// The rule in words. `place` is where the blamed value is in `bytes`.
+pub fn rule(parts: Parts, kind: Kind, bytes: Option<&[u8]>, place: Option<Place>) -> String {
     let sort = sort_of(parts.file, parts.field);
     match kind {
-        Kind::TooLong => format!("longer than {MOST_BYTES} bytes"),
-        Kind::NotJson if bytes.is_some_and(|bytes| parts.offset as usize >= bytes.len()) => {
-            "the file ends before its JSON text does".into()
-        }
-        Kind::NotJson => "no JSON text goes on like this".into(),
-        Kind::Surrogate => "half of a surrogate pair is escaped here without the other half".into(),
-        Kind::TooDeep => "nested deeper than 16".into(),
-        Kind::Twice => "given more than once".into(),
-        Kind::Missing => "missing".into(),
-        Kind::Type => sort.map_or("not of its type".into(), |sort| format!("has to be {}", type_of(sort, parts))),
-        Kind::Form => "a number is spelled with at most 12 digits, and 18 behind a point, without exponent".into(),
-        Kind::Range => sort.map_or("not allowed".into(), |sort| format!("has to be {}", range_of(sort))),
+        Kind::TooLong => format!("longer than {MOST_BYTES} bytes, which is the most that a file may have"),
+        Kind::NotJson => bytes.map_or("not valid JSON".into(), |bytes| not_json(bytes, parts.offset as usize)),
+        Kind::Surrogate => "an escaped surrogate (\\uD800 to \\uDFFF) without its other half".into(),
+        Kind::TooDeep => "nested deeper than 16 levels".into(),
+        Kind::Twice => "given more than once in the same object".into(),
+        Kind::Missing => match (bytes, place) {
+            (Some(bytes), Some(Place::Value(at))) if is_empty_string(bytes, at) => {
+                "required, but \"\", which counts as missing".into()
+            }
+            _ => "required, but missing".into(),
+        },
+        Kind::Type => sort.map_or("wrong type".into(), |sort| format!("must be {}", type_of(sort, parts))),
+        Kind::Form => "must have at most 12 digits before the decimal point, at most 18 after it, and no exponent".into(),
+        Kind::Range => sort.map_or("out of range".into(), |sort| match sort {
+            Sort::Coordinates => "coordinates out of range: longitude, -180 to 180, comes first, then latitude, -90 to 90".into(),
+            sort => format!("must be {}", range_of(sort)),
+        }),
         Kind::TooMany => sort.map_or("too many items".into(), |sort| excess_of(sort, parts, bytes)),
         Kind::Ring => bytes.and_then(|bytes| ring::unsound(parts, bytes)).unwrap_or_else(|| SOUND_RINGS.into()),
-        Kind::IdUsed => "an earlier record has this id".into(),
-        Kind::Reference => match target(parts.field) {
-            Some(file) => format!("names an id that no record of {file} has"),
-            None => "names an id that nothing has".into(),
+        Kind::IdUsed => match bytes.and_then(|bytes| first_with_id(parts, bytes)) {
+            Some(number) => format!("record {number} has the same id"),
+            None => "an earlier record has the same id".into(),
         },
+        Kind::Reference => reference(parts, sort),
         Kind::Condition => condition(parts),
-        Kind::Sum => "the counts do not add up to num_bikes_available".into(),
+        Kind::Sum => "its counts must add up to num_bikes_available".into(),
+    }
+}
+
+/// What a reference must name.
+fn reference(parts: Parts, sort: Option<Sort>) -> String {
+    let file = target(parts).and_then(file_name).unwrap_or("its file");
+    match sort {
+        Some(Sort::Ids) => format!("each must be the id of a record of {file}"),
+        _ => format!("must be the id of a record of {file}"),
     }
 }
 
@@ -49,9 +65,9 @@ fn type_of(sort: Sort, parts: Parts) -> &'static str {
         Sort::Coordinates => "arrays of polygons, rings and positions, with numbers in them",
         Sort::Id | Sort::Text | Sort::Exact(_) | Sort::Listed(_) | Sort::Currency => "a string",
         Sort::Boolean => "true or false",
-        Sort::Whole => "a number without a point",
+        Sort::Whole => "an integer",
         Sort::Positive | Sort::Between(..) | Sort::Money => "a number",
-        Sort::Price => "a number, or a string that spells one",
+        Sort::Price => "a number, or a string that holds one",
     }
 }
 
@@ -61,22 +77,22 @@ fn range_of(sort: Sort) -> String {
         Sort::Exact(word) => format!("{word:?}"),
         Sort::Listed(words) => format!("one of {}", words.join(", ")),
         Sort::Currency => "three capital letters".into(),
-        Sort::Id | Sort::Ids => "100 bytes long at most".into(),
+        Sort::Id => "at most 100 bytes long".into(),
+        Sort::Ids => "ids of at most 100 bytes each".into(),
         Sort::Whole | Sort::Positive => "a number of 0 or more".into(),
         Sort::Between(least, most) => format!("a number from {least} to {most}"),
         Sort::Money => "a multiple of 0.0001 from -1000000 to 1000000".into(),
         Sort::Price => "a multiple of 0.0001 from 0 to 1000000".into(),
-        Sort::Coordinates => "a longitude from -180 to 180, then a latitude from -90 to 90".into(),
         _ => "within its limits".into(),
     }
 }
 
 fn excess_of(sort: Sort, parts: Parts, bytes: Option<&[u8]>) -> String {
     match sort {
-        Sort::Records => "more than 4095 records".into(),
-        Sort::Items(most) => format!("more than {most} items"),
-        Sort::Ids => "more than 64 items".into(),
-        Sort::Coordinates if parts.sub > 0 => "a ring of more than 256 positions".into(),
+        Sort::Records => "too many records: at most 4095 are allowed".into(),
+        Sort::Items(most) => format!("too many items: at most {most} are allowed"),
+        Sort::Ids => "too many items: at most 64 are allowed".into(),
+        Sort::Coordinates if parts.sub > 0 => "too many positions in a ring: at most 256 are allowed".into(),
         Sort::Coordinates => bytes
             .and_then(|bytes| ring::excess(parts, bytes))
             .unwrap_or_else(|| "too many polygons or rings: at most 15 of each are allowed".into()),
@@ -84,12 +100,13 @@ fn excess_of(sort: Sort, parts: Parts, bytes: Option<&[u8]>) -> String {
     }
 }
 
-/// The file that a reference goes to.
-fn target(field: u8) -> Option<&'static str> {
-    match field {
-        38 | 45 | 78 => file_name(1),
-        30 | 47 => file_name(2),
-        14 | 48 => file_name(5),
+/// The file that a reference goes to, if that is what is blamed.
+pub fn target(parts: Parts) -> Option<u8> {
+    match parts.field {
+        _ if parts.rule() != Some(Kind::Reference) => None,
+        38 | 45 | 78 => Some(1),
+        30 | 47 => Some(2),
+        14 | 48 => Some(5),
         _ => None,
     }
 }
@@ -97,15 +114,15 @@ fn target(field: u8) -> Option<&'static str> {
 fn condition(parts: Parts) -> String {
     let [types, stations, statuses, _, plans, _] = FILE_NAMES;
     match (parts.file, parts.field) {
-        (2, 0) => format!("needed where {statuses} is given"),
-        (3, 0) => format!("needed where {stations} is given"),
-        (4, 0) => format!("needed where {stations} is not given"),
-        (1, 13) => "needed where propulsion_type is not human".into(),
-        (1, 14) => format!("needed where {plans} is given"),
-        (3, 32) => "needed where the station has a capacity".into(),
-        (3, 37) | (4, 45) => format!("needed where {types} is given"),
-        (4, 41 | 42) => "needed where station_id is not given".into(),
-        (4, 46) => "needed where the vehicle type's propulsion_type is not human".into(),
-        _ => "needed here".into(),
+        (2, 0) => format!("absent, but required since {statuses} is given"),
+        (3, 0) => format!("absent, but required since {stations} is given"),
+        (4, 0) => format!("absent, but required since {stations} is absent too"),
+        (1, 13) => "required unless propulsion_type is human, but missing".into(),
+        (1, 14) => format!("required since {plans} is given, but missing"),
+        (3, 32) => "required since the station has a capacity, but missing".into(),
+        (3, 37) | (4, 45) => format!("required since {types} is given, but missing"),
+        (4, 41 | 42) => "required unless station_id is given, but missing".into(),
+        (4, 46) => "required unless the propulsion_type of its vehicle type is human, but missing".into(),
+        _ => "required here, but missing".into(),
     }
 }

@@ -5,6 +5,8 @@
 //!
 //! Exit status: 0; 1 where a line can't be read or written; 2 bad use.
 
+#![forbid(unsafe_code)]
+
 use differential::lines::answer;
 use differential::question::Side;
 use std::io::{self, BufRead, BufWriter, Write};

@@ -4,6 +4,8 @@
 //!
 //! Each seed gives one set, sound, broken or damaged, with its verdict, a word, and some rides, places and records.
 
+#![forbid(unsafe_code)]
+
 use feeds::questions::Questions;
 use feeds::{broken, damaged, files, respell, sound, Rng, Set, Size};
 use std::io::{self, BufWriter, Write};

@@ -1,0 +1,30 @@
+//! One file judged by itself.
+
+use crate::fault;
+use crate::json::Json;
+use crate::read::Content;
+use crate::report::{Failure, Report, NO, YES};
+use crate::standard::name_of;
+
+/// Is a file clean? `path` is what it is called in the report. A file without bytes has nothing to judge.
+pub fn report(path: String, file: u8, content: &Content) -> Result<Report, Failure> {
+    let name = name_of(file);
+    if content.bytes.is_empty() {
+        return Err(Failure::new(format!("{path} is empty: it counts as an absent {name}, so there is nothing to judge")));
+    }
+    let fault = fault::of_file(file, &content.bytes);
+    let (status, verdict) = if fault.is_none() { (YES, "clean") } else { (NO, "not clean") };
+    let mut lines = vec![format!("{verdict}, judged alone as {name}, {} bytes", content.size)];
+    lines.extend(fault.iter().map(|fault| fault.told.to_string()));
+    lines.push("references to other files were not judged; name a folder to judge a whole set".into());
+    let members = vec![
+        ("status", Json::Number(status.into())),
+        ("what", Json::Text("file".into())),
+        ("path", Json::Text(path)),
+        ("name", Json::Text(name.into())),
+        ("bytes", Json::Raw(content.size.to_string())),
+        ("clean", Json::Truth(fault.is_none())),
+        ("fault", fault::json(fault.as_ref())),
+    ];
+    Ok(Report::new(status, lines.join("\n"), members))
+}

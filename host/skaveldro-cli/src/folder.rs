@@ -1,0 +1,112 @@
+//! A folder of feeds: the six files by their standard names, and what else is in it.
+
+use crate::read::{self, reason, Content};
+use crate::report::Failure;
+use crate::shown::shown;
+use crate::standard::{looks_like, name_of, named};
+use std::ffi::{OsStr, OsString};
+use std::fs;
+use std::path::Path;
+
+/// The files of a set by number; none where one is absent.
+pub type Contents = [Option<Content>; 6];
+
+/// What a folder holds.
+pub struct Folder {
+    pub files: Contents,
+    pub others: Vec<Other>,
+}
+
+/// Something in a folder that was not read.
+#[derive(Debug, PartialEq, Eq, PartialOrd, Ord)]
+pub struct Other {
+    /// Its name; of a folder with a slash behind it, of what is in a sub-folder with that one's name in front.
+    pub name: OsString,
+    /// The file that it was probably meant to be.
+    pub looks_like: Option<u8>,
+}
+
+/// Reads a folder. Where some files cannot be read all of them are named.
+pub fn read(path: &Path) -> Result<Folder, Failure> {
+    let others = others(path)?;
+    let mut files = [const { None }; 6];
+    let mut messages = Vec::new();
+    for (file, slot) in (1..).zip(&mut files) {
+        match one(path, file) {
+            Ok(content) => *slot = content,
+            Err(Failure(why)) => messages.extend(why),
+        }
+    }
+    if messages.is_empty() {
+        Ok(Folder { files, others })
+    } else {
+        Err(Failure(messages))
+    }
+}
+
+/// One of the six files of a folder; none if it is absent.
+pub fn one(folder: &Path, file: u8) -> Result<Option<Content>, Failure> {
+    let path = folder.join(name_of(file));
+    if read::is_absent(&path)? {
+        return Ok(None);
+    }
+    read::file(&path).map(Some)
+}
+
+/// What a folder holds besides the six names, sorted. Sub-folders, but for links, are looked into for names that are meant to be one.
+pub fn others(path: &Path) -> Result<Vec<Other>, Failure> {
+    let mut others = Vec::new();
+    for (name, is_folder) in entries(path)? {
+        if is_folder {
+            let within = entries(&path.join(&name)).unwrap_or_default();
+            let meant = within.into_iter().filter(|(_, is_folder)| !is_folder).filter_map(|(inner, _)| {
+                let file = named(&inner).or_else(|| looks_like(&inner))?;
+                Some(Other { name: joined(&name, &inner), looks_like: Some(file) })
+            });
+            others.extend(meant);
+            others.push(Other { name: joined(&name, OsStr::new("")), looks_like: None });
+        } else if named(&name).is_none() {
+            others.push(Other { looks_like: looks_like(&name), name });
+        }
+    }
+    others.sort();
+    Ok(others)
+}
+
+/// The names in a folder, and whether each is a folder and no link to one. The six names are never taken for sub-folders.
+fn entries(path: &Path) -> Result<Vec<(OsString, bool)>, Failure> {
+    let unreadable = |error| Failure::new(format!("cannot read {}: {}", shown(path), reason(&error)));
+    let mut entries = Vec::new();
+    for entry in fs::read_dir(path).map_err(unreadable)? {
+        let entry = entry.map_err(unreadable)?;
+        let is_folder = entry.file_type().is_ok_and(|kind| kind.is_dir());
+        entries.push((entry.file_name(), is_folder && named(&entry.file_name()).is_none()));
+    }
+    Ok(entries)
+}
+
+fn joined(folder: &OsStr, name: &OsStr) -> OsString {
+    let mut joined = folder.to_os_string();
+    joined.push("/");
+    joined.push(name);
+    joined
+}
+
+/// What is worth a warning: files that may have been meant, though the set lacks them, and files without bytes.
+pub fn warnings(files: &Contents, others: &[Other]) -> Vec<String> {
+    let is_there = |file: u8| files[usize::from(file) - 1].as_ref().is_some_and(|content| content.size > 0);
+    let empty = (1..).zip(files).filter(|(_, slot)| slot.as_ref().is_some_and(|content| content.size == 0));
+    let empty = empty.map(|(file, _)| format!("{} is empty, and counts as absent", name_of(file)));
+    let meant = others.iter().filter_map(|other| Some((other, other.looks_like.filter(|&file| !is_there(file))?)));
+    empty.chain(meant.map(|(other, file)| passed_over(&other.name, file))).collect()
+}
+
+/// A file that is not read, though it may have been meant.
+fn passed_over(name: &OsStr, file: u8) -> String {
+    let standard = name_of(file);
+    if Path::new(name).file_name() == Some(OsStr::new(standard)) {
+        format!("{} is in a sub-folder, and was not read", shown(name))
+    } else {
+        format!("{} looks like {standard}, and was not read", shown(name))
+    }
+}
