@@ -5,6 +5,7 @@ use Prim.Native.Nat.{ℕ}
 use Prim.Native.String.{String}
 use lib.Dec.{eqb}
 use Rattle.notation.specs.Ascii.{bytes}
+use Rattle.notation.specs.Case.{Case, Answers}
 use Rattle.notation.specs.Choice.{_⇒_else_}
 use Rattle.slots.specs.Cases.{gathering}
 use Rattle.slots.specs.Found.{foundIn}
@@ -29,52 +30,40 @@ recordsIn s = recordBytes (map mark (bytes s))
 unfoldable repeatIn : ℕ → String → ℕ
 repeatIn file s = firstRepeat file (recordsIn s)
 
-all-differ : repeatIn 4 "[{'bike_id':'a'},{'bike_id':'b'}]" ≡ 0
-unfolding identifying recordsIn repeatIn
-all-differ = refl
+abbrev repeats : List (Case (ℕ × String) ℕ)
+repeats =
+    ("all differ", (4, "[{'bike_id':'a'},{'bike_id':'b'}]"), 0) ∷
+    ("the first that repeats an id", (4, "[{'bike_id':'a'},{'bike_id':'b'},{'bike_id':'b'},{'bike_id':'a'}]"), 3) ∷
+    ("another spelling is the same id", (4, "[{'bike_id':'a'},{'bike_id':'a b'},{'bike_id':'\\u0061'}]"), 3) ∷
+    ("no id, an empty one, a number", (4, "[{},{},{'bike_id':''},{'bike_id':''},{'bike_id':1},{'bike_id':1}]"), 0) ∷
+    ("two ids are none", (4, "[{'bike_id':'a','bike_id':'a'},{'bike_id':'a'}]"), 0) ∷
+    ("a file's own name for ids, and not deeper down", (5, "[{'bike_id':'a'},{'bike_id':'a'},{'x':{'plan_id':'a'},'plan_id':'b'},{'plan_id':'a'},{'plan_id':'b'}]"), 5) ∷
+    []
 
--- the later of two is named, and the first that repeats an id
-repeats : repeatIn 4 "[{'bike_id':'a'},{'bike_id':'b'},{'bike_id':'b'},{'bike_id':'a'}]" ≡ 3
+repeats-answered : Answers (λ c. repeatIn (c .0) (c .1)) repeats
 unfolding identifying recordsIn repeatIn
-repeats = refl
+repeats-answered = refl
 
--- another spelling is the same id, and an id with something behind it is not
-spelled-another-way : repeatIn 4 "[{'bike_id':'a'},{'bike_id':'a b'},{'bike_id':'\\u0061'}]" ≡ 3
-unfolding identifying recordsIn repeatIn
-spelled-another-way = refl
+-- of three stations the last with an id, before a place
+abbrev lasts : List (Case (List ℕ × ℕ) ℕ)
+lasts =
+    ("of two", (bytes "a", 3), 2) ∷
+    ("before the second", (bytes "a", 1), 1) ∷
+    ("none", (bytes "c", 3), 0) ∷
+    []
 
--- a record with no id, with "" as its id, with two or with one that is no text repeats none
-no-ids : repeatIn 4 "[{},{},{'bike_id':''},{'bike_id':''},{'bike_id':1},{'bike_id':1},{'bike_id':'a','bike_id':'a'},{'bike_id':'a'}]" ≡ 0
-unfolding identifying recordsIn repeatIn
-no-ids = refl
-
--- each file has its own name for ids; an id deeper down is none
-own-names : repeatIn 5 "[{'bike_id':'a'},{'bike_id':'a'},{'x':{'plan_id':'a'},'plan_id':'b'},{'plan_id':'a'},{'plan_id':'b'}]" ≡ 5
-unfolding identifying recordsIn repeatIn
-own-names = refl
-
--- of the records with an id the last before a place
-last-of-two : lastWith 2 (bytes "a") (recordsIn "[{'station_id':'a'},{'station_id':'a'},{'station_id':'b'}]") 3 ≡ 2
+lasts-answered : Answers (λ c. lastWith 2 (c .0) (recordsIn "[{'station_id':'a'},{'station_id':'a'},{'station_id':'b'}]") (c .1)) lasts
 unfolding identifying recordsIn
-last-of-two = refl
+lasts-answered = refl
 
-last-before : lastWith 2 (bytes "a") (recordsIn "[{'station_id':'a'},{'station_id':'a'},{'station_id':'b'}]") 1 ≡ 1
-unfolding identifying recordsIn
-last-before = refl
+-- of entries with digests that fall into the buckets 1, 2 and 1, the last of a bucket before a place
+abbrev buckets : List (Case (ℕ × ℕ) ℕ)
+buckets =
+    ("of all three", (1, 3), 3) ∷
+    ("of the first two", (1, 2), 1) ∷
+    ("none", (3, 3), 0) ∷
+    []
 
-none-with : lastWith 2 (bytes "c") (recordsIn "[{'station_id':'a'},{'station_id':'a'},{'station_id':'b'}]") 3 ≡ 0
-unfolding identifying recordsIn
-none-with = refl
-
--- of the entries with these digests, which fall into the buckets 1, 2 and 1, the last of a bucket
-last-of-bucket : lastIn (4_097 ∷ 2 ∷ 1 ∷ []) 1 3 ≡ 3
+buckets-answered : Answers (λ c. lastIn (4_097 ∷ 2 ∷ 1 ∷ []) (c .0) (c .1)) buckets
 unfolding identifying
-last-of-bucket = refl
-
-before-in-bucket : lastIn (4_097 ∷ 2 ∷ 1 ∷ []) 1 2 ≡ 1
-unfolding identifying
-before-in-bucket = refl
-
-empty-bucket : lastIn (4_097 ∷ 2 ∷ 1 ∷ []) 3 3 ≡ 0
-unfolding identifying
-empty-bucket = refl
+buckets-answered = refl

@@ -1,4 +1,4 @@
--- Stage A on cases, computed: each is named for what it shows. The last two are of any text, by its length.
+-- Stage A on cases, computed. The last two are of any text, by its length. Document 01's own readings stand in the table of all of them.
 use mathlib.Core.Bool.{Bool, true, false}
 use mathlib.Core.List.{List, [], _∷_}
 use mathlib.Core.Path.{_≡_, refl}
@@ -8,354 +8,111 @@ use lib.ListN.{length}
 use borrow.Author.Tests.{lt-ltb, le-ltb}
 use Rattle.limits.specs.Ceilings.{fileBytes, depth}
 use Rattle.notation.specs.Ascii.{bytes}
+use Rattle.notation.specs.Case.{Case, Answers}
 use Rattle.lexeme.specs.Read.{placed}
 use Rattle.lexeme.specs.Read.Read.{done}
 use Rattle.lexeme.specs.Character.{within, paired}
 use Rattle.lexeme.specs.Cases.{lexing}
+use Rattle.json.specs.declared.Syntax.{Syntax}
 use Rattle.json.specs.declared.Syntax.the-variants.{Sound, Fault}
 use Rattle.json.specs.Tree.{Json, item, noItem, itemsOf, membersOf}
 use Rattle.json.specs.Text.{expect, separator, after, elements, contents, bracketed, member, valueAt, valueBy, value, finish, text, verdictOf, syntaxOf}
 use Rattle.json.specs.Spelling.{Blanks, Padded, Character, Characters, Quoted, Plain, Listed, Enclosed, Nested, Spells}
-use Rattle.json.specs.Places.{outside, inside, escaped, placeAfter, placing, Escape, Low, Unpaired}
+use Rattle.json.specs.Places.{Place, outside, inside, escaped, placeAfter, placing, Escape, Low, Unpaired}
 
 -- opens every definition of stage A
 unfoldable pub reading : Unit {0}
 unfolding lexing placed itemsOf membersOf expect separator after elements contents bracketed member valueAt valueBy value finish text verdictOf syntaxOf
 reading = tt
 
--- document 01's readings (a) to (e)
-
-comma-then-bracket : syntaxOf (bytes "[1,]") ≡ Fault 2 3
-unfolding reading
-comma-then-bracket = refl
-
-digit-after-zero : syntaxOf (bytes "[01]") ≡ Fault 2 2
-unfolding reading
-digit-after-zero = refl
-
-lone-high-surrogate : syntaxOf (bytes "\"\\ud800\"") ≡ Fault 3 1
-unfolding reading
-lone-high-surrogate = refl
-
-blanks-alone : syntaxOf (bytes " ") ≡ Fault 2 1
-unfolding reading
-blanks-alone = refl
-
-seventeen-arrays : syntaxOf (bytes "[[[[[[[[[[[[[[[[[") ≡ Fault 4 16
-unfolding reading
-seventeen-arrays = refl
-
--- any value is a text, with blanks around it
-
-zero : syntaxOf (bytes "0") ≡ Sound
-unfolding reading
-zero = refl
-
-number-in-full : syntaxOf (bytes "-12.5e+3") ≡ Sound
-unfolding reading
-number-in-full = refl
-
-word-null : syntaxOf (bytes "null") ≡ Sound
-unfolding reading
-word-null = refl
-
-empty-string : syntaxOf (bytes "\"\"") ≡ Sound
-unfolding reading
-empty-string = refl
-
-empty-array : syntaxOf (bytes "[]") ≡ Sound
-unfolding reading
-empty-array = refl
-
-empty-object : syntaxOf (bytes "{}") ≡ Sound
-unfolding reading
-empty-object = refl
-
-blanks-everywhere : syntaxOf (0x09 ∷ 0x0a ∷ 0x0d ∷ 0x20 ∷ bytes "[ 1 , { \"a\" : true } ] ") ≡ Sound
-unfolding reading
-blanks-everywhere = refl
-
-every-sort-of-value : syntaxOf (bytes "{\"a\":[1,-2.5e+3,true,null,\"x\\u0061\"]}") ≡ Sound
-unfolding reading
-every-sort-of-value = refl
-
-name-twice : syntaxOf (bytes "{\"a\":1,\"a\":2}") ≡ Sound
-unfolding reading
-name-twice = refl
-
-name-empty : syntaxOf (bytes "{\"\":false}") ≡ Sound
-unfolding reading
-name-empty = refl
-
--- cut off, the fault is at the end of the text
-
-nothing : syntaxOf [] ≡ Fault 2 0
-unfolding reading
-nothing = refl
-
-cut-after-bracket : syntaxOf (bytes "[") ≡ Fault 2 1
-unfolding reading
-cut-after-bracket = refl
-
-cut-after-item : syntaxOf (bytes "[1") ≡ Fault 2 2
-unfolding reading
-cut-after-item = refl
-
-cut-after-comma : syntaxOf (bytes "[1,") ≡ Fault 2 3
-unfolding reading
-cut-after-comma = refl
-
-cut-after-brace : syntaxOf (bytes "{") ≡ Fault 2 1
-unfolding reading
-cut-after-brace = refl
-
-cut-after-name : syntaxOf (bytes "{\"a\"") ≡ Fault 2 4
-unfolding reading
-cut-after-name = refl
-
-cut-after-colon : syntaxOf (bytes "{\"a\":") ≡ Fault 2 5
-unfolding reading
-cut-after-colon = refl
-
-cut-after-member : syntaxOf (bytes "{\"a\":1") ≡ Fault 2 6
-unfolding reading
-cut-after-member = refl
-
-cut-after-member-comma : syntaxOf (bytes "{\"a\":1,") ≡ Fault 2 7
-unfolding reading
-cut-after-member-comma = refl
-
-cut-in-string : syntaxOf (bytes "\"a") ≡ Fault 2 2
-unfolding reading
-cut-in-string = refl
-
-cut-after-backslash : syntaxOf (bytes "\"\\") ≡ Fault 2 2
-unfolding reading
-cut-after-backslash = refl
-
-cut-in-escape : syntaxOf (bytes "\"\\u00") ≡ Fault 2 5
-unfolding reading
-cut-in-escape = refl
-
-cut-in-word : syntaxOf (bytes "tru") ≡ Fault 2 3
-unfolding reading
-cut-in-word = refl
-
-cut-after-minus : syntaxOf (bytes "-") ≡ Fault 2 1
-unfolding reading
-cut-after-minus = refl
-
-cut-after-point : syntaxOf (bytes "1.") ≡ Fault 2 2
-unfolding reading
-cut-after-point = refl
-
-cut-after-exponent : syntaxOf (bytes "1e+") ≡ Fault 2 3
-unfolding reading
-cut-after-exponent = refl
-
-cut-in-character : syntaxOf (0x22 ∷ 0xe2 ∷ 0x82 ∷ []) ≡ Fault 2 3
-unfolding reading
-cut-in-character = refl
-
--- brackets, commas and colons out of place
-
-array-closed-as-object : syntaxOf (bytes "[1}") ≡ Fault 2 2
-unfolding reading
-array-closed-as-object = refl
-
-object-closed-as-array : syntaxOf (bytes "{\"a\":1]") ≡ Fault 2 6
-unfolding reading
-object-closed-as-array = refl
-
-bracket-never-opened : syntaxOf (bytes "]") ≡ Fault 2 0
-unfolding reading
-bracket-never-opened = refl
-
-bracket-closed-twice : syntaxOf (bytes "[]]") ≡ Fault 2 2
-unfolding reading
-bracket-closed-twice = refl
-
-comma-first : syntaxOf (bytes "[,1]") ≡ Fault 2 1
-unfolding reading
-comma-first = refl
-
-comma-twice : syntaxOf (bytes "[1,,2]") ≡ Fault 2 3
-unfolding reading
-comma-twice = refl
-
-comma-missing : syntaxOf (bytes "[1 2]") ≡ Fault 2 3
-unfolding reading
-comma-missing = refl
-
-comma-then-brace : syntaxOf (bytes "{\"a\":1,}") ≡ Fault 2 7
-unfolding reading
-comma-then-brace = refl
-
-colon-missing : syntaxOf (bytes "{\"a\" 1}") ≡ Fault 2 5
-unfolding reading
-colon-missing = refl
-
-colon-twice : syntaxOf (bytes "{\"a\"::1}") ≡ Fault 2 5
-unfolding reading
-colon-twice = refl
-
-colon-in-array : syntaxOf (bytes "[1:2]") ≡ Fault 2 2
-unfolding reading
-colon-in-array = refl
-
-value-missing : syntaxOf (bytes "{\"a\":}") ≡ Fault 2 5
-unfolding reading
-value-missing = refl
-
-name-no-string : syntaxOf (bytes "{1:2}") ≡ Fault 2 1
-unfolding reading
-name-no-string = refl
-
-two-values : syntaxOf (bytes "1 2") ≡ Fault 2 2
-unfolding reading
-two-values = refl
-
-two-texts : syntaxOf (bytes "[] {}") ≡ Fault 2 3
-unfolding reading
-two-texts = refl
-
--- what RFC 8259 lacks
-
-byte-order-mark : syntaxOf (0xef ∷ 0xbb ∷ 0xbf ∷ bytes "1") ≡ Fault 2 0
-unfolding reading
-byte-order-mark = refl
-
-byte-order-mark-in-string : syntaxOf (0x22 ∷ 0xef ∷ 0xbb ∷ 0xbf ∷ 0x22 ∷ []) ≡ Sound
-unfolding reading
-byte-order-mark-in-string = refl
-
-form-feed-no-blank : syntaxOf (0x0c ∷ bytes "1") ≡ Fault 2 0
-unfolding reading
-form-feed-no-blank = refl
-
-tab-in-string : syntaxOf (0x22 ∷ 0x09 ∷ 0x22 ∷ []) ≡ Fault 2 1
-unfolding reading
-tab-in-string = refl
-
-word-in-capitals : syntaxOf (bytes "True") ≡ Fault 2 0
-unfolding reading
-word-in-capitals = refl
-
-word-misspelt : syntaxOf (bytes "nulL") ≡ Fault 2 3
-unfolding reading
-word-misspelt = refl
-
-plus-sign : syntaxOf (bytes "+1") ≡ Fault 2 0
-unfolding reading
-plus-sign = refl
-
-point-first : syntaxOf (bytes ".5") ≡ Fault 2 0
-unfolding reading
-point-first = refl
-
-single-quotes : syntaxOf (bytes "'a'") ≡ Fault 2 0
-unfolding reading
-single-quotes = refl
-
-comment : syntaxOf (bytes "[1/**/]") ≡ Fault 2 2
-unfolding reading
-comment = refl
-
-overlong-character : syntaxOf (0x22 ∷ 0xc0 ∷ 0xaf ∷ 0x22 ∷ []) ≡ Fault 2 1
-unfolding reading
-overlong-character = refl
-
--- levels: the seventeenth bracket that opens, where a value may stand
-
-sixteen-levels : syntaxOf (bytes "[[[[[[[[[[[[[[[[]]]]]]]]]]]]]]]]") ≡ Sound
-unfolding reading
-sixteen-levels = refl
-
-sixteen-of-both : syntaxOf (bytes "[{\"a\":[{\"a\":[{\"a\":[{\"a\":[{\"a\":[{\"a\":[{\"a\":[{\"a\":0}]}]}]}]}]}]}]}]") ≡ Sound
-unfolding reading
-sixteen-of-both = refl
-
-seventeenth-object : syntaxOf (bytes "[[[[[[[[[[[[[[[[{") ≡ Fault 4 16
-unfolding reading
-seventeenth-object = refl
-
-seventeenth-after-others : syntaxOf (bytes "[[[]],[[[[[[[[[[[[[[[[") ≡ Fault 4 21
-unfolding reading
-seventeenth-after-others = refl
-
-seventeenth-in-member : syntaxOf (bytes "{\"a\":{\"a\":{\"a\":{\"a\":{\"a\":{\"a\":{\"a\":{\"a\":{\"a\":{\"a\":{\"a\":{\"a\":{\"a\":{\"a\":{\"a\":{\"a\":[") ≡ Fault 4 80
-unfolding reading
-seventeenth-in-member = refl
-
-seventeenth-before-fault : syntaxOf (bytes "[[[[[[[[[[[[[[[[[,]") ≡ Fault 4 16
-unfolding reading
-seventeenth-before-fault = refl
-
-seventeenth-after-fault : syntaxOf (bytes "[,[[[[[[[[[[[[[[[[") ≡ Fault 2 1
-unfolding reading
-seventeenth-after-fault = refl
-
-bracket-after-item : syntaxOf (bytes "[[[[[[[[[[[[[[[[1[") ≡ Fault 2 17
-unfolding reading
-bracket-after-item = refl
-
-bracket-after-text : syntaxOf (bytes "[[[[[[[[[[[[[[[[]]]]]]]]]]]]]]]][") ≡ Fault 2 32
-unfolding reading
-bracket-after-text = refl
-
-bracket-for-name : syntaxOf (bytes "{\"a\":{\"a\":{\"a\":{\"a\":{\"a\":{\"a\":{\"a\":{\"a\":{\"a\":{\"a\":{\"a\":{\"a\":{\"a\":{\"a\":{\"a\":{[") ≡ Fault 2 76
-unfolding reading
-bracket-for-name = refl
-
-brackets-in-string : syntaxOf (bytes "\"[[[[[[[[[[[[[[[[[\"") ≡ Sound
-unfolding reading
-brackets-in-string = refl
-
--- surrogate escapes, in names and in values
-
-surrogate-pair : syntaxOf (bytes "\"\\ud83d\\ude00\"") ≡ Sound
-unfolding reading
-surrogate-pair = refl
-
-lone-low-surrogate : syntaxOf (bytes "\"\\udc00\"") ≡ Fault 3 1
-unfolding reading
-lone-low-surrogate = refl
-
-halves-reversed : syntaxOf (bytes "\"\\udc00\\ud800\"") ≡ Fault 3 1
-unfolding reading
-halves-reversed = refl
-
-high-before-pair : syntaxOf (bytes "\"\\ud800\\ud800\\udc00\"") ≡ Fault 3 1
-unfolding reading
-high-before-pair = refl
-
-lone-in-name : syntaxOf (bytes "{\"\\ud800\":1}") ≡ Fault 3 2
-unfolding reading
-lone-in-name = refl
-
-lone-in-value : syntaxOf (bytes "{\"a\":\"\\udc00\"}") ≡ Fault 3 6
-unfolding reading
-lone-in-value = refl
-
-lone-then-cut-off : syntaxOf (bytes "\"\\ud800") ≡ Fault 3 1
-unfolding reading
-lone-then-cut-off = refl
-
-high-cut-off : syntaxOf (bytes "\"\\ud80") ≡ Fault 2 6
-unfolding reading
-high-cut-off = refl
-
-lone-after-fault : syntaxOf (bytes "[,\"\\ud800\"]") ≡ Fault 2 1
-unfolding reading
-lone-after-fault = refl
-
-lone-before-level : syntaxOf (bytes "[\"\\ud800\",[[[[[[[[[[[[[[[[") ≡ Fault 3 2
-unfolding reading
-lone-before-level = refl
-
-lone-after-level : syntaxOf (bytes "[[[[[[[[[[[[[[[[[\"\\ud800\"") ≡ Fault 4 16
-unfolding reading
-lone-after-level = refl
+abbrev texts : List (Case (List ℕ) Syntax)
+texts =
+    -- any value is a text, with blanks around it
+    ("zero", bytes "0", Sound) ∷
+    ("number in full", bytes "-12.5e+3", Sound) ∷
+    ("word null", bytes "null", Sound) ∷
+    ("empty string", bytes "\"\"", Sound) ∷
+    ("empty array", bytes "[]", Sound) ∷
+    ("empty object", bytes "{}", Sound) ∷
+    ("blanks everywhere", 0x09 ∷ 0x0a ∷ 0x0d ∷ 0x20 ∷ bytes "[ 1 , { \"a\" : true } ] ", Sound) ∷
+    ("every sort of value", bytes "{\"a\":[1,-2.5e+3,true,null,\"x\\u0061\"]}", Sound) ∷
+    ("name twice", bytes "{\"a\":1,\"a\":2}", Sound) ∷
+    ("name empty", bytes "{\"\":false}", Sound) ∷
+    -- cut off, the fault is at the end of the text
+    ("nothing", [], Fault 2 0) ∷
+    ("cut after bracket", bytes "[", Fault 2 1) ∷
+    ("cut after item", bytes "[1", Fault 2 2) ∷
+    ("cut after comma", bytes "[1,", Fault 2 3) ∷
+    ("cut after brace", bytes "{", Fault 2 1) ∷
+    ("cut after name", bytes "{\"a\"", Fault 2 4) ∷
+    ("cut after colon", bytes "{\"a\":", Fault 2 5) ∷
+    ("cut after member", bytes "{\"a\":1", Fault 2 6) ∷
+    ("cut after member comma", bytes "{\"a\":1,", Fault 2 7) ∷
+    ("cut in string", bytes "\"a", Fault 2 2) ∷
+    ("cut after backslash", bytes "\"\\", Fault 2 2) ∷
+    ("cut in escape", bytes "\"\\u00", Fault 2 5) ∷
+    ("cut in word", bytes "tru", Fault 2 3) ∷
+    ("cut after minus", bytes "-", Fault 2 1) ∷
+    ("cut after point", bytes "1.", Fault 2 2) ∷
+    ("cut after exponent", bytes "1e+", Fault 2 3) ∷
+    ("cut in character", 0x22 ∷ 0xe2 ∷ 0x82 ∷ [], Fault 2 3) ∷
+    -- brackets, commas and colons out of place
+    ("array closed as object", bytes "[1}", Fault 2 2) ∷
+    ("object closed as array", bytes "{\"a\":1]", Fault 2 6) ∷
+    ("bracket never opened", bytes "]", Fault 2 0) ∷
+    ("bracket closed twice", bytes "[]]", Fault 2 2) ∷
+    ("comma first", bytes "[,1]", Fault 2 1) ∷
+    ("comma twice", bytes "[1,,2]", Fault 2 3) ∷
+    ("comma missing", bytes "[1 2]", Fault 2 3) ∷
+    ("comma then brace", bytes "{\"a\":1,}", Fault 2 7) ∷
+    ("colon missing", bytes "{\"a\" 1}", Fault 2 5) ∷
+    ("colon twice", bytes "{\"a\"::1}", Fault 2 5) ∷
+    ("colon in array", bytes "[1:2]", Fault 2 2) ∷
+    ("value missing", bytes "{\"a\":}", Fault 2 5) ∷
+    ("name no string", bytes "{1:2}", Fault 2 1) ∷
+    ("two values", bytes "1 2", Fault 2 2) ∷
+    ("two texts", bytes "[] {}", Fault 2 3) ∷
+    -- what RFC 8259 lacks
+    ("byte order mark", 0xef ∷ 0xbb ∷ 0xbf ∷ bytes "1", Fault 2 0) ∷
+    ("byte order mark in string", 0x22 ∷ 0xef ∷ 0xbb ∷ 0xbf ∷ 0x22 ∷ [], Sound) ∷
+    ("form feed no blank", 0x0c ∷ bytes "1", Fault 2 0) ∷
+    ("tab in string", 0x22 ∷ 0x09 ∷ 0x22 ∷ [], Fault 2 1) ∷
+    ("word in capitals", bytes "True", Fault 2 0) ∷
+    ("word misspelt", bytes "nulL", Fault 2 3) ∷
+    ("plus sign", bytes "+1", Fault 2 0) ∷
+    ("point first", bytes ".5", Fault 2 0) ∷
+    ("single quotes", bytes "'a'", Fault 2 0) ∷
+    ("comment", bytes "[1/**/]", Fault 2 2) ∷
+    ("overlong character", 0x22 ∷ 0xc0 ∷ 0xaf ∷ 0x22 ∷ [], Fault 2 1) ∷
+    -- levels: the seventeenth bracket that opens, where a value may stand
+    ("sixteen levels", bytes "[[[[[[[[[[[[[[[[]]]]]]]]]]]]]]]]", Sound) ∷
+    ("sixteen of both", bytes "[{\"a\":[{\"a\":[{\"a\":[{\"a\":[{\"a\":[{\"a\":[{\"a\":[{\"a\":0}]}]}]}]}]}]}]}]", Sound) ∷
+    ("seventeenth object", bytes "[[[[[[[[[[[[[[[[{", Fault 4 16) ∷
+    ("seventeenth after others", bytes "[[[]],[[[[[[[[[[[[[[[[", Fault 4 21) ∷
+    ("seventeenth in member", bytes "{\"a\":{\"a\":{\"a\":{\"a\":{\"a\":{\"a\":{\"a\":{\"a\":{\"a\":{\"a\":{\"a\":{\"a\":{\"a\":{\"a\":{\"a\":{\"a\":[", Fault 4 80) ∷
+    ("seventeenth before fault", bytes "[[[[[[[[[[[[[[[[[,]", Fault 4 16) ∷
+    ("seventeenth after fault", bytes "[,[[[[[[[[[[[[[[[[", Fault 2 1) ∷
+    ("bracket after item", bytes "[[[[[[[[[[[[[[[[1[", Fault 2 17) ∷
+    ("bracket after text", bytes "[[[[[[[[[[[[[[[[]]]]]]]]]]]]]]]][", Fault 2 32) ∷
+    ("bracket for name", bytes "{\"a\":{\"a\":{\"a\":{\"a\":{\"a\":{\"a\":{\"a\":{\"a\":{\"a\":{\"a\":{\"a\":{\"a\":{\"a\":{\"a\":{\"a\":{[", Fault 2 76) ∷
+    ("brackets in string", bytes "\"[[[[[[[[[[[[[[[[[\"", Sound) ∷
+    -- surrogate escapes, in names and in values
+    ("surrogate pair", bytes "\"\\ud83d\\ude00\"", Sound) ∷
+    ("lone low surrogate", bytes "\"\\udc00\"", Fault 3 1) ∷
+    ("halves reversed", bytes "\"\\udc00\\ud800\"", Fault 3 1) ∷
+    ("high before pair", bytes "\"\\ud800\\ud800\\udc00\"", Fault 3 1) ∷
+    ("lone in name", bytes "{\"\\ud800\":1}", Fault 3 2) ∷
+    ("lone in value", bytes "{\"a\":\"\\udc00\"}", Fault 3 6) ∷
+    ("lone then cut off", bytes "\"\\ud800", Fault 3 1) ∷
+    ("high cut off", bytes "\"\\ud80", Fault 2 6) ∷
+    ("lone after fault", bytes "[,\"\\ud800\"]", Fault 2 1) ∷
+    ("lone before level", bytes "[\"\\ud800\",[[[[[[[[[[[[[[[[", Fault 3 2) ∷
+    ("lone after level", bytes "[[[[[[[[[[[[[[[[[\"\\ud800\"", Fault 4 16) ∷
+    []
+
+texts-answered : Answers syntaxOf texts
+unfolding reading
+texts-answered = refl
 
 -- spellings of one tree: other blanks, other escapes
 
@@ -395,27 +152,19 @@ mixed =
           Blanks.none;
     }
 
--- places by the bytes alone: brackets in strings do not count, and an escaped quotation mark or backslash ends nothing
+abbrev places : List (Case (List ℕ) Place)
+places =
+    -- places by the bytes alone: brackets in strings do not count, and an escaped quotation mark or backslash ends nothing
+    ("three open", bytes "[0, {\"a]\": [", outside 3) ∷
+    ("one closed", bytes "[[1], {\"b\": [2]}, ", outside 1) ∷
+    ("quote escaped", bytes "[\"\\\"[", inside 1) ∷
+    ("backslash escaped", bytes "\"\\\\\"", outside 0) ∷
+    ("after backslash", bytes "[\"\\", escaped 1) ∷
+    []
 
-three-open : placeAfter (bytes "[0, {\"a]\": [") ≡ outside 3
+places-answered : Answers placeAfter places
 unfolding placing
-three-open = refl
-
-one-closed : placeAfter (bytes "[[1], {\"b\": [2]}, ") ≡ outside 1
-unfolding placing
-one-closed = refl
-
-quote-escaped : placeAfter (bytes "[\"\\\"[") ≡ inside 1
-unfolding placing
-quote-escaped = refl
-
-backslash-escaped : placeAfter (bytes "\"\\\\\"") ≡ outside 0
-unfolding placing
-backslash-escaped = refl
-
-after-backslash : placeAfter (bytes "[\"\\") ≡ escaped 1
-unfolding placing
-after-backslash = refl
+places-answered = refl
 
 -- surrogate escapes that pair with none after them
 

@@ -1,11 +1,14 @@
--- Finding and gathering on cases, computed: each is named for what it shows.
-use mathlib.Core.List.{[], _∷_}
+-- Finding and gathering on cases, computed.
+use mathlib.Core.List.{List, [], _∷_, map}
 use mathlib.Core.Path.{_≡_, refl}
+use Prim.Native.Nat.{ℕ}
 use Rattle.notation.specs.Ascii.{bytes}
+use Rattle.notation.specs.Case.{Case, Answers}
 use Rattle.text.specs.Text.{same}
 use Rattle.walk.specs.Cases.{walking}
 use Rattle.schema.specs.Line.{laidOut}
 use Rattle.schema.specs.Table23.{written23}
+use Rattle.slots.specs.declared.Found.{Found}
 use Rattle.slots.specs.declared.Found.the-variants.{Missing, Once, Twice}
 use Rattle.slots.specs.declared.Slots.{Slots}
 use Rattle.slots.specs.Found.{foundIn}
@@ -17,29 +20,20 @@ unfoldable pub gathering : Unit {0}
 unfolding walking same foundIn rowNamed slotAt putIn gathered
 gathering = tt
 
-at-its-place : foundIn (bytes "{\"a\":1,\"b\":22}") (bytes "b") ≡ Once 11 13
-unfolding gathering
-at-its-place = refl
+-- an object, and a name in it
+abbrev searches : List (Case (List ℕ × List ℕ) Found)
+searches =
+    ("at its place", (bytes "{\"a\":1,\"b\":22}", bytes "b"), Once 11 13) ∷
+    ("names are decoded", (bytes "{\"\\u0061\":1}", bytes "a"), Once 10 11) ∷
+    ("case counts", (bytes "{\"A\":1}", bytes "a"), Missing) ∷
+    ("a name deeper down is not met", (bytes "{\"b\":{\"a\":1}}", bytes "a"), Missing) ∷
+    ("twice, however it is spelled", (bytes "{\"a\":1,\"b\":2,\"\\u0061\":3}", bytes "a"), Twice) ∷
+    ("three times is twice", (bytes "{\"a\":1,\"a\":1,\"a\":1}", bytes "a"), Twice) ∷
+    []
 
-name-decoded : foundIn (bytes "{\"\\u0061\":1}") (bytes "a") ≡ Once 10 11
+searches-answered : Answers (λ c. foundIn (c .0) (c .1)) searches
 unfolding gathering
-name-decoded = refl
-
-case-counts : foundIn (bytes "{\"A\":1}") (bytes "a") ≡ Missing
-unfolding gathering
-case-counts = refl
-
-inner-is-not-met : foundIn (bytes "{\"b\":{\"a\":1}}") (bytes "a") ≡ Missing
-unfolding gathering
-inner-is-not-met = refl
-
-twice-however-spelt : foundIn (bytes "{\"a\":1,\"b\":2,\"\\u0061\":3}") (bytes "a") ≡ Twice
-unfolding gathering
-twice-however-spelt = refl
-
-thrice-is-twice : foundIn (bytes "{\"a\":1,\"a\":1,\"a\":1}") (bytes "a") ≡ Twice
-unfolding gathering
-thrice-is-twice = refl
+searches-answered = refl
 
 abbrev some : Slots
 some = gathered (bytes "{\"c\":0,\"b\":1,\"x\":2,\"c\":3}") (bytes "a" ∷ bytes "b" ∷ bytes "c" ∷ [])
@@ -48,15 +42,14 @@ by-rows : slotAt some 0 ∷ slotAt some 1 ∷ slotAt some 2 ∷ [] ≡ Missing �
 unfolding gathering
 by-rows = refl
 
--- the lines of the first file, and those of `data` and of a record in it
-inner-lines-are-passed : lineNames 0 10 ≡ bytes "version" ∷ bytes "last_updated" ∷ bytes "ttl" ∷ bytes "data" ∷ []
-unfolding laidOut written23 namesAt
-inner-lines-are-passed = refl
+-- the names of an object's rows, of those in so many lines of the table from one on
+abbrev rows : List (Case (ℕ × ℕ) (List (List ℕ)))
+rows =
+    ("a file's, lines of inner objects passed over", (0, 10), bytes "version" ∷ bytes "last_updated" ∷ bytes "ttl" ∷ bytes "data" ∷ []) ∷
+    ("those of `data`", (4, 6), bytes "vehicle_types" ∷ []) ∷
+    ("none past the last", (90, 10), bytes "maximum_speed_kph" ∷ bytes "station_parking" ∷ []) ∷
+    []
 
-inner-lines : lineNames 4 6 ≡ bytes "vehicle_types" ∷ []
+rows-answered : Answers (λ c. lineNames (c .0) (c .1)) rows
 unfolding laidOut written23 namesAt
-inner-lines = refl
-
-no-lines-past-the-last : lineNames 90 10 ≡ bytes "maximum_speed_kph" ∷ bytes "station_parking" ∷ []
-unfolding laidOut written23 namesAt
-no-lines-past-the-last = refl
+rows-answered = refl
