@@ -6,6 +6,9 @@ use crate::read::Content;
 use crate::report::{Failure, Report, NO, YES};
 use crate::standard::name_of;
 
+/// What only a set can be judged by.
+const NOT_JUDGED: &str = "conditions, references and sums were not judged (kinds 13 to 15); name a folder to judge a whole set";
+
 /// Is a file clean? `path` is what it is called in the report. A file without bytes has nothing to judge.
 pub fn report(path: String, file: u8, content: &Content) -> Result<Report, Failure> {
     let name = name_of(file);
@@ -16,7 +19,7 @@ pub fn report(path: String, file: u8, content: &Content) -> Result<Report, Failu
     let (status, verdict) = if fault.is_none() { (YES, "clean") } else { (NO, "not clean") };
     let mut lines = vec![format!("{verdict}, judged alone as {name}, {} bytes", content.size)];
     lines.extend(fault.iter().map(|fault| fault.told.to_string()));
-    lines.push("references to other files were not judged; name a folder to judge a whole set".into());
+    lines.push(NOT_JUDGED.into());
     let members = vec![
         ("status", Json::Number(status.into())),
         ("what", Json::Text("file".into())),

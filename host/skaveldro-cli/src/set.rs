@@ -66,11 +66,11 @@ impl Judged<'_> {
         lines.extend(self.warnings.iter().map(|warning| format!("warning: {warning}")));
         lines.push("files:".into());
         let width = FILE_NAMES.iter().map(|name| name.len()).max().unwrap_or_default();
-        for ((slot, own), name) in self.set.files.iter().zip(&self.own).zip(FILE_NAMES) {
+        for ((file, slot), name) in (1..).zip(&self.set.files).zip(FILE_NAMES) {
             let state = match slot {
                 None => "absent".into(),
                 Some(content) if content.size == 0 => "empty, counts as absent".into(),
-                Some(content) => format!("{} bytes, {}", content.size, self.cleanness(own)),
+                Some(content) => format!("{} bytes, {}", content.size, self.cleanness(file)),
             };
             lines.push(format!("  {name:width$}  {state}"));
         }
@@ -79,9 +79,10 @@ impl Judged<'_> {
     }
 
     /// What there is to say of a file by itself. The fault that the verdict names is not said again.
-    fn cleanness(&self, own: &Option<Fault>) -> String {
+    fn cleanness(&self, file: u8) -> String {
         let named = self.fault.as_ref().map(|fault| fault.parts);
-        match own {
+        match &self.own[usize::from(file) - 1] {
+            None if named.is_some_and(|parts| parts.file == file) => "clean alone, at fault in the set: see above".into(),
             None => "clean".into(),
             Some(fault) if Some(fault.parts) == named => "not clean: see above".into(),
             Some(fault) => format!("not clean: {}", fault.told.within_file()),

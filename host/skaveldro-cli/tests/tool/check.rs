@@ -109,10 +109,12 @@ fn several_folders() {
     assert_eq!(told(&["check", SAMPLE, SAMPLE]).0, 0);
 }
 
+const NOT_JUDGED: &str = "conditions, references and sums were not judged (kinds 13 to 15); name a folder to judge a whole set";
+
 #[test]
 fn a_file_alone() {
     let file = format!("{SAMPLE}/free_bike_status.json");
-    let alone = "references to other files were not judged; name a folder to judge a whole set\n";
+    let alone = format!("{NOT_JUDGED}\n");
     assert_eq!(told(&["check", &file]), (0, format!("clean, judged alone as free_bike_status.json, 997 bytes\n{alone}")));
     let (status, report) = told(&["check", &file, "--as", "vehicle_types"]);
     let fault = "vehicle_types.json, data.vehicle_types, line 5, column 11: required, but missing";
@@ -123,6 +125,21 @@ fn a_file_alone() {
     let output = run(&["check", &format!("{folder}/free_bike_status.json")]);
     assert_eq!((output.status.code(), output.stdout.len()), (Some(2), 0));
     assert!(text(output.stderr).contains("is empty: it counts as an absent free_bike_status.json, so there is nothing to judge"));
+}
+
+/// A file that is clean alone may break a rule of the set: the report of each says so.
+#[test]
+fn a_file_that_is_clean_and_a_set_that_is_not() {
+    let bikes = bikes(&BIKE.replace("\"lat\":1,", ""));
+    let folder = feed("check-no-lat", &[("free_bike_status.json", &bikes)]);
+    let (status, report) = told(&["check", &format!("{folder}/free_bike_status.json")]);
+    let verdict = format!("clean, judged alone as free_bike_status.json, {} bytes", bikes.len());
+    assert_eq!((status, report), (0, format!("{verdict}\n{NOT_JUDGED}\n")));
+    let (status, report) = told(&["check", &folder]);
+    assert!(status == 1 && report.starts_with("not accepted, word 14e2900100000000\n"), "{report}");
+    let place = "free_bike_status.json, record 1 (id \"a\"), lat, line 1, column 60";
+    assert_eq!(report.lines().nth(1), Some(&*format!("{place}: required unless station_id is given, but missing")));
+    assert_eq!(states(&report)[3], format!("{} bytes, clean alone, at fault in the set: see above", bikes.len()));
 }
 
 #[test]
