@@ -1,11 +1,11 @@
 //! `check`: the verdict on folders, on single files, and on a set whose files are named one by one.
 
-use crate::folder;
+use crate::folder::{self, Contents};
 use crate::help::{misuse, misused};
 use crate::read;
-use crate::report::{Failure, Report, YES};
+use crate::report::{Failure, Report, NO, YES};
 use crate::set::{self, Set};
-use crate::several::{join, Outcome};
+use crate::several::{join, Outcome, WITHOUT};
 use crate::shown::shown;
 use crate::source::{existing, STANDARD_INPUT};
 use crate::standard::{looks_like, name_of, named, required_role, role};
@@ -43,13 +43,13 @@ fn of_files(assigned: &[(u8, &OsStr)]) -> Result<Set, Failure> {
     if assigned.iter().filter(|(_, path)| *path == STANDARD_INPUT).count() > 1 {
         return Err(misuse("standard input can be one file only"));
     }
-    let mut files = [const { None }; 6];
+    let mut files: Contents = [const { Ok(None) }; 6];
     for &(file, path) in assigned {
         let slot = &mut files[usize::from(file) - 1];
-        if slot.is_some() {
+        if !matches!(slot, Ok(None)) {
             return Err(misuse(&format!("{} is named twice", name_of(file))));
         }
-        *slot = Some(if path == STANDARD_INPUT { read::standard_input()? } else { read::file(existing(path)?)? });
+        *slot = if path == STANDARD_INPUT { read::standard_input() } else { read::file(existing(path)?) }.map(Some);
     }
     Ok(Set { what: "files", path: None, files, others: Vec::new() })
 }
@@ -77,7 +77,11 @@ fn subject(path: &OsStr, given_role: Option<u8>) -> Result<Outcome, Failure> {
     let folder = folder::read(given)?;
     let set = Set { what: "folder", path: Some(path.to_string_lossy().into_owned()), files: folder.files, others: folder.others };
     let report = set::report(&set);
-    let counted = if report.status == YES { "accepted" } else { "not accepted" };
+    let counted = match report.status {
+        YES => "accepted",
+        NO => "not accepted",
+        _ => WITHOUT,
+    };
     Ok(Outcome { report, counted })
 }
 

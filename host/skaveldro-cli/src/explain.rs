@@ -61,6 +61,10 @@ pub fn explain(word: &OsStr, path: Option<&OsStr>) -> Result<Report, Failure> {
 /// Judges a folder again: its files are those of the word if they give it.
 fn against_folder(word: Word, parts: Parts, path: &Path) -> Result<Known, Failure> {
     let folder = folder::read(path)?;
+    let unread = folder::unread(&folder.files);
+    if !unread.is_empty() {
+        return Err(Failure(unread));
+    }
     let files = bytes(&folder.files);
     let again = verdict(files).word();
     if again == word {

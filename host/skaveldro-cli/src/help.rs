@@ -20,7 +20,8 @@ const COMMANDS: [Command; 6] = [
         about: "FOLDER is judged as a set: the six files by their standard names, those that are not there being absent. The first line is the
 verdict with its word, the next one names the first rule that the set breaks. Then come warnings, the size and state of each of
 the six files, and the names of what else is in the folder, which is not read. A file is clean if it passes stages A and B and
-repeats no id: then it may still break a rule of the set.
+repeats no id: then it may still break a rule of the set. Where a file cannot be read there is no verdict, which the first line
+says; the rest is told all the same.
 
 FILE, under its standard name, is judged alone: is it clean? Conditions, references and sums (kinds 13 to 15) are not judged. With
 --as ROLE it may have any name, and - is standard input.

@@ -25,7 +25,7 @@ pub fn one(path: &OsStr, file: u8) -> Result<(Vec<u8>, Vec<String>), Failure> {
     let Some(content) = folder::one(given, file)? else {
         let mut warnings = vec![format!("there is no {name} in {}, so it counts as absent", shown(path))];
         let meant = folder::others(given)?.into_iter().filter(|other| other.looks_like == Some(file)).collect::<Vec<_>>();
-        warnings.extend(folder::warnings(&[const { None }; 6], &meant));
+        warnings.extend(folder::warnings(&[const { Ok(None) }; 6], &meant));
         return Ok((Vec::new(), warnings));
     };
     Ok(noted(content, name))
