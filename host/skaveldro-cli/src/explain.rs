@@ -9,7 +9,7 @@ use crate::report::{Failure, Report, NO, YES};
 use crate::set::bytes;
 use crate::shown::shown;
 use crate::source::existing;
-use crate::standard::named;
+use crate::standard::{misnamed, named};
 use crate::tell;
 use skaveldro::{verdict, Kind, Parts, Reading, Word};
 use std::ffi::OsStr;
@@ -21,7 +21,7 @@ struct Known {
     told: Option<Told>,
     /// Do the files give the word? None where they cannot tell.
     matches: Option<bool>,
-    warning: Option<String>,
+    warnings: Vec<String>,
 }
 
 /// What a word says. With the folder or the file that was judged also the line, the column and the record's id.
@@ -33,7 +33,7 @@ pub fn explain(word: &OsStr, path: Option<&OsStr>) -> Result<Report, Failure> {
         return Ok(tell::refused(reading.number(), format!("{word} is not a verdict word")));
     };
     let known = match path {
-        None => Known { told: words::tell(parts, None), matches: None, warning: None },
+        None => Known { told: words::tell(parts, None), matches: None, warnings: Vec::new() },
         Some(path) => {
             let given = existing(path)?;
             if given.is_dir() {
@@ -55,7 +55,7 @@ pub fn explain(word: &OsStr, path: Option<&OsStr>) -> Result<Report, Failure> {
         ("fault", fault::json(fault.as_ref())),
         ("matches", Json::or_null(known.matches, Json::Truth)),
     ];
-    Ok(Report::new(status, lines.join("\n"), members).warning(known.warning.into_iter().collect()))
+    Ok(Report::new(status, lines.join("\n"), members).warning(known.warnings))
 }
 
 /// Judges a folder again: its files are those of the word if they give it.
@@ -68,10 +68,10 @@ fn against_folder(word: Word, parts: Parts, path: &Path) -> Result<Known, Failur
     let files = bytes(&folder.files);
     let again = verdict(files).word();
     if again == word {
-        return Ok(Known { told: tell_of_set(parts, files), matches: Some(true), warning: None });
+        return Ok(Known { told: tell_of_set(parts, files), matches: Some(true), warnings: Vec::new() });
     }
     let warning = format!("this is not the set that was judged: {} now gives the word {again}", shown(path));
-    Ok(Known { told: words::tell(parts, None), matches: Some(false), warning: Some(warning) })
+    Ok(Known { told: words::tell(parts, None), matches: Some(false), warnings: vec![warning] })
 }
 
 /// Judges a file alone: what it breaks by itself, it must break as the word says. What other files decide it cannot tell.
@@ -94,5 +94,6 @@ fn against_file(parts: Parts, path: &Path) -> Result<Known, Failure> {
         ),
     };
     let bytes = (matches != Some(false)).then_some(content.bytes.as_slice()).filter(|bytes| !bytes.is_empty());
-    Ok(Known { told: words::tell(parts, bytes), matches, warning })
+    let warnings = file.and_then(|file| misnamed(path.as_os_str(), file)).into_iter().chain(warning).collect();
+    Ok(Known { told: words::tell(parts, bytes), matches, warnings })
 }

@@ -1,7 +1,7 @@
 //! The verdict on a set, with what was read for it and what was not.
 
 use crate::fault::{self, Fault};
-use crate::folder::{unread, warnings, Contents, Found, Other};
+use crate::folder::{unread, Contents, Found, Other};
 use crate::json::Json;
 use crate::report::{Report, NO, NO_ANSWER, YES};
 use crate::shown::shown;
@@ -25,6 +25,8 @@ pub struct Set {
     pub files: Contents,
     /// What else is in the folder.
     pub others: Vec<Other>,
+    /// What may be a mistake.
+    pub warnings: Vec<String>,
 }
 
 /// The bytes of a set's files; none where one is absent or cannot be read.
@@ -52,7 +54,6 @@ struct Judged<'a> {
     fault: Option<Fault>,
     /// What each file breaks by itself.
     own: [Option<Fault>; 6],
-    warnings: Vec<String>,
 }
 
 impl Judged<'_> {
@@ -62,15 +63,15 @@ impl Judged<'_> {
         let parts = answer.map(Verdict::parts);
         let fault = parts.and_then(|parts| Some(Fault { parts, told: tell_of_set(parts, files)? }));
         let own = NUMBERS.map(|file| fault::of_file(file, files[usize::from(file) - 1]));
-        Judged { set, answer, fault, own, warnings: warnings(&set.files, &set.others) }
+        Judged { set, answer, fault, own }
     }
 
     /// The verdict or why there is none, the fault, what may be a mistake, the state of each file, and what was not read.
     fn lines(&self) -> Vec<String> {
         let verdict = self.answer.map(verdict_line).unwrap_or_else(|| no_verdict_line(&self.set.files));
-        let mut lines = vec![verdict + &counted(self.warnings.len())];
+        let mut lines = vec![verdict + &counted(self.set.warnings.len())];
         lines.extend(self.fault.iter().map(|fault| fault.told.to_string()));
-        lines.extend(self.warnings.iter().map(|warning| format!("warning: {warning}")));
+        lines.extend(self.set.warnings.iter().map(|warning| format!("warning: {warning}")));
         lines.push("files:".into());
         let width = FILE_NAMES.iter().map(|name| name.len()).max().unwrap_or_default();
         for ((file, found), name) in (1..).zip(&self.set.files).zip(FILE_NAMES) {
@@ -110,7 +111,7 @@ impl Judged<'_> {
             ("fault", fault::json(self.fault.as_ref())),
             ("files", Json::Array(files)),
             ("not_read", Json::Array(self.set.others.iter().map(other_json).collect())),
-            ("warnings", Json::texts(self.warnings)),
+            ("warnings", Json::texts(self.set.warnings.clone())),
         ]
     }
 }

@@ -6,6 +6,7 @@ use crate::report::Failure;
 use crate::shown::shown;
 use skaveldro::names::FILE_NAMES;
 use std::ffi::OsStr;
+use std::path::Path;
 
 /// The standard name of a file, 1 to 6.
 pub fn name_of(file: u8) -> &'static str {
@@ -39,6 +40,12 @@ pub fn required_role(name: &str, text: &OsStr) -> Result<u8, Failure> {
         let meant = nearest(&text.to_string_lossy(), stems).map_or(String::new(), |stem| format!("; did you mean {stem}?"));
         misuse(&format!("{name} must be one of {}, not {}{meant}", stems.join(", "), shown(text)))
     })
+}
+
+/// A warning where a file is read as another than its name says.
+pub fn misnamed(path: &OsStr, file: u8) -> Option<String> {
+    let is_another = Path::new(path).file_name().and_then(named).is_some_and(|named| named != file);
+    is_another.then(|| format!("{} has the name of another file, and was read as {}", shown(path), name_of(file)))
 }
 
 /// What version 3 of GBFS calls a file of version 2.
@@ -75,6 +82,14 @@ mod tests {
         assert_eq!(role(OsStr::new("free_bike_status")), Some(4));
         assert_eq!(role(OsStr::new("geofencing_zones.json")), Some(6));
         assert_eq!(role(OsStr::new("Free_bike_status")), None);
+    }
+
+    #[test]
+    fn files_read_as_another() {
+        let said = |path, file| misnamed(OsStr::new(path), file);
+        let warning = "a/free_bike_status.json has the name of another file, and was read as vehicle_types.json";
+        assert_eq!(said("a/free_bike_status.json", 1).as_deref(), Some(warning));
+        assert_eq!((said("a/free_bike_status.json", 4), said("bikes.json", 1), said("..", 1)), (None, None, None));
     }
 
     #[test]

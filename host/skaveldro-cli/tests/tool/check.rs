@@ -118,7 +118,9 @@ fn a_file_alone() {
     assert_eq!(told(&["check", &file]), (0, format!("clean, judged alone as free_bike_status.json, 997 bytes\n{alone}")));
     let (status, report) = told(&["check", &file, "--as", "vehicle_types"]);
     let fault = "vehicle_types.json, data.vehicle_types, line 5, column 11: required, but missing";
-    assert_eq!((status, report), (1, format!("not clean, judged alone as vehicle_types.json, 997 bytes\n{fault}\n{alone}")));
+    let warning = format!("warning: {file} has the name of another file, and was read as vehicle_types.json\n");
+    let verdict = "not clean, judged alone as vehicle_types.json, 997 bytes";
+    assert_eq!((status, report), (1, format!("{verdict}\n{fault}\n{alone}{warning}")));
     let (status, report) = told(&["check", &file, &format!("{SAMPLE}/vehicle_types.json")]);
     assert!(status == 0 && report.ends_with("\n\n2 checked: 2 clean\n"), "{report}");
     let folder = feed("check-alone", &[("free_bike_status.json", b"")]);
@@ -169,4 +171,9 @@ fn a_set_of_named_files() {
     let reference = "must be the id of a record of vehicle_types.json, which is absent; found \"e_bike\"";
     assert!(status == 1 && report.contains(reference), "{report}");
     assert_eq!(fed(&["check", "free_bike_status=-"], &bikes(BIKE)).0, 0);
+    let (status, report) = told(&["check", &format!("free_bike_status={SAMPLE}/vehicle_types.json")]);
+    assert!(status == 1 && report.lines().next().is_some_and(|line| line.ends_with(", with a warning")), "{report}");
+    let warning =
+        format!("warning: {SAMPLE}/vehicle_types.json has the name of another file, and was read as free_bike_status.json");
+    assert_eq!(report.lines().nth(2), Some(&*warning));
 }
