@@ -20,6 +20,7 @@ mod read;
 mod report;
 mod set;
 mod several;
+mod shortened;
 mod shown;
 mod source;
 mod standard;

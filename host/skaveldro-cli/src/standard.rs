@@ -3,6 +3,7 @@
 use crate::help::misuse;
 use crate::nearest::{distance, nearest};
 use crate::report::Failure;
+use crate::shortened::shortened;
 use crate::shown::shown;
 use skaveldro::names::FILE_NAMES;
 use std::ffi::OsStr;
@@ -24,7 +25,7 @@ pub fn named(name: &OsStr) -> Option<u8> {
 }
 
 /// A standard name without its ending.
-fn stem(standard: &'static str) -> &'static str {
+pub fn stem(standard: &'static str) -> &'static str {
     standard.strip_suffix(".json").unwrap_or(standard)
 }
 
@@ -49,10 +50,10 @@ pub fn misnamed(path: &OsStr, file: u8) -> Option<String> {
 }
 
 /// What version 3 of GBFS calls a file of version 2.
-const LATER_NAMES: [(&str, u8); 1] = [("vehiclestatus", 4)];
+pub const LATER_NAMES: [(&str, u8); 1] = [("vehicle_status", 4)];
 
-/// The file that another name was probably meant to be: it differs in case, ending, punctuation, up to two letters, or by what is put
-/// in front of it or behind.
+/// The file that another name was probably meant to be: it differs in case, ending, punctuation, up to two letters, by what is put
+/// in front of it or behind, or by words that are left out.
 pub fn looks_like(name: &OsStr) -> Option<u8> {
     if named(name).is_some() {
         return None;
@@ -61,8 +62,8 @@ pub fn looks_like(name: &OsStr) -> Option<u8> {
     let (whole, stem_alone) = (squeezed(&name), squeezed(name.trim_start_matches('.').split('.').next().unwrap_or_default()));
     let is_meant = |squeezed_stem: &str| whole.contains(squeezed_stem) || distance(&stem_alone, squeezed_stem) <= 2;
     let standard = (1..).zip(FILE_NAMES).map(|(file, standard)| (squeezed(stem(standard)), file));
-    let later = LATER_NAMES.map(|(stem, file)| (stem.to_string(), file));
-    standard.chain(later).find(|(squeezed_stem, _)| is_meant(squeezed_stem)).map(|(_, file)| file)
+    let later = LATER_NAMES.map(|(stem, file)| (squeezed(stem), file));
+    standard.chain(later).find(|(squeezed_stem, _)| is_meant(squeezed_stem)).map(|(_, file)| file).or_else(|| shortened(&name))
 }
 
 /// The letters and digits of a name, in lower case.
@@ -116,6 +117,7 @@ mod tests {
         }
         assert_eq!(looks_like(OsStr::new("geofencing_zone.json")), Some(6));
         assert_eq!(looks_like(OsStr::new("vehicle_type.json")), Some(1));
+        assert_eq!(looks_like(OsStr::new("pricing_plans.json")), Some(5));
         assert_eq!(looks_like(OsStr::from_bytes(b"free_bike_stat\xFFus.json")), Some(4));
     }
 

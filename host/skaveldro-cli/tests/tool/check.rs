@@ -37,9 +37,14 @@ fn what_was_read() {
 /// A file under another name, or in another place, is told, not taken for absent without a word.
 #[test]
 fn what_was_not_read() {
-    for name in
-        ["free_bike_status", "free-bike-status.json", "Free_bike_status.json", "free_bike_status.json.txt", "vehicle_status.json"]
-    {
+    for name in [
+        "free_bike_status",
+        "free-bike-status.json",
+        "Free_bike_status.json",
+        "free_bike_status.json.txt",
+        "vehicle_status.json",
+        "free_bikes.json",
+    ] {
         let folder = sample("check-misnamed", &[("gbfs.json", b"{}")]);
         rename(&folder, "free_bike_status.json", name);
         let (status, report) = told(&["check", &folder]);
