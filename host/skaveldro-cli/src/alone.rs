@@ -22,7 +22,7 @@ pub fn report(path: &OsStr, file: u8, content: &Content) -> Result<Report, Failu
     }
     let fault = fault::of_file(file, &content.bytes);
     let (status, verdict) = if fault.is_none() { (YES, "clean") } else { (NO, "not clean") };
-    let mut lines = vec![format!("{verdict}, judged alone as {name}, {} bytes", content.size)];
+    let mut lines = vec![format!("{verdict}, judged alone as {name}, {}", content.told_size())];
     lines.extend(fault.iter().map(|fault| fault.told.to_string()));
     lines.push(NOT_JUDGED.into());
     let members = vec![

@@ -50,7 +50,12 @@ fn of_files(assigned: &[(u8, &OsStr)]) -> Result<Set, Failure> {
         if !matches!(slot, Ok(None)) {
             return Err(misuse(&format!("{} is named twice", name_of(file))));
         }
-        *slot = if path == STANDARD_INPUT { read::standard_input() } else { read::file(existing(path)?) }.map(Some);
+        *slot = if path == STANDARD_INPUT {
+            read::standard_input()
+        } else {
+            read::file(existing(path).map_err(|failure| failure.about(path))?)
+        }
+        .map(Some);
         warnings.extend(misnamed(path, file));
     }
     warnings.extend(folder::warnings(&files, &[]));

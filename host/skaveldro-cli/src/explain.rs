@@ -30,18 +30,11 @@ pub fn explain(word: &OsStr, path: Option<&OsStr>) -> Result<Report, Failure> {
     let word: Word = text.parse().map_err(|error| misuse(&format!("{}: {error}", shown(word))))?;
     let reading = word.read();
     let Reading::Parts(parts) = reading else {
-        return Ok(tell::refused(reading.number(), format!("{word} is not a verdict word")));
+        return Ok(tell::refused(reading.number(), format!("{word} is not a verdict word")).warning(Vec::new()));
     };
     let known = match path {
         None => Known { told: words::tell(parts, None), matches: None, warnings: Vec::new() },
-        Some(path) => {
-            let given = existing(path)?;
-            if given.is_dir() {
-                against_folder(word, parts, given)?
-            } else {
-                against_file(parts, given)?
-            }
-        }
+        Some(path) => against(word, parts, path).map_err(|failure| failure.about(path))?,
     };
     let status = if parts.is_accepted() && known.matches != Some(false) { YES } else { NO };
     let verdict = if parts.is_accepted() { "accepted" } else { "not accepted" };
@@ -58,12 +51,21 @@ pub fn explain(word: &OsStr, path: Option<&OsStr>) -> Result<Report, Failure> {
     Ok(Report::new(status, lines.join("\n"), members).warning(known.warnings))
 }
 
+fn against(word: Word, parts: Parts, path: &OsStr) -> Result<Known, Failure> {
+    let path = existing(path)?;
+    if path.is_dir() {
+        against_folder(word, parts, path)
+    } else {
+        against_file(parts, path)
+    }
+}
+
 /// Judges a folder again: its files are those of the word if they give it.
 fn against_folder(word: Word, parts: Parts, path: &Path) -> Result<Known, Failure> {
     let folder = folder::read(path)?;
     let unread = folder::unread(&folder.files);
     if !unread.is_empty() {
-        return Err(Failure(unread));
+        return Err(Failure::of(unread));
     }
     let files = bytes(&folder.files);
     let again = verdict(files).word();

@@ -13,8 +13,21 @@ use std::path::Path;
 pub struct Content {
     /// Its bytes, up to one more than a file may have: what lies past them cannot change an answer.
     pub bytes: Vec<u8>,
-    /// How many bytes it has in all.
+    /// How many bytes it has in all, or were read where nothing tells how many more there are.
     pub size: u64,
+    /// Does nothing tell that?
+    pub has_more: bool,
+}
+
+impl Content {
+    /// The size in words.
+    pub fn told_size(&self) -> String {
+        if self.has_more {
+            format!("over {MOST_BYTES} bytes")
+        } else {
+            format!("{} bytes", self.size)
+        }
+    }
 }
 
 /// What cannot be read, as it is shown, and why.
@@ -59,13 +72,13 @@ fn content(file: File) -> Result<Content, String> {
     let bytes = at_most(file)?;
     let read = bytes.len() as u64;
     let size = if bytes.len() > MOST_BYTES { length.max(read) } else { read };
-    Ok(Content { bytes, size })
+    Ok(Content { bytes, size, has_more: false })
 }
 
-/// Standard input. Of more bytes than a file may have, only so many are counted as were read.
+/// Standard input. Of more bytes than a file may have, no more are read than tell that.
 pub fn standard_input() -> Result<Content, Unreadable> {
     let bytes = at_most(io::stdin().lock()).map_err(|why| Unreadable { path: "standard input".into(), why })?;
-    Ok(Content { size: bytes.len() as u64, bytes })
+    Ok(Content { size: bytes.len() as u64, has_more: bytes.len() > MOST_BYTES, bytes })
 }
 
 fn at_most(source: impl Read) -> Result<Vec<u8>, String> {

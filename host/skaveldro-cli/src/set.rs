@@ -79,7 +79,7 @@ impl Judged<'_> {
                 Err(unreadable) => format!("unreadable: {}", unreadable.why),
                 Ok(None) => "absent".into(),
                 Ok(Some(content)) if content.size == 0 => "empty, counts as absent".into(),
-                Ok(Some(content)) => format!("{} bytes, {}", content.size, self.cleanness(file)),
+                Ok(Some(content)) => format!("{}, {}", content.told_size(), self.cleanness(file)),
             };
             lines.push(format!("  {name:width$}  {state}"));
         }

@@ -30,8 +30,9 @@ pub fn join(outcomes: Vec<(&OsStr, Result<Outcome, Failure>)>) -> Report {
             }
             Err(failure) => {
                 blocks.extend((!is_one).then(|| format!("{}: no answer", shown(path))));
-                joined.objects.push(failure.json(Some(path.to_string_lossy().into_owned())));
-                joined.errors.extend(failure.0);
+                let failure = failure.about(path);
+                joined.objects.push(failure.json());
+                joined.errors.extend(failure.messages);
                 (NO_ANSWER, WITHOUT)
             }
         };

@@ -14,6 +14,10 @@ pub const STANDARD_INPUT: &str = "-";
 /// File 1 to 6 of a folder, or the file itself, and warnings where it is absent, has no bytes or has the name of another. A file that
 /// its folder does not have has no bytes.
 pub fn one(path: &OsStr, file: u8) -> Result<(Vec<u8>, Vec<String>), Failure> {
+    sought(path, file).map_err(|failure| failure.about(path))
+}
+
+fn sought(path: &OsStr, file: u8) -> Result<(Vec<u8>, Vec<String>), Failure> {
     let name = name_of(file);
     if path == STANDARD_INPUT {
         return Ok(noted(read::standard_input()?, "standard input"));

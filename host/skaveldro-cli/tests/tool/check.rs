@@ -159,6 +159,11 @@ fn standard_input() {
     );
     let (status, report) = fed(&["check", "--as=free_bike_status", "-"], &[b' '; 3_000_000]);
     assert!(status == 1 && report.contains("longer than 1048575 bytes"), "{report}");
+    assert!(report.starts_with("not clean, judged alone as free_bike_status.json, over 1048575 bytes\n"), "{report}");
+    let (_, report) = fed(&["check", "free_bike_status=-"], &[b' '; 3_000_000]);
+    assert_eq!(states(&report)[3], "over 1048575 bytes, not clean: see above");
+    let (_, report) = fed(&["check", "free_bike_status=-"], &[b' '; 1_048_575]);
+    assert_eq!(states(&report)[3], "1048575 bytes, not clean: see above");
     let plans = fs::read(crate::feeds::root().join(SAMPLE).join("system_pricing_plans.json")).expect("the sample is there");
     assert_eq!(fed(&["quote", "-", "day_pass", "14399", "0"], &plans), (0, "15.0000\n".into()));
 }

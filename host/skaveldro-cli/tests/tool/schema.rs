@@ -115,7 +115,9 @@ fn every_kind_of_line() {
 
     let texts: [&[u8]; 6] = [b"[1,]", b"\xEF\xBB\xBF{}", br#""\ud800""#, &[b'['; 17], &[b' '; 1_048_576], b"{}"];
     for (number, text) in texts.iter().enumerate() {
-        assert_eq!(kinds(&[&feed(&format!("schema-text-{number}"), &[("free_bike_status.json", text)])]), r#"(1, "folder")"#);
+        let judged = lines(&[&feed(&format!("schema-text-{number}"), &[("free_bike_status.json", text)])]);
+        assert_eq!(kind(&judged[0]), (1, "folder"));
+        assert_eq!(judged[0].at("fault").at("member") == &Json::Null, text != b"{}", "{number}");
     }
     let faulty =
         [r#"{"bike_id":"\u001b\"","lat":470.5}"#, r#"{"bike_id":"","lat":"x"}"#, "1", &format!("{BIKE},{BIKE}")].map(bikes);
