@@ -13,6 +13,11 @@ pub type Found = Result<Option<Content>, Unreadable>;
 /// The files of a set by number.
 pub type Contents = [Found; 6];
 
+/// What a file of a set holds, if it is there and can be read.
+pub fn content(found: &Found) -> Option<&Content> {
+    found.as_ref().ok().and_then(Option::as_ref)
+}
+
 /// What a folder holds.
 pub struct Folder {
     pub files: Contents,
@@ -87,7 +92,7 @@ fn joined(folder: &OsStr, name: &OsStr) -> OsString {
 
 /// What is worth a warning: files that may have been meant, though the set lacks them, and files without bytes.
 pub fn warnings(files: &Contents, others: &[Other]) -> Vec<String> {
-    let size = |found: &Found| found.as_ref().ok().and_then(Option::as_ref).map(|content| content.size);
+    let size = |found| content(found).map(|content| content.size);
     let is_there = |file: u8| size(&files[usize::from(file) - 1]).is_some_and(|size| size > 0);
     let empty = (1..).zip(files).filter(|(_, found)| size(found) == Some(0));
     let empty = empty.map(|(file, _)| format!("{} is empty, and counts as absent", name_of(file)));

@@ -1,7 +1,7 @@
 //! The verdict on a set, with what was read for it and what was not.
 
 use crate::fault::{self, Fault};
-use crate::folder::{unread, Contents, Found, Other};
+use crate::folder::{content, unread, Contents, Found, Other};
 use crate::json::Json;
 use crate::report::{Report, NO, NO_ANSWER, YES};
 use crate::shown::shown;
@@ -31,7 +31,7 @@ pub struct Set {
 
 /// The bytes of a set's files; none where one is absent or cannot be read.
 pub fn bytes(files: &Contents) -> Files<'_> {
-    files.each_ref().map(|found| found.as_ref().ok().and_then(Option::as_ref).map_or(&[][..], |content| &content.bytes))
+    files.each_ref().map(|found| content(found).map_or(&[][..], |content| &content.bytes))
 }
 
 /// The verdict on a set, in words and as JSON. There is none where a file cannot be read, but all else is told.
@@ -150,7 +150,7 @@ fn not_read(others: &[Other]) -> Option<String> {
 }
 
 fn file_json(file: u8, found: &Found, own: Option<&Fault>) -> Json {
-    let content = found.as_ref().ok().and_then(Option::as_ref);
+    let content = content(found);
     let state = match content {
         None if found.is_err() => "unreadable",
         None => "absent",
