@@ -39,7 +39,7 @@ impl Arguments {
                 b"--help" | b"-h" => arguments.help = true,
                 b"--version" | b"-V" => arguments.version = true,
                 b"--as" => {
-                    let role = given.next().ok_or_else(|| misuse("--as needs a file: --as free_bike_status, for example"))?;
+                    let role = given.next().ok_or_else(|| misuse("--as needs a ROLE: --as free_bike_status, for example"))?;
                     arguments.set_role(&role)?;
                 }
                 bytes if bytes.starts_with(b"--as=") => arguments.set_role(OsStr::from_bytes(&bytes[5..]))?,
@@ -79,7 +79,7 @@ mod tests {
     use super::*;
 
     fn read(words: &[&str]) -> Result<Arguments, String> {
-        Arguments::read(words.iter().map(OsString::from)).map_err(|Failure(why)| why.join("\n"))
+        Arguments::read(words.iter().map(OsString::from)).map_err(|failure| failure.messages.join("\n"))
     }
 
     fn words(given: &[&str]) -> Vec<OsString> {
@@ -107,7 +107,7 @@ mod tests {
         said(&["--jsn"], "unknown option --jsn; did you mean --json?");
         said(&["--hlep=1"], "unknown option --hlep=1; did you mean --help?");
         said(&["-x"], "unknown option -x\n");
-        said(&["--as"], "--as needs a file");
+        said(&["--as"], "--as needs a ROLE");
         said(&["--as", "bikes"], "--as must be one of vehicle_types, ");
         said(&["--as", "free_bikes_status"], "did you mean free_bike_status?");
         said(&["--as=vehicle_types", "--as=vehicle_types"], "--as is given twice");

@@ -1,14 +1,14 @@
 //! `check`: the verdict on folders, on single files, and on a set whose files are named one by one.
 
-use crate::folder;
+use crate::folder::{self, Contents, Folder};
 use crate::help::{misuse, misused};
 use crate::read;
-use crate::report::{Failure, Report, YES};
+use crate::report::{Failure, Report, NO, YES};
 use crate::set::{self, Set};
-use crate::several::{join, Outcome};
+use crate::several::{join, Outcome, WITHOUT};
 use crate::shown::shown;
 use crate::source::{existing, STANDARD_INPUT};
-use crate::standard::{looks_like, name_of, named, required_role, role};
+use crate::standard::{looks_like, misnamed, name_of, named, required_role, role};
 use crate::{alone, standard};
 use std::ffi::{OsStr, OsString};
 use std::os::unix::ffi::OsStrExt;
@@ -43,20 +43,28 @@ fn of_files(assigned: &[(u8, &OsStr)]) -> Result<Set, Failure> {
     if assigned.iter().filter(|(_, path)| *path == STANDARD_INPUT).count() > 1 {
         return Err(misuse("standard input can be one file only"));
     }
-    let mut files = [const { None }; 6];
+    let mut files: Contents = [const { Ok(None) }; 6];
+    let mut warnings = Vec::new();
     for &(file, path) in assigned {
         let slot = &mut files[usize::from(file) - 1];
-        if slot.is_some() {
+        if !matches!(slot, Ok(None)) {
             return Err(misuse(&format!("{} is named twice", name_of(file))));
         }
-        *slot = Some(if path == STANDARD_INPUT { read::standard_input()? } else { read::file(existing(path)?)? });
+        *slot = if path == STANDARD_INPUT {
+            read::standard_input()
+        } else {
+            read::file(existing(path).map_err(|failure| failure.about(path))?)
+        }
+        .map(Some);
+        warnings.extend(misnamed(path, file));
     }
-    Ok(Set { what: "files", path: None, files, others: Vec::new() })
+    warnings.extend(folder::warnings(&files, &[]));
+    Ok(Set { what: "files", path: None, files, others: Vec::new(), warnings })
 }
 
 /// One folder or file, or standard input.
 fn subject(path: &OsStr, given_role: Option<u8>) -> Result<Outcome, Failure> {
-    let alone = |path, file, content| {
+    let alone = |file, content| {
         let report = alone::report(path, file, &content)?;
         let counted = if report.status == YES { "clean" } else { "not clean" };
         Ok(Outcome { report, counted })
@@ -64,20 +72,24 @@ fn subject(path: &OsStr, given_role: Option<u8>) -> Result<Outcome, Failure> {
     if path == STANDARD_INPUT {
         let file =
             given_role.ok_or_else(|| misuse("say which file standard input is: skaveldro check --as free_bike_status -"))?;
-        return alone("standard input".into(), file, read::standard_input()?);
+        return alone(file, read::standard_input()?);
     }
     let given = existing(path).map_err(|failure| misnamed_role(path).unwrap_or(failure))?;
     if !given.is_dir() {
         let file = given_role.map_or_else(|| role_by_name(given), Ok)?;
-        return alone(shown(path), file, read::file(given)?);
+        return alone(file, read::file(given)?);
     }
     if given_role.is_some() {
         return Err(misuse(&format!("--as says what one file is, and {} is a folder", shown(path))));
     }
-    let folder = folder::read(given)?;
-    let set = Set { what: "folder", path: Some(path.to_string_lossy().into_owned()), files: folder.files, others: folder.others };
-    let report = set::report(&set);
-    let counted = if report.status == YES { "accepted" } else { "not accepted" };
+    let Folder { files, others } = folder::read(given)?;
+    let warnings = folder::warnings(&files, &others);
+    let report = set::report(&Set { what: "folder", path: Some(path.to_string_lossy().into_owned()), files, others, warnings });
+    let counted = match report.status {
+        YES => "accepted",
+        NO => "not accepted",
+        _ => WITHOUT,
+    };
     Ok(Outcome { report, counted })
 }
 

@@ -9,7 +9,7 @@ use crate::report::{Failure, Report, NO, YES};
 use crate::set::bytes;
 use crate::shown::shown;
 use crate::source::existing;
-use crate::standard::named;
+use crate::standard::{misnamed, named};
 use crate::tell;
 use skaveldro::{verdict, Kind, Parts, Reading, Word};
 use std::ffi::OsStr;
@@ -21,7 +21,7 @@ struct Known {
     told: Option<Told>,
     /// Do the files give the word? None where they cannot tell.
     matches: Option<bool>,
-    warning: Option<String>,
+    warnings: Vec<String>,
 }
 
 /// What a word says. With the folder or the file that was judged also the line, the column and the record's id.
@@ -30,18 +30,11 @@ pub fn explain(word: &OsStr, path: Option<&OsStr>) -> Result<Report, Failure> {
     let word: Word = text.parse().map_err(|error| misuse(&format!("{}: {error}", shown(word))))?;
     let reading = word.read();
     let Reading::Parts(parts) = reading else {
-        return Ok(tell::refused(reading.number(), format!("{word} is not a verdict word")));
+        return Ok(tell::refused(reading.number(), format!("{word} is not a verdict word")).warning(Vec::new()));
     };
     let known = match path {
-        None => Known { told: words::tell(parts, None), matches: None, warning: None },
-        Some(path) => {
-            let given = existing(path)?;
-            if given.is_dir() {
-                against_folder(word, parts, given)?
-            } else {
-                against_file(parts, given)?
-            }
-        }
+        None => Known { told: words::tell(parts, None), matches: None, warnings: Vec::new() },
+        Some(path) => against(word, parts, path).map_err(|failure| failure.about(path))?,
     };
     let status = if parts.is_accepted() && known.matches != Some(false) { YES } else { NO };
     let verdict = if parts.is_accepted() { "accepted" } else { "not accepted" };
@@ -55,19 +48,32 @@ pub fn explain(word: &OsStr, path: Option<&OsStr>) -> Result<Report, Failure> {
         ("fault", fault::json(fault.as_ref())),
         ("matches", Json::or_null(known.matches, Json::Truth)),
     ];
-    Ok(Report::new(status, lines.join("\n"), members).warning(known.warning.into_iter().collect()))
+    Ok(Report::new(status, lines.join("\n"), members).warning(known.warnings))
+}
+
+fn against(word: Word, parts: Parts, path: &OsStr) -> Result<Known, Failure> {
+    let path = existing(path)?;
+    if path.is_dir() {
+        against_folder(word, parts, path)
+    } else {
+        against_file(parts, path)
+    }
 }
 
 /// Judges a folder again: its files are those of the word if they give it.
 fn against_folder(word: Word, parts: Parts, path: &Path) -> Result<Known, Failure> {
     let folder = folder::read(path)?;
+    let unread = folder::unread(&folder.files);
+    if !unread.is_empty() {
+        return Err(Failure::of(unread));
+    }
     let files = bytes(&folder.files);
     let again = verdict(files).word();
     if again == word {
-        return Ok(Known { told: tell_of_set(parts, files), matches: Some(true), warning: None });
+        return Ok(Known { told: tell_of_set(parts, files), matches: Some(true), warnings: Vec::new() });
     }
     let warning = format!("this is not the set that was judged: {} now gives the word {again}", shown(path));
-    Ok(Known { told: words::tell(parts, None), matches: Some(false), warning: Some(warning) })
+    Ok(Known { told: words::tell(parts, None), matches: Some(false), warnings: vec![warning] })
 }
 
 /// Judges a file alone: what it breaks by itself, it must break as the word says. What other files decide it cannot tell.
@@ -90,5 +96,6 @@ fn against_file(parts: Parts, path: &Path) -> Result<Known, Failure> {
         ),
     };
     let bytes = (matches != Some(false)).then_some(content.bytes.as_slice()).filter(|bytes| !bytes.is_empty());
-    Ok(Known { told: words::tell(parts, bytes), matches, warning })
+    let warnings = file.and_then(|file| misnamed(path.as_os_str(), file)).into_iter().chain(warning).collect();
+    Ok(Known { told: words::tell(parts, bytes), matches, warnings })
 }

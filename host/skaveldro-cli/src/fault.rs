@@ -32,7 +32,7 @@ pub fn json(fault: Option<&Fault>) -> Json {
         ("offset", Json::Number(parts.offset.into())),
         ("file_name", Json::Text(told.file.into())),
         ("record_id", Json::or_null(id, Json::Text)),
-        ("member", Json::Text(told.member.clone())),
+        ("member", Json::or_null(Some(told.member.clone()).filter(|member| !member.is_empty()), Json::Text)),
         ("line", Json::or_null(line, Json::count)),
         ("column", Json::or_null(column, Json::count)),
         ("rule", Json::Text(told.rule.clone())),

@@ -1,15 +1,22 @@
 //! A folder of feeds: the six files by their standard names, and what else is in it.
 
-use crate::read::{self, reason, Content};
-use crate::report::Failure;
+use crate::read::{self, unreadable, Content, Unreadable};
 use crate::shown::shown;
 use crate::standard::{looks_like, name_of, named};
 use std::ffi::{OsStr, OsString};
 use std::fs;
 use std::path::Path;
 
-/// The files of a set by number; none where one is absent.
-pub type Contents = [Option<Content>; 6];
+/// A file of a set: what it holds, none where it is absent, or why it cannot be read.
+pub type Found = Result<Option<Content>, Unreadable>;
+
+/// The files of a set by number.
+pub type Contents = [Found; 6];
+
+/// What a file of a set holds, if it is there and can be read.
+pub fn content(found: &Found) -> Option<&Content> {
+    found.as_ref().ok().and_then(Option::as_ref)
+}
 
 /// What a folder holds.
 pub struct Folder {
@@ -26,26 +33,18 @@ pub struct Other {
     pub looks_like: Option<u8>,
 }
 
-/// Reads a folder. Where some files cannot be read all of them are named.
-pub fn read(path: &Path) -> Result<Folder, Failure> {
-    let others = others(path)?;
-    let mut files = [const { None }; 6];
-    let mut messages = Vec::new();
-    for (file, slot) in (1..).zip(&mut files) {
-        match one(path, file) {
-            Ok(content) => *slot = content,
-            Err(Failure(why)) => messages.extend(why),
-        }
-    }
-    if messages.is_empty() {
-        Ok(Folder { files, others })
-    } else {
-        Err(Failure(messages))
-    }
+/// Reads a folder.
+pub fn read(path: &Path) -> Result<Folder, Unreadable> {
+    Ok(Folder { files: [1, 2, 3, 4, 5, 6].map(|file| one(path, file)), others: others(path)? })
 }
 
-/// One of the six files of a folder; none if it is absent.
-pub fn one(folder: &Path, file: u8) -> Result<Option<Content>, Failure> {
+/// Why the files of a set cannot all be read, a message for each that cannot.
+pub fn unread(files: &Contents) -> Vec<String> {
+    files.iter().filter_map(|found| found.as_ref().err()).map(Unreadable::message).collect()
+}
+
+/// One of the six files of a folder.
+pub fn one(folder: &Path, file: u8) -> Found {
     let path = folder.join(name_of(file));
     if read::is_absent(&path)? {
         return Ok(None);
@@ -54,7 +53,7 @@ pub fn one(folder: &Path, file: u8) -> Result<Option<Content>, Failure> {
 }
 
 /// What a folder holds besides the six names, sorted. Sub-folders, but for links, are looked into for names that are meant to be one.
-pub fn others(path: &Path) -> Result<Vec<Other>, Failure> {
+pub fn others(path: &Path) -> Result<Vec<Other>, Unreadable> {
     let mut others = Vec::new();
     for (name, is_folder) in entries(path)? {
         if is_folder {
@@ -74,11 +73,10 @@ pub fn others(path: &Path) -> Result<Vec<Other>, Failure> {
 }
 
 /// The names in a folder, and whether each is a folder and no link to one. The six names are never taken for sub-folders.
-fn entries(path: &Path) -> Result<Vec<(OsString, bool)>, Failure> {
-    let unreadable = |error| Failure::new(format!("cannot read {}: {}", shown(path), reason(&error)));
+fn entries(path: &Path) -> Result<Vec<(OsString, bool)>, Unreadable> {
     let mut entries = Vec::new();
-    for entry in fs::read_dir(path).map_err(unreadable)? {
-        let entry = entry.map_err(unreadable)?;
+    for entry in fs::read_dir(path).map_err(|error| unreadable(path, &error))? {
+        let entry = entry.map_err(|error| unreadable(path, &error))?;
         let is_folder = entry.file_type().is_ok_and(|kind| kind.is_dir());
         entries.push((entry.file_name(), is_folder && named(&entry.file_name()).is_none()));
     }
@@ -94,8 +92,9 @@ fn joined(folder: &OsStr, name: &OsStr) -> OsString {
 
 /// What is worth a warning: files that may have been meant, though the set lacks them, and files without bytes.
 pub fn warnings(files: &Contents, others: &[Other]) -> Vec<String> {
-    let is_there = |file: u8| files[usize::from(file) - 1].as_ref().is_some_and(|content| content.size > 0);
-    let empty = (1..).zip(files).filter(|(_, slot)| slot.as_ref().is_some_and(|content| content.size == 0));
+    let size = |found| content(found).map(|content| content.size);
+    let is_there = |file: u8| size(&files[usize::from(file) - 1]).is_some_and(|size| size > 0);
+    let empty = (1..).zip(files).filter(|(_, found)| size(found) == Some(0));
     let empty = empty.map(|(file, _)| format!("{} is empty, and counts as absent", name_of(file)));
     let meant = others.iter().filter_map(|other| Some((other, other.looks_like.filter(|&file| !is_there(file))?)));
     empty.chain(meant.map(|(other, file)| passed_over(&other.name, file))).collect()

@@ -19,11 +19,12 @@ const COMMANDS: [Command; 6] = [
         short: "are the feeds accepted, and if not, which rule do they break?",
         about: "FOLDER is judged as a set: the six files by their standard names, those that are not there being absent. The first line is the
 verdict with its word, the next one names the first rule that the set breaks. Then come warnings, the size and state of each of
-the six files, and the names of what else is in the folder, which is not read. A file is clean if it keeps every rule that can be
-judged from it alone.
+the six files, and the names of what else is in the folder, which is not read. A file is clean if it passes stages A and B and
+repeats no id: then it may still break a rule of the set. Where a file cannot be read there is no verdict, which the first line
+says; the rest is told all the same.
 
-FILE, under its standard name, is judged alone: is it clean? References to other files are not judged. With --as ROLE it may have
-any name, and - is standard input.
+FILE, under its standard name, is judged alone: is it clean? Conditions, references and sums (kinds 13 to 15) are not judged. With
+--as ROLE it may have any name, and - is standard input.
 
 ROLE=FILE names the files of one set one by one; those that are not named are absent.
 
@@ -44,7 +45,7 @@ files:
             (
                 "skaveldro check crates/sample/data/free_bike_status.json",
                 "clean, judged alone as free_bike_status.json, 997 bytes
-references to other files were not judged; name a folder to judge a whole set",
+conditions, references and sums were not judged (kinds 13 to 15); name a folder to judge a whole set",
             ),
             (
                 "skaveldro check free_bike_status=crates/sample/data/free_bike_status.json",
@@ -55,7 +56,7 @@ files:
   vehicle_types.json         absent
   station_information.json   absent
   station_status.json        absent
-  free_bike_status.json      997 bytes, clean
+  free_bike_status.json      997 bytes, clean alone, at fault in the set: see above
   system_pricing_plans.json  absent
   geofencing_zones.json      absent",
             ),
@@ -90,7 +91,7 @@ the folder that has it, or - for standard input; LAT and LON are degrees with at
         usages: &["show PATH FILE RECORD"],
         short: "the bytes of a record",
         about: "Prints a record as it stands in a file. PATH is the file, the folder that has it, or - for standard input; FILE is its number, 1 to
-6, or its standard name; RECORD counts from 1. The file must be clean: it must keep every rule that can be judged from it alone.",
+6, or its standard name; RECORD counts from 1. The file must be clean: it must pass stages A and B and repeat no id.",
         examples: &[(
             "skaveldro show crates/sample/data vehicle_types 3",
             r#"{

@@ -20,6 +20,7 @@ mod read;
 mod report;
 mod set;
 mod several;
+mod shortened;
 mod shown;
 mod source;
 mod standard;
@@ -64,7 +65,7 @@ fn run(arguments: &Arguments) -> Result<Report, Failure> {
 
 /// The report of a question that has no answer: its text is all on standard error.
 fn unanswered(failure: Failure) -> Report {
-    Report { status: NO_ANSWER, text: String::new(), objects: vec![failure.json(None)], errors: failure.0 }
+    Report { status: NO_ANSWER, text: String::new(), objects: vec![failure.json()], errors: failure.messages }
 }
 
 /// Prints a report: its text on standard output and its errors on standard error, or its objects on standard output.

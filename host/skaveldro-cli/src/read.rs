@@ -13,16 +13,48 @@ use std::path::Path;
 pub struct Content {
     /// Its bytes, up to one more than a file may have: what lies past them cannot change an answer.
     pub bytes: Vec<u8>,
-    /// How many bytes it has in all.
+    /// How many bytes it has in all, or were read where nothing tells how many more there are.
     pub size: u64,
+    /// Does nothing tell that?
+    pub has_more: bool,
+}
+
+impl Content {
+    /// The size in words.
+    pub fn told_size(&self) -> String {
+        if self.has_more {
+            format!("over {MOST_BYTES} bytes")
+        } else {
+            format!("{} bytes", self.size)
+        }
+    }
+}
+
+/// What cannot be read, as it is shown, and why.
+#[derive(Debug, PartialEq, Eq)]
+pub struct Unreadable {
+    path: String,
+    pub why: String,
+}
+
+impl Unreadable {
+    pub fn message(&self) -> String {
+        format!("cannot read {}: {}", self.path, self.why)
+    }
+}
+
+impl From<Unreadable> for Failure {
+    fn from(unreadable: Unreadable) -> Failure {
+        Failure::new(unreadable.message())
+    }
 }
 
 /// Linux's flag to open without waiting, on the processors that the library is built for: a pipe that nobody writes to opens at once.
 const NONBLOCK: i32 = 0o4000;
 
 /// The file at a path; links are followed.
-pub fn file(path: &Path) -> Result<Content, Failure> {
-    open(path).and_then(content).map_err(|why| Failure::new(format!("cannot read {}: {why}", shown(path))))
+pub fn file(path: &Path) -> Result<Content, Unreadable> {
+    open(path).and_then(content).map_err(|why| Unreadable { path: shown(path), why })
 }
 
 /// Opens a regular file. Its type is looked at first, since opening a device can set it to work, and again once it is open, since
@@ -40,13 +72,13 @@ fn content(file: File) -> Result<Content, String> {
     let bytes = at_most(file)?;
     let read = bytes.len() as u64;
     let size = if bytes.len() > MOST_BYTES { length.max(read) } else { read };
-    Ok(Content { bytes, size })
+    Ok(Content { bytes, size, has_more: false })
 }
 
-/// Standard input. Of more bytes than a file may have, only so many are counted as were read.
-pub fn standard_input() -> Result<Content, Failure> {
-    let bytes = at_most(io::stdin().lock()).map_err(|why| Failure::new(format!("cannot read standard input: {why}")))?;
-    Ok(Content { size: bytes.len() as u64, bytes })
+/// Standard input. Of more bytes than a file may have, no more are read than tell that.
+pub fn standard_input() -> Result<Content, Unreadable> {
+    let bytes = at_most(io::stdin().lock()).map_err(|why| Unreadable { path: "standard input".into(), why })?;
+    Ok(Content { size: bytes.len() as u64, has_more: bytes.len() > MOST_BYTES, bytes })
 }
 
 fn at_most(source: impl Read) -> Result<Vec<u8>, String> {
@@ -56,12 +88,16 @@ fn at_most(source: impl Read) -> Result<Vec<u8>, String> {
 }
 
 /// Is there nothing of that name? A link that leads nowhere is something that cannot be read.
-pub fn is_absent(path: &Path) -> Result<bool, Failure> {
+pub fn is_absent(path: &Path) -> Result<bool, Unreadable> {
     match path.symlink_metadata() {
         Ok(_) => Ok(false),
         Err(error) if error.kind() == io::ErrorKind::NotFound => Ok(true),
-        Err(error) => Err(Failure::new(format!("cannot read {}: {}", shown(path), reason(&error)))),
+        Err(error) => Err(unreadable(path, &error)),
     }
+}
+
+pub fn unreadable(path: &Path, error: &io::Error) -> Unreadable {
+    Unreadable { path: shown(path), why: reason(error) }
 }
 
 /// Refuses what is not a regular file, and says what it is.

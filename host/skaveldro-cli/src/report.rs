@@ -1,6 +1,7 @@
 //! What a command found.
 
 use crate::json::Json;
+use std::ffi::OsStr;
 
 /// The exit statuses.
 pub const YES: u8 = 0;
@@ -18,9 +19,13 @@ pub struct Report {
     pub errors: Vec<String>,
 }
 
-/// Why there is no answer: bad use, or what cannot be read. A message each.
+/// Why there is no answer: bad use, or what cannot be read.
 #[derive(Clone, Debug, PartialEq, Eq)]
-pub struct Failure(pub Vec<String>);
+pub struct Failure {
+    pub messages: Vec<String>,
+    /// The path that was asked about; none where the command line is at fault.
+    path: Option<String>,
+}
 
 impl Report {
     pub fn new(status: u8, text: String, members: Vec<(&'static str, Json)>) -> Report {
@@ -47,16 +52,24 @@ impl Report {
 
 impl Failure {
     pub fn new(message: String) -> Failure {
-        Failure(vec![message])
+        Failure::of(vec![message])
     }
 
-    /// As a JSON object; `path` is what was asked about, if it was one of several.
-    pub fn json(&self, path: Option<String>) -> Json {
+    pub fn of(messages: Vec<String>) -> Failure {
+        Failure { messages, path: None }
+    }
+
+    /// The same about a path.
+    pub fn about(self, path: &OsStr) -> Failure {
+        Failure { path: Some(path.to_string_lossy().into_owned()), ..self }
+    }
+
+    pub fn json(&self) -> Json {
         Json::Object(vec![
             ("status", Json::Number(NO_ANSWER.into())),
             ("what", Json::Text("error".into())),
-            ("path", Json::or_null(path, Json::Text)),
-            ("errors", Json::texts(self.0.clone())),
+            ("path", Json::or_null(self.path.clone(), Json::Text)),
+            ("errors", Json::texts(self.messages.clone())),
         ])
     }
 }

@@ -1,10 +1,9 @@
 //! The verdict on a set, with what was read for it and what was not.
 
 use crate::fault::{self, Fault};
-use crate::folder::{warnings, Contents, Other};
+use crate::folder::{content, unread, Contents, Found, Other};
 use crate::json::Json;
-use crate::read::Content;
-use crate::report::{Report, NO, YES};
+use crate::report::{Report, NO, NO_ANSWER, YES};
 use crate::shown::shown;
 use crate::standard::name_of;
 use skaveldro::names::FILE_NAMES;
@@ -26,51 +25,61 @@ pub struct Set {
     pub files: Contents,
     /// What else is in the folder.
     pub others: Vec<Other>,
+    /// What may be a mistake.
+    pub warnings: Vec<String>,
 }
 
-/// The bytes of a set's files; none where one is absent.
+/// The bytes of a set's files; none where one is absent or cannot be read.
 pub fn bytes(files: &Contents) -> Files<'_> {
-    files.each_ref().map(|slot| slot.as_ref().map_or(&[][..], |content| &content.bytes))
+    files.each_ref().map(|found| content(found).map_or(&[][..], |content| &content.bytes))
 }
 
-/// The verdict on a set, in words and as JSON.
+/// The verdict on a set, in words and as JSON. There is none where a file cannot be read, but all else is told.
 pub fn report(set: &Set) -> Report {
     let judged = Judged::of(set);
-    let status = if judged.answer == Verdict::Accepted { YES } else { NO };
-    Report::new(status, judged.lines().join("\n"), judged.members(status))
+    let status = match judged.answer {
+        Some(Verdict::Accepted) => YES,
+        Some(_) => NO,
+        None => NO_ANSWER,
+    };
+    let report = Report::new(status, judged.lines().join("\n"), judged.members(status));
+    Report { errors: unread(&set.files), ..report }
 }
 
 /// A set with all that is said of it.
 struct Judged<'a> {
     set: &'a Set,
-    answer: Verdict,
+    /// None where a file cannot be read.
+    answer: Option<Verdict>,
     fault: Option<Fault>,
     /// What each file breaks by itself.
     own: [Option<Fault>; 6],
-    warnings: Vec<String>,
 }
 
 impl Judged<'_> {
     fn of(set: &Set) -> Judged<'_> {
         let files = bytes(&set.files);
-        let answer = verdict(files);
-        let fault = tell_of_set(answer.parts(), files).map(|told| Fault { parts: answer.parts(), told });
+        let answer = set.files.iter().all(Result::is_ok).then(|| verdict(files));
+        let parts = answer.map(Verdict::parts);
+        let fault = parts.and_then(|parts| Some(Fault { parts, told: tell_of_set(parts, files)? }));
         let own = NUMBERS.map(|file| fault::of_file(file, files[usize::from(file) - 1]));
-        Judged { set, answer, fault, own, warnings: warnings(&set.files, &set.others) }
+        Judged { set, answer, fault, own }
     }
 
-    /// The verdict, why, what may be a mistake, the state of each file, and what was not read.
+    /// The verdict or why there is none, the fault, what may be a mistake, the state of each file, and what was not read.
     fn lines(&self) -> Vec<String> {
-        let mut lines = vec![verdict_line(self.answer, self.warnings.len())];
+        let verdict = self.answer.map(verdict_line).unwrap_or_else(|| no_verdict_line(&self.set.files));
+        let mut lines = vec![verdict + &counted(self.set.warnings.len())];
         lines.extend(self.fault.iter().map(|fault| fault.told.to_string()));
-        lines.extend(self.warnings.iter().map(|warning| format!("warning: {warning}")));
+        lines.extend(self.set.warnings.iter().map(|warning| format!("warning: {warning}")));
         lines.push("files:".into());
         let width = FILE_NAMES.iter().map(|name| name.len()).max().unwrap_or_default();
-        for ((slot, own), name) in self.set.files.iter().zip(&self.own).zip(FILE_NAMES) {
-            let state = match slot {
-                None => "absent".into(),
-                Some(content) if content.size == 0 => "empty, counts as absent".into(),
-                Some(content) => format!("{} bytes, {}", content.size, self.cleanness(own)),
+        for ((file, found), name) in (1..).zip(&self.set.files).zip(FILE_NAMES) {
+            let state = match found {
+                Err(unreadable) => format!("unreadable: {}", unreadable.why),
+                Ok(None) => "absent".into(),
+                Ok(Some(content)) if content.size == 0 => "empty, counts as absent".into(),
+                Ok(Some(content)) => format!("{}, {}", content.told_size(), self.cleanness(file)),
             };
             lines.push(format!("  {name:width$}  {state}"));
         }
@@ -79,9 +88,10 @@ impl Judged<'_> {
     }
 
     /// What there is to say of a file by itself. The fault that the verdict names is not said again.
-    fn cleanness(&self, own: &Option<Fault>) -> String {
+    fn cleanness(&self, file: u8) -> String {
         let named = self.fault.as_ref().map(|fault| fault.parts);
-        match own {
+        match &self.own[usize::from(file) - 1] {
+            None if named.is_some_and(|parts| parts.file == file) => "clean alone, at fault in the set: see above".into(),
             None => "clean".into(),
             Some(fault) if Some(fault.parts) == named => "not clean: see above".into(),
             Some(fault) => format!("not clean: {}", fault.told.within_file()),
@@ -90,31 +100,42 @@ impl Judged<'_> {
 
     fn members(self, status: u8) -> Vec<(&'static str, Json)> {
         let files = NUMBERS.iter().zip(&self.set.files).zip(&self.own);
-        let files = files.map(|((&file, slot), own)| file_json(file, slot.as_ref(), own.as_ref())).collect();
+        let files = files.map(|((&file, found), own)| file_json(file, found, own.as_ref())).collect();
         vec![
             ("status", Json::Number(status.into())),
             ("what", Json::Text(self.set.what.into())),
             ("path", Json::or_null(self.set.path.clone(), Json::Text)),
-            ("answer", Json::Number(self.answer.number().into())),
-            ("accepted", Json::Truth(self.answer == Verdict::Accepted)),
-            ("word", Json::Text(self.answer.word().to_string())),
+            ("answer", Json::or_null(self.answer, |answer| Json::Number(answer.number().into()))),
+            ("accepted", Json::or_null(self.answer, |answer| Json::Truth(answer == Verdict::Accepted))),
+            ("word", Json::or_null(self.answer, |answer| Json::Text(answer.word().to_string()))),
             ("fault", fault::json(self.fault.as_ref())),
             ("files", Json::Array(files)),
             ("not_read", Json::Array(self.set.others.iter().map(other_json).collect())),
-            ("warnings", Json::texts(self.warnings)),
+            ("warnings", Json::texts(self.set.warnings.clone())),
         ]
     }
 }
 
-/// The first line. A verdict that warnings go with does not stand alone.
-fn verdict_line(answer: Verdict, warnings: usize) -> String {
+/// The first line.
+fn verdict_line(answer: Verdict) -> String {
     let verdict = if answer == Verdict::Accepted { "accepted" } else { "not accepted" };
-    let warned = match warnings {
+    format!("{verdict}, word {}", answer.word())
+}
+
+/// The first line where there is no verdict.
+fn no_verdict_line(files: &Contents) -> String {
+    let unread = FILE_NAMES.into_iter().zip(files).filter(|(_, found)| found.is_err());
+    let names: Vec<&str> = unread.map(|(name, _)| name).collect();
+    format!("no verdict, since {} cannot be read", names.join(" and "))
+}
+
+/// How many warnings follow: a verdict that they go with does not stand alone.
+fn counted(warnings: usize) -> String {
+    match warnings {
         0 => String::new(),
         1 => ", with a warning".into(),
         _ => format!(", with {warnings} warnings"),
-    };
-    format!("{verdict}, word {}{warned}", answer.word())
+    }
 }
 
 /// The names of what was not read, if there is any.
@@ -128,8 +149,10 @@ fn not_read(others: &[Other]) -> Option<String> {
     Some(format!("not read: {}{more}", names.join(", ")))
 }
 
-fn file_json(file: u8, content: Option<&Content>, own: Option<&Fault>) -> Json {
+fn file_json(file: u8, found: &Found, own: Option<&Fault>) -> Json {
+    let content = content(found);
     let state = match content {
+        None if found.is_err() => "unreadable",
         None => "absent",
         Some(content) if content.size == 0 => "empty",
         Some(_) => "found",
@@ -140,6 +163,7 @@ fn file_json(file: u8, content: Option<&Content>, own: Option<&Fault>) -> Json {
         ("bytes", Json::or_null(content, |content| Json::Raw(content.size.to_string()))),
         ("clean", if state == "found" { Json::Truth(own.is_none()) } else { Json::Null }),
         ("fault", fault::json(own)),
+        ("reason", Json::or_null(found.as_ref().err(), |unreadable| Json::Text(unreadable.why.clone()))),
     ])
 }
 

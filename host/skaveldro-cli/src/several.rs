@@ -12,7 +12,7 @@ pub struct Outcome {
 
 /// The words, in the order in which they are counted.
 const COUNTED: [&str; 5] = ["accepted", "not accepted", "clean", "not clean", WITHOUT];
-const WITHOUT: &str = "with no answer";
+pub const WITHOUT: &str = "with no answer";
 
 /// The report of one, or of several: of several each begins with its name, and a line at the end counts them.
 pub fn join(outcomes: Vec<(&OsStr, Result<Outcome, Failure>)>) -> Report {
@@ -25,12 +25,14 @@ pub fn join(outcomes: Vec<(&OsStr, Result<Outcome, Failure>)>) -> Report {
             Ok(Outcome { report, counted }) => {
                 blocks.push(if is_one { report.text } else { format!("{}: {}", shown(path), report.text) });
                 joined.objects.extend(report.objects);
+                joined.errors.extend(report.errors);
                 (report.status, counted)
             }
             Err(failure) => {
                 blocks.extend((!is_one).then(|| format!("{}: no answer", shown(path))));
-                joined.objects.push(failure.json(Some(path.to_string_lossy().into_owned())));
-                joined.errors.extend(failure.0);
+                let failure = failure.about(path);
+                joined.objects.push(failure.json());
+                joined.errors.extend(failure.messages);
                 (NO_ANSWER, WITHOUT)
             }
         };

@@ -4,28 +4,34 @@ use crate::folder;
 use crate::read::{self, Content};
 use crate::report::Failure;
 use crate::shown::shown;
-use crate::standard::name_of;
+use crate::standard::{misnamed, name_of};
 use std::ffi::OsStr;
 use std::path::Path;
 
 /// The word for standard input.
 pub const STANDARD_INPUT: &str = "-";
 
-/// File 1 to 6 of a folder, or the file itself, and warnings where it is absent or has no bytes. A file that its folder does not have
-/// has no bytes.
+/// File 1 to 6 of a folder, or the file itself, and warnings where it is absent, has no bytes or has the name of another. A file that
+/// its folder does not have has no bytes.
 pub fn one(path: &OsStr, file: u8) -> Result<(Vec<u8>, Vec<String>), Failure> {
+    sought(path, file).map_err(|failure| failure.about(path))
+}
+
+fn sought(path: &OsStr, file: u8) -> Result<(Vec<u8>, Vec<String>), Failure> {
     let name = name_of(file);
     if path == STANDARD_INPUT {
         return Ok(noted(read::standard_input()?, "standard input"));
     }
     let given = existing(path)?;
     if !given.is_dir() {
-        return Ok(noted(read::file(given)?, &shown(path)));
+        let (bytes, mut warnings) = noted(read::file(given)?, &shown(path));
+        warnings.extend(misnamed(path, file));
+        return Ok((bytes, warnings));
     }
     let Some(content) = folder::one(given, file)? else {
         let mut warnings = vec![format!("there is no {name} in {}, so it counts as absent", shown(path))];
         let meant = folder::others(given)?.into_iter().filter(|other| other.looks_like == Some(file)).collect::<Vec<_>>();
-        warnings.extend(folder::warnings(&[const { None }; 6], &meant));
+        warnings.extend(folder::warnings(&[const { Ok(None) }; 6], &meant));
         return Ok((Vec::new(), warnings));
     };
     Ok(noted(content, name))

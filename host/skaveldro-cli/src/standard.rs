@@ -3,9 +3,11 @@
 use crate::help::misuse;
 use crate::nearest::{distance, nearest};
 use crate::report::Failure;
+use crate::shortened::shortened;
 use crate::shown::shown;
 use skaveldro::names::FILE_NAMES;
 use std::ffi::OsStr;
+use std::path::Path;
 
 /// The standard name of a file, 1 to 6.
 pub fn name_of(file: u8) -> &'static str {
@@ -23,7 +25,7 @@ pub fn named(name: &OsStr) -> Option<u8> {
 }
 
 /// A standard name without its ending.
-fn stem(standard: &'static str) -> &'static str {
+pub fn stem(standard: &'static str) -> &'static str {
     standard.strip_suffix(".json").unwrap_or(standard)
 }
 
@@ -41,11 +43,17 @@ pub fn required_role(name: &str, text: &OsStr) -> Result<u8, Failure> {
     })
 }
 
-/// What version 3 of GBFS calls a file of version 2.
-const LATER_NAMES: [(&str, u8); 1] = [("vehiclestatus", 4)];
+/// A warning where a file is read as another than its name says.
+pub fn misnamed(path: &OsStr, file: u8) -> Option<String> {
+    let is_another = Path::new(path).file_name().and_then(named).is_some_and(|named| named != file);
+    is_another.then(|| format!("{} has the name of another file, and was read as {}", shown(path), name_of(file)))
+}
 
-/// The file that another name was probably meant to be: it differs in case, ending, punctuation, up to two letters, or by what is put
-/// in front of it or behind.
+/// What version 3 of GBFS calls a file of version 2.
+pub const LATER_NAMES: [(&str, u8); 1] = [("vehicle_status", 4)];
+
+/// The file that another name was probably meant to be: it differs in case, ending, punctuation, up to two letters, by what is put
+/// in front of it or behind, or by words that are left out.
 pub fn looks_like(name: &OsStr) -> Option<u8> {
     if named(name).is_some() {
         return None;
@@ -54,8 +62,8 @@ pub fn looks_like(name: &OsStr) -> Option<u8> {
     let (whole, stem_alone) = (squeezed(&name), squeezed(name.trim_start_matches('.').split('.').next().unwrap_or_default()));
     let is_meant = |squeezed_stem: &str| whole.contains(squeezed_stem) || distance(&stem_alone, squeezed_stem) <= 2;
     let standard = (1..).zip(FILE_NAMES).map(|(file, standard)| (squeezed(stem(standard)), file));
-    let later = LATER_NAMES.map(|(stem, file)| (stem.to_string(), file));
-    standard.chain(later).find(|(squeezed_stem, _)| is_meant(squeezed_stem)).map(|(_, file)| file)
+    let later = LATER_NAMES.map(|(stem, file)| (squeezed(stem), file));
+    standard.chain(later).find(|(squeezed_stem, _)| is_meant(squeezed_stem)).map(|(_, file)| file).or_else(|| shortened(&name))
 }
 
 /// The letters and digits of a name, in lower case.
@@ -75,6 +83,14 @@ mod tests {
         assert_eq!(role(OsStr::new("free_bike_status")), Some(4));
         assert_eq!(role(OsStr::new("geofencing_zones.json")), Some(6));
         assert_eq!(role(OsStr::new("Free_bike_status")), None);
+    }
+
+    #[test]
+    fn files_read_as_another() {
+        let said = |path, file| misnamed(OsStr::new(path), file);
+        let warning = "a/free_bike_status.json has the name of another file, and was read as vehicle_types.json";
+        assert_eq!(said("a/free_bike_status.json", 1).as_deref(), Some(warning));
+        assert_eq!((said("a/free_bike_status.json", 4), said("bikes.json", 1), said("..", 1)), (None, None, None));
     }
 
     #[test]
@@ -101,6 +117,7 @@ mod tests {
         }
         assert_eq!(looks_like(OsStr::new("geofencing_zone.json")), Some(6));
         assert_eq!(looks_like(OsStr::new("vehicle_type.json")), Some(1));
+        assert_eq!(looks_like(OsStr::new("pricing_plans.json")), Some(5));
         assert_eq!(looks_like(OsStr::from_bytes(b"free_bike_stat\xFFus.json")), Some(4));
     }
 

@@ -37,9 +37,14 @@ fn what_was_read() {
 /// A file under another name, or in another place, is told, not taken for absent without a word.
 #[test]
 fn what_was_not_read() {
-    for name in
-        ["free_bike_status", "free-bike-status.json", "Free_bike_status.json", "free_bike_status.json.txt", "vehicle_status.json"]
-    {
+    for name in [
+        "free_bike_status",
+        "free-bike-status.json",
+        "Free_bike_status.json",
+        "free_bike_status.json.txt",
+        "vehicle_status.json",
+        "free_bikes.json",
+    ] {
         let folder = sample("check-misnamed", &[("gbfs.json", b"{}")]);
         rename(&folder, "free_bike_status.json", name);
         let (status, report) = told(&["check", &folder]);
@@ -109,20 +114,39 @@ fn several_folders() {
     assert_eq!(told(&["check", SAMPLE, SAMPLE]).0, 0);
 }
 
+const NOT_JUDGED: &str = "conditions, references and sums were not judged (kinds 13 to 15); name a folder to judge a whole set";
+
 #[test]
 fn a_file_alone() {
     let file = format!("{SAMPLE}/free_bike_status.json");
-    let alone = "references to other files were not judged; name a folder to judge a whole set\n";
+    let alone = format!("{NOT_JUDGED}\n");
     assert_eq!(told(&["check", &file]), (0, format!("clean, judged alone as free_bike_status.json, 997 bytes\n{alone}")));
     let (status, report) = told(&["check", &file, "--as", "vehicle_types"]);
     let fault = "vehicle_types.json, data.vehicle_types, line 5, column 11: required, but missing";
-    assert_eq!((status, report), (1, format!("not clean, judged alone as vehicle_types.json, 997 bytes\n{fault}\n{alone}")));
+    let warning = format!("warning: {file} has the name of another file, and was read as vehicle_types.json\n");
+    let verdict = "not clean, judged alone as vehicle_types.json, 997 bytes";
+    assert_eq!((status, report), (1, format!("{verdict}\n{fault}\n{alone}{warning}")));
     let (status, report) = told(&["check", &file, &format!("{SAMPLE}/vehicle_types.json")]);
     assert!(status == 0 && report.ends_with("\n\n2 checked: 2 clean\n"), "{report}");
     let folder = feed("check-alone", &[("free_bike_status.json", b"")]);
     let output = run(&["check", &format!("{folder}/free_bike_status.json")]);
     assert_eq!((output.status.code(), output.stdout.len()), (Some(2), 0));
     assert!(text(output.stderr).contains("is empty: it counts as an absent free_bike_status.json, so there is nothing to judge"));
+}
+
+/// A file that is clean alone may break a rule of the set: the report of each says so.
+#[test]
+fn a_file_that_is_clean_and_a_set_that_is_not() {
+    let bikes = bikes(&BIKE.replace("\"lat\":1,", ""));
+    let folder = feed("check-no-lat", &[("free_bike_status.json", &bikes)]);
+    let (status, report) = told(&["check", &format!("{folder}/free_bike_status.json")]);
+    let verdict = format!("clean, judged alone as free_bike_status.json, {} bytes", bikes.len());
+    assert_eq!((status, report), (0, format!("{verdict}\n{NOT_JUDGED}\n")));
+    let (status, report) = told(&["check", &folder]);
+    assert!(status == 1 && report.starts_with("not accepted, word 14e2900100000000\n"), "{report}");
+    let place = "free_bike_status.json, record 1 (id \"a\"), lat, line 1, column 60";
+    assert_eq!(report.lines().nth(1), Some(&*format!("{place}: required unless station_id is given, but missing")));
+    assert_eq!(states(&report)[3], format!("{} bytes, clean alone, at fault in the set: see above", bikes.len()));
 }
 
 #[test]
@@ -135,6 +159,11 @@ fn standard_input() {
     );
     let (status, report) = fed(&["check", "--as=free_bike_status", "-"], &[b' '; 3_000_000]);
     assert!(status == 1 && report.contains("longer than 1048575 bytes"), "{report}");
+    assert!(report.starts_with("not clean, judged alone as free_bike_status.json, over 1048575 bytes\n"), "{report}");
+    let (_, report) = fed(&["check", "free_bike_status=-"], &[b' '; 3_000_000]);
+    assert_eq!(states(&report)[3], "over 1048575 bytes, not clean: see above");
+    let (_, report) = fed(&["check", "free_bike_status=-"], &[b' '; 1_048_575]);
+    assert_eq!(states(&report)[3], "1048575 bytes, not clean: see above");
     let plans = fs::read(crate::feeds::root().join(SAMPLE).join("system_pricing_plans.json")).expect("the sample is there");
     assert_eq!(fed(&["quote", "-", "day_pass", "14399", "0"], &plans), (0, "15.0000\n".into()));
 }
@@ -152,4 +181,9 @@ fn a_set_of_named_files() {
     let reference = "must be the id of a record of vehicle_types.json, which is absent; found \"e_bike\"";
     assert!(status == 1 && report.contains(reference), "{report}");
     assert_eq!(fed(&["check", "free_bike_status=-"], &bikes(BIKE)).0, 0);
+    let (status, report) = told(&["check", &format!("free_bike_status={SAMPLE}/vehicle_types.json")]);
+    assert!(status == 1 && report.lines().next().is_some_and(|line| line.ends_with(", with a warning")), "{report}");
+    let warning =
+        format!("warning: {SAMPLE}/vehicle_types.json has the name of another file, and was read as free_bike_status.json");
+    assert_eq!(report.lines().nth(2), Some(&*warning));
 }

@@ -55,4 +55,6 @@ fn another_file() {
 #[test]
 fn what_is_not_a_word() {
     assert_eq!(told(&["explain", "2000000000000000"]), (1, "2000000000000000 is not a verdict word\n".into()));
+    let (_, line) = told(&["explain", "2000000000000000", "--json"]);
+    assert!(line.trim_end().ends_with(r#"is not a verdict word","warnings":[]}"#), "{line}");
 }

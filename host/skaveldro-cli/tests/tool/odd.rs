@@ -22,13 +22,27 @@ fn said(words: &[&str], message: &str) {
     assert!(why.contains(message), "{words:?}: {why}");
 }
 
+/// A folder has no verdict where a file of it cannot be read, and a report all the same.
+fn unjudged(folder: impl AsRef<OsStr>, file: &str, why: &str) {
+    let output = run(&["check".as_ref(), folder.as_ref()]);
+    let (report, errors) = (text(output.stdout), text(output.stderr));
+    assert_eq!(output.status.code(), Some(2), "{report}");
+    assert!(report.starts_with(&format!("no verdict, since {file} cannot be read\nfiles:\n")), "{report}");
+    let state = report.lines().find_map(|line| line.strip_prefix(&format!("  {file:25}  "))).expect("the file is listed");
+    assert!(state.starts_with("unreadable: ") && state.contains(why), "{report}");
+    assert!(
+        errors.starts_with("skaveldro: cannot read ") && errors.contains(&format!("{file}: ")) && errors.contains(why),
+        "{errors}"
+    );
+}
+
 #[test]
 fn a_pipe_that_nobody_writes_to() {
     let (folder, path) = without("odd-pipe", "geofencing_zones.json");
     assert!(Command::new("mkfifo").arg(&path).status().expect("mkfifo runs").success());
     let file = path.to_str().expect("the path is UTF-8");
-    said(&["check", &folder], &format!("cannot read {file}: not a regular file, but a pipe"));
-    said(&["check", file], "not a regular file, but a pipe");
+    unjudged(&folder, "geofencing_zones.json", "not a regular file, but a pipe");
+    said(&["check", file], &format!("cannot read {file}: not a regular file, but a pipe"));
     said(&["zone", &folder, "0", "0", "", "0"], "not a regular file, but a pipe");
     said(&["zone", file, "0", "0", "", "0"], "not a regular file, but a pipe");
     said(&["explain", "1000000000000000", &folder], "not a regular file, but a pipe");
@@ -41,17 +55,16 @@ fn a_socket_a_device_and_a_folder() {
     fs::create_dir_all(&folder).expect("there is room for a test");
     let socket = folder.join("geofencing_zones.json");
     let listener = UnixListener::bind(&socket).expect("there is room for a test");
-    let why = blamed(&["check".as_ref(), folder.as_os_str()]);
+    unjudged(&folder, "geofencing_zones.json", "not a regular file, but a socket");
     drop(listener);
     fs::remove_dir_all(&folder).expect("the folder is there");
-    assert!(why.contains("not a regular file, but a socket"), "{why}");
 
     let (folder, path) = without("odd-device", "geofencing_zones.json");
     symlink("/dev/zero", &path).expect("there is room for a test");
-    said(&["check", &folder], "not a regular file, but a device");
+    unjudged(&folder, "geofencing_zones.json", "not a regular file, but a device");
     fs::remove_file(&path).expect("the link is there");
     fs::create_dir(&path).expect("there is room for a test");
-    said(&["check", &folder], "not a regular file, but a folder");
+    unjudged(&folder, "geofencing_zones.json", "not a regular file, but a folder");
 }
 
 #[test]
@@ -65,23 +78,52 @@ fn links() {
     {
         fs::remove_file(&path).expect("the link is there");
         symlink(target, &path).expect("there is room for a test");
-        said(&["check", &folder], why);
+        unjudged(&folder, "geofencing_zones.json", why);
         said(&["zone", &folder, "0", "0", "", "0"], why);
     }
 }
 
-/// Every file that cannot be read is named, not only the first.
+/// Every file that cannot be read is named, not only the first, and what else is known of the folder is told.
 #[test]
 fn several_at_once() {
-    let folder = feed("odd-several", &[]);
+    let others: [(&str, &[u8]); 4] =
+        [("free_bike_status.json", b"[1,]"), ("geofencing_zones.json", b""), ("vehicle-types.json", b"{}"), ("gbfs.json", b"{}")];
+    let folder = feed("odd-several", &others);
     for name in ["vehicle_types.json", "station_status.json"] {
         fs::create_dir(Path::new(&folder).join(name)).expect("there is room for a test");
     }
-    let why = blamed(&["check", &folder]);
-    assert!(
-        why.contains("vehicle_types.json: not a regular file") && why.contains("station_status.json: not a regular file"),
-        "{why}"
-    );
+    let report = "no verdict, since vehicle_types.json and station_status.json cannot be read, with 2 warnings
+warning: geofencing_zones.json is empty, and counts as absent
+warning: vehicle-types.json looks like vehicle_types.json, and was not read
+files:
+  vehicle_types.json         unreadable: not a regular file, but a folder
+  station_information.json   absent
+  station_status.json        unreadable: not a regular file, but a folder
+  free_bike_status.json      4 bytes, not clean: line 1, column 4: not valid JSON: unexpected \"]\"
+  system_pricing_plans.json  absent
+  geofencing_zones.json      empty, counts as absent
+not read: gbfs.json, vehicle-types.json
+";
+    let errors = ["vehicle_types", "station_status"]
+        .map(|name| format!("skaveldro: cannot read {folder}/{name}.json: not a regular file, but a folder\n"));
+    let output = run(&["check", &folder]);
+    assert_eq!((output.status.code(), text(output.stdout), text(output.stderr)), (Some(2), report.into(), errors.concat()));
+    let output = run(&["check", SAMPLE, &folder]);
+    assert_eq!((output.status.code(), text(output.stderr)), (Some(2), errors.concat()));
+    assert!(text(output.stdout).ends_with(&format!("\n\n{folder}: {report}\n2 checked: 1 accepted, 1 with no answer\n")));
+    assert_eq!(blamed(&["explain", "1000000000000000", &folder]), errors.concat());
+}
+
+/// The same of a set whose files are named one by one.
+#[test]
+fn a_named_file_that_cannot_be_read() {
+    let folder = feed("odd-named", &[]);
+    let output = run(&["check", &format!("vehicle_types={folder}"), &format!("geofencing_zones={SAMPLE}/geofencing_zones.json")]);
+    let report = text(output.stdout);
+    assert_eq!(output.status.code(), Some(2));
+    assert_eq!(text(output.stderr), format!("skaveldro: cannot read {folder}: not a regular file, but a folder\n"));
+    assert!(report.starts_with("no verdict, since vehicle_types.json cannot be read\nfiles:\n"), "{report}");
+    assert!(report.ends_with("\n  geofencing_zones.json      1132 bytes, clean\n"), "{report}");
 }
 
 #[test]
@@ -91,7 +133,7 @@ fn a_file_that_may_not_be_read() {
     fs::set_permissions(&path, fs::Permissions::from_mode(0o000)).expect("the file is there");
     // who may read every file, may read this one
     if fs::read(&path).is_err() {
-        said(&["check", &folder], "vehicle_types.json: Permission denied\n");
+        unjudged(&folder, "vehicle_types.json", "Permission denied");
     }
 }
 

@@ -62,6 +62,23 @@ fn an_absent_file_is_said_to_be() {
 }
 
 #[test]
+fn a_file_with_the_name_of_another_is_said_to_have_it() {
+    let bikes = format!("{SAMPLE}/free_bike_status.json");
+    let questions: [(&[&str], &str); 4] = [
+        (&["quote", &bikes, "electric", "0", "0"], "system_pricing_plans.json"),
+        (&["zone", &bikes, "0", "0", "", "0"], "geofencing_zones.json"),
+        (&["show", &bikes, "vehicle_types", "1"], "vehicle_types.json"),
+        (&["explain", "1160a00300000000", &bikes], "vehicle_types.json"),
+    ];
+    for (words, name) in questions {
+        let (status, text) = told(words);
+        let warning = format!("\nwarning: {bikes} has the name of another file, and was read as {name}\n");
+        assert!(status == 1 && text.contains(&warning), "{words:?}: {text}");
+    }
+    assert!(!told(&["show", &bikes, "free_bike_status", "1"]).1.contains("warning"));
+}
+
+#[test]
 fn questions_without_an_answer() {
     let asked = |words: &[&str], text: &str| {
         let (status, answer) = told(words);

@@ -105,9 +105,19 @@ fn every_kind_of_line() {
     fs::write(Path::new(&misnamed).join("en/free_bike_status.json"), BIKE).expect("there is room for a test");
     assert_eq!(kinds(&[&misnamed]), r#"(1, "folder")"#);
 
+    fs::create_dir(Path::new(&misnamed).join("free_bike_status.json")).expect("there is room for a test");
+    let unjudged = lines(&[&misnamed]);
+    assert_eq!(kind(&unjudged[0]), (2, "folder"));
+    let file = &unjudged[0].at("files").items()[3];
+    assert_eq!((file.at("state").text(), file.at("reason").text()), ("unreadable", "not a regular file, but a folder"));
+    assert_eq!((unjudged[0].at("not_read").items().len(), unjudged[0].at("warnings").items().len()), (4, 3));
+    assert_eq!(kinds(&[&format!("vehicle_types={misnamed}")]), r#"(2, "files")"#);
+
     let texts: [&[u8]; 6] = [b"[1,]", b"\xEF\xBB\xBF{}", br#""\ud800""#, &[b'['; 17], &[b' '; 1_048_576], b"{}"];
     for (number, text) in texts.iter().enumerate() {
-        assert_eq!(kinds(&[&feed(&format!("schema-text-{number}"), &[("free_bike_status.json", text)])]), r#"(1, "folder")"#);
+        let judged = lines(&[&feed(&format!("schema-text-{number}"), &[("free_bike_status.json", text)])]);
+        assert_eq!(kind(&judged[0]), (1, "folder"));
+        assert_eq!(judged[0].at("fault").at("member") == &Json::Null, text != b"{}", "{number}");
     }
     let faulty =
         [r#"{"bike_id":"\u001b\"","lat":470.5}"#, r#"{"bike_id":"","lat":"x"}"#, "1", &format!("{BIKE},{BIKE}")].map(bikes);
@@ -129,7 +139,7 @@ fn every_kind_of_line() {
     assert_eq!(kinds(&[]), r#"(2, "error")"#);
     assert_eq!(kinds(&["--nothing"]), r#"(2, "error")"#);
     assert_eq!(kinds(&["https://example.org/gbfs.json"]), r#"(2, "error")"#);
-    assert_eq!(kinds(&[SAMPLE, "nowhere", &misnamed]), r#"(0, "folder") (2, "error") (1, "folder")"#);
+    assert_eq!(kinds(&[SAMPLE, "nowhere", &misnamed]), r#"(0, "folder") (2, "error") (2, "folder")"#);
 }
 
 #[test]
@@ -143,6 +153,9 @@ fn what_is_not_of_the_schema_is_refused() {
         ("\"status\":0,", ""),
         ("\"bytes\":1072", "\"bytes\":\"1072\""),
         ("\"bytes\":1072", "\"bytes\":0"),
+        ("\"state\":\"found\"", "\"state\":\"unreadable\""),
+        ("\"reason\":null", "\"reason\":\"a pipe\""),
+        ("\"status\":0", "\"status\":2"),
         ("\"name\":\"vehicle_types.json\"", "\"name\":\"vehicle_types\""),
         ("\"word\":\"1000000000000000\"", "\"word\":\"1\""),
         ("\"warnings\":[]", "\"warnings\":[1]"),

@@ -58,4 +58,16 @@ fn bad_use_as_json() {
     let line = text(output.stdout);
     assert!(line.starts_with(r#"{"status":2,"what":"error","path":null,"errors":["usage: skaveldro quote"#), "{line}");
     assert_eq!(line.lines().count(), 1);
+    let unread: [&[&str]; 5] = [
+        &["quote", "nowhere", "p", "0", "0"],
+        &["zone", "nowhere", "0", "0", "", "0"],
+        &["show", "nowhere", "1", "1"],
+        &["explain", "1000000000000000", "nowhere"],
+        &["check", "vehicle_types=nowhere"],
+    ];
+    for words in unread {
+        let line = text(run(&[words, &["--json"]].concat()).stdout);
+        let error = r#"{"status":2,"what":"error","path":"nowhere","errors":["there is no file or folder nowhere"]}"#;
+        assert_eq!(line, format!("{error}\n"), "{words:?}");
+    }
 }
