@@ -4,7 +4,7 @@ use mathlib.Core.Path.{_≡_, sym, ap, _∙_}
 use Prim.Native.Nat.{ℕ, _≤_, _<_}
 use borrow.Author.Tests.{lt-ltb, le-ltb, ne-eqb}
 use Rattle.lexeme.specs.declared.Next.{Next}
-use Rattle.lexeme.specs.Class.{leadOf}
+use Rattle.lexeme.specs.inner.Class.{leadOf}
 use Rattle.lexeme.specs.Character.Surrogates.{paired}
 use Rattle.lexeme.specs.Character.{byte, Lead, lead, char1, escape, nextBy, next}
 use Rattle.character.proofs.Ranges.{NoneOf}

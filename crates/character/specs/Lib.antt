@@ -1,1 +1,1 @@
-pub mod Length
+pub mod inner

@@ -11,7 +11,7 @@ ghost use mathlib.Core.Path.{_≡_};
 ghost use lib.ListN.{drop};
 ghost use Rattle.lexeme.specs.Character as spec;
 ghost use Rattle.lexeme.specs.Character.{paired};
-ghost use Rattle.character.specs.Length.{taken};
+ghost use Rattle.character.specs.inner.Length.{taken};
 
 // A high surrogate escape of the value v, by what follows it.
 fn pair_length(v: u32, t: Trail) -> usize

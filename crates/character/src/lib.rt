@@ -22,7 +22,7 @@ ghost use mathlib.Core.Path.{_≡_};
 ghost use lib.ListN.{drop};
 ghost use Rattle.lexeme.specs.Character as spec;
 ghost use Rattle.lexeme.specs.Character.{paired};
-ghost use Rattle.lexeme.specs.Class.{leadOf, Classifies};
+ghost use Rattle.lexeme.specs.inner.Class.{leadOf, Classifies};
 
 // What stands at `at`, inside a string, where the first byte has the class.
 // Shut out: an overlong form, a surrogate or a number past 10FFFF let through as UTF-8; a control character taken for a plain one.

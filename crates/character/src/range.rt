@@ -4,7 +4,7 @@ use lexeme::front::byte_at;
 ghost use mathlib.Core.Path.{_≡_};
 ghost use lib.ListN.{drop};
 ghost use Rattle.lexeme.specs.Character as spec;
-ghost use Rattle.lexeme.specs.Class.{leastOf, mostOf, Tails, Classifies};
+ghost use Rattle.lexeme.specs.inner.Class.{leastOf, mostOf, Tails, Classifies};
 
 // Whether b lies between lo and hi.
 pub fn within(lo: u32, hi: u32, b: u32) -> bool

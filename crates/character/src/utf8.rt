@@ -8,7 +8,7 @@ use word::kind::Kind;
 ghost use mathlib.Core.Path.{_≡_};
 ghost use lib.ListN.{drop};
 ghost use Rattle.lexeme.specs.Character as spec;
-ghost use Rattle.lexeme.specs.Class.{leastOf, mostOf, Tails, Classifies};
+ghost use Rattle.lexeme.specs.inner.Class.{leastOf, mostOf, Tails, Classifies};
 
 // UTF-8 of two, three and four bytes, by the classes of those after the first; some first bytes narrow the second to the classes from lo to hi.
 pub fn utf2(table: &[u8; 256], s: &[u8], at: usize) -> Next

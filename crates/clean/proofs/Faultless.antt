@@ -22,7 +22,8 @@ use Rattle.scalar.specs.Scalars.{unless}
 use Rattle.rings.specs.Rings as rings
 use Rattle.judge.specs.declared.Place.{Place}
 use Rattle.judge.specs.Faults.{Judge, faulty, absence, itemPlace, byNumbering, eachItem, coordinateFaults, slotFaults, faults, rowFaults}
-use Rattle.document.specs.Document.{none, some, onceOnly, field, fieldItems, along, path}
+use Rattle.document.specs.Document.{none, some, onceOnly, field, fieldItems, along}
+use Rattle.document.specs.inner.Path.{path}
 use Rattle.document.proofs.Fields as fields
 use Rattle.document.proofs.Fields.{Lists, over, at-row}
 use Rattle.document.proofs.Records.{recordShape}

@@ -37,7 +37,8 @@ use Rattle.document.proofs.Records.{top-is}
 use Rattle.clean.specs.declared.Cleanness.{Cleanness}
 use Rattle.clean.specs.declared.Cleanness.the-variants.{Clean, Broken}
 use Rattle.clean.specs.declared.Shown.the-variants.{NoFile}
-use Rattle.clean.specs.Clean.{treeOf, idField, repeats, blamed, place, broken, judged, cleanOf}
+use Rattle.clean.specs.Clean.{treeOf, idField, repeats, place, broken, judged, cleanOf}
+use Rattle.clean.specs.inner.Blamed.{blamed}
 use Rattle.clean.specs.Show.{answer, ofClean, ofSpan, shownOf}
 use Rattle.clean.proofs.Repeated.{tree-is}
 

@@ -20,7 +20,7 @@ use Rattle.json.specs.Text.{syntaxOf}
 use Rattle.text.specs.Text.{same}
 use Rattle.walk.specs.declared.Item.{Item}
 use Rattle.walk.specs.Walk.{part, itemsOf}
-use Rattle.walk.specs.Along.{AlongItems}
+use Rattle.walk.specs.inner.Along.{AlongItems}
 use Rattle.walk.specs.Part.{treeOf}
 use Rattle.walk.proofs.Parts.{itemOf, items-whole}
 use Rattle.walk.proofs.Files.{Passed, passed}
@@ -37,16 +37,19 @@ use Rattle.rings.specs.Rings as rings
 use Rattle.judge.specs.declared.Place.{Place}
 use Rattle.judge.specs.Faults.{top, faults, fileFaults}
 use Rattle.document.specs.Document as document
-use Rattle.document.specs.Document.{Maybe, none, some, then, textIn, elementsOf, along, path}
-use Rattle.document.specs.Spans.{recordsSpan, RecordsFrom}
+use Rattle.document.specs.Document.{Maybe, none, some, then, textIn, elementsOf, along}
+use Rattle.document.specs.inner.Path.{path}
+use Rattle.document.specs.Spans.{recordsSpan}
+use Rattle.document.specs.inner.Spans.{RecordsFrom}
 use Rattle.document.proofs.Fields.{noRow, past, field-lacks}
 use Rattle.document.proofs.Rests.{rest-along, rest-picked}
 use Rattle.document.proofs.Records.{recordShape, pickedItems, Records, records-stand}
-use Rattle.ids.specs.Ids.{idOf, Singles, recordBytes, anyHas, repeated, repeatFrom, firstRepeat}
+use Rattle.ids.specs.inner.Ids.{idOf, Singles, recordBytes, anyHas, repeated, repeatFrom, firstRepeat}
 use Rattle.ids.proofs.Passing.{repeated-none, repeated-some}
 use Rattle.ids.proofs.Picked.{id-picked}
 use Rattle.clean.specs.Clean as clean
-use Rattle.clean.specs.Clean.{recordsOf, usedBefore, repeatedId, repeatsFrom, repeats, idField, blamed}
+use Rattle.clean.specs.Clean.{recordsOf, usedBefore, repeatedId, repeatsFrom, repeats, idField}
+use Rattle.clean.specs.inner.Blamed.{blamed}
 use Rattle.clean.proofs.Faultless.{array-there, items-there, demands-there, demands-to}
 use Rattle.clean.proofs.Singles.{single-id}
 

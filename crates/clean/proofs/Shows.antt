@@ -31,7 +31,8 @@ use Rattle.fault.specs.declared.Least.the-variants.{None, Is}
 use Rattle.fault.specs.Fault.{least}
 use Rattle.fault.proofs.Leasts.{least-none}
 use Rattle.judge.specs.Faults.{fileFaults, faults}
-use Rattle.document.specs.Spans.{namesTo, recordSpan, Listed}
+use Rattle.document.specs.Spans.{namesTo, recordSpan}
+use Rattle.document.specs.inner.Spans.{Listed}
 use Rattle.document.specs.Trees.{valueAlong, itemsIn, recordTrees, numbered}
 use Rattle.document.proofs.Rests.{records-listed, no-record}
 use Rattle.document.proofs.Records.{recordShape, itemTrees, array, as-many, RecordAt, record-at, record-past, record-none}

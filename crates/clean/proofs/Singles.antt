@@ -8,12 +8,12 @@ use Rattle.schema.specs.Shape as shape
 use Rattle.schema.specs.Shape.{Shape, Rows}
 use Rattle.schema.specs.Table23.{vehicleType, station, status, bike, plan}
 use Rattle.schema.specs.Pick.{once, twice, given, pick}
-use Rattle.slots.specs.Found.{treeIn}
+use Rattle.slots.specs.inner.Found.{treeIn}
 use Rattle.slots.proofs.Finds.{find-found}
 use Rattle.judge.specs.declared.Place.{Place}
 use Rattle.judge.specs.Faults.{faults}
 use Rattle.document.proofs.Records.{recordShape}
-use Rattle.ids.specs.Ids.{idName, Single}
+use Rattle.ids.specs.inner.Ids.{idName, Single}
 use Rattle.clean.proofs.Faultless.{Requires, here, object-there, required-there}
 
 -- the shape of a file's records, in which the id is required

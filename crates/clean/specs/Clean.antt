@@ -13,7 +13,7 @@ use Rattle.json.specs.declared.Syntax.the-variants as syntax
 use Rattle.json.specs.Tree.{Json}
 use Rattle.json.specs.Text.{text, syntaxOf}
 use Rattle.text.specs.Text.{same}
-use Rattle.schema.specs.Shape.{Shape, fileShape}
+use Rattle.schema.specs.Shape.{fileShape}
 use Rattle.schema.specs.Table23.{table23}
 use Rattle.schema.specs.Pick.{Picked, pick}
 use Rattle.fault.specs.declared.Fault.{Fault}
@@ -21,7 +21,7 @@ use Rattle.fault.specs.declared.Least.{Least}
 use Rattle.fault.specs.declared.Least.the-variants.{None, Is}
 use Rattle.fault.specs.Fault.{fault, least}
 use Rattle.document.specs.Document as document
-use Rattle.document.specs.Document.{Maybe, none, some, elementsOf, along}
+use Rattle.document.specs.Document.{none, some, elementsOf, along}
 use Rattle.judge.specs.Faults.{fileFaults}
 use Rattle.clean.specs.declared.Cleanness.{Cleanness}
 use Rattle.clean.specs.declared.Cleanness.the-variants.{Clean, Broken}
@@ -58,10 +58,6 @@ repeatsFrom f n passed (x ∷ l) = repeatedId f n passed x ++ repeatsFrom f (n +
 
 unfoldable pub repeats : ℕ → Picked → List Fault
 repeats file x = repeatsFrom (idField file) 1 [] (recordsOf file x)
-
--- the fault of an id used before, by the record's number; none where that is 0
-abbrev pub blamed : (field number : ℕ) → Least
-blamed field number = eqb number 0 ⇒ None else Is (fault number field 0 idTwice)
 
 -- the parts of a word for a fault of a file
 abbrev pub place : ℕ → Fault → Parts

@@ -2,3 +2,4 @@ pub mod Clean
 pub mod Show
 pub mod ShowTree
 pub mod Cases
+pub mod inner

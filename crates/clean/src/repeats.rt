@@ -9,15 +9,16 @@ ghost use Rattle.limits.specs.Ceilings.{fileBytes, records};
 ghost use Rattle.json.specs.declared.Syntax.the-variants.{Sound};
 ghost use Rattle.json.specs.Text.{syntaxOf};
 ghost use Rattle.walk.specs.Walk.{itemsOf};
-ghost use Rattle.walk.specs.Along.{AlongItems};
+ghost use Rattle.walk.specs.inner.Along.{AlongItems};
 ghost use Rattle.schema.specs.Shape.{fileShape};
 ghost use Rattle.schema.specs.Table23.{table23};
 ghost use Rattle.schema.specs.Pick.{pick};
 ghost use Rattle.fault.specs.declared.Least.the-variants.{None};
 ghost use Rattle.fault.specs.Fault.{least};
 ghost use Rattle.judge.specs.Faults.{fileFaults};
-ghost use Rattle.ids.specs.Ids.{Singles, recordBytes, firstRepeat};
-ghost use Rattle.clean.specs.Clean.{treeOf, idField, repeats, blamed};
+ghost use Rattle.ids.specs.inner.Ids.{Singles, recordBytes, firstRepeat};
+ghost use Rattle.clean.specs.Clean.{treeOf, idField, repeats};
+ghost use Rattle.clean.specs.inner.Blamed.{blamed};
 
 // The number of the first record of the array `p` whose id one before it has; 0 where there is none.
 // Shut out: the earlier of two records blamed.

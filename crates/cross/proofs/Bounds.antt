@@ -30,13 +30,13 @@ use Rattle.document.specs.Document.{Maybe, field, fieldItems, text, textIn, spe
 use Rattle.fields.specs.Values.{integerIn}
 use Rattle.document.proofs.Records.{recordShape}
 use Rattle.fields.proofs.Fields.{rowOf, listed}
-use Rattle.ids.specs.Ids.{recordBytes, repeated, repeatFrom, firstRepeat}
-use Rattle.clean.specs.Clean.{blamed}
+use Rattle.ids.specs.inner.Ids.{recordBytes, repeated, repeatFrom, firstRepeat}
+use Rattle.clean.specs.inner.Blamed.{blamed}
 use Rattle.clean.proofs.Faultless.{field-sound, items-few}
 use Rattle.references.specs.References.{when, anyWith, any, roomy, driven, named, refers, demanded}
 use Rattle.cross.specs.Cross.{Files, at, absentees, sumOf, availableFaults, idFaults, ruleFaults, typeFaults, statusFaults, bikeFaults, zoneFaults, each, faultsOf, fileIn, crossFaults}
 use Rattle.cross.specs.Stage.{fileOf}
-use Rattle.cross.specs.Staged.{repeatOf, idsLeast}
+use Rattle.cross.specs.inner.Staged.{repeatOf, idsLeast}
 use Rattle.cross.proofs.Files.{InBytes}
 
 -- the kinds of stage C

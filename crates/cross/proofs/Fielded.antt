@@ -28,7 +28,8 @@ use Rattle.judge.specs.Faults.{faulty}
 use Rattle.document.specs.Document.{Maybe, none, some, field, fieldItems, text, textIn, spelling}
 use Rattle.document.proofs.Fields.{Lists}
 use Rattle.document.proofs.Records.{pickedItems}
-use Rattle.fields.specs.Values.{memberOf, spelledBy, textBy, arrayBy, wholeOf, integerIn}
+use Rattle.fields.specs.Values.{wholeOf, integerIn}
+use Rattle.fields.specs.inner.Values.{memberOf, spelledBy, textBy, arrayBy}
 use Rattle.fields.proofs.Values.{Holds, member-holds, holds-text, holds-items}
 use Rattle.fields.proofs.Fields.{field-spelled, field-text, field-items, rowOf, listed}
 use Rattle.references.specs.References.{when, refers}

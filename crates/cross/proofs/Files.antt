@@ -25,17 +25,19 @@ use Rattle.fault.specs.Fault.{least}
 use Rattle.fault.proofs.Leasts.{none-least}
 use Rattle.judge.specs.declared.Place.{Place}
 use Rattle.judge.specs.Faults.{faults, fileFaults}
-use Rattle.document.specs.Spans.{RecordsFrom}
+use Rattle.document.specs.inner.Spans.{RecordsFrom}
 use Rattle.document.proofs.Records.{recordShape, pickedItems}
 use Rattle.document.proofs.Rests.{none-from, rest-along, rest-picked}
-use Rattle.ids.specs.Ids.{Singles, recordBytes, repeatFrom, firstRepeat}
+use Rattle.ids.specs.inner.Ids.{Singles, recordBytes, repeatFrom, firstRepeat}
 use Rattle.clean.specs.Clean as clean
-use Rattle.clean.specs.Clean.{repeats, blamed}
+use Rattle.clean.specs.Clean.{repeats}
+use Rattle.clean.specs.inner.Blamed.{blamed}
 use Rattle.clean.proofs.Faultless.{object-there}
 use Rattle.clean.proofs.Repeated.{Held, held, tree-is, id-field, repeats-none, repeats-are}
 use Rattle.cross.specs.Cross.{recordsIn, repeatsIn}
-use Rattle.cross.specs.Stage.{fileOf, Through}
-use Rattle.cross.specs.Staged.{Recorded, repeatOf, idsLeast}
+use Rattle.cross.specs.Stage.{fileOf}
+use Rattle.cross.specs.inner.Stage.{Through}
+use Rattle.cross.specs.inner.Staged.{Recorded, repeatOf, idsLeast}
 
 -- what is picked of the file s of number n, by the rest p from its records on
 pub record InBytes (n : ℕ) (s p : List ℕ) : Type 0 where

@@ -13,24 +13,25 @@ use Rattle.word.specs.Kinds.{sumDiffers}
 use Rattle.json.specs.Tree as tree
 use Rattle.json.specs.Tree.{Members}
 use Rattle.walk.specs.Part.{Whole}
-use Rattle.walk.specs.Along.{AlongItems}
+use Rattle.walk.specs.inner.Along.{AlongItems}
 use Rattle.schema.specs.Shape as shape
 use Rattle.schema.specs.Table23.{vehicleType, available, status, bike}
 use Rattle.schema.specs.Pick.{Picked, pick}
 use Rattle.slots.specs.declared.Slots.{Slots}
-use Rattle.slots.specs.Rows.{namesIn}
-use Rattle.slots.specs.Slots.{Gathered}
+use Rattle.slots.specs.inner.Rows.{namesIn}
+use Rattle.slots.specs.inner.Slots.{Gathered}
 use Rattle.fault.specs.declared.Fault.{Fault}
 use Rattle.judge.specs.Faults.{faulty}
 use Rattle.document.specs.Document.{Maybe, field, fieldItems, text, spelling, given}
 use Rattle.document.proofs.Records.{pickedItems}
-use Rattle.fields.specs.Values.{textBy, thereBy, arrayBy, spelledBy, integerIn}
+use Rattle.fields.specs.Values.{integerIn}
+use Rattle.fields.specs.inner.Values.{textBy, thereBy, arrayBy, spelledBy}
 use Rattle.fields.proofs.Arrays.{member-along}
 use Rattle.fields.proofs.Values.{member-holds, holds-there}
 use Rattle.fields.proofs.Fields.{field-text, field-given, field-spelled, field-items, rowOf, listed}
 use Rattle.references.specs.References.{when, roomy, driven, notHuman, named, refers, demanded}
 use Rattle.cross.specs.Cross.{at, sumOf, availableFaults, typeFaults, statusFaults, bikeFaults}
-use Rattle.cross.specs.Judged.{Reads}
+use Rattle.cross.specs.inner.Judged.{Reads}
 use Rattle.cross.proofs.Layouts.{slot-member, type-layout, status-layout, bike-layout}
 
 -- a vehicle type

@@ -6,7 +6,7 @@ use Rattle.fault.specs.declared.Fault.{Fault}
 use Rattle.fault.specs.declared.Least.{Least}
 use Rattle.fault.specs.Fault.{fault, lesser, least}
 use Rattle.fault.proofs.Leasts.{least-append}
-use Rattle.scalar.specs.Listed.{listed}
+use Rattle.scalar.specs.inner.Listed.{listed}
 use Rattle.judge.specs.declared.Place.{Place}
 use Rattle.judge.specs.Faults.{faulty}
 

@@ -13,17 +13,17 @@ use Rattle.walk.proofs.Wholes.{whole-kind}
 use Rattle.schema.specs.Shape as shape
 use Rattle.schema.specs.Shape.{Shape, Rows}
 use Rattle.schema.specs.Later.{listedIn}
-use Rattle.schema.specs.Line.{entriesOf, laidOut}
-use Rattle.schema.specs.Sound.{distinctRows}
+use Rattle.schema.specs.inner.Line.{entriesOf, laidOut}
+use Rattle.schema.specs.inner.Sound.{distinctRows}
 use Rattle.schema.specs.Table23.{table23, written23, vehicleType, status, bike}
 use Rattle.schema.proofs.Walk.{Laid, linesIn}
 use Rattle.slots.specs.declared.Slots.{Slots}
-use Rattle.slots.specs.Rows.{mostRows, namesIn}
-use Rattle.slots.specs.Slots.{slotAt, Gathered}
-use Rattle.fields.specs.Values.{code, memberOf}
+use Rattle.slots.specs.inner.Rows.{mostRows, namesIn}
+use Rattle.slots.specs.inner.Slots.{slotAt, Gathered}
+use Rattle.fields.specs.inner.Values.{code, memberOf}
 use Rattle.fields.proofs.Ways.{found-standing, member-found}
-use Rattle.ids.specs.Ids.{idName, idValue}
-use Rattle.cross.specs.Judged.{Referring, firstLine, lineCount, Reads}
+use Rattle.ids.specs.inner.Ids.{idName, idValue}
+use Rattle.cross.specs.inner.Judged.{Referring, firstLine, lineCount, Reads}
 
 -- rows that fill so many lines from `first` on, with a slot each
 pub record Layout (first count : ℕ) (rows : Rows) : Type 0 where

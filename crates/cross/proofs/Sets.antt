@@ -19,12 +19,13 @@ use Rattle.clean.specs.declared.Cleanness.{Cleanness}
 use Rattle.clean.specs.declared.Cleanness.the-variants.{Clean, Broken}
 use Rattle.clean.specs.Clean.{place, broken}
 use Rattle.references.specs.declared.Set.{Set}
-use Rattle.references.specs.Known.{setOf}
+use Rattle.references.specs.inner.Known.{setOf}
 use Rattle.cross.specs.declared.stage.Crossed.{Crossed}
 use Rattle.cross.specs.declared.stage.Crossed.the-variants.{Nothing, At}
 use Rattle.cross.specs.Cross.{Files, here, absentees, fileIn, crossFaults}
-use Rattle.cross.specs.Stage.{fileOf, filesOf, stageC}
-use Rattle.cross.specs.Staged.{calledFor, fileLeast, numberedLeast, crossing, firstFrom}
+use Rattle.cross.specs.Stage.{fileOf, filesOf}
+use Rattle.cross.specs.inner.Stage.{stageC}
+use Rattle.cross.specs.inner.Staged.{calledFor, fileLeast, numberedLeast, crossing, firstFrom}
 use Rattle.cross.proofs.Files.{InBytes}
 use Rattle.cross.proofs.Bounds.{Fitting, cross-fits}
 use Rattle.cross.proofs.Staging.{first-at}

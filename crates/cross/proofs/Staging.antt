@@ -14,19 +14,19 @@ use Rattle.fault.specs.declared.Least.the-variants.{None, Is}
 use Rattle.fault.specs.Fault.{least, lesser}
 use Rattle.fault.proofs.Leasts.{none-least}
 use Rattle.judge.specs.Faults.{top, faulty}
-use Rattle.ids.specs.Ids.{recordBytes, firstRepeat}
-use Rattle.ids.specs.Notes.{Blank}
+use Rattle.ids.specs.inner.Ids.{recordBytes, firstRepeat}
+use Rattle.ids.specs.inner.Notes.{Blank}
 use Rattle.ids.proofs.Entering.{noted-none}
-use Rattle.clean.specs.Clean.{blamed}
+use Rattle.clean.specs.inner.Blamed.{blamed}
 use Rattle.references.specs.declared.Set.{Set}
 use Rattle.references.specs.References.{when}
-use Rattle.references.specs.Known.{Searchable}
+use Rattle.references.specs.inner.Known.{Searchable}
 use Rattle.cross.specs.declared.records.Findings.{Findings}
 use Rattle.cross.specs.declared.stage.Crossed.{Crossed}
 use Rattle.cross.specs.declared.stage.Crossed.the-variants.{Nothing, At}
 use Rattle.cross.specs.Cross.{each, faultsOf}
-use Rattle.cross.specs.Judged.{broken}
-use Rattle.cross.specs.Staged.{Finds, calledFor, repeatOf, idsLeast, fileLeast, numberedLeast, crossing, firstFrom}
+use Rattle.cross.specs.inner.Judged.{broken}
+use Rattle.cross.specs.inner.Staged.{Finds, calledFor, repeatOf, idsLeast, fileLeast, numberedLeast, crossing, firstFrom}
 use Rattle.cross.proofs.Fielded.{breaks-nothing}
 
 -- What one file is asked.

@@ -10,7 +10,7 @@ use Rattle.walk.specs.declared.ItemStep.{ItemStep}
 use Rattle.walk.specs.declared.ItemStep.the-variants as step
 use Rattle.walk.specs.Walk.{itemAt, itemsFrom, itemsOf}
 use Rattle.walk.specs.Part.{Whole, treeOf}
-use Rattle.walk.specs.Along.{AlongItems, ItemPassed}
+use Rattle.walk.specs.inner.Along.{AlongItems, ItemPassed}
 use Rattle.walk.proofs.Folds.{itemSteps, one-more}
 use Rattle.walk.proofs.Parts.{itemOf, item-whole}
 use Rattle.schema.specs.Shape.{Shape}

@@ -1,4 +1,3 @@
 pub mod Cross
-pub mod Judged
 pub mod Stage
-pub mod Staged
+pub mod inner

@@ -13,13 +13,13 @@ ghost use mathlib.Core.List.{_++_};
 ghost use mathlib.Core.Path.{_≡_};
 ghost use Rattle.fault.specs.Fault.{least};
 ghost use Rattle.judge.specs.Faults.{faulty};
-ghost use Rattle.slots.specs.Slots.{slotsOf, Gathered};
+ghost use Rattle.slots.specs.inner.Slots.{slotsOf, Gathered};
 ghost use Rattle.document.proofs.Records.{recordShape, pickedItems};
-ghost use Rattle.fields.specs.Values.{textBy, thereBy};
+ghost use Rattle.fields.specs.inner.Values.{textBy, thereBy};
 ghost use Rattle.references.specs.References.{demanded as demandedOf, refers as refersTo, named as namedBy, driven as drivenOf};
-ghost use Rattle.references.specs.Known.{Searchable};
+ghost use Rattle.references.specs.inner.Known.{Searchable};
 ghost use Rattle.cross.specs.Cross.{bikeFaults};
-ghost use Rattle.cross.specs.Judged.{Judges};
+ghost use Rattle.cross.specs.inner.Judged.{Judges};
 
 // Fields 41 and 42, by their values and that of field 47.
 fn judge_position(station: &[u8], lat: &[u8], lon: &[u8], place: Place) -> Least

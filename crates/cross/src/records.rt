@@ -18,10 +18,10 @@ ghost use Prim.Native.Nat.{_≤_};
 ghost use lib.ListN.{length};
 ghost use Rattle.limits.specs.Ceilings.{fileBytes};
 ghost use Rattle.walk.specs.Walk.{itemsOf};
-ghost use Rattle.slots.specs.Slots.{slotsOf, Gathered};
-ghost use Rattle.ids.specs.Notes.{Noted, Blank};
-ghost use Rattle.cross.specs.Judged.{Object, Known, broken, Judges, Referring, firstLine, lineCount};
-ghost use Rattle.cross.specs.Staged.{Recorded, Finds};
+ghost use Rattle.slots.specs.inner.Slots.{slotsOf, Gathered};
+ghost use Rattle.ids.specs.inner.Notes.{Noted, Blank};
+ghost use Rattle.cross.specs.inner.Judged.{Object, Known, broken, Judges, Referring, firstLine, lineCount};
+ghost use Rattle.cross.specs.inner.Staged.{Recorded, Finds};
 
 // What is found of a file's records: the number of the first whose id one before it has, or 0, and the first rule that one breaks otherwise.
 pub struct Findings {

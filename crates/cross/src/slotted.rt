@@ -4,8 +4,8 @@ use slots::Slots;
 use slots::slot_in;
 ghost use Prim.Native.Nat.{_≤_};
 ghost use lib.ListN.{length};
-ghost use Rattle.slots.specs.Slots.{slotsOf};
-ghost use Rattle.cross.specs.Judged.{Reads};
+ghost use Rattle.slots.specs.inner.Slots.{slotsOf};
+ghost use Rattle.cross.specs.inner.Judged.{Reads};
 
 // What the record `p` holds at a row.
 pub fn value_in<'a, 's>(

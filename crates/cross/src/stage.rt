@@ -23,14 +23,15 @@ ghost use Rattle.walk.specs.Walk.{itemsOf};
 ghost use Rattle.fault.specs.declared.Least.the-variants.{None};
 ghost use Rattle.fault.specs.Fault.{least, lesser as lesserOf};
 ghost use Rattle.judge.specs.Faults.{top, faulty};
-ghost use Rattle.ids.specs.Ids.{Singles};
-ghost use Rattle.ids.specs.Notes.{Noted, Blank};
-ghost use Rattle.clean.specs.Clean.{blamed};
+ghost use Rattle.ids.specs.inner.Ids.{Singles};
+ghost use Rattle.ids.specs.inner.Notes.{Noted, Blank};
+ghost use Rattle.clean.specs.inner.Blamed.{blamed};
 ghost use Rattle.references.specs.References.{when};
-ghost use Rattle.references.specs.Known.{Searchable};
-ghost use Rattle.cross.specs.Judged.{Known, Referring};
-ghost use Rattle.cross.specs.Stage.{Through, filesOf, stageC};
-ghost use Rattle.cross.specs.Staged.{Recorded, Finds, calledFor, repeatOf, numberedLeast, firstFrom};
+ghost use Rattle.references.specs.inner.Known.{Searchable};
+ghost use Rattle.cross.specs.inner.Judged.{Known, Referring};
+ghost use Rattle.cross.specs.Stage.{filesOf};
+ghost use Rattle.cross.specs.inner.Stage.{Through, stageC};
+ghost use Rattle.cross.specs.inner.Staged.{Recorded, Finds, calledFor, repeatOf, numberedLeast, firstFrom};
 
 // The first broken rule of stage C, with its file; or none.
 pub enum Crossed {

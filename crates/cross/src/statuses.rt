@@ -23,18 +23,19 @@ ghost use Rattle.limits.specs.Ceilings.{fileBytes};
 ghost use lib.Dec.{eqb};
 ghost use Rattle.notation.specs.Choice.{_and_};
 ghost use Rattle.word.specs.Kinds.{sumDiffers};
-ghost use Rattle.scalar.specs.Listed.{listed};
-ghost use Rattle.walk.specs.Along.{AlongItems};
+ghost use Rattle.scalar.specs.inner.Listed.{listed};
+ghost use Rattle.walk.specs.inner.Along.{AlongItems};
 ghost use Rattle.schema.specs.Table23.{available as availableShape};
 ghost use Rattle.fault.specs.Fault.{least};
 ghost use Rattle.judge.specs.Faults.{faulty};
-ghost use Rattle.slots.specs.Slots.{slotsOf, Gathered};
+ghost use Rattle.slots.specs.inner.Slots.{slotsOf, Gathered};
 ghost use Rattle.document.proofs.Records.{recordShape, pickedItems};
-ghost use Rattle.fields.specs.Values.{textBy, thereBy, arrayBy, spelledBy, integerIn};
+ghost use Rattle.fields.specs.Values.{integerIn};
+ghost use Rattle.fields.specs.inner.Values.{textBy, thereBy, arrayBy, spelledBy};
 ghost use Rattle.references.specs.References.{when, demanded as demandedOf, refers as refersTo, named as namedBy, roomy as roomyOf};
 ghost use Rattle.cross.specs.Cross.{at, sumOf, availableFaults, statusFaults};
-ghost use Rattle.references.specs.Known.{Searchable};
-ghost use Rattle.cross.specs.Judged.{Object, Judges};
+ghost use Rattle.references.specs.inner.Known.{Searchable};
+ghost use Rattle.cross.specs.inner.Judged.{Object, Judges};
 
 // What the types tell that are available: the sum of their counts, and the first rule that one breaks.
 struct Tally {

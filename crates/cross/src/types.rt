@@ -8,11 +8,11 @@ use references::rules::demanded;
 use references::rules::refers;
 use references::search::is_driven;
 use slots::Slots;
-ghost use Rattle.slots.specs.Slots.{slotsOf, Gathered};
+ghost use Rattle.slots.specs.inner.Slots.{slotsOf, Gathered};
 ghost use Rattle.document.proofs.Records.{recordShape, pickedItems};
-ghost use Rattle.references.specs.Known.{Searchable};
+ghost use Rattle.references.specs.inner.Known.{Searchable};
 ghost use Rattle.cross.specs.Cross.{typeFaults};
-ghost use Rattle.cross.specs.Judged.{Judges};
+ghost use Rattle.cross.specs.inner.Judged.{Judges};
 
 // The n-th record `p` by its slots, where file 5 is there or not. Its rows begin at line 5 of the table.
 pub fn judge_type<'s>(

@@ -13,15 +13,15 @@ ghost use Prim.Native.Nat.{_≤_, _<_};
 ghost use lib.ListN.{length};
 ghost use Rattle.limits.specs.Ceilings.{fileBytes};
 ghost use Rattle.walk.specs.Part.{Whole, treeOf};
-ghost use Rattle.walk.specs.Along.{AlongItems};
+ghost use Rattle.walk.specs.inner.Along.{AlongItems};
 ghost use Rattle.schema.specs.Shape.{Sort, scalar};
 ghost use Rattle.schema.specs.Table23.{rule as ruleShape};
 ghost use Rattle.fault.specs.Fault.{least};
 ghost use Rattle.document.proofs.Records.{recordShape, pickedItems};
 ghost use Rattle.cross.specs.Cross.{each, idFaults, ruleFaults, zoneFaults};
-ghost use Rattle.references.specs.Known.{Searchable};
-ghost use Rattle.cross.specs.Judged.{Judges};
-ghost use Rattle.cross.specs.Staged.{Recorded};
+ghost use Rattle.references.specs.inner.Known.{Searchable};
+ghost use Rattle.cross.specs.inner.Judged.{Judges};
+ghost use Rattle.cross.specs.inner.Staged.{Recorded};
 
 // The items of field 78, in the array `p`.
 fn judge_named(p: &[u8], place: Place, types: &[u8], type_notes: &[u32; Notes::SIZE]) -> Least

@@ -18,8 +18,8 @@ use Rattle.decimal.specs.declared.Number.the-variants.{Value, Unformed}
 use Rattle.decimal.specs.Decimals.{valueOf, decimalOf, formed, behindPoint, behindWhole, numberOf, unsigned, pricedAs, priceOf}
 use Rattle.decimal.specs.declared.Price.the-variants as price
 use Rattle.decimal.specs.Exact.{unit}
-use Rattle.decimal.specs.Formed.{Formed}
-use Rattle.decimal.specs.Spelling.{front}
+use Rattle.decimal.specs.inner.Formed.{Formed}
+use Rattle.decimal.specs.inner.Spelling.{front}
 use Rattle.decimal.proofs.Runs.{digits-front, front-value, power-split, value-from}
 
 both : (s t : Bool) → (s and t) ≡ true → (s ≡ true) × (t ≡ true)

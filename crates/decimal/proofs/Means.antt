@@ -23,7 +23,7 @@ use Rattle.decimal.specs.declared.Decimal.{Decimal}
 use Rattle.decimal.specs.declared.Number.the-variants.{Value}
 use Rattle.decimal.specs.Decimals.{tens, valueOf, decimalOf, formed, behindPoint, behindWhole, numberOf}
 use Rattle.decimal.specs.Exact.{unit, exact}
-use Rattle.decimal.specs.Spelling.{front, valueFrom}
+use Rattle.decimal.specs.inner.Spelling.{front, valueFrom}
 use Rattle.decimal.proofs.Runs.{digit-range, digits-front, front-digit, front-other, front-fit, tens-weight, power-split, value-from}
 
 -- nothing but digits

@@ -22,8 +22,8 @@ use Rattle.decimal.specs.declared.quoted.Phase.{Phase}
 use Rattle.decimal.specs.declared.quoted.Phase.the-variants.{Zero, Whole, Part}
 use Rattle.decimal.specs.declared.quoted.Progress.{Progress}
 use Rattle.decimal.specs.Decimals.{formed, behindPoint, behindWhole, numberOf, unsigned, pricedAs, priceOf}
-use Rattle.decimal.specs.Spelling.{front, valueFrom}
-use Rattle.decimal.specs.Priced.{none, longer, beginning, progress, start, lost, onDigit, onPoint, step, steps, priceSo, finished}
+use Rattle.decimal.specs.inner.Spelling.{front, valueFrom}
+use Rattle.decimal.specs.inner.Priced.{none, longer, beginning, progress, start, lost, onDigit, onPoint, step, steps, priceSo, finished}
 use Rattle.decimal.proofs.Runs.{digit-range, beyond, digits-front, front-digit, front-other}
 use Rattle.decimal.proofs.Spelled.{number-plain, formed-long, formed-is, formed-deep}
 use Rattle.decimal.proofs.Progress.{longer-more, longer-full, step-digit, step-point, step-other}

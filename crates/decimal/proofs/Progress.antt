@@ -19,8 +19,8 @@ use Rattle.decimal.specs.declared.spelling.Run.{Run}
 use Rattle.decimal.specs.declared.quoted.Phase.{Phase}
 use Rattle.decimal.specs.declared.quoted.Phase.the-variants.{Start, Zero, Whole, Part, Lost}
 use Rattle.decimal.specs.declared.quoted.Progress.{Progress}
-use Rattle.decimal.specs.Priced.{longer, lost, start, onDigit, onPoint, step, steps, priceSo, finished, Held}
-use Rattle.decimal.specs.Spelling.{made}
+use Rattle.decimal.specs.inner.Priced.{longer, lost, start, onDigit, onPoint, step, steps, priceSo, finished, Held}
+use Rattle.decimal.specs.inner.Spelling.{made}
 use Rattle.decimal.proofs.Runs.{digit-range}
 
 -- one digit more, within the most digits and past them

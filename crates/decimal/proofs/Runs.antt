@@ -19,7 +19,7 @@ use Rattle.lexeme.specs.Read.Read.{done}
 use Rattle.lexeme.specs.Character.{within}
 use Rattle.lexeme.specs.Numbers.{digit, digits}
 use Rattle.decimal.specs.Decimals.{tens, valueOf}
-use Rattle.decimal.specs.Spelling.{front, valueFrom, runFrom}
+use Rattle.decimal.specs.inner.Spelling.{front, valueFrom, runFrom}
 
 -- a digit by the code's tests
 pub digit-low : (b : ℕ) → b < 0x30 → false ≡ digit b

@@ -21,8 +21,8 @@ use Rattle.decimal.specs.declared.Number.{Number}
 use Rattle.decimal.specs.declared.Number.the-variants.{Value, Unformed}
 use Rattle.decimal.specs.declared.spelling.Run.{Run}
 use Rattle.decimal.specs.Decimals.{decimalOf, formed, behindPoint, behindWhole, numberOf, hasPoint}
-use Rattle.decimal.specs.Spelling.{front, valueFrom, runFrom, made, fractionOf}
-use Rattle.decimal.specs.Formed.{IsNumber}
+use Rattle.decimal.specs.inner.Spelling.{front, valueFrom, runFrom, made, fractionOf}
+use Rattle.decimal.specs.inner.Formed.{IsNumber}
 use Rattle.decimal.proofs.Runs.{digit-range, at-cons, digits-front, front-length, front-at, front-all, front-take, value-from, run-count, run-value}
 
 no-value : {A : Type 0} {d : Decimal} → Unformed ≡ Value d → A

@@ -16,7 +16,7 @@ use Rattle.decimal.specs.declared.Decimal.{Decimal}
 use Rattle.decimal.specs.declared.Amount.{Amount}
 use Rattle.decimal.specs.declared.Money.the-variants.{Is, Outside}
 use Rattle.decimal.specs.Exact.{unit, size, exact, natural, portion, within, amountOf, moneyOf}
-use Rattle.decimal.specs.Formed.{Formed}
+use Rattle.decimal.specs.inner.Formed.{Formed}
 
 and-true : (t : Bool) → (t and true) ≡ t
 and-true true = refl

@@ -5,9 +5,10 @@ use crate::Money;
 ghost use mathlib.Core.Bool.{true};
 ghost use mathlib.Core.Path.{_≡_};
 ghost use Prim.Native.Nat.{_*_, _≤_};
-ghost use Rattle.signed.specs.Signed.{signed, difference};
+ghost use Rattle.signed.specs.Signed.{signed};
+ghost use Rattle.signed.specs.inner.Difference.{difference};
 ghost use Rattle.decimal.specs.Exact.{natural as naturalOf, portion as portionOf, within as withinOf, amountOf, moneyOf, millionths};
-ghost use Rattle.decimal.specs.Formed.{Formed};
+ghost use Rattle.decimal.specs.inner.Formed.{Formed};
 
 impl Decimal {
     // The greatest amount of money either way, and the parts of 10^-18 in a ten-thousandth, in a millionth and in half a millionth.

@@ -15,9 +15,9 @@ ghost use Rattle.lexeme.specs.Numbers.{digit};
 ghost use Rattle.text.specs.Text.{textOf};
 ghost use Rattle.decimal.specs.declared.Price.the-variants.{Value};
 ghost use Rattle.decimal.specs.Decimals.{priceOf};
-ghost use Rattle.decimal.specs.Spelling.{made};
-ghost use Rattle.decimal.specs.Priced.{longer, beginning, start as startOf, lost as lostOf, onDigit, onPoint, step as stepOf, steps, priceSo, finished, Held};
-ghost use Rattle.decimal.specs.Formed.{IsPrice};
+ghost use Rattle.decimal.specs.inner.Spelling.{made};
+ghost use Rattle.decimal.specs.inner.Priced.{longer, beginning, start as startOf, lost as lostOf, onDigit, onPoint, step as stepOf, steps, priceSo, finished, Held};
+ghost use Rattle.decimal.specs.inner.Formed.{IsPrice};
 
 // How far a text is a number: nothing yet, a single 0, whole digits, a point and what follows it; or it is none.
 pub enum Phase {

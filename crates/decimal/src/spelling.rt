@@ -10,8 +10,8 @@ ghost use Rattle.notation.specs.Choice.{_and_};
 ghost use Rattle.lexeme.specs.Numbers.{digit, digits};
 ghost use Rattle.decimal.specs.Decimals.{behindWhole, numberOf, hasPoint};
 ghost use Rattle.decimal.specs.declared.Number.the-variants.{Value};
-ghost use Rattle.decimal.specs.Spelling.{runFrom, made, fractionOf};
-ghost use Rattle.decimal.specs.Formed.{IsNumber};
+ghost use Rattle.decimal.specs.inner.Spelling.{runFrom, made, fractionOf};
+ghost use Rattle.decimal.specs.inner.Formed.{IsNumber};
 
 // Digits in a row: the number that they spell, and how many they are.
 pub struct Run {

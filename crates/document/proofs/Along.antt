@@ -18,14 +18,15 @@ use Rattle.json.specs.Text.{value, valueBy}
 use Rattle.walk.specs.declared.Item.{Item}
 use Rattle.walk.specs.declared.ItemStep.the-variants as items
 use Rattle.walk.specs.Walk.{place, itemAt, itemsFrom, itemsOf}
-use Rattle.walk.specs.Along.{AlongItems, ItemPassed}
+use Rattle.walk.specs.inner.Along.{AlongItems, ItemPassed}
 use Rattle.walk.proofs.Rests.{rest-drop, rest-blanks, rest-there}
 use Rattle.walk.proofs.Folds.{itemSteps, one-more}
 use Rattle.walk.proofs.Finding.{valued-at}
 use Rattle.walk.proofs.Files.{passed}
 use Rattle.document.specs.declared.Span.{Span}
 use Rattle.document.specs.declared.Span.the-variants.{None, Is}
-use Rattle.document.specs.Spans.{memberAt, membersAlong, topSpan, namesTo, recordsSpan, nth, Readable}
+use Rattle.document.specs.Spans.{memberAt, membersAlong, topSpan, namesTo, recordsSpan, nth}
+use Rattle.document.specs.inner.Spans.{Readable}
 
 -- the top value, where it was read
 module _ (s : List ℕ) where

@@ -16,7 +16,8 @@ use Rattle.schema.specs.Shape.{Shape, Rows, Need}
 use Rattle.schema.specs.Pick.{Picked, Slots, Slot, missing, once, twice, given, put, pick, pickRows, find, at}
 use Rattle.slots.specs.declared.Found.{Found}
 use Rattle.slots.specs.declared.Found.the-variants.{Missing, Once, Twice}
-use Rattle.slots.specs.Found.{foundIn, treeIn}
+use Rattle.slots.specs.Found.{foundIn}
+use Rattle.slots.specs.inner.Found.{treeIn}
 use Rattle.slots.proofs.Finds.{find-found, found-value}
 use Rattle.document.specs.declared.Span.the-variants.{Is}
 use Rattle.document.specs.Document.{Maybe, none, some, onceOnly, field}

@@ -17,7 +17,7 @@ use Rattle.walk.specs.declared.NameStep.the-variants as names
 use Rattle.walk.specs.declared.MemberStep.the-variants as members
 use Rattle.walk.specs.Walk.{part, memberAt, membersFrom}
 use Rattle.walk.specs.Part.{Whole}
-use Rattle.walk.specs.Along.{AlongMembers, MemberPassed, NamePassed}
+use Rattle.walk.specs.inner.Along.{AlongMembers, MemberPassed, NamePassed}
 use Rattle.walk.proofs.Places.{member-placed}
 use Rattle.walk.proofs.Folds.{Walk, memberSteps, members-start, walk-more, walk-end}
 use Rattle.walk.proofs.Wholes.{whole-some}
@@ -28,7 +28,7 @@ use Rattle.slots.specs.declared.Found.{Found}
 use Rattle.slots.specs.declared.Found.the-variants.{Missing, Once, Twice}
 use Rattle.slots.specs.Found.{oneMore, noted, foundIn}
 use Rattle.slots.proofs.Finds.{fold-keeps}
-use Rattle.document.specs.Spans.{ValueFrom}
+use Rattle.document.specs.inner.Spans.{ValueFrom}
 
 -- of a value that is no object nothing is found
 pub found-none : (p name : List ℕ) {x : Json} → Whole p x → (byte p 0 ≡ 0x7b → ⊥) → Missing ≡ foundIn p name

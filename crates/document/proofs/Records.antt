@@ -25,7 +25,8 @@ use Rattle.schema.specs.Table23.{table23, listing, file, zones, vehicleType, st
 use Rattle.schema.specs.Pick.{Picked, PickedItems, items, pick, each, listOf}
 use Rattle.document.specs.declared.Span.{Span}
 use Rattle.document.specs.declared.Span.the-variants.{None, Is}
-use Rattle.document.specs.Document.{Maybe, none, some, field, along, path}
+use Rattle.document.specs.Document.{Maybe, none, some, field, along}
+use Rattle.document.specs.inner.Path.{path}
 use Rattle.document.specs.Trees as trees
 use Rattle.document.specs.Trees.{numbered}
 use Rattle.document.specs.Spans.{membersAlong, topSpan, namesTo, recordsSpan, nth, nthIn}

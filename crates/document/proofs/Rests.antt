@@ -14,7 +14,7 @@ use Rattle.lexeme.specs.Tokens.{blanks}
 use Rattle.walk.specs.declared.Item.{Item}
 use Rattle.walk.specs.Walk.{place, part, itemsOf}
 use Rattle.walk.specs.Part.{Whole, treeOf}
-use Rattle.walk.specs.Along.{AlongItems}
+use Rattle.walk.specs.inner.Along.{AlongItems}
 use Rattle.walk.proofs.Files.{passed}
 use Rattle.walk.proofs.Wholes.{whole-some}
 use Rattle.walk.proofs.Parts.{itemOf}
@@ -26,7 +26,8 @@ use Rattle.slots.specs.declared.Found.the-variants.{Missing, Once, Twice}
 use Rattle.slots.specs.Found.{foundIn}
 use Rattle.document.specs.declared.Span.{Span}
 use Rattle.document.specs.declared.Span.the-variants.{None, Is}
-use Rattle.document.specs.Spans.{moved, memberAt, membersAlong, topSpan, namesTo, recordsSpan, nth, nthIn, recordSpan, Listed, ValueFrom, RecordsFrom}
+use Rattle.document.specs.Spans.{moved, memberAt, membersAlong, topSpan, namesTo, recordsSpan, nth, nthIn, recordSpan}
+use Rattle.document.specs.inner.Spans.{Listed, ValueFrom, RecordsFrom}
 use Rattle.document.proofs.Cuts.{part-rest}
 use Rattle.document.proofs.Fields.{Stands, stands-found}
 use Rattle.document.proofs.Records.{top-is, top-stands, pickedItems, open-items, Records}

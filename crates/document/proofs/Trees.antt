@@ -27,7 +27,8 @@ use Rattle.schema.specs.Shape.{Shape}
 use Rattle.schema.specs.Pick.{Picked}
 use Rattle.slots.specs.declared.Found.{Found}
 use Rattle.slots.specs.declared.Found.the-variants.{Missing, Once, Twice}
-use Rattle.slots.specs.Found.{noted, foundIn, treeIn}
+use Rattle.slots.specs.Found.{noted, foundIn}
+use Rattle.slots.specs.inner.Found.{treeIn}
 use Rattle.slots.proofs.Finds.{find-found}
 use Rattle.document.specs.declared.Span.the-variants.{None, Is}
 use Rattle.document.specs.Document.{none, some, onceOnly}

@@ -4,8 +4,7 @@ use mathlib.Core.Bool.{Bool, true, false}
 use mathlib.Core.List.{List, [], _∷_}
 use Prim.Native.Nat.{ℕ}
 use Rattle.json.specs.Tree as tree
-use Rattle.json.specs.Tree.{Json}
-use Rattle.schema.specs.Pick.{Picked, Slots, Slot, bare, items, slots, listOf, missing, once, twice, at}
+use Rattle.schema.specs.Pick.{Picked, Slot, bare, items, slots, listOf, missing, once, twice, at}
 
 -- a value, or none
 pub data Maybe (A : Type 0) : Type 0 where
@@ -40,11 +39,6 @@ fieldItems f x = elementsOf (field f x)
 unfoldable pub along : List ℕ → Picked → Maybe Picked
 along [] x = some x
 along (f ∷ fs) x = elim (field f x) [ none ↦ none | some y ↦ along fs y ]
-
--- where a file's records stand
-abbrev pub path : Bool → List ℕ
-path true = 4 ∷ 5 ∷ 7 ∷ []
-path false = 4 ∷ 5 ∷ []
 
 -- the text of a string, the spelling of a number, the truth of a boolean
 abbrev pub textIn : Picked → Maybe (List ℕ)

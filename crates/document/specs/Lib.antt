@@ -1,3 +1,4 @@
 pub mod Document
 pub mod Spans
 pub mod Trees
+pub mod inner

@@ -1,8 +1,6 @@
 -- Where the records of a file stand in the caller's bytes: along the names that lead to them, and then item by item.
 use mathlib.Core.List.{List, [], _∷_}
-use mathlib.Core.Path.{_≡_}
-use Prim.Native.Nat.{ℕ, zero, suc, _+_, _≤_}
-use lib.ListN.{length, take, drop}
+use Prim.Native.Nat.{ℕ, zero, suc, _+_}
 use lib.Dec.{eqb}
 use Rattle.notation.specs.Ascii.{bytes}
 use Rattle.notation.specs.Choice.{_⇒_else_}
@@ -10,12 +8,9 @@ use Rattle.lexeme.specs.Read.Read.{done, bad}
 use Rattle.lexeme.specs.Character.{paired}
 use Rattle.lexeme.specs.Tokens.{blanks}
 use Rattle.limits.specs.Ceilings.{depth}
-use Rattle.json.specs.declared.Syntax.the-variants.{Sound}
-use Rattle.json.specs.Tree.{Json, Items}
-use Rattle.json.specs.Text.{value, syntaxOf}
+use Rattle.json.specs.Text.{value}
 use Rattle.walk.specs.declared.Item.{Item}
 use Rattle.walk.specs.Walk.{place, part, itemsOf}
-use Rattle.walk.specs.Part.{Whole}
 use Rattle.slots.specs.declared.Found.{Found}
 use Rattle.slots.specs.declared.Found.the-variants.{Missing, Once, Twice}
 use Rattle.slots.specs.Found.{foundIn}
@@ -68,23 +63,3 @@ nthIn s (Is from upto) n = nth from (itemsOf (part s from upto)) n
 
 unfoldable pub recordSpan : ℕ → List ℕ → ℕ → Span
 recordSpan file s n = nthIn s (recordsSpan file s) n
-
--- no file, or one that stage A passed
-pub data Readable (s : List ℕ) : Type 0 where
-  absent : s ≡ [] → Readable s
-  sound : syntaxOf s ≡ Sound → Readable s
-
--- no file, or one that stage A passed with an array for its records
-pub data Listed (file : ℕ) (s : List ℕ) : Type 0 where
-  absent : s ≡ [] → Listed file s
-  listed : {is : Items} (from upto : ℕ) → syntaxOf s ≡ Sound → recordsSpan file s ≡ Is from upto → Whole (part s from upto) (Json.array is) → Listed file s
-
--- r is a rest of p: of an object at the front of p, n bytes long, the rest from the value on that it has once under the name
-pub record ValueFrom (p name r : List ℕ) : Type 0 where
-  pub inside : length r ≤ length p
-  pub starts : (n : ℕ) (x : Json) → Whole (take n p) x → (from upto : ℕ) → foundIn (take n p) name ≡ Once from upto → r ≡ drop from p
-
--- r is a rest of s: of a file that stage A passed, the rest from its records on
-pub record RecordsFrom (file : ℕ) (s r : List ℕ) : Type 0 where
-  pub inside : length r ≤ length s
-  pub starts : syntaxOf s ≡ Sound → (from upto : ℕ) → recordsSpan file s ≡ Is from upto → r ≡ drop from s

@@ -12,8 +12,9 @@ use Rattle.decimal.specs.declared.Amount.{Amount}
 use Rattle.fare.specs.declared.Segment.{Segment}
 use Rattle.fare.specs.declared.Sum.{Sum}
 use Rattle.fare.specs.Charges.{minutesOf, kilometresOf, moments}
-use Rattle.fare.specs.Folds.{withAmount, ofPrice, withCharge, withCharges}
-use Rattle.fare.specs.Bounds.{mostMoney, mostMinutes, mostKilometres, mostRide, mostCharge, Room, Payable, Modest}
+use Rattle.fare.specs.inner.Folds.{withAmount, ofPrice, withCharge, withCharges}
+use Rattle.fare.specs.Bounds.{mostMoney, mostMinutes, mostKilometres, mostCharge}
+use Rattle.fare.specs.inner.Room.{mostRide, Room, Payable, Modest}
 use Rattle.fare.proofs.Moments.{moments-most}
 
 -- the longest rides that are asked for

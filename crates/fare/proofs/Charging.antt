@@ -11,8 +11,8 @@ use Rattle.fare.specs.declared.Segments.{Segments}
 use Rattle.fare.specs.declared.Sum.{Sum}
 use Rattle.fare.specs.declared.Marks.{Marks}
 use Rattle.fare.specs.declared.Charged.{Charged}
-use Rattle.fare.specs.Folds.{withCharge, withCharges, unmarked, withEnd, withEnds, marked, listed, withAll}
-use Rattle.fare.specs.Bounds.{mostRide, Room, Payable, Modest, Chargeable}
+use Rattle.fare.specs.inner.Folds.{withCharge, withCharges, unmarked, withEnd, withEnds, marked, listed, withAll}
+use Rattle.fare.specs.inner.Room.{mostRide, Room, Payable, Modest, Chargeable}
 use Rattle.fare.proofs.Fold.{tells-start}
 use Rattle.fare.proofs.Bound.{room-less, room-next, payable}
 

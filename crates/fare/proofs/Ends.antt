@@ -4,7 +4,7 @@ use mathlib.Core.Path.{_≡_}
 use Prim.Native.Nat.{ℕ}
 use lib.Dec.{leb}
 use Rattle.fare.specs.declared.Marks.{Marks}
-use Rattle.fare.specs.Folds.{marked}
+use Rattle.fare.specs.inner.Folds.{marked}
 
 module _ (m : Marks) (ride : ℕ) where
   pub marked-none : m .some ≡ false → false ≡ marked m ride

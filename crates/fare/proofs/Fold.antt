@@ -16,7 +16,7 @@ use Rattle.fare.specs.declared.Segment.{Segment}
 use Rattle.fare.specs.declared.Sum.{Sum}
 use Rattle.fare.specs.declared.Marks.{Marks}
 use Rattle.fare.specs.Charges.{charge, charges, sum, allEnded, greatestEnd, past}
-use Rattle.fare.specs.Folds.{worth, ofPrice, withCharge, withCharges, unmarked, withEnd, withEnds, marked}
+use Rattle.fare.specs.inner.Folds.{worth, ofPrice, withCharge, withCharges, unmarked, withEnd, withEnds, marked}
 use Rattle.fare.proofs.Worth.{worth-price, worth-charge}
 
 -- the sum and the charges of what is left make z

@@ -13,7 +13,7 @@ use borrow.Author.Tests.{leb-true, leb-false, eqb-true, eqb-false, lt-ltb, le-lt
 use Rattle.notation.specs.Choice.{_⇒_else_, _and_}
 use Rattle.fare.specs.declared.Segment.{Segment}
 use Rattle.fare.specs.Charges.{charged, momentsFrom, moments}
-use Rattle.fare.specs.Folds.{boundOf, countBelow}
+use Rattle.fare.specs.inner.Folds.{boundOf, countBelow}
 
 -- the ways through the bound
 module _ (s : Segment) (ride : ℕ) where

@@ -14,7 +14,7 @@ use Rattle.fare.specs.declared.Minutes.{Minutes}
 use Rattle.fare.specs.declared.Kilometres.{Kilometres}
 use Rattle.fare.specs.declared.Segment.{Segment}
 use Rattle.fare.specs.Charges.{charge, charges, sum, amount, allEnded, greatestEnd, past}
-use Rattle.fare.specs.Folds.{countBelow}
+use Rattle.fare.specs.inner.Folds.{countBelow}
 use Rattle.fare.proofs.Moments.{bound-end, moments-counted}
 
 pub and-left : (a b : Bool) → a and b ≡ true → a ≡ true

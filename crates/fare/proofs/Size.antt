@@ -15,7 +15,8 @@ use Rattle.fare.specs.declared.Minutes.{Minutes}
 use Rattle.fare.specs.declared.Kilometres.{Kilometres}
 use Rattle.fare.specs.declared.Segment.{Segment}
 use Rattle.fare.specs.Charges.{moments, charge, charges, sum, clamped, amount}
-use Rattle.fare.specs.Bounds.{mostMoney, mostCharge, mostSum, Modest, Quotable}
+use Rattle.fare.specs.Bounds.{mostMoney, mostCharge, mostSum}
+use Rattle.fare.specs.inner.Room.{Modest, Quotable}
 use Rattle.fare.proofs.Worth.{signed-times}
 use Rattle.fare.proofs.Bound.{charge-most}
 

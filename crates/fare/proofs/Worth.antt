@@ -7,14 +7,15 @@ use lib.IntN.{ℤ, pos, negℤ, _+ℤ_, _*ℤ_}
 use lib.ListN.{length}
 use lib.Dec.{leb}
 use borrow.Author.Tests.{leb-true, leb-false}
-use Rattle.signed.specs.Signed.{signed, difference}
+use Rattle.signed.specs.Signed.{signed}
+use Rattle.signed.specs.inner.Difference.{difference}
 use Rattle.signed.proofs.Gap.{gap, gap-pos, gap-neg, gap-add, gap-mul, gap-same, difference-up, difference-down}
 use Rattle.decimal.specs.declared.Amount.{Amount}
 use Rattle.decimal.specs.Exact.{tenThousandths}
 use Rattle.fare.specs.declared.Segment.{Segment}
 use Rattle.fare.specs.declared.Sum.{Sum}
 use Rattle.fare.specs.Charges.{moments, charge, clamped}
-use Rattle.fare.specs.Folds.{worth, withAmount, ofPrice, withCharge}
+use Rattle.fare.specs.inner.Folds.{worth, withAmount, ofPrice, withCharge}
 
 abbrev sums : ℕ → ℕ → Sum
 sums added taken = record { added = added; taken = taken }

@@ -1,5 +1,5 @@
 pub mod Charges
-pub mod Folds
 pub mod Bounds
 pub mod Longer
 pub mod Cases
+pub mod inner

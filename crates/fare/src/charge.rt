@@ -11,10 +11,10 @@ use decimal::Amount;
 ghost use mathlib.Core.Path.{_≡_};
 ghost use Prim.Native.Nat.{_+_, _-_, _^_, _≤_, _<_};
 ghost use lib.ListN.{length};
-ghost use Rattle.signed.specs.Signed.{difference};
+ghost use Rattle.signed.specs.inner.Difference.{difference};
 ghost use Rattle.fare.specs.Charges.{moments, clamped};
-ghost use Rattle.fare.specs.Folds.{boundOf, withAmount, ofPrice, withCharge, marked, listed, withAll};
-ghost use Rattle.fare.specs.Bounds.{mostRide, Payable, Chargeable};
+ghost use Rattle.fare.specs.inner.Folds.{boundOf, withAmount, ofPrice, withCharge, marked, listed, withAll};
+ghost use Rattle.fare.specs.inner.Room.{mostRide, Payable, Chargeable};
 
 impl Segment {
     // The first moment that is no longer charged.

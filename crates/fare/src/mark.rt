@@ -4,7 +4,7 @@ use crate::Segment;
 ghost use mathlib.Core.Path.{_≡_};
 ghost use Prim.Native.Nat.{max};
 ghost use Rattle.notation.specs.Choice.{_and_};
-ghost use Rattle.fare.specs.Folds.{unmarked, withEnd};
+ghost use Rattle.fare.specs.inner.Folds.{unmarked, withEnd};
 
 fn both(a: bool, b: bool) -> bool
     ensures { λ r. ⌜ r ≡ a and b ⌝ }

@@ -18,15 +18,15 @@ use Rattle.walk.specs.declared.ItemStep.{ItemStep}
 use Rattle.walk.specs.declared.ItemStep.the-variants as step
 use Rattle.walk.specs.Walk.{part, itemAt}
 use Rattle.walk.specs.Part.{Whole, treeOf, kindOf, kindAt}
-use Rattle.walk.specs.Along.{AlongItems, ItemPlaced, ItemPassed}
+use Rattle.walk.specs.inner.Along.{AlongItems, ItemPlaced, ItemPassed}
 use Rattle.walk.proofs.Places.{item-placed}
 use Rattle.walk.proofs.Wholes.{whole-kind}
 use Rattle.slots.specs.declared.Found.{Found}
 use Rattle.slots.specs.declared.Found.the-variants.{Missing, Once, Twice}
 use Rattle.slots.specs.Found.{foundIn}
-use Rattle.slots.specs.Blank.{blankText}
+use Rattle.slots.specs.inner.Blank.{blankText}
 use Rattle.slots.proofs.Finds.{found-value}
-use Rattle.fields.specs.Values.{code, foundBytes, memberOf, arrayBy}
+use Rattle.fields.specs.inner.Values.{code, foundBytes, memberOf, arrayBy}
 
 -- an array with its brackets, where there is anything
 abbrev Bracketed : List ℕ → Type 0

@@ -16,7 +16,7 @@ use Rattle.schema.specs.Pick.{pick}
 use Rattle.document.specs.Document.{field, fieldItems, given, spelling, text, truth}
 use Rattle.document.proofs.Fields.{Lists, here, below}
 use Rattle.document.proofs.Records.{pickedItems}
-use Rattle.fields.specs.Values.{memberOf, spelledBy, textBy, truthBy, arrayBy, thereBy}
+use Rattle.fields.specs.inner.Values.{memberOf, spelledBy, textBy, truthBy, arrayBy, thereBy}
 use Rattle.fields.proofs.Values.{member-holds, holds-there, holds-spelled, holds-text, holds-truth, holds-items}
 
 -- the first row of a field, found by computing

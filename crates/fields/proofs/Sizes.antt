@@ -11,8 +11,8 @@ use Rattle.walk.specs.Part.{treeOf, kindAt}
 use Rattle.slots.specs.declared.Found.{Found}
 use Rattle.slots.specs.declared.Found.the-variants.{Missing, Once, Twice}
 use Rattle.slots.specs.Found.{foundIn}
-use Rattle.slots.specs.Blank.{blankText}
-use Rattle.fields.specs.Values.{code, foundBytes, memberOf, arrayBy}
+use Rattle.slots.specs.inner.Blank.{blankText}
+use Rattle.fields.specs.inner.Values.{code, foundBytes, memberOf, arrayBy}
 
 pub part-short : (p : List ℕ) (from upto : ℕ) → length (part p from upto) ≤ length p
 part-short p from upto = omega (arith, length-take (upto - from) (drop from p), length-drop from p)

@@ -25,15 +25,16 @@ use Rattle.schema.specs.Shape.{Shape, Rows, Sort, Numbering}
 use Rattle.schema.specs.Pick.{Picked, missing, once, given, pick, each, outline, bare, items, listOf}
 use Rattle.slots.specs.declared.Found.{Found}
 use Rattle.slots.specs.declared.Found.the-variants.{Missing, Once, Twice}
-use Rattle.slots.specs.Found.{foundIn, treeIn}
-use Rattle.slots.specs.Blank.{blankText}
+use Rattle.slots.specs.Found.{foundIn}
+use Rattle.slots.specs.inner.Found.{treeIn}
+use Rattle.slots.specs.inner.Blank.{blankText}
 use Rattle.slots.proofs.Finds.{find-found, found-value}
 use Rattle.slots.proofs.Picks.{unless-blank}
 use Rattle.document.specs.Document as document
 use Rattle.document.specs.Document.{Maybe, none, some, onceOnly, field, elementsOf, then, textIn, spellingIn, truthIn}
 use Rattle.document.proofs.Fields.{Lists, over, at-row}
 use Rattle.document.proofs.Records.{pickedItems, list-each}
-use Rattle.fields.specs.Values.{code, foundBytes, memberOf, truthBy, spelledBy, textBy, arrayBy, thereBy}
+use Rattle.fields.specs.inner.Values.{code, foundBytes, memberOf, truthBy, spelledBy, textBy, arrayBy, thereBy}
 
 -- the bytes q hold what is picked by σ; or there is nothing
 abbrev pub Holds : Shape → List ℕ → Maybe Picked → Type 0

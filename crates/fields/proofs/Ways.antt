@@ -13,7 +13,7 @@ use Rattle.slots.specs.declared.Found.the-variants.{Missing, Once, Twice}
 use Rattle.slots.specs.Found.{foundIn}
 use Rattle.slots.proofs.Finds.{found-value}
 use Rattle.document.specs.Document.{none, some}
-use Rattle.fields.specs.Values.{code, foundBytes, Standing, memberOf, spelledBy, textBy, arrayBy}
+use Rattle.fields.specs.inner.Values.{code, foundBytes, Standing, memberOf, spelledBy, textBy, arrayBy}
 
 -- what is found stands there whole
 pub found-standing : (p name : List ℕ) (o : Found) → o ≡ foundIn p name → Standing p o

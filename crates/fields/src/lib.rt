@@ -15,8 +15,9 @@ ghost use lib.ListN.{length};
 ghost use Rattle.notation.specs.Choice.{_⇒_else_};
 ghost use Rattle.json.specs.Tree.{Json};
 ghost use Rattle.walk.specs.Part.{Whole, kindAt, inside};
-ghost use Rattle.slots.specs.Blank.{blankText};
-ghost use Rattle.fields.specs.Values.{code, foundBytes, Standing, memberOf, spelledBy, textBy, arrayBy, integerIn, isId};
+ghost use Rattle.slots.specs.inner.Blank.{blankText};
+ghost use Rattle.fields.specs.Values.{integerIn};
+ghost use Rattle.fields.specs.inner.Values.{code, foundBytes, Standing, memberOf, spelledBy, textBy, arrayBy, isId};
 
 // The kinds that are asked for.
 pub const NUMBER: u8 = 2;

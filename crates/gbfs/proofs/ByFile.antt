@@ -20,10 +20,10 @@ use Rattle.clean.specs.declared.Cleanness.{Cleanness}
 use Rattle.clean.specs.declared.Cleanness.the-variants.{Clean, Broken}
 use Rattle.clean.specs.Clean.{place, broken}
 use Rattle.cross.specs.Cross.{crossFaults}
-use Rattle.cross.specs.Stage as cross
-use Rattle.cross.specs.Stage.{firstOf}
+use Rattle.cross.specs.inner.Stage as cross
+use Rattle.cross.specs.inner.Stage.{firstOf}
 use Rattle.gbfs.specs.Verdict.{Feeds, bytesOf, picked, syntaxRules, rulesA, faultsB, everyFile, stageA, stageB, stageC, orElse, rules, earlier, first, verdictOf}
-use Rattle.gbfs.specs.Stages.{orNext, malformed, brokenA, firstA, firstB, staged}
+use Rattle.gbfs.specs.inner.Stages.{orNext, malformed, brokenA, firstA, firstB, staged}
 use Rattle.gbfs.proofs.Every.{all-at, all-map}
 use Rattle.gbfs.proofs.Order.{same-file, higher-file}
 use Rattle.gbfs.proofs.First.{earlier-named, earlier-first, earlier-second, first-broken}

@@ -7,7 +7,7 @@ use native.Mathlib.Omega.{arith}
 use Rattle.judge.proofs.Holds.{All, none, more, all-append}
 use Rattle.clean.specs.declared.Cleanness.{Cleanness}
 use Rattle.clean.specs.declared.Cleanness.the-variants.{Clean}
-use Rattle.cross.specs.Stage.{firstOf}
+use Rattle.cross.specs.inner.Stage.{firstOf}
 use Rattle.gbfs.specs.Verdict.{everyFile}
 
 module _ {A : Type 0} where

@@ -13,10 +13,12 @@ use Rattle.judge.specs.Bounds.{greatest, fields}
 use Rattle.judge.proofs.Fits.{first-fits}
 use Rattle.document.specs.declared.Span.{Span}
 use Rattle.document.specs.declared.Span.the-variants as span
-use Rattle.document.specs.Spans.{recordsSpan, RecordsFrom}
+use Rattle.document.specs.Spans.{recordsSpan}
+use Rattle.document.specs.inner.Spans.{RecordsFrom}
 use Rattle.clean.specs.Clean.{treeOf}
 use Rattle.cross.specs.Cross.{fileIn, crossFaults}
-use Rattle.cross.specs.Stage.{fileOf, Through}
+use Rattle.cross.specs.Stage.{fileOf}
+use Rattle.cross.specs.inner.Stage.{Through}
 use Rattle.cross.proofs.Files.{file-bytes}
 use Rattle.cross.proofs.Bounds as cross
 use Rattle.gbfs.specs.Verdict.{Feeds, bytesOf, picked, faultsB}

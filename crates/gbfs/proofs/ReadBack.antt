@@ -23,9 +23,9 @@ use Rattle.clean.specs.declared.Cleanness.the-variants.{Clean, Broken}
 use Rattle.clean.specs.Clean.{place, broken}
 use Rattle.clean.proofs.Judged.{offset-fits}
 use Rattle.cross.specs.Cross.{crossFaults}
-use Rattle.cross.specs.Stage.{firstOf, stageC}
+use Rattle.cross.specs.inner.Stage.{firstOf, stageC}
 use Rattle.gbfs.specs.Verdict.{Feeds, bytesOf, picked, faultsB, verdictOf, said, bufferOf}
-use Rattle.gbfs.specs.Stages.{orNext, malformed, brokenA, firstA, firstB, staged}
+use Rattle.gbfs.specs.inner.Stages.{orNext, malformed, brokenA, firstA, firstB, staged}
 use Rattle.gbfs.proofs.Passed.{syntax-kind}
 use Rattle.gbfs.proofs.Every.{files-all}
 use Rattle.gbfs.proofs.ByFile.{verdict-staged}

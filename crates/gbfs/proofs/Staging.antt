@@ -16,9 +16,9 @@ use Rattle.judge.specs.Faults.{fileFaults}
 use Rattle.clean.specs.declared.Cleanness.{Cleanness}
 use Rattle.clean.specs.declared.Cleanness.the-variants.{Clean, Broken}
 use Rattle.clean.specs.Clean.{treeOf, broken}
-use Rattle.cross.specs.Stage.{firstOf}
+use Rattle.cross.specs.inner.Stage.{firstOf}
 use Rattle.gbfs.specs.Verdict.{Feeds, bytesOf, faultsB}
-use Rattle.gbfs.specs.Stages.{orNext, malformed, brokenA, firstA, firstB}
+use Rattle.gbfs.specs.inner.Stages.{orNext, malformed, brokenA, firstA, firstB}
 use Rattle.gbfs.proofs.Passed.{faults-there}
 use Rattle.gbfs.proofs.ByFile.{broken-next}
 

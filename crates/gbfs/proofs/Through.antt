@@ -13,9 +13,9 @@ use Rattle.fault.specs.declared.Fault.{Fault}
 use Rattle.judge.specs.Faults.{fileFaults}
 use Rattle.clean.specs.declared.Cleanness.the-variants.{Clean}
 use Rattle.clean.specs.Clean.{treeOf, place}
-use Rattle.cross.specs.Stage.{Through}
+use Rattle.cross.specs.inner.Stage.{Through}
 use Rattle.gbfs.specs.Verdict.{Feeds, bytesOf, syntaxRules, rulesA, faultsB, stageA, stageB}
-use Rattle.gbfs.specs.Stages.{firstA, firstB}
+use Rattle.gbfs.specs.inner.Stages.{firstA, firstB}
 use Rattle.gbfs.proofs.Every.{every-none}
 use Rattle.gbfs.proofs.First.{first-clean}
 use Rattle.gbfs.proofs.ByFile.{first-stageA, first-stageB}

@@ -37,7 +37,7 @@ use Rattle.clean.specs.declared.Cleanness.the-variants.{Clean, Broken}
 use Rattle.clean.specs.Clean as clean
 use Rattle.clean.specs.Clean.{treeOf, place}
 use Rattle.gbfs.specs.Verdict.{Feeds, bytesOf, syntaxRules, rulesA, faultsB, stageA, stageB, stageC, orElse, rules, before, first, verdictOf}
-use Rattle.gbfs.specs.Stages.{firstB}
+use Rattle.gbfs.specs.inner.Stages.{firstB}
 use Rattle.gbfs.specs.Demand3.{OtherVersion, OfStageA, Ahead, malformed, earlier, header, Refused}
 use Rattle.gbfs.proofs.Passed.{syntax-kind, tree-spelled, faults-there}
 use Rattle.gbfs.proofs.Every.{all-at, every-all, every-member, files-all}

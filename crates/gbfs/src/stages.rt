@@ -14,9 +14,9 @@ ghost use Rattle.json.specs.declared.Syntax.the-variants as syntax;
 ghost use Rattle.json.specs.Text.{syntaxOf};
 ghost use Rattle.clean.specs.declared.Cleanness.the-variants as clean;
 ghost use Rattle.clean.specs.Clean.{broken};
-ghost use Rattle.cross.specs.Stage as cross;
+ghost use Rattle.cross.specs.inner.Stage as cross;
 ghost use Rattle.gbfs.specs.Verdict.{feeds, bytesOf, picked, faultsB, verdictOf};
-ghost use Rattle.gbfs.specs.Stages.{brokenA, firstA, firstB, orNext};
+ghost use Rattle.gbfs.specs.inner.Stages.{brokenA, firstA, firstB, orNext};
 
 // Stage A of a file; where nothing is there, it passes.
 fn stage_a(file: u8, s: &[u8]) -> Cleanness

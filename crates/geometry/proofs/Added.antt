@@ -8,7 +8,7 @@ use lib.IntN.{pos, _+ℤ_}
 use Rattle.signed.proofs.Gap.{gap, gap-pos, gap-same, gap-add, gap-minus, gap-mul}
 use Rattle.geometry.specs.Ring.{turn}
 use Rattle.geometry.specs.Held.{side}
-use Rattle.geometry.specs.Shifted.{Fits, OnMap, added, halfLat, halfLon, none, origin, point, value}
+use Rattle.geometry.specs.inner.Shifted.{Fits, OnMap, added, halfLat, halfLon, none, origin, point, value}
 use Rattle.geometry.specs.declared.Balance.{Balance}
 use Rattle.geometry.specs.declared.Position.{Position}
 

@@ -9,10 +9,10 @@ use lib.IntN.{pos}
 use lib.ListN.{length, getD}
 use borrow.Author.Tests.{eq-eqb, ne-eqb}
 use Rattle.notation.specs.Choice.{_and_}
-use Rattle.signed.specs.Signed.{difference}
+use Rattle.signed.specs.inner.Difference.{difference}
 use Rattle.signed.proofs.Gap.{difference-le}
 use Rattle.geometry.specs.Ring.{equal, samePoint, areaSum, endsAt, sound}
-use Rattle.geometry.specs.Shifted.{halfLat, halfLon, points, shifted}
+use Rattle.geometry.specs.inner.Shifted.{halfLat, halfLon, points, shifted}
 use Rattle.geometry.proofs.Tests.{equal-nat}
 
 equal-moved : (a b s : ℕ) → equal (difference a s) (difference b s) ≡ eqb a b

@@ -6,7 +6,7 @@ use mathlib.Core.Path.{_≡_, refl, sym, ap, _∙_}
 use Rattle.notation.specs.Choice.{_⇒_else_}
 use Rattle.geometry.specs.Ring.{Point, clockwise}
 use Rattle.geometry.specs.Held.{onRing, odd, sideOf, onAny, inAny, polygonHolds}
-use Rattle.geometry.specs.Shifted.{place, stands}
+use Rattle.geometry.specs.inner.Shifted.{place, stands}
 use Rattle.geometry.specs.declared.Place.{Place}
 use Rattle.geometry.specs.declared.Place.the-variants as at
 use Rattle.geometry.specs.declared.Standing.{Standing}

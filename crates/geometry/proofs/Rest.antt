@@ -11,10 +11,10 @@ use lib.IntN.{pos, _+ℤ_, +ℤ-idl, +ℤ-idr, +ℤ-assoc}
 use lib.ListN.{length, drop, drop-of-length-le}
 use lib.Seq.{drop-cons}
 use Rattle.notation.specs.Choice.{_⇒_else_}
-use Rattle.signed.specs.Signed.{difference}
+use Rattle.signed.specs.inner.Difference.{difference}
 use Rattle.geometry.specs.Ring.{Point, turn, areaSum}
 use Rattle.geometry.specs.Held.{onEdge, crosses, onRing, odd}
-use Rattle.geometry.specs.Shifted.{InRange, OnMap, added, at, none, origin, place, point, points, value}
+use Rattle.geometry.specs.inner.Shifted.{InRange, OnMap, added, at, none, origin, place, point, points, value}
 use Rattle.geometry.specs.declared.Balance.{Balance}
 use Rattle.geometry.specs.declared.Position.{Position}
 use Rattle.geometry.specs.declared.Place.the-variants.{Edge, Inside, Outside}

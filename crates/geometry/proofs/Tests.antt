@@ -9,7 +9,7 @@ use lib.IntN.{ℤ, pos, negsuc, negℤ, _+ℤ_, _-ℤ_}
 use lib.Signed.{leZ, ltZ}
 use borrow.Author.Tests.{leb-true, leb-false, ltb-true, ltb-false, eqb-false, le-leb, lt-ltb, le-ltb, eq-eqb, ne-eqb}
 use Rattle.notation.specs.Choice.{_⇒_else_, _and_}
-use Rattle.signed.specs.Signed.{isZero}
+use Rattle.signed.specs.inner.Difference.{isZero}
 use Rattle.signed.proofs.Gap.{Gap, gap-same, gap-add, gap-minus, gap-negated, gap-le, gap-lt, gap-natural, gap-zero, gap-above, gap-below}
 use Rattle.signed.proofs.Sums.{up, down, parts}
 use Rattle.geometry.specs.Ring.{equal}

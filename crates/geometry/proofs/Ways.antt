@@ -6,11 +6,11 @@ use Prim.Native.Nat.{ℕ, _≤_, _<_}
 use lib.IntN.{pos}
 use lib.Signed.{ltZ}
 use borrow.Author.Tests.{le-leb, lt-leb, lt-ltb, le-ltb}
-use Rattle.signed.specs.Signed.{difference}
+use Rattle.signed.specs.inner.Difference.{difference}
 use Rattle.signed.proofs.Gap.{difference-le, difference-lt}
 use Rattle.geometry.specs.Ring.{equal}
 use Rattle.geometry.specs.Held.{side, between, onEdge, crosses}
-use Rattle.geometry.specs.Shifted.{halfLat, halfLon, point}
+use Rattle.geometry.specs.inner.Shifted.{halfLat, halfLon, point}
 use Rattle.geometry.specs.declared.Position.{Position}
 
 between-moved : (a b c s : ℕ) → between (difference a s) (difference b s) (difference c s) ≡ between (pos a) (pos b) (pos c)

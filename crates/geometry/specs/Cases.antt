@@ -4,9 +4,9 @@ use mathlib.Core.List.{List, [], _∷_, map}
 use mathlib.Core.Path.{_≡_, refl}
 use Prim.Native.Nat.{ℕ, _*_}
 use lib.IntN.{pos, negsuc, negℤ}
-use Rattle.signed.specs.Signed.{difference}
+use Rattle.signed.specs.inner.Difference.{difference}
 use Rattle.geometry.specs.Ring.{Point, samePoint, turn, areaSum, clockwise, endsAt, sound}
-use Rattle.geometry.specs.Shifted.{points}
+use Rattle.geometry.specs.inner.Shifted.{points}
 use Rattle.geometry.specs.Held.{side, onEdge, crosses, onRing, odd, sideOf, holds, onAny, inAny, polygonHolds}
 
 unfoldable pub holding : Unit {0}

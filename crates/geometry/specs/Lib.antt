@@ -1,5 +1,5 @@
 pub mod Ring
 pub mod Held
-pub mod Shifted
 pub mod Polygon
 pub mod Cases
+pub mod inner

@@ -4,7 +4,7 @@ use crate::Position;
 ghost use mathlib.Core.Path.{_≡_};
 ghost use lib.IntN.{pos};
 ghost use Rattle.geometry.specs.Held.{side as sideOf, between as betweenOf, onEdge, crosses as crossesOf};
-ghost use Rattle.geometry.specs.Shifted.{OnMap, point, value};
+ghost use Rattle.geometry.specs.inner.Shifted.{OnMap, point, value};
 
 // On which side of the line from a to b the point q lies: twice the area of the ring that they make, which may be taken moved.
 pub fn side(a: Position, b: Position, q: Position) -> Balance

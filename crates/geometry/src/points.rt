@@ -3,7 +3,7 @@ use crate::Position;
 ghost use mathlib.Core.Path.{_≡_};
 ghost use Prim.Native.Nat.{_<_};
 ghost use lib.ListN.{length};
-ghost use Rattle.geometry.specs.Shifted.{origin, at};
+ghost use Rattle.geometry.specs.inner.Shifted.{origin, at};
 
 impl Position {
     // Lon 0 and lat 0.

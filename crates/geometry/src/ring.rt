@@ -3,7 +3,7 @@ use crate::Balance;
 use crate::Position;
 ghost use mathlib.Core.Path.{_≡_};
 ghost use Rattle.geometry.specs.Ring.{areaSum, clockwise as clockwiseOf, sound as soundOf};
-ghost use Rattle.geometry.specs.Shifted.{InRange, points, value};
+ghost use Rattle.geometry.specs.inner.Shifted.{InRange, points, value};
 
 // The area sum. A line from the origin and back to it closes, so it may be taken moved; and the edges that meet the origin add nothing.
 pub fn area(xs: &[u64], ys: &[u64]) -> Balance

@@ -5,7 +5,7 @@ ghost use mathlib.Core.Path.{_≡_};
 ghost use lib.IntN.{pos};
 ghost use lib.Signed.{ltZ};
 ghost use Rattle.geometry.specs.Ring.{equal};
-ghost use Rattle.geometry.specs.Shifted.{Fits, value, none, added};
+ghost use Rattle.geometry.specs.inner.Shifted.{Fits, value, none, added};
 
 impl Balance {
     pub fn none() -> Balance

@@ -10,13 +10,14 @@ use lib.ListN.{getD}
 use borrow.Author.Tests.{eq-eqb, ne-eqb, eqb-true, eqb-false}
 use Rattle.limits.specs.Ceilings.{records}
 use Rattle.lexeme.proofs.Steps.{by-test}
-use Rattle.text.specs.Text.{same, digest}
+use Rattle.text.specs.Text.{same}
+use Rattle.text.specs.inner.Digest.{digest}
 use Rattle.text.proofs.Laws.{digest-same}
 use Rattle.walk.specs.Walk.{part}
 use Rattle.document.specs.Document.{Maybe, none, some}
-use Rattle.fields.specs.Values.{isId}
-use Rattle.ids.specs.Ids.{idOf, Unmet, hasId, recordBytes, lastWith}
-use Rattle.ids.specs.Notes.{buckets, digestAt, startAt, endAt, memberAt, linkAt, headAt, lastIn, kept, Noted, Searched}
+use Rattle.fields.specs.inner.Values.{isId}
+use Rattle.ids.specs.inner.Ids.{idOf, Unmet, hasId, recordBytes, lastWith}
+use Rattle.ids.specs.inner.Notes.{buckets, digestAt, startAt, endAt, memberAt, linkAt, headAt, lastIn, kept, Noted, Searched}
 
 -- the last entry of a bucket
 module _ (notes : List ℕ) (bucket : ℕ) where

@@ -8,11 +8,11 @@ use native.Mathlib.Omega.{arith}
 use lib.ListN.{length, getD, set, replicate, length-replicate, length-set}
 use lib.Seq.{getD-set-same, getD-set-other}
 use Rattle.limits.specs.Ceilings.{records}
-use Rattle.text.specs.Text.{digest}
+use Rattle.text.specs.inner.Digest.{digest}
 use Rattle.walk.specs.Walk.{part}
 use Rattle.document.specs.Document.{Maybe, none, some}
-use Rattle.ids.specs.Ids.{idOf, Unmet, recordBytes}
-use Rattle.ids.specs.Notes.{buckets, size, digestAt, startAt, endAt, memberAt, linkAt, headAt, lastIn, entered, kept, Entry, Noted, Blank}
+use Rattle.ids.specs.inner.Ids.{idOf, Unmet, recordBytes}
+use Rattle.ids.specs.inner.Notes.{buckets, size, digestAt, startAt, endAt, memberAt, linkAt, headAt, lastIn, entered, kept, Entry, Noted, Blank}
 use Rattle.ids.proofs.Single.{unmet-none, unmet-at}
 use Rattle.ids.proofs.Chains.{last-here, last-before}
 

@@ -17,13 +17,13 @@ use Rattle.walk.specs.declared.Item.{Item}
 use Rattle.walk.specs.declared.ItemStep.{ItemStep}
 use Rattle.walk.specs.declared.ItemStep.the-variants as step
 use Rattle.walk.specs.Walk.{itemAt, itemsFrom, itemsOf}
-use Rattle.walk.specs.Along.{AlongItems, ItemPassed}
+use Rattle.walk.specs.inner.Along.{AlongItems, ItemPassed}
 use Rattle.walk.proofs.Folds.{itemSteps, one-more}
 use Rattle.walk.proofs.Parts.{itemOf}
 use Rattle.document.specs.Document.{Maybe, none, some}
 use Rattle.fields.proofs.Arrays.{passed-read}
-use Rattle.ids.specs.Ids.{idOf, hasId, recordBytes, lastWith, anyHas, repeated, repeatFrom, firstRepeat, earlier}
-use Rattle.ids.specs.Notes.{Noted, Blank}
+use Rattle.ids.specs.inner.Ids.{idOf, hasId, recordBytes, lastWith, anyHas, repeated, repeatFrom, firstRepeat, earlier}
+use Rattle.ids.specs.inner.Notes.{Noted, Blank}
 use Rattle.ids.proofs.Entering.{noted-none}
 
 -- one of the first n records has the id just where there is a last one

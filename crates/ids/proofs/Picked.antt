@@ -10,7 +10,7 @@ use Rattle.schema.specs.Pick.{pick}
 use Rattle.document.specs.Document.{text}
 use Rattle.document.proofs.Records.{recordShape}
 use Rattle.fields.proofs.Fields.{rowOf, listed, field-text}
-use Rattle.ids.specs.Ids.{idName, idValue, idOf}
+use Rattle.ids.specs.inner.Ids.{idName, idValue, idOf}
 
 pub id-picked : (file : ℕ) → 1 ≤ file → file ≤ 5 → {q : List ℕ} {x : Json} → Whole q x → idOf file q ≡ text (file * 10) (pick (recordShape file) x)
 unfolding idValue idName recordShape vehicleType station status bike plan rowOf

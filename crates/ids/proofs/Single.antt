@@ -23,7 +23,7 @@ use Rattle.walk.specs.declared.MemberStep.{MemberStep}
 use Rattle.walk.specs.declared.MemberStep.the-variants as members
 use Rattle.walk.specs.Walk.{part, memberIn, memberAt, membersFrom, membersOf}
 use Rattle.walk.specs.Part.{Whole, kindAt}
-use Rattle.walk.specs.Along.{AlongMembers, MemberPassed}
+use Rattle.walk.specs.inner.Along.{AlongMembers, MemberPassed}
 use Rattle.walk.proofs.Folds.{Walk, memberSteps, members-start, walk-more, walk-end}
 use Rattle.walk.proofs.Places.{member-placed}
 use Rattle.walk.proofs.Parts.{member-whole}
@@ -31,10 +31,10 @@ use Rattle.slots.specs.declared.Found.{Found}
 use Rattle.slots.specs.declared.Found.the-variants.{Missing, Once, Twice}
 use Rattle.slots.specs.Found.{noted, foundIn}
 use Rattle.document.specs.Document.{Maybe, none, some}
-use Rattle.fields.specs.Values.{code, foundBytes, Standing, memberOf, textBy, isId}
+use Rattle.fields.specs.inner.Values.{code, foundBytes, Standing, memberOf, textBy, isId}
 use Rattle.fields.proofs.Ways.{member-found}
-use Rattle.ids.specs.Ids.{idName, idValue, idOf, Unmet, IdPlace, hasId}
-use Rattle.ids.specs.Notes.{kept}
+use Rattle.ids.specs.inner.Ids.{idName, idValue, idOf, Unmet, IdPlace, hasId}
+use Rattle.ids.specs.inner.Notes.{kept}
 
 -- of any other number than 1 to 4
 pub id-name-else : (file : ℕ) → (file ≡ 1 → ⊥) → (file ≡ 2 → ⊥) → (file ≡ 3 → ⊥) → (file ≡ 4 → ⊥) → bytes "plan_id" ≡ idName file

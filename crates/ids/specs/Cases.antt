@@ -9,10 +9,10 @@ use Rattle.notation.specs.Case.{Case, Answers}
 use Rattle.notation.specs.Choice.{_⇒_else_}
 use Rattle.slots.specs.Cases.{gathering}
 use Rattle.slots.specs.Found.{foundIn}
-use Rattle.slots.specs.Blank.{blankText}
-use Rattle.fields.specs.Values.{memberOf, textBy}
-use Rattle.ids.specs.Ids.{idName, idValue, recordBytes, lastWith, anyHas, repeatFrom, firstRepeat, earlier}
-use Rattle.ids.specs.Notes.{lastIn}
+use Rattle.slots.specs.inner.Blank.{blankText}
+use Rattle.fields.specs.inner.Values.{memberOf, textBy}
+use Rattle.ids.specs.inner.Ids.{idName, idValue, recordBytes, lastWith, anyHas, repeatFrom, firstRepeat, earlier}
+use Rattle.ids.specs.inner.Notes.{lastIn}
 
 -- opens every definition of ids
 unfoldable pub identifying : Unit {0}

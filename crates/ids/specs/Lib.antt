@@ -1,3 +1,2 @@
-pub mod Ids
-pub mod Notes
 pub mod Cases
+pub mod inner

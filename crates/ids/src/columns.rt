@@ -5,7 +5,7 @@ ghost use mathlib.Core.Path.{_≡_};
 ghost use Prim.Native.Nat.{_%_, _≤_, _<_};
 ghost use Rattle.limits.specs.Ceilings.{records, fileBytes};
 ghost use Rattle.walk.specs.Walk.{part};
-ghost use Rattle.ids.specs.Notes.{buckets, digestAt, startAt, endAt, memberAt, linkAt, headAt, entered};
+ghost use Rattle.ids.specs.inner.Notes.{buckets, digestAt, startAt, endAt, memberAt, linkAt, headAt, entered};
 
 // A place or an index as a number of 64 bits.
 fn wide(x: u32) -> usize

@@ -19,8 +19,8 @@ ghost use Rattle.walk.specs.Part.{Whole};
 ghost use Rattle.text.specs.Text.{textOf, same};
 ghost use Rattle.slots.specs.declared.Found.the-variants.{Twice};
 ghost use Rattle.slots.specs.Found.{foundIn};
-ghost use Rattle.fields.specs.Values.{textBy, isId};
-ghost use Rattle.ids.specs.Ids.{idName, idValue, IdPlace};
+ghost use Rattle.fields.specs.inner.Values.{textBy, isId};
+ghost use Rattle.ids.specs.inner.Ids.{idName, idValue, IdPlace};
 
 // Whether a name is that of a file's own ids.
 pub fn names_id(file: u8, spelled: &[u8]) -> bool

@@ -20,9 +20,9 @@ ghost use lib.ListN.{length, getD};
 ghost use Rattle.notation.specs.Choice.{_⇒_else_, _and_};
 ghost use Rattle.limits.specs.Ceilings.{records, fileBytes};
 ghost use Rattle.walk.specs.Walk.{part, itemsOf};
-ghost use Rattle.walk.specs.Along.{AlongItems};
-ghost use Rattle.ids.specs.Ids.{idValue, Unmet, Singles, recordBytes, repeated, earlier, firstRepeat};
-ghost use Rattle.ids.specs.Notes.{Noted, Blank};
+ghost use Rattle.walk.specs.inner.Along.{AlongItems};
+ghost use Rattle.ids.specs.inner.Ids.{idValue, Unmet, Singles, recordBytes, repeated, earlier, firstRepeat};
+ghost use Rattle.ids.specs.inner.Notes.{Noted, Blank};
 
 // Notes the record between two places of `p` behind the `n` that are noted; whether one of those has its id. `value` is what it holds as its id, and the
 // member with it is looked for at `member`.

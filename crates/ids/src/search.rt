@@ -12,9 +12,10 @@ use slots::Found;
 use walk::MemberStep;
 use walk::pass_member;
 ghost use mathlib.Core.Path.{_≡_};
-ghost use Rattle.text.specs.Text.{textOf, digest as digestOf};
-ghost use Rattle.ids.specs.Ids.{lastWith, recordBytes};
-ghost use Rattle.ids.specs.Notes.{Searched};
+ghost use Rattle.text.specs.Text.{textOf};
+ghost use Rattle.text.specs.inner.Digest.{digest as digestOf};
+ghost use Rattle.ids.specs.inner.Ids.{lastWith, recordBytes};
+ghost use Rattle.ids.specs.inner.Notes.{Searched};
 
 // One more than the index of the last record of the array `p` that has the id of this digest, among those before `from` and in its chain; 0 where none has it. The
 // search goes along the chain and over a record's members, from the one that was noted on, and is left where the id is met. A record that is noted has its

@@ -11,7 +11,7 @@ use Rattle.word.specs.Kinds.{notJson}
 use Rattle.lexeme.specs.declared.Scan.{Scan}
 use Rattle.lexeme.specs.declared.Scan.the-variants.{End, Fault}
 use Rattle.json.specs.declared.element.Turn.the-variants.{Stop, Next}
-use Rattle.json.specs.Turns.{turnAt}
+use Rattle.json.specs.inner.Turns.{turnAt}
 use Rattle.json.specs.Text.{After, after}
 use Rattle.json.specs.Text.After.{closed, more, wrong}
 use Rattle.json.proofs.Steps.{after-end, after-closed, after-more, after-wrong}

@@ -19,7 +19,7 @@ use Rattle.lexeme.proofs.Rests.{shows, next-drop, rest-at}
 use Rattle.lexeme.proofs.Placed.{placed-made, ends, faults, passes, Lands, lands, takes-leaves}
 use Rattle.lexeme.proofs.Spans.{Skipped}
 use Rattle.json.specs.declared.element.Turn.the-variants.{Stop, Next}
-use Rattle.json.specs.Turns.{turn}
+use Rattle.json.specs.inner.Turns.{turn}
 use Rattle.json.specs.Text.{After, after, contents, bracketed}
 use Rattle.json.specs.Text.After.{closed, wrong}
 use Rattle.json.proofs.Steps.{elements-bad, elements-closed, elements-wrong, contents-end, contents-none, contents-some}

@@ -13,7 +13,7 @@ use Rattle.notation.specs.Ascii.{bytes}
 use Rattle.lexeme.specs.Read.{Read, made, placed}
 use Rattle.lexeme.specs.Read.Read.{done, bad}
 use Rattle.lexeme.specs.Character.{paired, byte, within}
-use Rattle.lexeme.specs.Class.{startOf, Classed}
+use Rattle.lexeme.specs.inner.Class.{startOf, Classed}
 use Rattle.lexeme.specs.Strings as Strings
 use Rattle.lexeme.specs.Numbers as Numbers
 use Rattle.lexeme.specs.Tokens.{blanks, literal, Start, start}

@@ -3,7 +3,7 @@
 ghost use mathlib.Core.Path.{_≡_};
 ghost use lib.ListN.{drop};
 ghost use Rattle.lexeme.specs.Character.{paired};
-ghost use Rattle.lexeme.specs.Class.{Classifies};
+ghost use Rattle.lexeme.specs.inner.Class.{Classifies};
 ghost use Rattle.lexeme.specs.Read.{placed};
 ghost use Rattle.lexeme.specs.Strings.{string};
 ghost use Rattle.json.specs.Text.{expect, bracketed, member, value, text};

@@ -22,7 +22,9 @@ use Rattle.fault.proofs.Order.{by-test, true-false, later-record}
 use Rattle.rings.specs.Rings.{count}
 use Rattle.judge.specs.declared.Place.{Place}
 use Rattle.judge.specs.Faults.{top, Judge, faulty, absence, itemPlace, eachItem, arrayFaults, coordinateFaults, scalarFaults, objectFaults, byNumbering, slotFaults, faults, rowFaults, fileFaults}
-use Rattle.judge.specs.Bounds.{Level, header, inRecord, inItem, OfStageB, Fitting, greatest, fields, tidyArray, tidy, tidyRows}
+use Rattle.judge.specs.Bounds.{OfStageB, Fitting, greatest, fields}
+use Rattle.judge.specs.inner.Tidy.{header, inRecord, inItem}
+use Rattle.judge.specs.inner.Tidy.{Level, tidyArray, tidy, tidyRows}
 use Rattle.judge.proofs.Holds.{All, none, more, only, Holds, nothing, holding, holds-map, holds-is, holds-least, holds-append, after-sub, first-stays, Of}
 use Rattle.judge.proofs.Broken.{AllStageB, unless-kinds, value-kinds}
 use Rattle.judge.proofs.Positions.{coordinates-fit, coordinates-of}

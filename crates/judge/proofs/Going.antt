@@ -18,8 +18,8 @@ use Rattle.walk.specs.declared.Item.{Item}
 use Rattle.walk.specs.declared.ItemStep.the-variants as items
 use Rattle.walk.specs.Walk.{part, onward, itemAt, itemsOf}
 use Rattle.walk.specs.Part.{Whole, treeOf, kindAt}
-use Rattle.walk.specs.Along.{AlongItems}
-use Rattle.walk.specs.Front.{Ends}
+use Rattle.walk.specs.inner.Along.{AlongItems}
+use Rattle.walk.specs.inner.Front.{Ends}
 use Rattle.walk.proofs.Along.{ItemsAlong, items-along, items-along-next, items-along-last}
 use Rattle.walk.proofs.Fronts.{fronts-whole, item-ended, item-met, items-end as array-end, cut-same}
 use Rattle.walk.proofs.Places.{item-placed}
@@ -28,15 +28,15 @@ use Rattle.walk.proofs.Trees.{array-parts}
 use Rattle.schema.specs.declared.Line.{Line}
 use Rattle.schema.specs.Shape as shape
 use Rattle.schema.specs.Shape.{Shape, Rows, Need, Numbering}
-use Rattle.schema.specs.Line.{lineAt, numberingLetter}
+use Rattle.schema.specs.inner.Line.{lineAt, numberingLetter}
 use Rattle.schema.specs.Pick as picking
 use Rattle.schema.specs.Pick.{Slot, missing, once, twice, given, find, put, Picked, PickedItems, pick, pickRows, each, listOf}
 use Rattle.schema.specs.Table23.{table23}
 use Rattle.schema.proofs.Tests.{and-left, and-right}
 use Rattle.schema.proofs.Walk.{Laid, linesIn, step, first-row, no-row}
 use Rattle.slots.specs.declared.Slots.{Slots as Filled}
-use Rattle.slots.specs.Rows.{mostRows, namesIn, lineNames, rowLine}
-use Rattle.slots.specs.Slots.{slotsOf, slotAt, gathered}
+use Rattle.slots.specs.inner.Rows.{mostRows, namesIn, lineNames, rowLine}
+use Rattle.slots.specs.inner.Slots.{slotsOf, slotAt, gathered}
 use Rattle.slots.proofs.Picks.{Slotted, slotted-all}
 use Rattle.fault.specs.declared.Least.{Least}
 use Rattle.fault.specs.declared.Least.the-variants.{None}
@@ -46,8 +46,8 @@ use Rattle.scalar.specs.Scalars.{unless}
 use Rattle.judge.specs.declared.Place.{Place}
 use Rattle.rings.specs.Rings.{count}
 use Rattle.judge.specs.Faults.{Judge, faulty, itemPlace, eachItem, arrayFaults, faults, rowFaults}
-use Rattle.judge.specs.Ready.{plain, ready, readyRows}
-use Rattle.judge.specs.Judged.{bracketsOf, itemPlaceOf, memberFaults, rowLeast, Single, Array, Member, Kept, Listed, RowsJudged}
+use Rattle.judge.specs.inner.Ready.{plain, ready, readyRows}
+use Rattle.judge.specs.inner.Judged.{bracketsOf, itemPlaceOf, memberFaults, rowLeast, Single, Array, Member, Kept, Listed, RowsJudged}
 use Rattle.judge.proofs.Lines.{line-field, line-numbering, line-most, line-item, item-told, line-place, plain-single, bracketless, whole-items, no-items}
 use Rattle.judge.proofs.Values.{Row, row-judged}
 

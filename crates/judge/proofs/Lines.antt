@@ -16,18 +16,18 @@ use Rattle.walk.proofs.Fronts.{front-kind}
 use Rattle.schema.specs.declared.Line.{Line}
 use Rattle.schema.specs.Shape as shape
 use Rattle.schema.specs.Shape.{Shape, Rows, Need, Numbering}
-use Rattle.schema.specs.Line.{inside, entries, entriesOf, lineAt, valueLetter, sortWords, shapeWords, needLetter, numberingLetter, laidOut}
+use Rattle.schema.specs.inner.Line.{inside, entries, entriesOf, lineAt, valueLetter, sortWords, shapeWords, needLetter, numberingLetter, laidOut}
 use Rattle.schema.specs.Later.{itemShape}
 use Rattle.schema.specs.Table23.{table23, written23}
 use Rattle.schema.specs.Pick.{pick}
 use Rattle.schema.proofs.Letters.{array-letter}
 use Rattle.schema.proofs.Walk.{Laid, Step, step, laid-array}
-use Rattle.slots.specs.Rows.{lineCount}
+use Rattle.slots.specs.inner.Rows.{lineCount}
 use Rattle.fault.proofs.Order.{true-false}
 use Rattle.judge.specs.declared.Place.{Place}
 use Rattle.judge.specs.Faults.{Judge, absence, itemPlace, faulty, arrayFaults, faults}
-use Rattle.judge.specs.Ready.{noWords, plain}
-use Rattle.judge.specs.Judged.{bracketsOf, absenceOf, itemPlaceOf, Told}
+use Rattle.judge.specs.inner.Ready.{noWords, plain}
+use Rattle.judge.specs.inner.Judged.{bracketsOf, absenceOf, itemPlaceOf, Told}
 
 pub how-many : length (entriesOf table23) ≡ lineCount
 unfolding laidOut written23

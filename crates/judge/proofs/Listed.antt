@@ -8,24 +8,24 @@ use lib.ListN.{length, take}
 use Rattle.json.specs.Tree.{Json}
 use Rattle.text.specs.Text.{same}
 use Rattle.walk.specs.Part.{Whole}
-use Rattle.walk.specs.Front.{Ends}
+use Rattle.walk.specs.inner.Front.{Ends}
 use Rattle.walk.proofs.Fronts.{whole-fronts, fronts-whole}
 use Rattle.schema.specs.declared.Range.{Range}
 use Rattle.schema.specs.Shape as shape
 use Rattle.schema.specs.Shape.{Shape, Rows, fileShape}
-use Rattle.schema.specs.Line.{inside, fileLines, laidOut}
+use Rattle.schema.specs.inner.Line.{inside, fileLines, laidOut}
 use Rattle.schema.specs.Later.{listedIn}
 use Rattle.schema.specs.Pick.{pick}
-use Rattle.schema.specs.Sound.{distinctRows}
+use Rattle.schema.specs.inner.Sound.{distinctRows}
 use Rattle.schema.specs.Table23.{table23, written23}
 use Rattle.schema.proofs.Walk.{LaidIn, laid-object, file-lined}
-use Rattle.slots.specs.Rows.{namesIn}
+use Rattle.slots.specs.inner.Rows.{namesIn}
 use Rattle.fault.specs.declared.Least.{Least}
 use Rattle.fault.specs.declared.Least.the-variants.{None}
 use Rattle.fault.specs.Fault.{least}
 use Rattle.judge.specs.Faults.{top, faults, fileFaults}
-use Rattle.judge.specs.Ready.{arrays, plain, ready}
-use Rattle.judge.specs.Judged.{Object}
+use Rattle.judge.specs.inner.Ready.{arrays, plain, ready}
+use Rattle.judge.specs.inner.Judged.{Object}
 
 -- so many objects lie in one another at most
 abbrev pub levels : ℕ

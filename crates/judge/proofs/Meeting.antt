@@ -17,8 +17,8 @@ use Rattle.walk.specs.declared.Member.{Member as Met}
 use Rattle.walk.specs.declared.MemberStep.the-variants as members
 use Rattle.walk.specs.Walk.{part, onward, memberAt}
 use Rattle.walk.specs.Part.{Whole, kindAt}
-use Rattle.walk.specs.Along.{Placed, NamePassed}
-use Rattle.walk.specs.Front.{Ends}
+use Rattle.walk.specs.inner.Along.{Placed, NamePassed}
+use Rattle.walk.specs.inner.Front.{Ends}
 use Rattle.walk.proofs.Places.{member-placed}
 use Rattle.walk.proofs.Open.{front-part}
 use Rattle.walk.proofs.Along.{MembersAlong, members-along, members-along-next, members-along-last}
@@ -26,13 +26,13 @@ use Rattle.walk.proofs.Fronts.{fronts-whole, member-ended, member-met, members-
 use Rattle.schema.specs.Table23.{table23}
 use Rattle.slots.specs.declared.Row.{Row}
 use Rattle.slots.specs.declared.Slots.{Slots}
-use Rattle.slots.specs.Rows.{mostRows, lineNames, rowNamed, rowLine, RowOf}
-use Rattle.slots.specs.Slots.{slotsOf, empty, slotAt, newAt, countedIn, putIn, absorbed, gathered}
+use Rattle.slots.specs.inner.Rows.{mostRows, lineNames, rowNamed, rowLine, RowOf}
+use Rattle.slots.specs.inner.Slots.{slotsOf, empty, slotAt, newAt, countedIn, putIn, absorbed, gathered}
 use Rattle.slots.proofs.Filled.{put-counts, Sized, put-sized, empty-sized, empty-missing, Put, here, there, put-once}
 use Rattle.fault.specs.declared.Least.{Least}
 use Rattle.fault.specs.declared.Least.the-variants.{None}
 use Rattle.judge.specs.declared.Place.{Place}
-use Rattle.judge.specs.Judged.{bracketsOf, Member, Kept, RowsJudged, MembersJudged}
+use Rattle.judge.specs.inner.Judged.{bracketsOf, Member, Kept, RowsJudged, MembersJudged}
 use Rattle.judge.proofs.Lines.{bracketless, whole-members}
 
 -- how many leasts are kept: one for each row, and one that is not looked at

@@ -12,7 +12,7 @@ use Rattle.walk.specs.Part.{Whole}
 use Rattle.schema.specs.declared.Line.{Line}
 use Rattle.schema.specs.Shape as shape
 use Rattle.schema.specs.Shape.{Shape, Numbering}
-use Rattle.schema.specs.Line.{lineAt, numberingLetter}
+use Rattle.schema.specs.inner.Line.{lineAt, numberingLetter}
 use Rattle.schema.specs.Pick.{Picked, PickedItems, bare, items, item, outline, inArray, each, pick}
 use Rattle.schema.specs.Table23.{table23, coordinates}
 use Rattle.fault.specs.declared.Least.{Least}
@@ -20,8 +20,8 @@ use Rattle.fault.specs.Fault.{least}
 use Rattle.fault.proofs.Order.{true-false}
 use Rattle.judge.specs.declared.Place.{Place}
 use Rattle.judge.specs.Faults.{coordinateFaults, faults}
-use Rattle.judge.specs.Ready.{arrays, ready}
-use Rattle.judge.specs.Judged.{Array}
+use Rattle.judge.specs.inner.Ready.{arrays, ready}
+use Rattle.judge.specs.inner.Judged.{Array}
 use Rattle.judge.proofs.Lines.{line-field, line-numbering}
 
 each-same : (f g : Json → Picked) → ((x : Json) → f x ≡ g x) → (is : Items) → each f is ≡ each g is

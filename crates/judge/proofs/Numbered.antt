@@ -21,10 +21,10 @@ use Rattle.fault.specs.Fault.{fault, before}
 use Rattle.rings.specs.declared.LeastFound.{LeastFound}
 use Rattle.rings.specs.declared.LeastFound.the-variants as found
 use Rattle.rings.specs.Rings.{Found, coordinatesFound}
-use Rattle.rings.specs.Least.{earlier, lesser, leastFound}
+use Rattle.rings.specs.inner.Least.{earlier, lesser, leastFound}
 use Rattle.judge.specs.declared.Place.{Place}
 use Rattle.judge.specs.Faults.{faulty, numbered, coordinateFaults}
-use Rattle.judge.specs.Judged.{bracketsOf}
+use Rattle.judge.specs.inner.Judged.{bracketsOf}
 use Rattle.judge.proofs.Lines.{whole-brackets, whole-items}
 
 module _ (q : Place) (φ : ℕ) where

@@ -17,9 +17,9 @@ use Rattle.walk.specs.Part.{Whole, treeOf, kindAt}
 use Rattle.schema.specs.declared.Line.{Line}
 use Rattle.schema.specs.Shape as shape
 use Rattle.schema.specs.Shape.{Shape, Rows, Need, Sort}
-use Rattle.schema.specs.Line.{lineAt, wordsAt, sortLetter, sortWords, inside}
+use Rattle.schema.specs.inner.Line.{lineAt, wordsAt, sortLetter, sortWords, inside}
 use Rattle.schema.specs.Pick.{Slot, missing, once, given, unlessEmpty, find, outline, pick}
-use Rattle.schema.specs.Sound.{distinctRows}
+use Rattle.schema.specs.inner.Sound.{distinctRows}
 use Rattle.schema.specs.Table23.{table23}
 use Rattle.schema.proofs.Letters.{IsArray, IsObject, array-letter, object-letter}
 use Rattle.schema.proofs.Tests.{and-left, and-right}
@@ -27,10 +27,11 @@ use Rattle.schema.proofs.Walk.{Laid, laid-object}
 use Rattle.slots.specs.declared.Found.{Found}
 use Rattle.slots.specs.declared.Found.the-variants.{Missing, Once, Twice}
 use Rattle.slots.specs.declared.Slots.{Slots}
-use Rattle.slots.specs.Found.{foundIn, treeIn}
-use Rattle.slots.specs.Rows.{lineCount, mostRows, namesIn}
-use Rattle.slots.specs.Slots.{slotAt}
-use Rattle.slots.specs.Blank.{blankText}
+use Rattle.slots.specs.Found.{foundIn}
+use Rattle.slots.specs.inner.Found.{treeIn}
+use Rattle.slots.specs.inner.Rows.{lineCount, mostRows, namesIn}
+use Rattle.slots.specs.inner.Slots.{slotAt}
+use Rattle.slots.specs.inner.Blank.{blankText}
 use Rattle.slots.proofs.Filled.{slot-missing, slot-once, slot-twice}
 use Rattle.slots.proofs.Finds.{find-found, found-value}
 use Rattle.slots.proofs.Picks.{unless-blank}
@@ -38,11 +39,11 @@ use Rattle.fault.specs.declared.Least.{Least}
 use Rattle.fault.specs.Fault.{least}
 use Rattle.fault.proofs.Order.{by-test, true-false}
 use Rattle.scalar.specs.Scalars.{kindsOf}
-use Rattle.scalar.specs.Listed.{listed}
+use Rattle.scalar.specs.inner.Listed.{listed}
 use Rattle.judge.specs.declared.Place.{Place}
 use Rattle.judge.specs.Faults.{faulty, absence, faults}
-use Rattle.judge.specs.Ready.{under, ready, readyRows}
-use Rattle.judge.specs.Judged.{bracketsOf, absenceOf, memberFaults, rowLeast, Told, Single, Array, Member, MembersJudged, Object}
+use Rattle.judge.specs.inner.Ready.{under, ready, readyRows}
+use Rattle.judge.specs.inner.Judged.{bracketsOf, absenceOf, memberFaults, rowLeast, Told, Single, Array, Member, MembersJudged, Object}
 use Rattle.judge.proofs.Lines.{how-many, line-field, line-need, line-value, row-told, whole-members, no-members}
 
 -- a single value

@@ -16,10 +16,10 @@ ghost use Rattle.schema.specs.Shape.{fileShape};
 ghost use Rattle.schema.specs.Table23.{table23};
 ghost use Rattle.word.specs.Kinds.{tooMany};
 ghost use Rattle.fault.specs.Fault.{least};
-ghost use Rattle.scalar.specs.Listed.{listed};
+ghost use Rattle.scalar.specs.inner.Listed.{listed};
 ghost use Rattle.scalar.specs.Scalars.{unless};
 ghost use Rattle.judge.specs.Faults.{faulty, fileFaults};
-ghost use Rattle.judge.specs.Judged.{absenceOf, itemPlaceOf};
+ghost use Rattle.judge.specs.inner.Judged.{absenceOf, itemPlaceOf};
 
 pub mod part;
 

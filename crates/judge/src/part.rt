@@ -35,14 +35,14 @@ ghost use lib.ListN.{length, take};
 ghost use Rattle.limits.specs.Ceilings.{fileBytes};
 ghost use Rattle.json.specs.Tree.{Json};
 ghost use Rattle.walk.specs.Part.{Whole, kindAt};
-ghost use Rattle.walk.specs.Front.{Ends};
+ghost use Rattle.walk.specs.inner.Front.{Ends};
 ghost use Rattle.schema.specs.Pick.{pick};
-ghost use Rattle.schema.specs.Line.{NameColumns, LineColumns, lineAt};
+ghost use Rattle.schema.specs.inner.Line.{NameColumns, LineColumns, lineAt};
 ghost use Rattle.schema.specs.Table23.{table23, coordinates};
-ghost use Rattle.slots.specs.Rows.{lineCount};
+ghost use Rattle.slots.specs.inner.Rows.{lineCount};
 ghost use Rattle.fault.specs.Fault.{least};
 ghost use Rattle.judge.specs.Faults.{coordinateFaults};
-ghost use Rattle.judge.specs.Judged.{bracketsOf, rowLeast, Single, Array, Member, RowsJudged, MembersJudged, Object};
+ghost use Rattle.judge.specs.inner.Judged.{bracketsOf, rowLeast, Single, Array, Member, RowsJudged, MembersJudged, Object};
 
 // The letter of an array or an object, by the kind of the value p; 0 of any other.
 fn brackets(p: &[u8]) -> u8

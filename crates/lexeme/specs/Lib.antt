@@ -3,7 +3,7 @@ pub mod Character
 pub mod Strings
 pub mod Numbers
 pub mod Tokens
-pub mod Class
 pub mod Cases
 pub mod Utf8
 pub mod Utf8Cases
+pub mod inner

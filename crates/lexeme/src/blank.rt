@@ -2,7 +2,7 @@
 ghost use mathlib.Core.Path.{_≡_};
 ghost use Prim.Native.Nat.{_-_};
 ghost use lib.ListN.{length, drop};
-ghost use Rattle.lexeme.specs.Class.{Classifies};
+ghost use Rattle.lexeme.specs.inner.Class.{Classifies};
 ghost use Rattle.lexeme.specs.Tokens.{blanks};
 use super::ascii::is_blank;
 use super::class::class_by;

@@ -1,6 +1,6 @@
 // The class of every byte, for JSON and UTF-8 alike: one table tells what a byte says inside a string and outside.
 ghost use mathlib.Core.Path.{_≡_};
-ghost use Rattle.lexeme.specs.Class.{blankOf, Classed, Classifies};
+ghost use Rattle.lexeme.specs.inner.Class.{blankOf, Classed, Classifies};
 
 // The classes, numbered so that one test tells what a scanner asks most: those below QUOTE stand for themselves inside a string, and the odd ones
 // are blanks.

@@ -18,12 +18,13 @@ use Rattle.fare.specs.declared.Segment.{Segment}
 use Rattle.document.specs.Document.{fieldItems, text}
 use Rattle.document.proofs.Fields.{here, below}
 use Rattle.document.proofs.Records.{pickedItems}
-use Rattle.fields.specs.Values.{memberOf, textBy, arrayBy, integerIn}
+use Rattle.fields.specs.Values.{integerIn}
+use Rattle.fields.specs.inner.Values.{memberOf, textBy, arrayBy}
 use Rattle.fields.proofs.Fields.{field-spelled, field-text, field-given, field-items, rowOf, listed}
 use Rattle.clean.proofs.Faultless as required
 use Rattle.quote.specs.Plan.{moneyIn, priceIn, priceAt, segment}
-use Rattle.quote.specs.Values.{priceBy, segmentBy}
-use Rattle.quote.specs.Clear.{Clear, ClearValue, ClearPlan, ClearSegments}
+use Rattle.quote.specs.inner.Values.{priceBy, segmentBy}
+use Rattle.quote.specs.inner.Clear.{Clear, ClearValue, ClearPlan, ClearSegments}
 use Rattle.quote.proofs.Cleared.{member-clear, required-clear, items-most, items-clear}
 
 -- a plan

@@ -15,7 +15,7 @@ use Rattle.json.specs.Text.{text, value, valueBy}
 use Rattle.walk.specs.declared.Item.{Item}
 use Rattle.walk.specs.Walk.{part, itemsOf}
 use Rattle.walk.specs.Part.{Whole, treeOf}
-use Rattle.walk.specs.Along.{AlongItems}
+use Rattle.walk.specs.inner.Along.{AlongItems}
 use Rattle.walk.proofs.Parts.{itemOf, items-whole}
 use Rattle.schema.specs.Shape.{fileShape}
 use Rattle.schema.specs.Table23.{table23, listing, file, plan}
@@ -24,7 +24,7 @@ use Rattle.schema.proofs.Tests.{and-left, and-right}
 use Rattle.judge.specs.declared.Place.{Place}
 use Rattle.judge.specs.Faults.{faults}
 use Rattle.document.specs.Document.{none, some, field, along}
-use Rattle.document.specs.Spans.{RecordsFrom}
+use Rattle.document.specs.inner.Spans.{RecordsFrom}
 use Rattle.document.proofs.Records.{recordShape, pickedItems}
 use Rattle.document.proofs.Rests.{rest-along, rest-picked}
 use Rattle.clean.specs.declared.Cleanness.{Cleanness}
@@ -36,8 +36,8 @@ use Rattle.clean.proofs.Cleans.{Sound, clean-sound, clean-held}
 use Rattle.quote.specs.declared.Lookup.{Lookup}
 use Rattle.quote.specs.declared.Lookup.the-variants as found
 use Rattle.quote.specs.Plan.{planOf, plans}
-use Rattle.quote.specs.Lookup.{isPlan, lookupIn, lookup}
-use Rattle.quote.specs.Clear.{ClearPlan}
+use Rattle.quote.specs.inner.Lookup.{isPlan, lookupIn, lookup}
+use Rattle.quote.specs.inner.Clear.{ClearPlan}
 use Rattle.quote.specs.Quote.{mostSeconds, mostMetres, refused, planQuote, cleanQuote, short, ofClean, quoteOf}
 use Rattle.quote.proofs.Looking.{recordOf, planAt, lookup-plan}
 

@@ -20,7 +20,7 @@ use Rattle.document.proofs.Records.{pickedItems}
 use Rattle.quote.specs.declared.Lookup.{Lookup}
 use Rattle.quote.specs.declared.Lookup.the-variants.{Plan, Nothing}
 use Rattle.quote.specs.Plan.{planOf}
-use Rattle.quote.specs.Lookup.{isPlan, lookupIn, lookup}
+use Rattle.quote.specs.inner.Lookup.{isPlan, lookupIn, lookup}
 
 -- an item's record
 abbrev pub recordOf : List ℕ → Item → Picked

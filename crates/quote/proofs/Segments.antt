@@ -31,12 +31,13 @@ use Rattle.decimal.proofs.Tests.{within-is}
 use Rattle.document.specs.Document.{Maybe, none, some}
 use Rattle.document.proofs.Records.{pickedItems}
 use Rattle.fare.specs.declared.Segment.{Segment}
-use Rattle.fare.specs.Folds.{Fills}
-use Rattle.fare.specs.Bounds.{mostMoney, Modest}
+use Rattle.fare.specs.inner.Folds.{Fills}
+use Rattle.fare.specs.Bounds.{mostMoney}
+use Rattle.fare.specs.inner.Room.{Modest}
 use Rattle.quote.specs.Plan.{amountIn, numberAmount, priceAmount, moneyIn, priceIn, segment}
-use Rattle.fields.specs.Values.{spelledBy, textBy, memberOf}
-use Rattle.quote.specs.Values.{priceBy, segmentBy, segmentsBy}
-use Rattle.quote.specs.Clear.{ClearSegment, ClearSegments}
+use Rattle.fields.specs.inner.Values.{spelledBy, textBy, memberOf}
+use Rattle.quote.specs.inner.Values.{priceBy, segmentBy, segmentsBy}
+use Rattle.quote.specs.inner.Clear.{ClearSegment, ClearSegments}
 use Rattle.quote.proofs.Fields.{segment-is}
 
 -- Amounts are bounded, whatever is read.

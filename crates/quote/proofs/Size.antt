@@ -11,7 +11,8 @@ use Rattle.schema.specs.Table23.{table23}
 use Rattle.schema.specs.Pick.{Picked, pick}
 use Rattle.document.specs.Document.{Maybe, none, some}
 use Rattle.fare.specs.Charges.{minutesOf, kilometresOf}
-use Rattle.fare.specs.Bounds.{mostSum, Quotable}
+use Rattle.fare.specs.Bounds.{mostSum}
+use Rattle.fare.specs.inner.Room.{Quotable}
 use Rattle.fare.proofs.Size.{sum-size, amount-size, sum-room}
 use Rattle.clean.specs.declared.Cleanness.{Cleanness}
 use Rattle.clean.specs.declared.Cleanness.the-variants.{Clean, Broken}

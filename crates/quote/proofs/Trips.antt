@@ -17,16 +17,17 @@ use Rattle.fare.specs.declared.Segments.{Segments}
 use Rattle.fare.specs.declared.Sum.{Sum}
 use Rattle.fare.specs.Charges as charges
 use Rattle.fare.specs.Charges.{minutesOf, kilometresOf}
-use Rattle.fare.specs.Folds.{worth, ofPrice, withCharges, Fills, withAll}
-use Rattle.fare.specs.Bounds.{mostMinutes, mostKilometres, mostRide, Room, Modest, Chargeable, Quotable}
+use Rattle.fare.specs.inner.Folds.{worth, ofPrice, withCharges, Fills, withAll}
+use Rattle.fare.specs.Bounds.{mostMinutes, mostKilometres}
+use Rattle.fare.specs.inner.Room.{mostRide, Room, Modest, Chargeable, Quotable}
 use Rattle.fare.proofs.Worth.{clamped-difference}
 use Rattle.fare.proofs.Fold.{sum-kept}
 use Rattle.fare.proofs.Bound.{minutes-short, kilometres-short, room-price, room-less, room-charges}
 use Rattle.fare.proofs.Size.{amount-size}
 use Rattle.quote.specs.Plan.{priceAt, perMinute, perKilometre, tripAmount, pastMinutes, pastKilometres}
-use Rattle.fields.specs.Values.{memberOf, arrayBy}
-use Rattle.quote.specs.Values.{priceBy, segmentsBy}
-use Rattle.quote.specs.Clear.{ClearPlan}
+use Rattle.fields.specs.inner.Values.{memberOf, arrayBy}
+use Rattle.quote.specs.inner.Values.{priceBy, segmentsBy}
+use Rattle.quote.specs.inner.Clear.{ClearPlan}
 use Rattle.quote.specs.Quote.{mostSeconds, mostMetres, priced, planQuote}
 use Rattle.quote.proofs.Fields.{plan-price, plan-minutes, plan-kilometres, minutes-clear, kilometres-clear}
 use Rattle.quote.proofs.Segments.{price-most, segments-modest, segments-few, segments-picked}

@@ -16,10 +16,11 @@ use Rattle.decimal.specs.Decimals.{numberOf, priceOf}
 use Rattle.decimal.specs.Exact.{amountOf}
 use Rattle.decimal.proofs.Tests.{money-amount}
 use Rattle.document.specs.Document.{some}
-use Rattle.fields.specs.Values.{code, spelledBy, textBy, wholeOf, integerIn}
+use Rattle.fields.specs.Values.{wholeOf, integerIn}
+use Rattle.fields.specs.inner.Values.{code, spelledBy, textBy}
 use Rattle.fields.proofs.Ways.{spelled-none, spelled-some, text-some}
 use Rattle.quote.specs.Plan.{amountIn, numberAmount, priceAmount, moneyIn, priceIn}
-use Rattle.quote.specs.Values.{priceBy}
+use Rattle.quote.specs.inner.Values.{priceBy}
 use Rattle.quote.proofs.Cleared.{IsMoney}
 
 value-value : {d e : Decimal} → number.Value d ≡ number.Value e → d ≡ e

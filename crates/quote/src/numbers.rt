@@ -7,10 +7,11 @@ use fields::code_of;
 use fields::unquoted;
 ghost use mathlib.Core.Path.{_≡_};
 ghost use Rattle.schema.specs.Shape.{integer, money, price};
-ghost use Rattle.fields.specs.Values.{spelledBy, integerIn};
+ghost use Rattle.fields.specs.Values.{integerIn};
+ghost use Rattle.fields.specs.inner.Values.{spelledBy};
 ghost use Rattle.quote.specs.Plan.{moneyIn};
-ghost use Rattle.quote.specs.Values.{priceBy};
-ghost use Rattle.quote.specs.Clear.{ClearValue};
+ghost use Rattle.quote.specs.inner.Values.{priceBy};
+ghost use Rattle.quote.specs.inner.Clear.{ClearValue};
 
 pub fn integer_in(q: &[u8]) -> u64
     requires { ⌜ ClearValue integer (now q) ⌝ }

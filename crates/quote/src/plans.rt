@@ -7,10 +7,10 @@ use walk::pass_item;
 ghost use mathlib.Core.Path.{_≡_};
 ghost use Rattle.json.specs.Tree.{Json};
 ghost use Rattle.walk.specs.Part.{Whole};
-ghost use Rattle.walk.specs.Along.{AlongItems};
+ghost use Rattle.walk.specs.inner.Along.{AlongItems};
 ghost use Rattle.schema.specs.Pick.{pick};
 ghost use Rattle.schema.specs.Table23.{plan};
-ghost use Rattle.quote.specs.Lookup.{isPlan, lookup};
+ghost use Rattle.quote.specs.inner.Lookup.{isPlan, lookup};
 
 // Whether a record is the plan of the id.
 fn is_plan(p: &[u8], id: &[u8]) -> bool

@@ -11,10 +11,11 @@ ghost use mathlib.Core.List.{[]};
 ghost use mathlib.Core.Logic.{_⊎_};
 ghost use mathlib.Core.Path.{_≡_};
 ghost use Rattle.schema.specs.Shape.{integer};
-ghost use Rattle.fare.specs.Folds.{Fills};
-ghost use Rattle.fields.specs.Values.{spelledBy, integerIn};
-ghost use Rattle.quote.specs.Values.{segmentBy, segmentsBy};
-ghost use Rattle.quote.specs.Clear.{ClearValue, ClearSegment, ClearSegments};
+ghost use Rattle.fare.specs.inner.Folds.{Fills};
+ghost use Rattle.fields.specs.Values.{integerIn};
+ghost use Rattle.fields.specs.inner.Values.{spelledBy};
+ghost use Rattle.quote.specs.inner.Values.{segmentBy, segmentsBy};
+ghost use Rattle.quote.specs.inner.Clear.{ClearValue, ClearSegment, ClearSegments};
 
 // An end: 0 stands beside the mark that there is none.
 fn end_in(q: &[u8]) -> u64

@@ -15,10 +15,10 @@ ghost use Rattle.walk.specs.Part.{Whole, treeOf};
 ghost use Rattle.schema.specs.Pick.{pick};
 ghost use Rattle.schema.specs.Table23.{plan};
 ghost use Rattle.document.specs.Document.{some};
-ghost use Rattle.fare.specs.Folds.{ofPrice, Fills};
-ghost use Rattle.fields.specs.Values.{memberOf, arrayBy};
-ghost use Rattle.quote.specs.Values.{priceBy, segmentsBy};
-ghost use Rattle.quote.specs.Clear.{ClearPlan, ClearSegments};
+ghost use Rattle.fare.specs.inner.Folds.{ofPrice, Fills};
+ghost use Rattle.fields.specs.inner.Values.{memberOf, arrayBy};
+ghost use Rattle.quote.specs.inner.Values.{priceBy, segmentsBy};
+ghost use Rattle.quote.specs.inner.Clear.{ClearPlan, ClearSegments};
 ghost use Rattle.quote.specs.Quote.{mostSeconds, mostMetres, answer, planQuote};
 
 // The price of a plan alone.

@@ -18,12 +18,12 @@ use Rattle.schema.specs.Table23.{vehicleType, station}
 use Rattle.schema.specs.Pick.{Picked, pick}
 use Rattle.document.specs.Document.{Maybe, none, some, text}
 use Rattle.document.proofs.Records.{recordShape, pickedItems}
-use Rattle.fields.specs.Values.{isId}
+use Rattle.fields.specs.inner.Values.{isId}
 use Rattle.fields.proofs.Fields.{rowOf, listed, field-text, field-given}
-use Rattle.ids.specs.Ids.{idOf, recordBytes}
+use Rattle.ids.specs.inner.Ids.{idOf, recordBytes}
 use Rattle.ids.proofs.Picked.{id-picked}
 use Rattle.references.specs.References.{anyWith, notHuman}
-use Rattle.references.specs.Known.{passing, meeting, anyMeets, fieldOf, testOf, testedOf}
+use Rattle.references.specs.inner.Known.{passing, meeting, anyMeets, fieldOf, testOf, testedOf}
 
 -- the record of a file answers alike in bytes and picked
 record Alike (file : ℕ) (q : List ℕ) (x : Picked) : Type 0 where

@@ -12,11 +12,11 @@ use Rattle.walk.specs.declared.Item.{Item}
 use Rattle.walk.specs.Walk.{part, itemsOf}
 use Rattle.walk.specs.Part.{Whole, treeOf}
 use Rattle.walk.proofs.Parts.{itemOf, items-whole}
-use Rattle.ids.specs.Ids.{hasId, recordBytes, lastWith}
-use Rattle.ids.specs.Notes.{startAt, endAt, linkAt, Noted, Searched}
+use Rattle.ids.specs.inner.Ids.{hasId, recordBytes, lastWith}
+use Rattle.ids.specs.inner.Notes.{startAt, endAt, linkAt, Noted, Searched}
 use Rattle.ids.proofs.Single.{kept-whole}
 use Rattle.ids.proofs.Chains.{with-here, with-before, with-has, from-met, chain-entry, chain-before, chain-less}
-use Rattle.references.specs.Known.{passing, meeting, anyMeets}
+use Rattle.references.specs.inner.Known.{passing, meeting, anyMeets}
 
 module _ (file : ℕ) (tested : Bool) (id : List ℕ) (rs : List (List ℕ)) where
   -- the n-th record

@@ -1,6 +1,6 @@
 // References between files: the search for the record that one names, and the rules on fields that rest on other fields or files.
 ghost use mathlib.Core.Path.{_≡_};
-ghost use Rattle.references.specs.Known.{setOf};
+ghost use Rattle.references.specs.inner.Known.{setOf};
 
 pub mod rules;
 pub mod search;

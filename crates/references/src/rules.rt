@@ -7,10 +7,10 @@ use ids::Notes;
 use word::kind::Kind;
 ghost use mathlib.Core.Path.{_≡_};
 ghost use Rattle.document.proofs.Records.{recordShape, pickedItems};
-ghost use Rattle.fields.specs.Values.{textBy, thereBy};
-ghost use Rattle.scalar.specs.Listed.{listed};
+ghost use Rattle.fields.specs.inner.Values.{textBy, thereBy};
+ghost use Rattle.scalar.specs.inner.Listed.{listed};
 ghost use Rattle.references.specs.References.{demanded as demandedOf, refers as refersTo, named as namedBy};
-ghost use Rattle.references.specs.Known.{Searchable, fieldOf, testOf};
+ghost use Rattle.references.specs.inner.Known.{Searchable, fieldOf, testOf};
 
 // What a field breaks that is needed: the kind, or 0 where it is given.
 pub fn demanded(needed: bool, value: &[u8]) -> u8

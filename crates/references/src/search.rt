@@ -16,9 +16,9 @@ ghost use Rattle.notation.specs.Choice.{_⇒_else_};
 ghost use Rattle.text.specs.Text.{textOf};
 ghost use Rattle.walk.specs.Part.{Whole, treeOf};
 ghost use Rattle.document.proofs.Records.{recordShape, pickedItems};
-ghost use Rattle.fields.specs.Values.{textBy};
+ghost use Rattle.fields.specs.inner.Values.{textBy};
 ghost use Rattle.references.specs.References.{anyWith, notHuman};
-ghost use Rattle.references.specs.Known.{Searchable, passing, fieldOf, testedOf};
+ghost use Rattle.references.specs.inner.Known.{Searchable, passing, fieldOf, testedOf};
 
 // Whether no human drives, by the value of field 12.
 pub fn is_driven(value: &[u8]) -> bool

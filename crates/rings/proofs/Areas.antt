@@ -14,14 +14,14 @@ use Rattle.notation.specs.Choice.{_⇒_else_, _and_}
 use Rattle.word.specs.Kinds.{badRing, tooMany}
 use Rattle.walk.specs.declared.ItemStep.{ItemStep}
 use Rattle.walk.specs.declared.ItemStep.the-variants as step
-use Rattle.walk.specs.Along.{ItemPassed}
+use Rattle.walk.specs.inner.Along.{ItemPassed}
 use Rattle.geometry.specs.Ring.{sound}
-use Rattle.geometry.specs.Shifted.{InRange, points}
+use Rattle.geometry.specs.inner.Shifted.{InRange, points}
 use Rattle.schema.specs.Pick.{Picked}
 use Rattle.scalar.specs.Scalars.{unless}
 use Rattle.rings.specs.Rings.{Found, at, positionKinds, position, none, allSound, positionsFound, ringFound}
-use Rattle.rings.specs.Least.{lesser, leastFound}
-use Rattle.rings.specs.Parts.{positionShape, partsOf, Charted, RingRead, RingRoom, Outlined, areaLeast, Tells}
+use Rattle.rings.specs.inner.Least.{lesser, leastFound}
+use Rattle.rings.specs.inner.Parts.{positionShape, partsOf, Charted, RingRead, RingRoom, Outlined, areaLeast, Tells}
 use Rattle.rings.specs.declared.LeastFound.{LeastFound}
 use Rattle.rings.specs.declared.LeastFound.the-variants.{None, At}
 use Rattle.rings.specs.declared.RingPoints.{RingPoints}

@@ -14,12 +14,12 @@ use borrow.Author.Tests.{lt-ltb, le-ltb}
 use Rattle.limits.specs.Ceilings.{positions}
 use Rattle.notation.specs.Choice.{_⇒_else_}
 use Rattle.geometry.specs.Ring.{Point}
-use Rattle.geometry.specs.Shifted.{OnMap, point, shifted, points}
+use Rattle.geometry.specs.inner.Shifted.{OnMap, point, shifted, points}
 use Rattle.geometry.specs.declared.Position.{Position}
 use Rattle.schema.specs.Pick.{Picked}
 use Rattle.rings.specs.Rings.{positionKinds, position}
-use Rattle.rings.specs.Least.{lesser}
-use Rattle.rings.specs.Parts.{Charted, Spotted}
+use Rattle.rings.specs.inner.Least.{lesser}
+use Rattle.rings.specs.inner.Parts.{Charted, Spotted}
 use Rattle.rings.specs.declared.LeastFound.{LeastFound}
 use Rattle.rings.specs.declared.LeastFound.the-variants.{None}
 use Rattle.rings.specs.declared.Spot.{Spot}

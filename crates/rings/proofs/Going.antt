@@ -11,13 +11,13 @@ use Rattle.walk.specs.declared.ItemStep.{ItemStep}
 use Rattle.walk.specs.declared.ItemStep.the-variants as step
 use Rattle.walk.specs.Walk.{part}
 use Rattle.walk.specs.Part.{Whole, treeOf}
-use Rattle.walk.specs.Along.{ItemPlaced, ItemPassed}
+use Rattle.walk.specs.inner.Along.{ItemPlaced, ItemPassed}
 use Rattle.walk.proofs.Parts.{itemOf}
 use Rattle.schema.specs.Shape.{Shape}
 use Rattle.schema.specs.Pick.{Picked}
 use Rattle.rings.specs.Rings.{Found}
-use Rattle.rings.specs.Least.{lesser, leastFound}
-use Rattle.rings.specs.Parts.{Listing, picked, partsOf, Left}
+use Rattle.rings.specs.inner.Least.{lesser, leastFound}
+use Rattle.rings.specs.inner.Parts.{Listing, picked, partsOf, Left}
 use Rattle.rings.specs.declared.LeastFound.{LeastFound}
 use Rattle.rings.specs.declared.LeastFound.the-variants.{None}
 use Rattle.rings.proofs.Order.{lesser-none, none-lesser, lesser-assoc, least-append}

@@ -7,7 +7,7 @@ use native.Mathlib.Decide.{decLe}
 use native.Mathlib.Omega.{arith}
 use lib.IntN.{natAbs}
 use Rattle.word.specs.Kinds.{wrongType, numberForm, outOfRange}
-use Rattle.signed.specs.Signed.{difference}
+use Rattle.signed.specs.inner.Difference.{difference}
 use Rattle.signed.proofs.Gap.{difference-up}
 use Rattle.json.specs.Tree as tree
 use Rattle.json.specs.Tree.{Json}
@@ -23,8 +23,8 @@ use Rattle.schema.specs.Pick.{Picked, bare, items, slots, pick}
 use Rattle.scalar.specs.Scalars as scalar
 use Rattle.scalar.specs.Scalars.{unless, formed, kindsOf}
 use Rattle.rings.specs.Rings.{at, coordinate, ordinateKinds}
-use Rattle.rings.specs.Least.{leastFound}
-use Rattle.rings.specs.Parts.{numberShape, isNumber, rangeKinds, Measured}
+use Rattle.rings.specs.inner.Least.{leastFound}
+use Rattle.rings.specs.inner.Parts.{numberShape, isNumber, rangeKinds, Measured}
 use Rattle.rings.specs.declared.LeastFound.the-variants.{None, At}
 use Rattle.rings.specs.declared.Ordinate.{Ordinate}
 use Rattle.rings.proofs.Order.{lesser-none}

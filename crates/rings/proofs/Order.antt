@@ -9,7 +9,7 @@ use native.Mathlib.Omega.{arith}
 use lib.Dec.{ltb}
 use borrow.Author.Tests.{ltb-true, ltb-false, lt-ltb, le-ltb}
 use Rattle.rings.specs.Rings.{Found, at}
-use Rattle.rings.specs.Least.{earlier, lesser, leastFound}
+use Rattle.rings.specs.inner.Least.{earlier, lesser, leastFound}
 use Rattle.rings.specs.declared.LeastFound.{LeastFound}
 use Rattle.rings.specs.declared.LeastFound.the-variants.{None, At}
 

@@ -14,7 +14,7 @@ use Rattle.walk.specs.declared.ItemStep.{ItemStep}
 use Rattle.walk.specs.declared.ItemStep.the-variants as step
 use Rattle.walk.specs.Walk.{itemAt, itemsFrom, itemsOf}
 use Rattle.walk.specs.Part.{Whole, treeOf, kindOf, kindAt}
-use Rattle.walk.specs.Along.{AlongItems, ItemPlaced, ItemPassed}
+use Rattle.walk.specs.inner.Along.{AlongItems, ItemPlaced, ItemPassed}
 use Rattle.walk.proofs.Folds.{one-more, itemSteps, items-end}
 use Rattle.walk.proofs.Places.{item-placed}
 use Rattle.walk.proofs.Parts.{itemOf, item-whole}
@@ -23,7 +23,7 @@ use Rattle.walk.proofs.Trees.{array-parts}
 use Rattle.schema.specs.Shape as shape
 use Rattle.schema.specs.Shape.{Shape, Numbering}
 use Rattle.schema.specs.Pick.{Picked, PickedItems, bare, items, each, pick, listOf}
-use Rattle.rings.specs.Parts.{Listing, picked, partsOf, Left, isArray}
+use Rattle.rings.specs.inner.Parts.{Listing, picked, partsOf, Left, isArray}
 
 -- a loop over the items of p
 module _ (σ : Shape) (p : List ℕ) where

@@ -16,16 +16,16 @@ use Rattle.walk.specs.declared.ItemStep.{ItemStep}
 use Rattle.walk.specs.declared.ItemStep.the-variants as step
 use Rattle.walk.specs.Walk.{part}
 use Rattle.walk.specs.Part.{Whole, kindAt}
-use Rattle.walk.specs.Along.{ItemPassed}
+use Rattle.walk.specs.inner.Along.{ItemPassed}
 use Rattle.geometry.specs.Ring.{Point}
-use Rattle.geometry.specs.Shifted.{OnMap, point, origin}
+use Rattle.geometry.specs.inner.Shifted.{OnMap, point, origin}
 use Rattle.geometry.specs.declared.Position.{Position}
 use Rattle.schema.specs.Shape as shape
 use Rattle.schema.specs.Pick.{Picked, pick}
 use Rattle.scalar.specs.Scalars.{unless}
 use Rattle.rings.specs.Rings.{at, count, ordinateKinds, numberKinds, positionKinds, pointOf, position}
-use Rattle.rings.specs.Least.{lesser, leastFound}
-use Rattle.rings.specs.Parts.{numberShape, positionShape, Listing, picked, partsOf, Left, isArray, isNumber, rangeKinds, Measured, listKinds, restKinds, Spotted}
+use Rattle.rings.specs.inner.Least.{lesser, leastFound}
+use Rattle.rings.specs.inner.Parts.{numberShape, positionShape, Listing, picked, partsOf, Left, isArray, isNumber, rangeKinds, Measured, listKinds, restKinds, Spotted}
 use Rattle.rings.specs.declared.LeastFound.{LeastFound}
 use Rattle.rings.specs.declared.LeastFound.the-variants.{None, At}
 use Rattle.rings.specs.declared.Ordinate.{Ordinate}

@@ -13,8 +13,8 @@ use Rattle.schema.specs.Table23.{coordinates}
 use Rattle.schema.specs.Pick.{Picked, PickedItems, items, pick, listOf}
 use Rattle.scalar.specs.Scalars.{unless}
 use Rattle.rings.specs.Rings.{Found, at, count, ring, ringPositions, ringFound, ringsFound, ringsPositions, polygon, polygonPositions, polygonRings, polygonsRings, isRingCount, areZoneCounts, polygonsFound, coordinatesFound}
-use Rattle.rings.specs.Least.{lesser, leastFound}
-use Rattle.rings.specs.Parts.{positionShape, ringShape, polygonShape, Listing, partsOf, isArray, Tells, TellsRings, TellsPolygon, TellsPolygons}
+use Rattle.rings.specs.inner.Least.{lesser, leastFound}
+use Rattle.rings.specs.inner.Parts.{positionShape, ringShape, polygonShape, Listing, partsOf, isArray, Tells, TellsRings, TellsPolygon, TellsPolygons}
 use Rattle.rings.specs.declared.LeastFound.{LeastFound}
 use Rattle.rings.specs.declared.LeastFound.the-variants.{At}
 use Rattle.rings.specs.declared.Judged.{Judged}

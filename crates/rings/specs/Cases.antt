@@ -12,8 +12,8 @@ use Rattle.schema.specs.Table23.{coordinates, written23}
 use Rattle.schema.specs.Pick.{Picked, PickedItems, bare, items, slots, noItem, item, each, pick, listOf}
 use Rattle.scalar.specs.Scalars as scalar
 use Rattle.rings.specs.Rings.{Found, at, count, ordinateKinds, numberKinds, positionKinds, pointOf, position, none, allSound, positionsFound, ringFound, ringsFound, ringsPositions, polygonsRings, polygonsFound, coordinatesFound}
-use Rattle.rings.specs.Least.{earlier, lesser, leastFound}
-use Rattle.rings.specs.Parts.{polygonShape, ringShape, positionShape}
+use Rattle.rings.specs.inner.Least.{earlier, lesser, leastFound}
+use Rattle.rings.specs.inner.Parts.{polygonShape, ringShape, positionShape}
 use Rattle.rings.specs.declared.LeastFound.{LeastFound}
 use Rattle.rings.specs.declared.LeastFound.the-variants.{None, At}
 

@@ -1,5 +1,4 @@
 pub mod Rings
-pub mod Least
-pub mod Parts
 pub mod OneRing
 pub mod Cases
+pub mod inner

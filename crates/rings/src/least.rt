@@ -3,7 +3,7 @@ use crate::LeastFound;
 ghost use mathlib.Core.Path.{_≡_};
 ghost use Rattle.scalar.specs.Scalars.{unless as unlessOf};
 ghost use Rattle.rings.specs.Rings.{at};
-ghost use Rattle.rings.specs.Least.{earlier as earlierOf, lesser as lesserOf, leastFound};
+ghost use Rattle.rings.specs.inner.Least.{earlier as earlierOf, lesser as lesserOf, leastFound};
 
 // The kind j at the number m comes before the kind k at the number n.
 fn earlier(m: u32, j: u8, n: u32, k: u8) -> bool

@@ -17,10 +17,10 @@ ghost use Rattle.json.specs.Tree.{Json};
 ghost use Rattle.walk.specs.Part.{Whole, kindAt};
 ghost use Rattle.schema.specs.Pick.{Picked, pick};
 ghost use Rattle.rings.specs.Rings.{at as foundAt, positionKinds, pointOf, position};
-ghost use Rattle.rings.specs.Least.{leastFound};
+ghost use Rattle.rings.specs.inner.Least.{leastFound};
 ghost use Rattle.rings.specs.declared.LeastFound.the-variants.{At};
-ghost use Rattle.geometry.specs.Shifted.{OnMap, origin};
-ghost use Rattle.rings.specs.Parts.{numberShape, positionShape, Listing, partsOf, Left, isArray, isNumber, Measured, listKinds, restKinds, Spotted};
+ghost use Rattle.geometry.specs.inner.Shifted.{OnMap, origin};
+ghost use Rattle.rings.specs.inner.Parts.{numberShape, positionShape, Listing, partsOf, Left, isArray, isNumber, Measured, listKinds, restKinds, Spotted};
 
 pub fn is_array(p: &[u8]) -> bool
     ensures { λ r. ⌜ r ≡ isArray (kindAt (now (p .entry))) ⌝ }

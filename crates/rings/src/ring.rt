@@ -20,7 +20,7 @@ ghost use Rattle.json.specs.Tree.{Json};
 ghost use Rattle.walk.specs.Part.{Whole};
 ghost use Rattle.schema.specs.Pick.{PickedItems, items as itemsAre, pick, listOf};
 ghost use Rattle.rings.specs.Rings.{ring, ringPositions, ringFound};
-ghost use Rattle.rings.specs.Parts.{positionShape, ringShape, Listing, partsOf, RingRead, RingRoom, Outlined, Charted, areaLeast, Tells};
+ghost use Rattle.rings.specs.inner.Parts.{positionShape, ringShape, Listing, partsOf, RingRead, RingRoom, Outlined, Charted, areaLeast, Tells};
 
 // Into the place of position i, where there is one for it.
 fn keep(xs: &mut [u64; 256], i: u32, v: u64)

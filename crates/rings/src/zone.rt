@@ -17,8 +17,8 @@ ghost use Rattle.walk.specs.Part.{Whole};
 ghost use Rattle.schema.specs.Pick.{PickedItems, items as itemsAre, pick};
 ghost use Rattle.schema.specs.Table23.{coordinates};
 ghost use Rattle.rings.specs.Rings.{isRingCount, areZoneCounts, coordinatesFound};
-ghost use Rattle.rings.specs.Least.{leastFound};
-ghost use Rattle.rings.specs.Parts.{ringShape, polygonShape, Listing, partsOf, PolygonRoom, TellsRings, TellsPolygon, TellsPolygons};
+ghost use Rattle.rings.specs.inner.Least.{leastFound};
+ghost use Rattle.rings.specs.inner.Parts.{ringShape, polygonShape, Listing, partsOf, PolygonRoom, TellsRings, TellsPolygon, TellsPolygons};
 
 // The items of the polygon p, the first position of which has the number n.
 fn judge_rings(p: &[u8], n: u32) -> PolygonTally

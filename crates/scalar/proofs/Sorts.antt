@@ -6,7 +6,7 @@ use Prim.Native.Nat.{ℕ}
 use Rattle.word.specs.Kinds.{wrongType, outOfRange}
 use Rattle.schema.specs.Shape as sort
 use Rattle.schema.specs.Shape.{Sort}
-use Rattle.schema.specs.Line.{sortLetter, sortWords}
+use Rattle.schema.specs.inner.Line.{sortLetter, sortWords}
 use Rattle.schema.proofs.Letters.{sortFrom, sort-from}
 use Rattle.text.specs.Text.{same}
 use Rattle.scalar.specs.Scalars.{unless, anyWord, numberKinds, textKinds, booleanKinds}

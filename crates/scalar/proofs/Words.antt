@@ -10,7 +10,7 @@ use lib.Seq.{drop-cons}
 use Rattle.text.specs.Text.{sameWord}
 use Rattle.schema.specs.Shape.{Table}
 use Rattle.schema.specs.Table23.{table23, written23}
-use Rattle.schema.specs.Line.{lineWords, wordsOf, wordsAt, wordAt, rangeAt, laidOut}
+use Rattle.schema.specs.inner.Line.{lineWords, wordsOf, wordsAt, wordAt, rangeAt, laidOut}
 use Rattle.schema.proofs.Walk.{words-part}
 use Rattle.scalar.specs.Scalars.{anyWord}
 

@@ -13,7 +13,7 @@ use Rattle.decimal.specs.Cases.{deciding}
 use Rattle.schema.specs.Shape as sort
 use Rattle.schema.specs.Shape.{Sort}
 use Rattle.schema.specs.Table23.{table23, written23}
-use Rattle.schema.specs.Line.{wordsAt, laidOut}
+use Rattle.schema.specs.inner.Line.{wordsAt, laidOut}
 use Rattle.scalar.specs.Scalars.{formed, anyMoney, priceMoney, pricing, anyWord, numberKinds, textKinds, booleanKinds, kindsOf}
 
 -- opens every definition of this layer

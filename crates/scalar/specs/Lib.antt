@@ -1,3 +1,3 @@
 pub mod Scalars
-pub mod Listed
 pub mod Cases
+pub mod inner

@@ -12,10 +12,10 @@ ghost use Rattle.json.specs.Tree.{Json};
 ghost use Rattle.text.specs.Text.{textOf};
 ghost use Rattle.walk.specs.Part.{Whole, inside};
 ghost use Rattle.schema.specs.Shape.{Sort};
-ghost use Rattle.schema.specs.Line.{sortLetter, sortWords, wordsAt};
+ghost use Rattle.schema.specs.inner.Line.{sortLetter, sortWords, wordsAt};
 ghost use Rattle.schema.specs.Table23.{table23};
 ghost use Rattle.scalar.specs.Scalars.{kindsOf, booleanKinds, textKinds};
-ghost use Rattle.scalar.specs.Listed.{listed};
+ghost use Rattle.scalar.specs.inner.Listed.{listed};
 
 pub mod numbers;
 pub mod texts;

@@ -12,11 +12,11 @@ ghost use Rattle.notation.specs.Choice.{_⇒_else_};
 ghost use Rattle.word.specs.Kinds.{wrongType, outOfRange};
 ghost use Rattle.decimal.specs.Decimals.{numberOf, hasPoint};
 ghost use Rattle.decimal.specs.Exact.{natural};
-ghost use Rattle.decimal.specs.Formed.{Formed};
+ghost use Rattle.decimal.specs.inner.Formed.{Formed};
 ghost use Rattle.schema.specs.Shape.{Sort};
-ghost use Rattle.schema.specs.Line.{sortLetter};
+ghost use Rattle.schema.specs.inner.Line.{sortLetter};
 ghost use Rattle.scalar.specs.Scalars.{unless, formed, anyMoney, numberKinds};
-ghost use Rattle.scalar.specs.Listed.{listed, inBounds};
+ghost use Rattle.scalar.specs.inner.Listed.{listed, inBounds};
 
 // What the exact value of a number is held to: at least 0; from 0 to 1; so many degrees either way; an amount of money; one that is at least 0.
 pub enum Bounds {

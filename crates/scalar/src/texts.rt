@@ -16,10 +16,10 @@ ghost use mathlib.Core.Path.{_≡_};
 ghost use Rattle.text.specs.Text.{textOf, same};
 ghost use Rattle.decimal.specs.Decimals.{priceOf};
 ghost use Rattle.schema.specs.Shape.{Sort};
-ghost use Rattle.schema.specs.Line.{sortLetter, sortWords, wordsAt, wordAt, lineWords, rangeAt};
+ghost use Rattle.schema.specs.inner.Line.{sortLetter, sortWords, wordsAt, wordAt, lineWords, rangeAt};
 ghost use Rattle.schema.specs.Table23.{table23};
 ghost use Rattle.scalar.specs.Scalars.{pricing, anyWord, textKinds};
-ghost use Rattle.scalar.specs.Listed.{listed};
+ghost use Rattle.scalar.specs.inner.Listed.{listed};
 
 // A price in quotation marks.
 fn price_kind(spelled: &[u8]) -> u8

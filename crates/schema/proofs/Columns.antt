@@ -4,7 +4,7 @@ use mathlib.Core.Path.{_≡_, ap, _∙_}
 use Prim.Native.Nat.{ℕ}
 use lib.ListN.{getD, List·getD-map}
 use Rattle.schema.specs.Shape.{Table}
-use Rattle.schema.specs.Line.{linesOf, lineAt, noLine, LineColumns, nowhere}
+use Rattle.schema.specs.inner.Line.{linesOf, lineAt, noLine, LineColumns, nowhere}
 use Rattle.schema.specs.declared.Line.{Line}
 use Rattle.schema.specs.declared.Range.{Range}
 

@@ -13,8 +13,8 @@ use Rattle.text.specs.Text.{same}
 use Rattle.schema.specs.Shape.{Shape, Table, unlisted, fileShape}
 use Rattle.schema.specs.Table23.{table23, written23}
 use Rattle.schema.specs.Later.{listedIn}
-use Rattle.schema.specs.Sound.{distinctNames, fieldsOf, rising}
-use Rattle.schema.specs.Line.{namesOf, wordsOf, laidOut}
+use Rattle.schema.specs.inner.Sound.{distinctNames, fieldsOf, rising}
+use Rattle.schema.specs.inner.Line.{namesOf, wordsOf, laidOut}
 use Rattle.schema.proofs.Tests.{and-left, and-right}
 
 -- A test that every file passes, and the empty shape too, is passed by the shape of any number.

@@ -11,7 +11,7 @@ use Rattle.text.specs.Text.{same}
 use Rattle.schema.specs.Pick.{pick}
 use Rattle.schema.specs.Table23.{file, listing, bike}
 use Rattle.schema.specs.Later.{Later, unchanged, inArray, inObject, noItem′, item′, noMember′, kept, swapped, added, andThen, itemShape, rowsOf, listedIn, shapeIn, listed}
-use Rattle.schema.specs.Sound.{distinctNames}
+use Rattle.schema.specs.inner.Sound.{distinctNames}
 use Rattle.schema.proofs.PickLater.{pick-later₁}
 
 infixr 20 _∶_▸_

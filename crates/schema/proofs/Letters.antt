@@ -11,7 +11,7 @@ use Rattle.notation.specs.Choice.{_⇒_else_}
 use Rattle.lexeme.proofs.Steps.{true-false}
 use Rattle.schema.specs.Shape as shape
 use Rattle.schema.specs.Shape.{Shape, Rows, Sort, Numbering}
-use Rattle.schema.specs.Line.{sortLetter, sortWords, valueLetter, shapeWords}
+use Rattle.schema.specs.inner.Line.{sortLetter, sortWords, valueLetter, shapeWords}
 
 abbrev firstOf : List (List ℕ) → List ℕ
 firstOf [] = []

@@ -15,7 +15,7 @@ use Rattle.schema.specs.Shape.{Shape, Rows, Need}
 use Rattle.schema.specs.Pick as picking
 use Rattle.schema.specs.Pick.{Slot, missing, once, twice, again, find, unlessEmpty, given, put, Picked, items, slots, Slots, absent, present, repeated, each, pick, pickRows}
 use Rattle.schema.specs.Later.{Later, LaterItems, LaterMembers, unchanged, afterwards, inArray, inObject, noItem′, item′, noMember′, kept, swapped, added, andThen, itemShape, rowsOf, listedIn, shapeIn, memberShape, listed}
-use Rattle.schema.specs.Sound.{distinctNames, distinctRows}
+use Rattle.schema.specs.inner.Sound.{distinctNames, distinctRows}
 use Rattle.schema.proofs.Tests.{and-left, and-right}
 
 -- The shapes of a place.

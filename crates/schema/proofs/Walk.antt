@@ -10,7 +10,7 @@ use lib.Seq.{drop-drop, drop-append-seam, take-append-seam, drop-at}
 use Rattle.schema.specs.declared.Range.{Range}
 use Rattle.schema.specs.Shape as shape
 use Rattle.schema.specs.Shape.{Shape, Rows, Need, Numbering, Table, unlisted, fileShape}
-use Rattle.schema.specs.Line.{Entry, inside, entries, fileEntries, entriesOf, lineOf, linesOf, lineAt, noLine, namesOf, nameAt, shapeWords, lineWords, wordsAt, wordsOf, rangesFrom, rangeAt, nowhere, fileRanges, fileLines}
+use Rattle.schema.specs.inner.Line.{Entry, inside, entries, fileEntries, entriesOf, lineOf, linesOf, lineAt, noLine, namesOf, nameAt, shapeWords, lineWords, wordsAt, wordsOf, rangesFrom, rangeAt, nowhere, fileRanges, fileLines}
 
 -- `part` stands in `whole` from place i on
 pub record Stands {A : Type 0} (whole : List A) (i : ℕ) (part : List A) : Type 0 where

@@ -3,5 +3,4 @@ pub mod Words
 pub mod Table23
 pub mod Pick
 pub mod Later
-pub mod Sound
-pub mod Line
+pub mod inner

@@ -6,7 +6,7 @@ use crate::from_u8;
 use limits::Limits;
 ghost use mathlib.Core.Path.{_≡_};
 ghost use Rattle.schema.specs.Table23.{table23};
-ghost use Rattle.schema.specs.Line.{lineAt, LineColumns, fileLines, insidesOf};
+ghost use Rattle.schema.specs.inner.Line.{lineAt, LineColumns, fileLines, insidesOf};
 
 const FIELDS: [u8; 92] = *b"\
     \x01\x02\x03\x04\x05\x0a\x0b\x0c\x0d\x0e\

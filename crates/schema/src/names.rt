@@ -8,7 +8,7 @@ ghost use mathlib.Core.List.{map, flatten};
 ghost use mathlib.Core.Path.{_≡_};
 ghost use Rattle.text.specs.Text.{textOf, same};
 ghost use Rattle.schema.specs.Table23.{table23};
-ghost use Rattle.schema.specs.Line.{namesOf, nameAt, rangeAt, rangesFrom, NameColumns};
+ghost use Rattle.schema.specs.inner.Line.{namesOf, nameAt, rangeAt, rangesFrom, NameColumns};
 
 const NAMES: [u8; 840] = *b"\
     version\

@@ -6,7 +6,7 @@ use text::compare;
 ghost use mathlib.Core.Path.{_≡_};
 ghost use Rattle.text.specs.Text.{textOf, same, sameWord};
 ghost use Rattle.schema.specs.Table23.{table23};
-ghost use Rattle.schema.specs.Line.{lineWords, wordsOf, wordAt, rangeAt};
+ghost use Rattle.schema.specs.inner.Line.{lineWords, wordsOf, wordAt, rangeAt};
 
 const LINE_FIRSTS: [u8; 92] = *b"\
     \x00\x01\x01\x01\x01\x01\x01\x09\x11\x11\

@@ -8,7 +8,8 @@ use lib.Dec.{ltb, leb, eqb}
 use lib.IntN.{ℤ, pos, negsuc, negℤ, negℤ-negℤ, natAbs, subℕ, _+ℤ_, _-ℤ_, _*ℤ_}
 use lib.Signed.{ltZ, leZ, mag}
 use borrow.Author.Tests.{ltb-true, ltb-false, leb-true, leb-false, eqb-true, eqb-false, lt-ltb, le-ltb, le-leb, lt-leb, eq-eqb, ne-eqb}
-use Rattle.signed.specs.Signed.{signed, difference, isZero}
+use Rattle.signed.specs.Signed.{signed}
+use Rattle.signed.specs.inner.Difference.{difference, isZero}
 
 -- z + b = a, without a negative number
 abbrev pub Apart : ℤ → ℕ → ℕ → Type 0

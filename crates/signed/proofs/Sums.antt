@@ -5,7 +5,7 @@ use Prim.Native.Nat.{ℕ, zero, suc, _+_, _*_, _-_, _≤_, _<_}
 use native.Mathlib.Numerals.{add-one}
 use native.Mathlib.Omega.{arith}
 use lib.IntN.{ℤ, pos, negsuc, natAbs, _+ℤ_}
-use Rattle.signed.specs.Sums.{sumTo, sumZ}
+use Rattle.signed.specs.inner.Sums.{sumTo, sumZ}
 use Rattle.signed.proofs.Gap.{Gap, gap-add, gap-pos, gap-same}
 
 pub sum-none : (f : ℕ → ℕ) → sumTo f 0 ≡ 0

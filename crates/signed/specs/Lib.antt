@@ -1,2 +1,2 @@
 pub mod Signed
-pub mod Sums
+pub mod inner

@@ -27,12 +27,12 @@ use Rattle.json.specs.Tree.{Json}
 use Rattle.json.specs.Text.{value, valueBy, valueAt}
 use Rattle.walk.specs.declared.ValueKind.the-variants as kind
 use Rattle.walk.specs.Part.{Whole, kindOf, kindFrom, kindAt}
-use Rattle.walk.specs.Skip.{skipped}
+use Rattle.walk.specs.inner.Skip.{skipped}
 use Rattle.walk.proofs.Quotes.{quoted-mark}
 use Rattle.walk.proofs.Skips.{skipped-string}
 use Rattle.walk.proofs.Wholes.{whole-kind, string-read, whole-string, whole-some}
 use Rattle.walk.proofs.Fronts.{skip-ends}
-use Rattle.slots.specs.Blank.{blankText, BeginsBlank}
+use Rattle.slots.specs.inner.Blank.{blankText, BeginsBlank}
 
 -- the first byte of a text
 string-start : (t : Start) → kindFrom t ≡ kind.String → t ≡ Start.string

@@ -12,7 +12,7 @@ use Rattle.schema.specs.Shape as shape
 use Rattle.schema.specs.Shape.{Shape, Rows, Need, Numbering, Table, unlisted, fileShape}
 use Rattle.schema.specs.Table23.{table23, written23}
 use Rattle.schema.proofs.Tests.{and-left, and-right}
-use Rattle.slots.specs.Rows.{mostRows, namesIn, fewIn, fewBelow}
+use Rattle.slots.specs.inner.Rows.{mostRows, namesIn, fewIn, fewBelow}
 
 all-few : Table → Bool
 all-few [] = true

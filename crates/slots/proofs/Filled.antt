@@ -19,15 +19,16 @@ use Rattle.walk.specs.Walk.{membersOf}
 use Rattle.walk.specs.Part.{Whole}
 use Rattle.walk.proofs.Parts.{nameOf}
 use Rattle.schema.specs.Shape.{Rows}
-use Rattle.schema.specs.Sound.{distinctRows}
+use Rattle.schema.specs.inner.Sound.{distinctRows}
 use Rattle.schema.specs.Table23.{table23}
 use Rattle.schema.proofs.Walk.{Laid, linesIn}
 use Rattle.slots.specs.declared.Found.{Found}
 use Rattle.slots.specs.declared.Found.the-variants.{Missing, Once, Twice}
 use Rattle.slots.specs.declared.Slots.{Slots}
-use Rattle.slots.specs.Found.{oneMore, noted, foundIn, Within}
-use Rattle.slots.specs.Rows.{mostRows, namesIn, lineNames, rowNamed}
-use Rattle.slots.specs.Slots.{slotsOf, empty, slotAt, newAt, countedIn, putIn, absorbed, gathered, Gathered}
+use Rattle.slots.specs.Found.{oneMore, noted, foundIn}
+use Rattle.slots.specs.inner.Found.{Within}
+use Rattle.slots.specs.inner.Rows.{mostRows, namesIn, lineNames, rowNamed}
+use Rattle.slots.specs.inner.Slots.{slotsOf, empty, slotAt, newAt, countedIn, putIn, absorbed, gathered, Gathered}
 use Rattle.slots.proofs.Named.{Apart, distinct-apart, names-laid, named-by, named-else}
 
 -- a slot by its state

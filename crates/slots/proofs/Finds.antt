@@ -21,7 +21,8 @@ use Rattle.walk.proofs.Trees.{memberTree, object-parts}
 use Rattle.schema.specs.Pick.{Slot, missing, once, twice, again, find}
 use Rattle.slots.specs.declared.Found.{Found}
 use Rattle.slots.specs.declared.Found.the-variants.{Missing, Once, Twice}
-use Rattle.slots.specs.Found.{oneMore, noted, foundIn, treeIn}
+use Rattle.slots.specs.Found.{oneMore, noted, foundIn}
+use Rattle.slots.specs.inner.Found.{treeIn}
 
 -- what was found first, with what is found after it
 joined : Slot Json → Slot Json → Slot Json

@@ -14,12 +14,12 @@ use Rattle.text.proofs.Laws.{same-true, same-false}
 use Rattle.schema.specs.Shape as shape
 use Rattle.schema.specs.Shape.{Rows, Table}
 use Rattle.schema.specs.Later.{listedIn}
-use Rattle.schema.specs.Sound.{distinctNames, distinctRows}
-use Rattle.schema.specs.Line.{lineAt, nameAt, insidesOf, entries, entriesOf, laidOut}
+use Rattle.schema.specs.inner.Sound.{distinctNames, distinctRows}
+use Rattle.schema.specs.inner.Line.{lineAt, nameAt, insidesOf, entries, entriesOf, laidOut}
 use Rattle.schema.specs.Table23.{table23, written23}
 use Rattle.schema.proofs.Tests.{and-left, and-right}
 use Rattle.schema.proofs.Walk.{Laid, linesIn, step}
-use Rattle.slots.specs.Rows.{lineCount, mostRows, namesIn, namesAt, lineNames, rowNamed, rowLine}
+use Rattle.slots.specs.inner.Rows.{lineCount, mostRows, namesIn, namesAt, lineNames, rowNamed, rowLine}
 
 -- Lines.
 

@@ -12,16 +12,17 @@ use Rattle.walk.specs.Walk.{part}
 use Rattle.walk.specs.Part.{Whole, treeOf}
 use Rattle.schema.specs.Shape as shape
 use Rattle.schema.specs.Shape.{Rows, Shape, Need}
-use Rattle.schema.specs.Sound.{distinctRows}
+use Rattle.schema.specs.inner.Sound.{distinctRows}
 use Rattle.schema.specs.Table23.{table23}
 use Rattle.schema.specs.Pick.{Slot, missing, once, unlessEmpty, given, put, noSlot, pick, pickRows}
 use Rattle.schema.proofs.Walk.{Laid, linesIn}
 use Rattle.slots.specs.declared.Found.the-variants.{Once}
 use Rattle.slots.specs.declared.Slots.{Slots}
-use Rattle.slots.specs.Found.{foundIn, treeIn}
-use Rattle.slots.specs.Rows.{mostRows, namesIn, lineNames}
-use Rattle.slots.specs.Slots.{slotAt, gathered, Gathered}
-use Rattle.slots.specs.Blank.{blankText}
+use Rattle.slots.specs.Found.{foundIn}
+use Rattle.slots.specs.inner.Found.{treeIn}
+use Rattle.slots.specs.inner.Rows.{mostRows, namesIn, lineNames}
+use Rattle.slots.specs.inner.Slots.{slotAt, gathered, Gathered}
+use Rattle.slots.specs.inner.Blank.{blankText}
 use Rattle.slots.proofs.Finds.{find-found}
 use Rattle.slots.proofs.Filled.{gathered-slot}
 

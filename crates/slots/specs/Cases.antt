@@ -6,14 +6,14 @@ use Rattle.notation.specs.Ascii.{bytes}
 use Rattle.notation.specs.Case.{Case, Answers}
 use Rattle.text.specs.Text.{same}
 use Rattle.walk.specs.Cases.{walking}
-use Rattle.schema.specs.Line.{laidOut}
+use Rattle.schema.specs.inner.Line.{laidOut}
 use Rattle.schema.specs.Table23.{written23}
 use Rattle.slots.specs.declared.Found.{Found}
 use Rattle.slots.specs.declared.Found.the-variants.{Missing, Once, Twice}
 use Rattle.slots.specs.declared.Slots.{Slots}
 use Rattle.slots.specs.Found.{foundIn}
-use Rattle.slots.specs.Rows.{namesAt, lineNames, rowNamed}
-use Rattle.slots.specs.Slots.{slotAt, putIn, gathered}
+use Rattle.slots.specs.inner.Rows.{namesAt, lineNames, rowNamed}
+use Rattle.slots.specs.inner.Slots.{slotAt, putIn, gathered}
 
 -- opens every definition of this layer
 unfoldable pub gathering : Unit {0}

@@ -1,13 +1,10 @@
 -- What the bytes p of an object hold under a name: nothing, a value at its place, or more than one. Names are compared as decoded.
 use mathlib.Core.List.{List, foldl}
-use Prim.Native.Nat.{ℕ, _≤_, _<_}
+use Prim.Native.Nat.{ℕ}
 use Rattle.notation.specs.Choice.{_⇒_else_}
-use Rattle.json.specs.Tree.{Json}
 use Rattle.text.specs.Text.{textOf, same}
 use Rattle.walk.specs.declared.Member.{Member}
 use Rattle.walk.specs.Walk.{part, membersOf}
-use Rattle.walk.specs.Part.{treeOf}
-use Rattle.schema.specs.Pick.{Slot, missing, once, twice}
 use Rattle.slots.specs.declared.Found.{Found}
 use Rattle.slots.specs.declared.Found.the-variants.{Missing, Once, Twice}
 
@@ -22,15 +19,3 @@ noted p name o m = same (textOf (part p (m .name) (m .«name_end»))) name ⇒ o
 
 unfoldable pub foundIn : (p name : List ℕ) → Found
 foundIn p name = foldl (noted p name) Missing (membersOf p)
-
--- the tree that stands there
-abbrev pub treeIn : List ℕ → Found → Slot Json
-treeIn p Missing = missing
-treeIn p (Once from upto) = once (treeOf (part p from upto))
-treeIn p Twice = twice
-
--- its places are within n bytes
-abbrev pub Within : ℕ → Found → Type 0
-Within n Missing = Unit {0}
-Within n (Once from upto) = (from < upto) × (upto ≤ n)
-Within n Twice = Unit {0}

@@ -1,5 +1,3 @@
 pub mod Found
-pub mod Rows
-pub mod Slots
-pub mod Blank
 pub mod Cases
+pub mod inner

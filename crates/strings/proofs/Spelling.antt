@@ -15,14 +15,14 @@ use Rattle.lexeme.specs.declared.Next.the-variants.{Quote, Character, Fault}
 use Rattle.lexeme.specs.declared.Scan.{Scan}
 use Rattle.lexeme.specs.declared.Scan.the-variants as scan
 use Rattle.lexeme.specs.Character.{Surrogates, Lead, byte, lead, char1, escape, nextBy, next, bytesOf}
-use Rattle.lexeme.specs.Class.{leadOf}
+use Rattle.lexeme.specs.inner.Class.{leadOf}
 use Rattle.lexeme.specs.Read.{placed}
 use Rattle.lexeme.specs.Read.Read.{bad}
 use Rattle.lexeme.specs.Strings.{string}
 use Rattle.lexeme.proofs.Steps.{by-test, string-quote, string-fault, string-character, string-skip}
 use Rattle.lexeme.proofs.Placed.{ends-at, faults-at, placed-made}
 use Rattle.lexeme.proofs.Rests.{at-cons, first-byte}
-use Rattle.character.specs.Length.{taken}
+use Rattle.character.specs.inner.Length.{taken}
 use Rattle.character.proofs.Inside.{character-inside, fault-inside}
 use Rattle.character.proofs.Leads.{class-plain}
 

@@ -11,10 +11,10 @@ ghost use lib.Dec.{eqb};
 ghost use lib.ListN.{drop};
 ghost use Rattle.notation.specs.Choice.{_⇒_else_};
 ghost use Rattle.lexeme.specs.Character.{paired, escape};
-ghost use Rattle.lexeme.specs.Class.{Classifies};
+ghost use Rattle.lexeme.specs.inner.Class.{Classifies};
 ghost use Rattle.lexeme.specs.Read.{placed};
 ghost use Rattle.lexeme.specs.Strings.{string};
-ghost use Rattle.character.specs.Length.{taken};
+ghost use Rattle.character.specs.inner.Length.{taken};
 
 // Where the plain bytes from `at` on end, inside a string: what is left decides where it ends.
 pub fn plain_end(table: &[u8; 256], s: &[u8], at: usize) -> usize

@@ -19,7 +19,7 @@ use Rattle.text.specs.declared.Cursor.{Cursor}
 use Rattle.text.specs.declared.Step.{Step}
 use Rattle.text.specs.declared.Step.the-variants.{End, Byte}
 use Rattle.text.specs.Text.{textOf}
-use Rattle.text.specs.Walk.{cursorAt, left, told, alone}
+use Rattle.text.specs.inner.Walk.{cursorAt, left, told, alone}
 use Rattle.text.proofs.Whole.{next-whole}
 
 -- k bytes into a character

@@ -8,7 +8,8 @@ use lib.Dec.{eqb}
 use lib.ListN.{length}
 use borrow.Author.Tests.{eq-eqb, eqb-true}
 use Rattle.lexeme.proofs.Steps.{by-test, true-false}
-use Rattle.text.specs.Text.{textOf, same, lower, sameWord, digest}
+use Rattle.text.specs.Text.{textOf, same, lower, sameWord}
+use Rattle.text.specs.inner.Digest.{digest}
 
 pub same-refl : (x : List ℕ) → same x x ≡ true
 unfolding same

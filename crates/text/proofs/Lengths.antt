@@ -14,7 +14,7 @@ use Rattle.lexeme.specs.Strings.{decoded}
 use Rattle.lexeme.proofs.Steps.{decoded-character}
 use Rattle.character.proofs.Inside.{character-inside}
 use Rattle.text.specs.Text.{textOf}
-use Rattle.text.specs.Walk.{agreeing, cased}
+use Rattle.text.specs.inner.Walk.{agreeing, cased}
 use Rattle.text.proofs.Laws.{same-lengths}
 use Rattle.text.proofs.Whole.{next-short}
 use Rattle.text.proofs.Decoding.{text-quote, text-fault}

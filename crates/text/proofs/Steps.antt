@@ -11,8 +11,9 @@ use Rattle.notation.specs.Choice.{_and_}
 use Rattle.lexeme.specs.Character.{within}
 use Rattle.lexeme.proofs.Rests.{at-cons}
 use Rattle.lexeme.proofs.Steps.{by-test, true-false}
-use Rattle.text.specs.Text.{same, lower, sameWord, capitals, currency, mixed, digestFrom}
-use Rattle.text.specs.Walk.{agreeing, cased}
+use Rattle.text.specs.Text.{same, lower, sameWord, capitals, currency}
+use Rattle.text.specs.inner.Digest.{mixed, digestFrom}
+use Rattle.text.specs.inner.Walk.{agreeing, cased}
 
 and-true : (t : Bool) → (t and true) ≡ t
 and-true true = refl

@@ -7,7 +7,8 @@ use lib.ListN.{length}
 use Rattle.notation.specs.Ascii.{bytes}
 use Rattle.notation.specs.Case.{Case, Answers}
 use Rattle.lexeme.specs.Cases.{lexing}
-use Rattle.text.specs.Text.{textOf, same, lower, sameWord, capitals, currency, mixed, digestFrom, digest}
+use Rattle.text.specs.Text.{textOf, same, lower, sameWord, capitals, currency}
+use Rattle.text.specs.inner.Digest.{mixed, digestFrom, digest}
 
 -- opens every definition of this layer
 unfoldable pub comparing : Unit {0}

@@ -1,3 +1,3 @@
 pub mod Text
-pub mod Walk
 pub mod Cases
+pub mod inner

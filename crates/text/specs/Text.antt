@@ -2,7 +2,7 @@
 -- `spelled` is what stands between the quotation marks.
 use mathlib.Core.Bool.{Bool, true, false}
 use mathlib.Core.List.{List, [], _∷_, map}
-use Prim.Native.Nat.{ℕ, _+_, _*_, _%_}
+use Prim.Native.Nat.{ℕ, _+_}
 use lib.Dec.{eqb}
 use lib.ListN.{length}
 use Rattle.notation.specs.Choice.{_⇒_else_, _and_}
@@ -36,14 +36,3 @@ capitals (b ∷ x) = within 0x41 0x5a b and capitals x
 -- a currency: three capital letters
 unfoldable pub currency : List ℕ → Bool
 currency x = eqb (length x) 3 and capitals x
-
--- a digest of 32 bits: equal texts have equal digests
-unfoldable pub mixed : ℕ → ℕ → ℕ
-mixed h b = (h * 16_777_619 + b) % 4_294_967_296
-
-unfoldable pub digestFrom : ℕ → List ℕ → ℕ
-digestFrom h [] = h
-digestFrom h (b ∷ x) = digestFrom (mixed h b) x
-
-unfoldable pub digest : List ℕ → ℕ
-digest x = digestFrom 2_166_136_261 x

@@ -2,7 +2,7 @@
 ghost use mathlib.Core.Path.{_≡_};
 ghost use Rattle.lexeme.specs.Character.{within};
 ghost use Rattle.text.specs.Text as spec;
-ghost use Rattle.text.specs.Walk.{alone};
+ghost use Rattle.text.specs.inner.Walk.{alone};
 
 pub fn is_capital(b: u8) -> bool
     ensures { λ r. ⌜ r ≡ within 0x41 0x5a b ⌝ }

@@ -10,7 +10,7 @@ ghost use mathlib.Core.List.{[]};
 ghost use lib.Dec.{eqb};
 ghost use lib.ListN.{drop};
 ghost use Rattle.text.specs.Text.{textOf, same, sameWord};
-ghost use Rattle.text.specs.Walk.{agreeing, cased, left};
+ghost use Rattle.text.specs.inner.Walk.{agreeing, cased, left};
 
 // The same byte; or, where case is folded, the same letter.
 fn alike(fold: bool, a: u8, b: u8) -> bool

@@ -5,7 +5,7 @@ use lexeme::Char;
 use lexeme::Next;
 ghost use mathlib.Core.Path.{_≡_};
 ghost use Rattle.lexeme.specs.Character.{bytesOf};
-ghost use Rattle.text.specs.Text as spec;
+ghost use Rattle.text.specs.inner.Digest as spec;
 ghost use Rattle.text.specs.Text.{textOf};
 
 const EMPTY: u32 = 2_166_136_261;

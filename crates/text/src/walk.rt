@@ -9,7 +9,7 @@ ghost use mathlib.Core.Path.{_≡_};
 ghost use lib.ListN.{drop};
 ghost use Rattle.lexeme.specs.Character.{bytesOf};
 ghost use Rattle.text.specs.Text.{textOf};
-ghost use Rattle.text.specs.Walk.{cursorAt, left, told};
+ghost use Rattle.text.specs.inner.Walk.{cursorAt, left, told};
 
 // The cursor at a place of the spelling where a character begins.
 pub fn cursor_at(at: usize) -> Cursor

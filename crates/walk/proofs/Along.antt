@@ -34,7 +34,7 @@ use Rattle.walk.specs.declared.MemberStep.the-variants as members
 use Rattle.walk.specs.declared.ItemStep.the-variants as items
 use Rattle.walk.specs.Walk.{onward, memberAt, membersOf, itemAt, itemsOf}
 use Rattle.walk.specs.Part.{Whole}
-use Rattle.walk.specs.Along.{AlongItems, AlongMembers, ItemPassed, MemberPassed}
+use Rattle.walk.specs.inner.Along.{AlongItems, AlongMembers, ItemPassed, MemberPassed}
 use Rattle.walk.proofs.Steps.{expect-done, Reads}
 use Rattle.walk.proofs.Folds as Folds
 use Rattle.walk.proofs.Folds.{Steps, Walk, walk-more, walk-end, memberSteps, itemSteps}

@@ -21,7 +21,7 @@ use Rattle.lexeme.proofs.Rests.{at-cons, place-at, first-byte, rest-at, rest-af
 use Rattle.lexeme.proofs.NumberParts.{digit-inside, either-inside, equal-inside}
 use Rattle.lexeme.proofs.Takes.{number-takes}
 use Rattle.lexeme.proofs.Starts.{digit-starts}
-use Rattle.walk.specs.Skip.{quoted, outside, enclosed, numbered, skipped}
+use Rattle.walk.specs.inner.Skip.{quoted, outside, enclosed, numbered, skipped}
 use Rattle.walk.proofs.Quotes.{Itself, quoted-mark, escape-begins}
 use Rattle.walk.proofs.Skips.{Between, enclosed-between, enclosed-opens, enclosed-closes, enclosed-end, enclosed-mark, numbered-done, numbered-bad, skipped-string, skipped-number, skipped-array, skipped-object, skipped-true, skipped-false, skipped-null, skipped-none}
 use Rattle.walk.proofs.Finding.{failed}

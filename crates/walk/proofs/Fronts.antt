@@ -25,9 +25,9 @@ use Rattle.walk.specs.declared.MemberStep.the-variants as members
 use Rattle.walk.specs.declared.ItemStep.the-variants as items
 use Rattle.walk.specs.Walk.{place, part, onward, memberAt, itemAt}
 use Rattle.walk.specs.Part.{Whole, kindOf, kindAt}
-use Rattle.walk.specs.Skip.{skipped}
-use Rattle.walk.specs.Along.{AlongItems, AlongMembers, NamePassed}
-use Rattle.walk.specs.Front.{Fronts, Ends}
+use Rattle.walk.specs.inner.Skip.{skipped}
+use Rattle.walk.specs.inner.Along.{AlongItems, AlongMembers, NamePassed}
+use Rattle.walk.specs.inner.Front.{Fronts, Ends}
 use Rattle.walk.proofs.Rests.{Rest, rest-drop, rest-read, rest-there}
 use Rattle.walk.proofs.Steps.{member-found, item-found}
 use Rattle.walk.proofs.Places.{found-member, next-found}

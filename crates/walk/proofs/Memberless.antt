@@ -27,8 +27,8 @@ use Rattle.walk.specs.declared.MemberStep.the-variants as members
 use Rattle.walk.specs.declared.ValueKind.the-variants as kind
 use Rattle.walk.specs.Walk.{memberAt, membersOf}
 use Rattle.walk.specs.Part.{Whole, kindOf, kindFrom, kindAt}
-use Rattle.walk.specs.Skip.{quoted, skipped}
-use Rattle.walk.specs.Along.{AlongItems}
+use Rattle.walk.specs.inner.Skip.{quoted, skipped}
+use Rattle.walk.specs.inner.Along.{AlongItems}
 use Rattle.walk.proofs.Quotes.{apart, itself, quoted-mark, quoted-itself, string-quoted}
 use Rattle.walk.proofs.Skips.{skipped-string, skip-value}
 use Rattle.walk.proofs.Steps.{expect-done, member-unnamed, member-from}

@@ -26,7 +26,7 @@ use Rattle.walk.specs.declared.MemberStep.the-variants as members
 use Rattle.walk.specs.declared.ItemStep.the-variants as items
 use Rattle.walk.specs.Walk.{place, part, onward, memberIn, memberAt, itemIn, itemAt, itemsFrom, itemsOf}
 use Rattle.walk.specs.Part.{Whole}
-use Rattle.walk.specs.Along.{AlongItems, AlongMembers}
+use Rattle.walk.specs.inner.Along.{AlongItems, AlongMembers}
 use Rattle.walk.proofs.Steps as step
 use Rattle.walk.proofs.Steps.{expect-done, onward-comma, onward-other, Reads, memberOf, member-found, item-found}
 use Rattle.walk.proofs.Places.{item-placed}

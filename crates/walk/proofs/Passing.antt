@@ -30,8 +30,8 @@ use Rattle.walk.specs.declared.MemberStep.{MemberStep}
 use Rattle.walk.specs.declared.MemberStep.the-variants as members
 use Rattle.walk.specs.declared.ItemStep.the-variants as items
 use Rattle.walk.specs.Walk.{place, onward, memberAt}
-use Rattle.walk.specs.Skip.{quoted, skipped}
-use Rattle.walk.specs.Along.{Placed, NamePlaced, ItemPlaced, ItemPassed, MemberPassed, frontOf, NamePassed}
+use Rattle.walk.specs.inner.Skip.{quoted, skipped}
+use Rattle.walk.specs.inner.Along.{Placed, NamePlaced, ItemPlaced, ItemPassed, MemberPassed, frontOf, NamePassed}
 use Rattle.walk.proofs.Rests.{Rest, rest-drop, rest-read, rest-inside, rest-there}
 use Rattle.walk.proofs.Steps.{expect-done, Reads, member-unnamed}
 use Rattle.walk.proofs.Places.{onward-later, member-placed, found-member, next-found}

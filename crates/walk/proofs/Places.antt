@@ -22,7 +22,7 @@ use Rattle.walk.specs.declared.Item.{Item}
 use Rattle.walk.specs.declared.MemberStep.the-variants as members
 use Rattle.walk.specs.declared.ItemStep.the-variants as items
 use Rattle.walk.specs.Walk.{place, onward, memberAt, itemAt}
-pub use Rattle.walk.specs.Along.{Placed, ItemPlaced}
+pub use Rattle.walk.specs.inner.Along.{Placed, ItemPlaced}
 use Rattle.walk.proofs.Rests.{Rest, rest-drop, rest-next, rest-blanks, rest-read, rest-inside, rest-there}
 use Rattle.walk.proofs.Steps.{expect-done, onward-end, onward-comma, onward-other, Reads, memberOf, itemOf, member-from, item-from}
 

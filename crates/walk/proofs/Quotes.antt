@@ -22,7 +22,7 @@ use Rattle.lexeme.specs.Strings.{string}
 use Rattle.lexeme.proofs.Steps.{by-test, true-false, bad-done, done-rest, made-done, string-empty, string-quote, string-fault, string-character, string-skip}
 use Rattle.lexeme.proofs.Rests.{at-cons}
 use Rattle.lexeme.proofs.Local.{choice, encoded-char, quote-byte}
-use Rattle.walk.specs.Skip.{quoted}
+use Rattle.walk.specs.inner.Skip.{quoted}
 
 -- a byte that a test admits is none that the test refuses
 pub apart : (test : ℕ → Bool) (c : ℕ) → test c ≡ false → (b : ℕ) → test b ≡ true → eqb b c ≡ false

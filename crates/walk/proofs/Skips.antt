@@ -26,7 +26,7 @@ use Rattle.json.specs.Text.After.{closed, more}
 use Rattle.json.proofs.Steps.{contents-end, contents-none, contents-some, member-then, named}
 use Rattle.json.proofs.Bound.{Follows, at-close, at-comma, follows-as, Run, faulty, last, next, broken, run}
 use Rattle.json.proofs.Takes.{value-eats, member-eats}
-use Rattle.walk.specs.Skip.{quoted, outside, inside, enclosed, numbered, skipped}
+use Rattle.walk.specs.inner.Skip.{quoted, outside, inside, enclosed, numbered, skipped}
 use Rattle.walk.proofs.Quotes.{apart, string-quoted}
 use Rattle.walk.proofs.Steps.{expect-done}
 

@@ -23,7 +23,7 @@ use Rattle.json.proofs.Spellings.{value-spells}
 use Rattle.walk.specs.declared.ValueKind.the-variants as kind
 use Rattle.walk.specs.Walk.{place}
 use Rattle.walk.specs.Part.{Whole, kindOf, kindFrom, kindAt}
-use Rattle.walk.specs.Tail.{Tail}
+use Rattle.walk.specs.inner.Tail.{Tail}
 use Rattle.walk.proofs.Wholes.{whole-kind, whole-some}
 
 -- blanks up to the end

@@ -13,7 +13,7 @@ use Rattle.walk.specs.declared.ValueKind.{ValueKind}
 use Rattle.walk.specs.declared.ValueKind.the-variants as kind
 use Rattle.walk.specs.Walk.{part, onward, memberIn, memberAt, membersFrom, membersOf, itemIn, itemAt, itemsFrom, itemsOf}
 use Rattle.walk.specs.Part.{treeOf, kindAt, inside}
-use Rattle.walk.specs.Skip.{quoted, enclosed, numbered, skipped}
+use Rattle.walk.specs.inner.Skip.{quoted, enclosed, numbered, skipped}
 
 -- opens every definition of this layer
 unfoldable pub walking : Unit {0}

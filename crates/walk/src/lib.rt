@@ -5,7 +5,7 @@ ghost use lib.ListN.{length, drop};
 ghost use Rattle.lexeme.specs.Tokens.{blanks};
 ghost use Rattle.walk.specs.Walk.{onward, memberAt, itemAt};
 ghost use Rattle.walk.specs.Part.{kindAt};
-ghost use Rattle.walk.specs.Along.{ItemPassed, MemberPassed, NamePassed};
+ghost use Rattle.walk.specs.inner.Along.{ItemPassed, MemberPassed, NamePassed};
 ghost use Rattle.walk.specs.declared.NameStep.the-variants as names;
 use crate::skip::skip_value;
 use crate::skip::string_end;

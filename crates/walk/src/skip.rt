@@ -3,7 +3,7 @@ ghost use mathlib.Core.Bool.{false};
 ghost use mathlib.Core.Path.{_≡_};
 ghost use Prim.Native.Nat.{_-_};
 ghost use lib.ListN.{length, drop};
-ghost use Rattle.walk.specs.Skip.{quoted, outside, enclosed, numbered, skipped};
+ghost use Rattle.walk.specs.inner.Skip.{quoted, outside, enclosed, numbered, skipped};
 use lexeme::Scan;
 use lexeme::ascii::is_digit;
 use lexeme::ascii::is_either;

@@ -9,7 +9,7 @@ ghost use Rattle.lexeme.specs.Character.{paired};
 ghost use Rattle.lexeme.specs.Tokens.{blanks};
 ghost use Rattle.json.specs.Tree.{Json};
 ghost use Rattle.json.specs.Text.{value};
-ghost use Rattle.walk.specs.Tail.{Tail};
+ghost use Rattle.walk.specs.inner.Tail.{Tail};
 use crate::skip::skip_value;
 use lexeme::ascii::is_blank;
 use lexeme::front::first;

@@ -19,19 +19,19 @@ use Rattle.schema.specs.Pick.{Picked, PickedItems, bare, items, slots, pick, li
 use Rattle.word.specs.Kinds.{tooMany, badRing}
 use Rattle.scalar.specs.Scalars.{unless}
 use Rattle.rings.specs.Rings.{Found, at, count, ring, ringFound, ringsFound, position, isRingCount, polygon, polygonsRings, polygonsFound, areZoneCounts, coordinatesFound}
-use Rattle.rings.specs.Parts.{ringShape, polygonShape, picked, partsOf, Outlined}
+use Rattle.rings.specs.inner.Parts.{ringShape, polygonShape, picked, partsOf, Outlined}
 use Rattle.rings.specs.declared.RingPoints.{RingPoints}
-use Rattle.geometry.specs.Shifted.{InRange, points}
+use Rattle.geometry.specs.inner.Shifted.{InRange, points}
 use Rattle.rings.proofs.Picked.{Listed, items-parts}
 use Rattle.judge.specs.declared.Place.{Place}
 use Rattle.judge.specs.Faults.{faulty, numbered, faults}
 use Rattle.document.specs.Document.{Maybe, none, some, elements, elementsOf, field, along}
 use Rattle.document.proofs.Fields.{none-some}
-use Rattle.fields.specs.Values.{memberOf}
+use Rattle.fields.specs.inner.Values.{memberOf}
 use Rattle.fields.proofs.Sizes.{part-short, member-short, array-short}
 use Rattle.fields.proofs.Values.{Holds, member-holds}
 use Rattle.clean.proofs.Faultless.{Requires, here, below, lists, Demands, arrived, into, demands-there}
-use Rattle.zone.specs.Clean.{CleanRing, CleanItems, CleanZone}
+use Rattle.zone.specs.inner.Clean.{CleanRing, CleanItems, CleanZone}
 use Rattle.zone.proofs.Fields.{member-listing}
 use Rattle.zone.proofs.Zoned.{polygonBytes, propertyBytes, zone-polygons}
 

@@ -17,7 +17,7 @@ use Rattle.zone.specs.declared.Limit.the-variants as limit
 use Rattle.zone.specs.declared.Given.{Given}
 use Rattle.zone.specs.Zone.{applies, zoneRules, rulesBy, rules, applicable, otherwise, firstGiven}
 use Rattle.zone.specs.Answer.{answer, yes, values, ofRules}
-use Rattle.zone.specs.Values.{flagOf, limitOf, orFlag, orLimit, nothing, orGiven, givenIn, allGiven, withRule, isFlag, isLimit, isFull, flagged, speedOf, rulingBy}
+use Rattle.zone.specs.inner.Values.{flagOf, limitOf, orFlag, orLimit, nothing, orGiven, givenIn, allGiven, withRule, isFlag, isLimit, isFull, flagged, speedOf, rulingBy}
 
 abbrev pub made : Bool → Flag → Flag → Limit → Flag → Given
 made any ride through limit parking = record { any = any; ride = ride; through = through; limit = limit; parking = parking }

@@ -17,16 +17,16 @@ use Rattle.schema.specs.Shape as shape
 use Rattle.schema.specs.Shape.{Shape, Rows, Sort, Numbering}
 use Rattle.schema.specs.Table23 as table
 use Rattle.schema.specs.Pick.{Picked, pick}
-use Rattle.rings.specs.Parts.{Listing, partsOf}
+use Rattle.rings.specs.inner.Parts.{Listing, partsOf}
 use Rattle.document.specs.Document.{Maybe, none, some, along, elements, elementsOf, field, fieldItems, textIn}
 use Rattle.document.proofs.Fields.{Lists}
 use Rattle.document.proofs.Records.{pickedItems}
-use Rattle.fields.specs.Values.{memberOf, textBy, arrayBy, isId}
+use Rattle.fields.specs.inner.Values.{memberOf, textBy, arrayBy, isId}
 use Rattle.fields.proofs.Values.{Holds, member-holds, holds-text, holds-items}
 use Rattle.fields.proofs.Arrays.{member-array}
 use Rattle.fields.proofs.Fields.{field-spelled, field-truth, field-items, rowOf, listed}
 use Rattle.zone.specs.Zone.{anyText, applies}
-use Rattle.zone.specs.Values.{idShape, flagOf, limitOf, givenBy, givenIn}
+use Rattle.zone.specs.inner.Values.{idShape, flagOf, limitOf, givenBy, givenIn}
 use Rattle.zone.proofs.Combining.{same-given}
 
 -- the parts of an array are its picked items

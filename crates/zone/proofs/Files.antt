@@ -11,9 +11,9 @@ use Rattle.schema.specs.Shape.{fileShape}
 use Rattle.schema.specs.Table23.{table23, file, zones, zone}
 use Rattle.schema.specs.Pick.{pick}
 use Rattle.geometry.specs.Ring.{Point}
-use Rattle.rings.specs.Parts.{partsOf}
+use Rattle.rings.specs.inner.Parts.{partsOf}
 use Rattle.document.specs.Document.{along, field}
-use Rattle.document.specs.Spans.{RecordsFrom}
+use Rattle.document.specs.inner.Spans.{RecordsFrom}
 use Rattle.document.proofs.Records.{recordShape}
 use Rattle.document.proofs.Rests.{rest-along, rest-picked}
 use Rattle.clean.specs.Clean.{treeOf, recordsOf}
@@ -22,8 +22,8 @@ use Rattle.clean.proofs.Repeated.{Held}
 use Rattle.zone.specs.declared.Ruling.the-variants.{NoRule}
 use Rattle.zone.specs.Zone.{rulesBy, rules, applicable, rulesAt}
 use Rattle.zone.specs.Answer.{answer, ofRules}
-use Rattle.zone.specs.Values.{allGiven, rulingBy}
-use Rattle.zone.specs.Clean.{CleanZones}
+use Rattle.zone.specs.inner.Values.{allGiven, rulingBy}
+use Rattle.zone.specs.inner.Clean.{CleanZones}
 use Rattle.zone.proofs.Combining.{given-answered}
 
 module _ (q : Point) (type : List ℕ) (moment : ℕ) where

@@ -10,11 +10,11 @@ use Rattle.walk.specs.declared.ItemStep.{ItemStep}
 use Rattle.walk.specs.declared.ItemStep.the-variants as step
 use Rattle.walk.specs.Walk.{itemsOf}
 use Rattle.walk.specs.Part.{Whole, treeOf}
-use Rattle.walk.specs.Along.{AlongItems, ItemPassed}
+use Rattle.walk.specs.inner.Along.{AlongItems, ItemPassed}
 use Rattle.walk.proofs.Parts.{itemOf}
 use Rattle.schema.specs.Shape.{Shape}
 use Rattle.schema.specs.Pick.{Picked}
-use Rattle.rings.specs.Parts.{Listing, picked, partsOf, Left}
+use Rattle.rings.specs.inner.Parts.{Listing, picked, partsOf, Left}
 use Rattle.rings.proofs.Picked.{Onward, left-start, left-end, left-more}
 
 -- items of the shape σ: what a list of them comes to from a state on, and what is known of those that are left

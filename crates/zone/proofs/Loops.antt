@@ -7,17 +7,17 @@ use native.Mathlib.Omega.{arith}
 use Rattle.schema.specs.Table23 as table
 use Rattle.schema.specs.Pick.{Picked}
 use Rattle.geometry.specs.Ring.{Point}
-use Rattle.geometry.specs.Shifted.{stands}
+use Rattle.geometry.specs.inner.Shifted.{stands}
 use Rattle.geometry.specs.declared.Standing.the-variants.{Edge, Is}
 use Rattle.geometry.proofs.Holed.{heldFrom, from-none, from-edge, from-next, from-first}
 use Rattle.rings.specs.Rings.{ring, ringPositions, ringsFound, polygon, polygonPositions, polygonsFound}
-use Rattle.rings.specs.Parts.{ringShape, polygonShape}
+use Rattle.rings.specs.inner.Parts.{ringShape, polygonShape}
 use Rattle.document.specs.Document.{Maybe, none, some, elements, textIn}
-use Rattle.fields.specs.Values.{isId}
+use Rattle.fields.specs.inner.Values.{isId}
 use Rattle.zone.specs.declared.Given.{Given}
 use Rattle.zone.specs.Zone.{outline, ringsHold, polygonsHold, anyText, rules}
-use Rattle.zone.specs.Values.{idShape}
-use Rattle.zone.specs.Clean.{Faultless}
+use Rattle.zone.specs.inner.Values.{idShape}
+use Rattle.zone.specs.inner.Clean.{Faultless}
 use Rattle.zone.proofs.Looping.{Loop}
 use Rattle.zone.proofs.Combining.{withRules}
 

@@ -10,12 +10,13 @@ use borrow.Author.Tests.{eq-eqb, ne-eqb}
 use Rattle.notation.specs.Ascii.{bytes}
 use Rattle.walk.specs.Part.{kindAt}
 use Rattle.document.specs.Document.{none, some}
-use Rattle.fields.specs.Values.{code, truthBy, spelledBy, memberOf, integerIn}
+use Rattle.fields.specs.Values.{integerIn}
+use Rattle.fields.specs.inner.Values.{code, truthBy, spelledBy, memberOf}
 use Rattle.fields.proofs.Ways.{spelled-none, spelled-some}
 use Rattle.zone.specs.declared.Flag.the-variants as flag
 use Rattle.zone.specs.declared.Limit.the-variants as limit
 use Rattle.zone.specs.Zone.{integer, begun, unended}
-use Rattle.zone.specs.Values.{countsBy, flagOf, limitOf}
+use Rattle.zone.specs.inner.Values.{countsBy, flagOf, limitOf}
 
 -- by the kind of q
 module _ (q : List ℕ) (n : ℕ) (e : n ≡ code (kindAt q)) where

@@ -13,15 +13,15 @@ use Rattle.schema.specs.Shape.{Rows, Sort}
 use Rattle.schema.specs.Table23 as table
 use Rattle.schema.specs.Pick.{Picked, pick}
 use Rattle.geometry.specs.Ring.{Point}
-use Rattle.rings.specs.Parts.{polygonShape, partsOf}
+use Rattle.rings.specs.inner.Parts.{polygonShape, partsOf}
 use Rattle.document.specs.Document.{Maybe, none, some, along, elementsOf, field, fieldItems}
 use Rattle.document.proofs.Fields.{Lists}
-use Rattle.fields.specs.Values.{memberOf, arrayBy}
+use Rattle.fields.specs.inner.Values.{memberOf, arrayBy}
 use Rattle.fields.proofs.Values.{Holds, member-holds}
 use Rattle.fields.proofs.Fields.{field-spelled, rowOf, listed}
 use Rattle.zone.specs.declared.Given.{Given}
 use Rattle.zone.specs.Zone.{integer, begun, unended, counts, polygonsHold, zoneRulesBy, zoneRules}
-use Rattle.zone.specs.Values.{countsBy}
+use Rattle.zone.specs.inner.Values.{countsBy}
 use Rattle.zone.proofs.Combining.{withRules, rules-none}
 use Rattle.zone.proofs.Fields.{nothing-in, parts-field, parts-inside}
 

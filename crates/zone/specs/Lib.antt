@@ -2,6 +2,5 @@ pub mod Zone
 pub mod Answer
 pub mod Combined
 pub mod Single
-pub mod Values
-pub mod Clean
 pub mod Cases
+pub mod inner

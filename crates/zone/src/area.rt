@@ -11,11 +11,11 @@ ghost use mathlib.Core.Path.{_≡_};
 ghost use Rattle.walk.specs.Part.{treeOf};
 ghost use Rattle.schema.specs.Pick.{pick};
 ghost use Rattle.schema.specs.Table23.{zone};
-ghost use Rattle.geometry.specs.Shifted.{OnMap, point, stands};
+ghost use Rattle.geometry.specs.inner.Shifted.{OnMap, point, stands};
 ghost use Rattle.rings.specs.Rings.{ringsFound, polygonsFound};
-ghost use Rattle.rings.specs.Parts.{ringShape, polygonShape, partsOf};
+ghost use Rattle.rings.specs.inner.Parts.{ringShape, polygonShape, partsOf};
 ghost use Rattle.zone.specs.Zone.{outline, ringsHold, polygonsHold, zoneHolds};
-ghost use Rattle.zone.specs.Clean.{CleanRing, CleanItems, CleanZone};
+ghost use Rattle.zone.specs.inner.Clean.{CleanRing, CleanItems, CleanZone};
 
 // Where the point stands to a polygon's rings once the ring `p` was asked too.
 fn stand_to(p: &[u8], q: Position, first: bool, held: bool) -> Standing

@@ -4,7 +4,7 @@ ghost use mathlib.Core.Path.{_≡_};
 ghost use Prim.Native.Nat.{_≤_};
 ghost use lib.IntN.{pos, negℤ};
 ghost use lib.Signed.{leZ};
-ghost use Rattle.signed.specs.Signed.{difference};
+ghost use Rattle.signed.specs.inner.Difference.{difference};
 ghost use Rattle.zone.specs.Answer.{onMap};
 
 // Whether lon and lat are in their ranges.

@@ -14,10 +14,10 @@ ghost use mathlib.Core.Path.{_≡_};
 ghost use Rattle.walk.specs.Part.{Whole, treeOf};
 ghost use Rattle.schema.specs.Pick.{pick};
 ghost use Rattle.schema.specs.Table23.{rule};
-ghost use Rattle.rings.specs.Parts.{Listing, partsOf};
-ghost use Rattle.fields.specs.Values.{truthBy, spelledBy};
+ghost use Rattle.rings.specs.inner.Parts.{Listing, partsOf};
+ghost use Rattle.fields.specs.inner.Values.{truthBy, spelledBy};
 ghost use Rattle.zone.specs.Zone.{anyText, applies as appliesTo, applicable};
-ghost use Rattle.zone.specs.Values.{idShape, flagOf, limitOf, givenBy, orGiven, withRule, allGiven};
+ghost use Rattle.zone.specs.inner.Values.{idShape, flagOf, limitOf, givenBy, orGiven, withRule, allGiven};
 
 // The kind of booleans.
 const BOOLEAN: u8 = 1;

@@ -7,8 +7,8 @@ use crate::Ruling;
 ghost use mathlib.Core.Bool.{true};
 ghost use mathlib.Core.Path.{_≡_};
 ghost use Rattle.notation.specs.Choice.{_⇒_else_};
-ghost use Rattle.zone.specs.Values.{nothing as nothingGiven, orFlag, orLimit, orGiven};
-ghost use Rattle.zone.specs.Values.{isFlag, isLimit, isFull, flagged, speedOf, rulingBy};
+ghost use Rattle.zone.specs.inner.Values.{nothing as nothingGiven, orFlag, orLimit, orGiven};
+ghost use Rattle.zone.specs.inner.Values.{isFlag, isLimit, isFull, flagged, speedOf, rulingBy};
 
 impl Flag {
     // This one, or else a later one.

@@ -5,9 +5,9 @@ use fields::integer_in;
 use fields::member;
 ghost use mathlib.Core.Path.{_≡_};
 ghost use Rattle.walk.specs.Part.{Whole, treeOf};
-ghost use Rattle.fields.specs.Values.{spelledBy};
+ghost use Rattle.fields.specs.inner.Values.{spelledBy};
 ghost use Rattle.zone.specs.Zone.{integer, begun as begunAt, unended as unendedAt};
-ghost use Rattle.zone.specs.Values.{countsBy};
+ghost use Rattle.zone.specs.inner.Values.{countsBy};
 
 // The start is not after the moment, or there is none.
 fn begun(q: &[u8], moment: u64) -> bool

@@ -15,14 +15,14 @@ ghost use Rattle.walk.specs.Part.{treeOf};
 ghost use Rattle.schema.specs.Shape.{fileShape};
 ghost use Rattle.schema.specs.Table23.{table23, zone};
 ghost use Rattle.schema.specs.Pick.{pick};
-ghost use Rattle.geometry.specs.Shifted.{OnMap, point};
-ghost use Rattle.rings.specs.Parts.{partsOf};
+ghost use Rattle.geometry.specs.inner.Shifted.{OnMap, point};
+ghost use Rattle.rings.specs.inner.Parts.{partsOf};
 ghost use Rattle.clean.specs.declared.Cleanness.the-variants.{Clean};
 ghost use Rattle.clean.specs.Clean.{treeOf as fileTree, cleanOf};
 ghost use Rattle.zone.specs.Zone.{zoneRules, rules, applicable, rulesAt};
 ghost use Rattle.zone.specs.Answer.{answer, ofRules};
-ghost use Rattle.zone.specs.Values.{orGiven, allGiven};
-ghost use Rattle.zone.specs.Clean.{CleanZone, CleanZones};
+ghost use Rattle.zone.specs.inner.Values.{orGiven, allGiven};
+ghost use Rattle.zone.specs.inner.Clean.{CleanZone, CleanZones};
 
 // What is given so far, joined by what the rules of the zone `p` give for a type, where the zone counts at the moment and holds the point.
 fn with_zone(p: &[u8], q: Position, type_id: &[u8], moment: u64, start: Given) -> Given

@@ -2,7 +2,7 @@
 use mathlib.Core.Path.{refl}
 use borrow.Author.Needs.{needs}
 use Rattle.lexeme.specs.Character.{nextBy}
-use Rattle.lexeme.specs.Class.{leadOf, from80, from90, fromA0, leastOf, mostOf}
+use Rattle.lexeme.specs.inner.Class.{leadOf, from80, from90, fromA0, leastOf, mostOf}
 use Rattle.character.proofs.Leads.{by-plain, by-class, class-wrong}
 use Rattle.character.proofs.next_by.Statement.{statement}
 use Rattle.character.proofs.next_by.Tie as tie

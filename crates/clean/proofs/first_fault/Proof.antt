@@ -6,7 +6,7 @@ use Prim.Native.Nat.{ℕ, _≤_}
 use lib.ListN.{length}
 use Rattle.limits.specs.Ceilings.{fileBytes}
 use Rattle.walk.specs.Part.{Whole}
-use Rattle.document.specs.Spans.{Readable}
+use Rattle.document.specs.inner.Spans.{Readable}
 use Rattle.clean.specs.Clean.{treeOf}
 use Rattle.clean.proofs.Judged.{top-there, top-short, top-whole}
 use Rattle.clean.proofs.first_fault.Statement.{statement}

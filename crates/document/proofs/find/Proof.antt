@@ -9,7 +9,7 @@ use Rattle.json.specs.Tree.{Json}
 use Rattle.walk.specs.declared.MemberStep.the-variants as members
 use Rattle.walk.specs.Walk.{memberAt}
 use Rattle.walk.specs.Part.{Whole}
-use Rattle.walk.specs.Along.{AlongMembers, Placed}
+use Rattle.walk.specs.inner.Along.{AlongMembers, Placed}
 use Rattle.walk.proofs.Folds.{Walk, memberSteps, members-start, walk-more, walk-end}
 use Rattle.walk.proofs.Memberless.{first-object}
 use Rattle.slots.specs.declared.Found.the-variants.{Missing}

@@ -5,7 +5,7 @@ use Prim.Native.Nat.{_-_, _≤_}
 use native.Mathlib.Omega.{arith}
 use lib.ListN.{length}
 use Rattle.walk.specs.Walk.{itemsOf}
-use Rattle.walk.specs.Along.{AlongItems, ItemPlaced, ItemPassed}
+use Rattle.walk.specs.inner.Along.{AlongItems, ItemPlaced, ItemPassed}
 use Rattle.document.specs.Spans.{nth}
 use Rattle.document.proofs.Along.{Counts, nth-zero, counts-start, counts-end, counts-here, counts-later}
 use Rattle.document.proofs.nth_span.Statement.{statement}

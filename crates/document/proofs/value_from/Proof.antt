@@ -6,7 +6,7 @@ use Prim.Native.Nat.{_-_}
 use native.Mathlib.Omega.{arith}
 use lib.ListN.{length}
 use Rattle.walk.specs.declared.NameStep.the-variants as names
-use Rattle.walk.specs.Along.{NamePlaced, NamePassed, MemberPassed}
+use Rattle.walk.specs.inner.Along.{NamePlaced, NamePassed, MemberPassed}
 use Rattle.walk.proofs.Passing.{member-absent}
 use Rattle.document.proofs.Cuts.{part-rest}
 use Rattle.document.proofs.First.{Unmet, unmet-none, unmet-start, unmet-end, unmet-here, unmet-next, from-none, from-here}

@@ -1,7 +1,7 @@
 -- Each kind has its number.
 use borrow.Author.Needs.{needs}
 use mathlib.Core.Path.{sym, ap, _∙_}
-use Rattle.fields.specs.Values.{code}
+use Rattle.fields.specs.inner.Values.{code}
 use Rattle.fields.proofs.code_of.Statement.{statement}
 use Rattle.fields.proofs.code_of.Tie as tie
 

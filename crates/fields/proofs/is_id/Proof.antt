@@ -2,7 +2,7 @@
 use borrow.Author.Needs.{needs}
 use mathlib.Core.Path.{sym, ap, _∙_}
 use Rattle.text.specs.Text.{textOf, same}
-use Rattle.fields.specs.Values.{isId}
+use Rattle.fields.specs.inner.Values.{isId}
 use Rattle.fields.proofs.Ways.{text-none, text-some}
 use Rattle.fields.proofs.is_id.Statement.{statement}
 use Rattle.fields.proofs.is_id.Tie as tie

@@ -7,8 +7,8 @@ use lib.ListN.{length}
 use Rattle.notation.specs.Choice.{_⇒_else_}
 use Rattle.walk.specs.Walk.{part}
 use Rattle.walk.specs.Part.{treeOf}
-use Rattle.slots.specs.Blank.{blankText}
-use Rattle.fields.specs.Values.{foundBytes, Standing}
+use Rattle.slots.specs.inner.Blank.{blankText}
+use Rattle.fields.specs.inner.Values.{foundBytes, Standing}
 use Rattle.fields.proofs.Sizes.{part-short}
 use Rattle.fields.proofs.value_at.Statement.{statement}
 use Rattle.fields.proofs.value_at.Tie as tie

@@ -6,7 +6,7 @@ use Rattle.schema.specs.Pick.{pick}
 use Rattle.schema.specs.Table23.{plan}
 use Rattle.document.specs.Document.{some}
 use Rattle.clean.proofs.Cleans.{Sound, clean-sound}
-use Rattle.quote.specs.Clear.{ClearPlan}
+use Rattle.quote.specs.inner.Clear.{ClearPlan}
 use Rattle.quote.specs.Quote.{planQuote}
 use Rattle.quote.proofs.Files.{quote-absent, plans-along, quote-none, quote-clear, quote-some}
 use Rattle.quote.proofs.quote_clean.Statement.{statement}

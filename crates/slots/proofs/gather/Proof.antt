@@ -6,10 +6,10 @@ use native.Mathlib.Omega.{arith}
 use lib.ListN.{length}
 use Rattle.json.specs.Tree.{Json, Members}
 use Rattle.walk.specs.Part.{Whole}
-use Rattle.walk.specs.Along.{Placed}
+use Rattle.walk.specs.inner.Along.{Placed}
 use Rattle.walk.proofs.Along.{MembersAlong, members-along, members-along-more, members-along-end}
-use Rattle.slots.specs.Rows.{lineNames}
-use Rattle.slots.specs.Slots.{slotsOf, empty, absorbed, gathered}
+use Rattle.slots.specs.inner.Rows.{lineNames}
+use Rattle.slots.specs.inner.Slots.{slotsOf, empty, absorbed, gathered}
 use Rattle.slots.proofs.Filled.{Kept, empty-kept, put-kept, gathers}
 use Rattle.slots.proofs.gather.Statement.{statement}
 use Rattle.slots.proofs.gather.Tie as tie

@@ -3,7 +3,7 @@ use borrow.Author.Needs.{needs}
 use borrow.Author.Tests.{lt-ltb, le-ltb}
 use native.Mathlib.Omega.{arith}
 use Prim.Native.Nat.{_<_}
-use Rattle.slots.specs.Rows.{mostRows}
+use Rattle.slots.specs.inner.Rows.{mostRows}
 use Rattle.slots.proofs.is_new.Statement.{statement}
 use Rattle.slots.proofs.is_new.Tie as tie
 

@@ -4,7 +4,7 @@ use borrow.Author.Tests.{eq-eqb, ne-eqb}
 use mathlib.Core.Path.{sym}
 use native.Mathlib.Omega.{arith}
 use Rattle.slots.specs.declared.Slots.{Slots}
-use Rattle.slots.specs.Slots.{slotsOf}
+use Rattle.slots.specs.inner.Slots.{slotsOf}
 use Rattle.slots.proofs.Filled.{put-past, put-first, put-again}
 use Rattle.slots.proofs.put.Statement.{statement}
 use Rattle.slots.proofs.put.Tie as tie

@@ -7,9 +7,9 @@ use native.Mathlib.Omega.{arith}
 use lib.ListN.{length, getD, List·getD-map}
 use Rattle.text.specs.Text.{textOf}
 use Rattle.schema.specs.declared.Line.{Line}
-use Rattle.schema.specs.Line.{lineAt, linesOf, noLine}
+use Rattle.schema.specs.inner.Line.{lineAt, linesOf, noLine}
 use Rattle.schema.specs.Table23.{table23}
-use Rattle.slots.specs.Rows.{lineCount, mostRows, rowLine}
+use Rattle.slots.specs.inner.Rows.{lineCount, mostRows, rowLine}
 use Rattle.slots.proofs.Named.{insides-length, rowFrom, row-full, row-past, row-here, row-next, row-line-first, row-line-next}
 use Rattle.slots.proofs.row_of.Statement.{statement}
 use Rattle.slots.proofs.row_of.Tie as tie

@@ -4,7 +4,7 @@ use borrow.Author.Tests.{eq-eqb, ne-eqb}
 use mathlib.Core.Path.{sym}
 use native.Mathlib.Omega.{arith}
 use Rattle.slots.specs.declared.Slots.{Slots}
-use Rattle.slots.specs.Slots.{slotsOf}
+use Rattle.slots.specs.inner.Slots.{slotsOf}
 use Rattle.slots.proofs.Filled.{slot-past, slot-missing, slot-once, slot-twice}
 use Rattle.slots.proofs.slot_in.Statement.{statement}
 use Rattle.slots.proofs.slot_in.Tie as tie

@@ -1,7 +1,7 @@
 -- `pass_member` passes a member's front, and then its value.
 use borrow.Author.Needs.{needs}
 use mathlib.Core.Path.{subst}
-use Rattle.walk.specs.Along.{NamePassed}
+use Rattle.walk.specs.inner.Along.{NamePassed}
 use Rattle.walk.proofs.Passing.{member-absent}
 use Rattle.walk.proofs.pass_member.Statement.{statement}
 use Rattle.walk.proofs.pass_member.Tie as tie

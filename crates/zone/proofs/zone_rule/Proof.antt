@@ -7,11 +7,11 @@ use mathlib.Core.Path.{_≡_, sym, ap, _∙_}
 use mir.Syntax.{w64}
 use mir.Val.{ofZ, toZ}
 use mir.ValLaws.{toZ-ofZ}
-use Rattle.signed.specs.Signed.{difference}
+use Rattle.signed.specs.inner.Difference.{difference}
 use Rattle.schema.specs.Shape.{fileShape}
 use Rattle.schema.specs.Table23.{table23}
 use Rattle.schema.specs.Pick.{pick}
-use Rattle.geometry.specs.Shifted.{halfLon, halfLat}
+use Rattle.geometry.specs.inner.Shifted.{halfLon, halfLat}
 use Rattle.clean.specs.Clean.{treeOf}
 use Rattle.zone.specs.Zone.{rulesAt}
 use Rattle.zone.specs.Answer.{onMap, ofRules, rulingOf}

@@ -2,7 +2,7 @@
 use borrow.Author.Needs.{needs}
 use mathlib.Core.Path.{refl, ap, _∙_}
 use Rattle.lexeme.specs.Character.{combined}
-use Rattle.character.specs.Length.{taken}
+use Rattle.character.specs.inner.Length.{taken}
 use Rattle.character.proofs.Lengths.{encoded-taken}
 use Rattle.character.proofs.Pairs.{high-alone, high-pair}
 use Rattle.character.proofs.length.pair_length.Statement.{statement}

@@ -1,7 +1,7 @@
 -- Each way through the code is one through the definition.
 use borrow.Author.Needs.{needs}
 use mathlib.Core.Path.{refl, ap, _∙_}
-use Rattle.character.specs.Length.{taken}
+use Rattle.character.specs.inner.Length.{taken}
 use Rattle.character.proofs.Escapes.{unicode-short, unicode-value}
 use Rattle.character.proofs.length.unicode_length.Statement.{statement}
 use Rattle.character.proofs.length.unicode_length.Tie as tie

@@ -3,7 +3,7 @@ use borrow.Author.Needs.{needs}
 use mathlib.Core.Path.{_≡_, ap, _∙_}
 use lib.ListN.{drop}
 use Rattle.lexeme.specs.Character.{byte, within}
-use Rattle.lexeme.specs.Class.{leastOf, mostOf}
+use Rattle.lexeme.specs.inner.Class.{leastOf, mostOf}
 use Rattle.character.proofs.Ranges.{within-rest, within-low}
 use Rattle.lexeme.proofs.class.class_by.Reads as class-by-reads
 use Rattle.lexeme.proofs.front.byte_at.Reads as byte-at-reads

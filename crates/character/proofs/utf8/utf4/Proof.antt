@@ -1,6 +1,6 @@
 -- Each way through the code is one through the definition.
 use borrow.Author.Needs.{needs}
-use Rattle.lexeme.specs.Class.{from80, fromA0, leastOf, mostOf}
+use Rattle.lexeme.specs.inner.Class.{from80, fromA0, leastOf, mostOf}
 use Rattle.character.proofs.Forms.{utf4-first, utf4-second, utf4-third, utf4-whole}
 use Rattle.character.proofs.utf8.utf4.Statement.{statement}
 use Rattle.character.proofs.utf8.utf4.Tie as tie

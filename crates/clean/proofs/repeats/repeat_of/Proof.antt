@@ -1,7 +1,8 @@
 -- `repeat_of` finds the array of records, which a file without a stage B fault has.
 use borrow.Author.Needs.{needs}
 use mathlib.Core.Path.{sym, ap, _∙_}
-use Rattle.clean.specs.Clean.{idField, blamed}
+use Rattle.clean.specs.Clean.{idField}
+use Rattle.clean.specs.inner.Blamed.{blamed}
 use Rattle.clean.proofs.Repeated.{Repeats, repeats-are}
 use Rattle.clean.proofs.repeats.repeat_of.Statement.{statement}
 use Rattle.clean.proofs.repeats.repeat_of.Tie as tie

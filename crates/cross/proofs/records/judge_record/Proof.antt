@@ -2,9 +2,9 @@
 use mathlib.Core.Path.{_≡_, subst}
 use Prim.Native.Nat.{ℕ}
 use native.Mathlib.Omega.{arith}
-use Rattle.slots.specs.Slots.{slotsOf, Gathered}
+use Rattle.slots.specs.inner.Slots.{slotsOf, Gathered}
 use Rattle.cross.specs.Cross.{faultsOf}
-use Rattle.cross.specs.Judged.{Referring, firstLine, lineCount}
+use Rattle.cross.specs.inner.Judged.{Referring, firstLine, lineCount}
 use Rattle.cross.proofs.records.judge_record.Statement.{statement}
 use Rattle.cross.proofs.records.judge_record.Tie as tie
 

@@ -9,14 +9,14 @@ use Rattle.limits.specs.Ceilings.{records, fileBytes}
 use Rattle.json.specs.Tree as tree
 use Rattle.json.specs.Tree.{Members}
 use Rattle.walk.specs.Part.{Whole, treeOf}
-use Rattle.walk.specs.Along.{ItemPlaced}
+use Rattle.walk.specs.inner.Along.{ItemPlaced}
 use Rattle.walk.proofs.Parts.{itemOf}
 use Rattle.schema.specs.Pick.{pick}
 use Rattle.fault.specs.Fault.{least as leastOf}
 use Rattle.document.proofs.Records.{recordShape}
 use Rattle.fields.proofs.Sizes.{part-short}
 use Rattle.ids.proofs.Passing.{Noting, noting-start, noting-end, noting-room, noting-record, noting-more}
-use Rattle.cross.specs.Judged.{broken}
+use Rattle.cross.specs.inner.Judged.{broken}
 use Rattle.cross.proofs.Layouts.{id-slot}
 use Rattle.cross.proofs.Staging.{repeat-is}
 use Rattle.cross.proofs.Walked.{Goes, goes-start, goes-end, goes-more, left-among, left-whole}

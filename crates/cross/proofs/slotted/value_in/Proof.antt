@@ -4,7 +4,7 @@ use mathlib.Core.Path.{_≡_, subst}
 use Prim.Native.Nat.{_≤_}
 use lib.ListN.{length}
 use Rattle.slots.specs.declared.Found.{Found}
-use Rattle.fields.specs.Values.{Standing, foundBytes}
+use Rattle.fields.specs.inner.Values.{Standing, foundBytes}
 use Rattle.cross.proofs.slotted.value_in.Statement.{statement}
 use Rattle.cross.proofs.slotted.value_in.Tie as tie
 

@@ -1,7 +1,7 @@
 -- `is_called_for` asks of each file that another calls for.
 use borrow.Author.Needs.{needs}
 use mathlib.Core.Path.{sym, ap, _∙_}
-use Rattle.cross.specs.Staged.{calledFor}
+use Rattle.cross.specs.inner.Staged.{calledFor}
 use Rattle.cross.proofs.Staging.{called-else}
 use Rattle.cross.proofs.stage.is_called_for.Statement.{statement}
 use Rattle.cross.proofs.stage.is_called_for.Tie as tie

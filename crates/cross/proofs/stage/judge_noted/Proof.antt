@@ -3,7 +3,7 @@ use borrow.Author.Needs.{needs}
 use mathlib.Core.Path.{_≡_, refl, sym, _∙_}
 use Prim.Native.Nat.{_-_, _≤_}
 use native.Mathlib.Omega.{arith}
-use Rattle.cross.specs.Staged.{numberedLeast, firstFrom}
+use Rattle.cross.specs.inner.Staged.{numberedLeast, firstFrom}
 use Rattle.cross.proofs.Staging.{firstOn, first-end, first-here, first-later}
 use Rattle.cross.proofs.stage.judge_noted.Statement.{statement}
 use Rattle.cross.proofs.stage.judge_noted.Tie as tie

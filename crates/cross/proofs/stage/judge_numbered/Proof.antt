@@ -2,7 +2,7 @@
 use mathlib.Core.Path.{refl, sym, ap, _∙_}
 use native.Mathlib.Omega.{arith}
 use Rattle.cross.specs.Cross.{faultsOf}
-use Rattle.cross.specs.Staged.{repeatOf, numberedLeast}
+use Rattle.cross.specs.inner.Staged.{repeatOf, numberedLeast}
 use Rattle.cross.proofs.Staging.{file-is, numbered-else}
 use Rattle.cross.proofs.stage.judge_numbered.Statement.{statement}
 use Rattle.cross.proofs.stage.judge_numbered.Tie as tie

@@ -6,11 +6,12 @@ use mathlib.Core.Path.{ap, _∙_}
 use Prim.Native.Nat.{_+_, _*_, _-_, _^_, _≤_, _<_}
 use native.Mathlib.Omega.{arith}
 use lib.ListN.{length}
-use Rattle.walk.specs.Along.{ItemPlaced}
+use Rattle.walk.specs.inner.Along.{ItemPlaced}
 use Rattle.schema.specs.Table23.{available}
 use Rattle.fault.specs.Fault.{least as leastOf}
 use Rattle.document.proofs.Records.{recordShape, pickedItems}
-use Rattle.fields.specs.Values.{textBy, spelledBy, integerIn}
+use Rattle.fields.specs.Values.{integerIn}
+use Rattle.fields.specs.inner.Values.{textBy, spelledBy}
 use Rattle.references.specs.References.{refers as refersTo}
 use Rattle.cross.specs.Cross.{at as placeAt}
 use Rattle.cross.proofs.Joined.{breaks}

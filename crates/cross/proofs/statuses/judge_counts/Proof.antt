@@ -9,11 +9,12 @@ use lib.Dec.{eqb}
 use lib.ListN.{length}
 use Rattle.notation.specs.Choice.{_and_}
 use Rattle.word.specs.Kinds.{sumDiffers}
-use Rattle.walk.specs.Along.{AlongItems}
+use Rattle.walk.specs.inner.Along.{AlongItems}
 use Rattle.schema.specs.Table23.{available}
 use Rattle.fault.specs.Fault.{least}
 use Rattle.document.proofs.Records.{recordShape, pickedItems}
-use Rattle.fields.specs.Values.{thereBy, arrayBy, spelledBy, integerIn}
+use Rattle.fields.specs.Values.{integerIn}
+use Rattle.fields.specs.inner.Values.{thereBy, arrayBy, spelledBy}
 use Rattle.fields.proofs.Sizes.{array-short}
 use Rattle.references.specs.References.{when}
 use Rattle.cross.specs.Cross.{at, sumOf, availableFaults}

@@ -3,7 +3,7 @@ use borrow.Author.Needs.{needs}
 use mathlib.Core.Path.{ap, _∙_}
 use Rattle.fault.specs.Fault.{least}
 use Rattle.document.proofs.Records.{recordShape, pickedItems}
-use Rattle.fields.specs.Values.{thereBy}
+use Rattle.fields.specs.inner.Values.{thereBy}
 use Rattle.references.specs.References.{demanded as demandedOf}
 use Rattle.cross.specs.Cross.{at}
 use Rattle.cross.proofs.Joined.{both, breaks, joined}

@@ -5,7 +5,7 @@ use mathlib.Core.Path.{ap, _∙_}
 use Prim.Native.Nat.{ℕ, _+_, _-_}
 use native.Mathlib.Omega.{arith}
 use lib.ListN.{length}
-use Rattle.walk.specs.Along.{ItemPlaced}
+use Rattle.walk.specs.inner.Along.{ItemPlaced}
 use Rattle.schema.specs.Shape.{Sort, scalar}
 use Rattle.fault.specs.Fault.{least as leastOf}
 use Rattle.document.proofs.Records.{recordShape, pickedItems}

@@ -8,13 +8,13 @@ use native.Mathlib.Omega.{arith}
 use lib.ListN.{length}
 use Rattle.notation.specs.Ascii.{bytes}
 use Rattle.walk.specs.Part.{Whole, treeOf}
-use Rattle.walk.specs.Along.{AlongItems, ItemPlaced}
+use Rattle.walk.specs.inner.Along.{AlongItems, ItemPlaced}
 use Rattle.walk.proofs.Parts.{itemOf}
 use Rattle.schema.specs.Shape.{Sort, scalar}
 use Rattle.schema.specs.Table23.{rule}
 use Rattle.fault.specs.Fault.{least as leastOf}
 use Rattle.document.proofs.Records.{recordShape, pickedItems}
-use Rattle.fields.specs.Values.{memberOf, arrayBy}
+use Rattle.fields.specs.inner.Values.{memberOf, arrayBy}
 use Rattle.fields.proofs.Arrays.{member-along}
 use Rattle.cross.specs.Cross.{idFaults}
 use Rattle.cross.proofs.Walked.{Goes, goes-start, goes-end, goes-more, left-whole}

@@ -7,12 +7,12 @@ use native.Mathlib.Omega.{arith}
 use lib.ListN.{length}
 use Rattle.notation.specs.Ascii.{bytes}
 use Rattle.walk.specs.Part.{Whole}
-use Rattle.walk.specs.Along.{AlongItems}
+use Rattle.walk.specs.inner.Along.{AlongItems}
 use Rattle.schema.specs.Table23.{rule}
 use Rattle.fault.specs.Fault.{least}
 use Rattle.fault.proofs.Leasts.{none-least}
 use Rattle.document.proofs.Records.{recordShape, pickedItems}
-use Rattle.fields.specs.Values.{memberOf, arrayBy}
+use Rattle.fields.specs.inner.Values.{memberOf, arrayBy}
 use Rattle.cross.specs.Cross.{ruleFaults}
 use Rattle.fields.proofs.Arrays.{member-along}
 use Rattle.fields.proofs.Sizes.{member-short, array-short}

@@ -6,7 +6,7 @@ use Prim.Native.Nat.{_+_, _-_, _<_}
 use native.Mathlib.Omega.{arith}
 use lib.ListN.{length}
 use Rattle.walk.specs.Part.{Whole, treeOf}
-use Rattle.walk.specs.Along.{ItemPlaced}
+use Rattle.walk.specs.inner.Along.{ItemPlaced}
 use Rattle.walk.proofs.Parts.{itemOf}
 use Rattle.schema.specs.Pick.{pick}
 use Rattle.fault.specs.Fault.{least as leastOf}

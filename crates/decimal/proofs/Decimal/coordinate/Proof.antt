@@ -5,7 +5,8 @@ use Prim.Native.Nat.{ℕ, _+_, _-_, _*_, _≤_}
 use native.Mathlib.Omega.{arith}
 use lib.IntN.{natAbs}
 use borrow.Author.Needs.{needs}
-use Rattle.signed.specs.Signed.{signed, difference}
+use Rattle.signed.specs.Signed.{signed}
+use Rattle.signed.specs.inner.Difference.{difference}
 use Rattle.signed.proofs.Gap.{gap, gap-neg, gap-pos, gap-same, signed-size}
 use Rattle.decimal.specs.declared.Decimal.{Decimal}
 use Rattle.decimal.specs.Exact.{within, millionths}

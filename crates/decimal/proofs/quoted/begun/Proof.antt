@@ -1,6 +1,6 @@
 -- Only 0 begins no run.
 use borrow.Author.Tests.{eq-eqb, ne-eqb}
-use Rattle.decimal.specs.Priced.{beginning}
+use Rattle.decimal.specs.inner.Priced.{beginning}
 use Rattle.decimal.proofs.quoted.begun.Statement.{statement}
 use Rattle.decimal.proofs.quoted.begun.Tie as tie
 

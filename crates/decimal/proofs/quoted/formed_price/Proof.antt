@@ -4,7 +4,7 @@ use mathlib.Core.Path.{_≡_, sym, ap, subst, _∙_}
 use Rattle.text.specs.Text.{textOf}
 use Rattle.decimal.specs.declared.Price.the-variants.{Value}
 use Rattle.decimal.specs.declared.quoted.Progress.{Progress}
-use Rattle.decimal.specs.Priced.{start, finished, Held}
+use Rattle.decimal.specs.inner.Priced.{start, finished, Held}
 use Rattle.decimal.proofs.Priced.{priced}
 use Rattle.decimal.proofs.Progress.{start-held, steps-held, price-digits}
 use Rattle.decimal.proofs.quoted.formed_price.Statement.{statement}

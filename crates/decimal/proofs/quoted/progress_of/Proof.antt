@@ -4,9 +4,9 @@ use native.Mathlib.Omega.{arith}
 use lib.ListN.{length}
 use borrow.Author.Needs.{needs}
 use Rattle.text.specs.Text.{textOf}
-use Rattle.text.specs.Walk.{left}
+use Rattle.text.specs.inner.Walk.{left}
 use Rattle.text.proofs.Decoding.{left-at, no-byte, one-byte}
-use Rattle.decimal.specs.Priced.{start, steps, Held}
+use Rattle.decimal.specs.inner.Priced.{start, steps, Held}
 use Rattle.decimal.proofs.Progress.{start-held, step-held, steps-next, steps-end}
 use Rattle.decimal.proofs.quoted.progress_of.Statement.{statement}
 use Rattle.decimal.proofs.quoted.progress_of.Tie as tie

@@ -3,7 +3,7 @@ use borrow.Author.Needs.{needs}
 use mathlib.Core.Path.{sym, ap, subst, _∙_}
 use Rattle.text.specs.Text.{textOf}
 use Rattle.decimal.specs.declared.quoted.Progress.{Progress}
-use Rattle.decimal.specs.Priced.{start, finished, Held}
+use Rattle.decimal.specs.inner.Priced.{start, finished, Held}
 use Rattle.decimal.proofs.Priced.{priced}
 use Rattle.decimal.proofs.Progress.{start-held, steps-held}
 use Rattle.decimal.proofs.quoted.read_price.Statement.{statement}

@@ -1,6 +1,6 @@
 -- The parts are those of the definition.
 use borrow.Author.Needs.{needs}
-use Rattle.decimal.specs.Spelling.{made}
+use Rattle.decimal.specs.inner.Spelling.{made}
 use Rattle.decimal.proofs.spelling.decimal.Statement.{statement}
 use Rattle.decimal.proofs.spelling.decimal.Tie as tie
 

@@ -5,7 +5,7 @@ use native.Mathlib.Omega.{arith}
 use lib.ListN.{length-take, drop}
 use borrow.Author.Needs.{needs}
 use Rattle.decimal.specs.declared.Number.the-variants.{Value}
-use Rattle.decimal.specs.Spelling.{runFrom}
+use Rattle.decimal.specs.inner.Spelling.{runFrom}
 use Rattle.decimal.proofs.Runs.{run-below, run-within}
 use Rattle.decimal.proofs.Spelled.{whole-only, part-short, part-digits, part-from}
 use Rattle.decimal.proofs.spelling.formed_unsigned.Statement.{statement}

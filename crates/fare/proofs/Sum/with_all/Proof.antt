@@ -3,7 +3,7 @@ use borrow.Author.Needs.{needs}
 use Prim.Native.Nat.{_-_, _<_}
 use native.Mathlib.Omega.{arith}
 use Rattle.limits.specs.Ceilings.{segments}
-use Rattle.fare.specs.Folds.{listed, withAll}
+use Rattle.fare.specs.inner.Folds.{listed, withAll}
 use Rattle.fare.proofs.Charging.{Going, going-start, going-end, going-payable, going-more}
 use Rattle.fare.proofs.Sum.with_all.Statement.{statement}
 use Rattle.fare.proofs.Sum.with_all.Tie as tie

@@ -4,7 +4,7 @@ use mathlib.Core.Path.{_≡_}
 use Prim.Native.Nat.{_-_, _≤_}
 use native.Mathlib.Omega.{arith}
 use Rattle.gbfs.specs.Verdict.{feeds}
-use Rattle.gbfs.specs.Stages.{firstA}
+use Rattle.gbfs.specs.inner.Stages.{firstA}
 use Rattle.gbfs.proofs.Staging.{onward, onward-end, onward-here, onward-later, foundA, onward-A}
 use Rattle.gbfs.proofs.stages.first_a.Statement.{statement}
 use Rattle.gbfs.proofs.stages.first_a.Tie as tie

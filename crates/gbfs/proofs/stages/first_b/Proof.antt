@@ -4,7 +4,7 @@ use mathlib.Core.Path.{_≡_}
 use Prim.Native.Nat.{_-_, _≤_}
 use native.Mathlib.Omega.{arith}
 use Rattle.gbfs.specs.Verdict.{feeds}
-use Rattle.gbfs.specs.Stages.{firstB}
+use Rattle.gbfs.specs.inner.Stages.{firstB}
 use Rattle.gbfs.proofs.Through.{all-read}
 use Rattle.gbfs.proofs.Staging.{onward, onward-end, onward-here, onward-later, foundB, onward-B}
 use Rattle.gbfs.proofs.stages.first_b.Statement.{statement}

@@ -1,7 +1,7 @@
 -- `judge` goes from stage A to the later ones, and the first broken rule of a set may be looked for so.
 use borrow.Author.Needs.{needs}
 use mathlib.Core.Path.{sym, _∙_}
-use Rattle.gbfs.specs.Stages.{staged}
+use Rattle.gbfs.specs.inner.Stages.{staged}
 use Rattle.gbfs.proofs.ByFile.{verdict-staged}
 use Rattle.gbfs.proofs.stages.judge.Statement.{statement}
 use Rattle.gbfs.proofs.stages.judge.Tie as tie

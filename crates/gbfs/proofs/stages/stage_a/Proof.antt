@@ -4,7 +4,7 @@ use mathlib.Core.Path.{sym, ap, _∙_}
 use native.Mathlib.Omega.{arith}
 use Rattle.clean.specs.declared.Cleanness.the-variants.{Clean}
 use Rattle.clean.proofs.Judged.{offset-fits}
-use Rattle.gbfs.specs.Stages.{malformed}
+use Rattle.gbfs.specs.inner.Stages.{malformed}
 use Rattle.gbfs.proofs.Staging.{read-absent, read-present}
 use Rattle.gbfs.proofs.stages.stage_a.Statement.{statement}
 use Rattle.gbfs.proofs.stages.stage_a.Tie as tie

@@ -4,7 +4,7 @@ use mathlib.Core.Path.{_≡_, sym, ap, _∙_}
 use borrow.Author.Needs.{needs}
 use Rattle.notation.specs.Choice.{_⇒_else_}
 use Rattle.geometry.specs.Ring.{clockwise}
-use Rattle.geometry.specs.Shifted.{points}
+use Rattle.geometry.specs.inner.Shifted.{points}
 use Rattle.geometry.proofs.held.holds_side.Statement.{statement}
 use Rattle.geometry.proofs.held.holds_side.Tie as tie
 

@@ -3,7 +3,7 @@ use mathlib.Core.Path.{sym, _∙_}
 use Prim.Native.Nat.{_-_}
 use native.Mathlib.Omega.{arith}
 use lib.ListN.{length}
-use Rattle.geometry.specs.Shifted.{point}
+use Rattle.geometry.specs.inner.Shifted.{point}
 use Rattle.geometry.proofs.Rest.{PlaceLeft, on-map, place-begins, place-edge, place-goes, place-ends}
 use Rattle.geometry.proofs.held.locate.Statement.{statement}
 use Rattle.geometry.proofs.held.locate.Tie as tie

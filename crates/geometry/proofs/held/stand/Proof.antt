@@ -1,7 +1,7 @@
 -- Each way through the code is one through the definition.
 use borrow.Author.Needs.{needs}
 use mathlib.Core.Path.{sym, ap, _∙_}
-use Rattle.geometry.specs.Shifted.{point, points}
+use Rattle.geometry.specs.inner.Shifted.{point, points}
 use Rattle.geometry.specs.declared.Standing.the-variants.{Is}
 use Rattle.geometry.proofs.Holed.{stands-edge, inside-first, inside-further, outside-first, outside-further}
 use Rattle.geometry.proofs.held.stand.Statement.{statement}

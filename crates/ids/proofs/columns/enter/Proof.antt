@@ -1,7 +1,7 @@
 -- The six stores are those of the definition, in its order.
 use borrow.Author.Needs.{needs}
 use mathlib.Core.Path.{refl}
-use Rattle.ids.specs.Notes.{entered}
+use Rattle.ids.specs.inner.Notes.{entered}
 use Rattle.ids.proofs.columns.enter.Statement.{statement}
 use Rattle.ids.proofs.columns.enter.Tie as tie
 

@@ -8,7 +8,7 @@ use Rattle.limits.specs.Ceilings.{fileBytes}
 use Rattle.json.specs.Tree as tree
 use Rattle.json.specs.Tree.{Members}
 use Rattle.walk.specs.Part.{Whole}
-use Rattle.ids.specs.Ids.{Unmet}
+use Rattle.ids.specs.inner.Ids.{Unmet}
 use Rattle.ids.proofs.Single.{passed-end, passed-found, unmet-start, unmet-next, place-end, place-here}
 use Rattle.ids.proofs.id.id_place.Statement.{statement}
 use Rattle.ids.proofs.id.id_place.Tie as tie

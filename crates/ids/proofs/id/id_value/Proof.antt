@@ -7,7 +7,7 @@ use Rattle.json.specs.Tree as tree
 use Rattle.json.specs.Tree.{Members}
 use Rattle.walk.specs.Part.{Whole, kindAt}
 use Rattle.walk.proofs.Wholes.{whole-kind}
-use Rattle.fields.specs.Values.{code}
+use Rattle.fields.specs.inner.Values.{code}
 use Rattle.ids.proofs.Single.{passed-end, passed-found, value-end, value-here}
 use Rattle.ids.proofs.id.id_value.Statement.{statement}
 use Rattle.ids.proofs.id.id_value.Tie as tie

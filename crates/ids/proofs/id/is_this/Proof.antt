@@ -2,7 +2,7 @@
 use borrow.Author.Needs.{needs}
 use mathlib.Core.Path.{sym, ap, _∙_}
 use Rattle.text.specs.Text.{textOf, same}
-use Rattle.fields.specs.Values.{isId}
+use Rattle.fields.specs.inner.Values.{isId}
 use Rattle.fields.proofs.Ways.{text-none, text-some}
 use Rattle.ids.proofs.id.is_this.Statement.{statement}
 use Rattle.ids.proofs.id.is_this.Tie as tie

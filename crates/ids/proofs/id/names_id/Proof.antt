@@ -3,7 +3,7 @@ use borrow.Author.Needs.{needs}
 use mathlib.Core.Path.{sym, ap, _∙_}
 use Prim.Native.Nat.{ℕ}
 use Rattle.text.specs.Text.{textOf, same}
-use Rattle.ids.specs.Ids.{idName}
+use Rattle.ids.specs.inner.Ids.{idName}
 use Rattle.ids.proofs.Single.{id-name-else}
 use Rattle.ids.proofs.id.names_id.Statement.{statement}
 use Rattle.ids.proofs.id.names_id.Tie as tie

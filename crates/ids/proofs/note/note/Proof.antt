@@ -10,11 +10,11 @@ use Rattle.json.specs.Tree as tree
 use Rattle.json.specs.Tree.{Members}
 use Rattle.walk.specs.Part.{Whole}
 use Rattle.walk.proofs.Parts.{itemOf, item-whole}
-use Rattle.walk.specs.Along.{ItemPlaced}
+use Rattle.walk.specs.inner.Along.{ItemPlaced}
 use Rattle.slots.specs.declared.Found.the-variants.{Twice}
 use Rattle.slots.specs.Found.{foundIn}
 use Rattle.fields.proofs.Sizes.{part-short}
-use Rattle.ids.specs.Ids.{idName, idValue, Single, IdPlace}
+use Rattle.ids.specs.inner.Ids.{idName, idValue, Single, IdPlace}
 use Rattle.ids.proofs.Passing.{Noting, noting-start, noting-end, noting-found, noting-room, noting-among, noting-record, noting-more}
 use Rattle.ids.proofs.note.note.Statement.{statement}
 use Rattle.ids.proofs.note.note.Tie as tie

@@ -7,10 +7,10 @@ use lib.Dec.{ltb}
 use Rattle.text.specs.Text.{textOf}
 use Rattle.walk.specs.Walk.{part}
 use Rattle.document.specs.Document.{none, some}
-use Rattle.fields.specs.Values.{textBy}
+use Rattle.fields.specs.inner.Values.{textBy}
 use Rattle.fields.proofs.Ways.{text-none, text-some}
-use Rattle.ids.specs.Ids.{idOf, recordBytes}
-use Rattle.ids.specs.Notes.{Noted}
+use Rattle.ids.specs.inner.Ids.{idOf, recordBytes}
+use Rattle.ids.specs.inner.Notes.{Noted}
 use Rattle.ids.proofs.Chains.{from-head, head-all}
 use Rattle.ids.proofs.Entering.{noted-nameless, noted-named}
 use Rattle.ids.proofs.Passing.{any-last, repeated-none, repeated-some}

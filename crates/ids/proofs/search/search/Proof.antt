@@ -11,8 +11,8 @@ use native.Mathlib.Omega.{arith}
 use lib.ListN.{length, getD}
 use Rattle.limits.specs.Ceilings.{records}
 use Rattle.text.specs.Text.{textOf}
-use Rattle.ids.specs.Ids.{Unmet, hasId, recordBytes, lastWith}
-use Rattle.ids.specs.Notes.{kept, Searched}
+use Rattle.ids.specs.inner.Ids.{Unmet, hasId, recordBytes, lastWith}
+use Rattle.ids.specs.inner.Notes.{kept, Searched}
 use Rattle.ids.proofs.Single.{passed-end, passed-found, unmet-at, unmet-next, member-lacking, member-decides}
 use Rattle.ids.proofs.Chains.{with-none, chain-room, chain-entry, chain-unmet, chain-apart, chain-next, chain-less, chain-met, chain-past}
 use Rattle.ids.proofs.search.search.Statement.{statement}

@@ -3,7 +3,7 @@ use borrow.Author.Needs.{needs}
 use mathlib.Core.Path.{sym, ap, _∙_}
 use native.Mathlib.Omega.{arith}
 use Rattle.lexeme.proofs.Spans.{skipped}
-use Rattle.json.specs.Turns.{turn}
+use Rattle.json.specs.inner.Turns.{turn}
 use Rattle.json.proofs.Follow.{follow-end, follow-close, follow-comma, follow-wrong}
 use Rattle.json.proofs.element.after_element.Statement.{statement}
 use Rattle.json.proofs.element.after_element.Tie as tie

@@ -8,7 +8,7 @@ use Prim.Native.Nat.{ℕ, _+_, _-_, _*_, _<_, _≤_}
 use mathlib.Core.Path.{_≡_, refl, sym, ap, _∙_}
 use native.Mathlib.Omega.{arith}
 use lib.ListN.{length, drop}
-use Rattle.lexeme.specs.Class.{startOf}
+use Rattle.lexeme.specs.inner.Class.{startOf}
 use Rattle.lexeme.specs.Character.{paired}
 use Rattle.lexeme.specs.Read.{placed}
 use Rattle.lexeme.specs.Strings.{string}

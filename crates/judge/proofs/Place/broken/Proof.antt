@@ -4,7 +4,7 @@ use Prim.Native.Nat.{ℕ, zero, suc}
 use Rattle.fault.specs.declared.Least.the-variants.{None, Is}
 use Rattle.fault.specs.Fault.{fault, least}
 use Rattle.fault.proofs.Leasts.{least-one}
-use Rattle.scalar.specs.Listed.{listed}
+use Rattle.scalar.specs.inner.Listed.{listed}
 use Rattle.judge.specs.declared.Place.{Place}
 use Rattle.judge.specs.Faults.{faulty}
 use Rattle.judge.proofs.Place.broken.Statement.{statement}

@@ -8,14 +8,14 @@ use Prim.Native.Nat.{ℕ, _+_, _*_, _-_, _<_, _≤_}
 use native.Mathlib.Omega.{arith}
 use lib.ListN.{length, drop, take, length-drop}
 use Rattle.lexeme.proofs.Spans.{Skipped, skipped}
-use Rattle.walk.specs.Along.{NamePlaced, NamePassed}
-use Rattle.walk.specs.Front.{Ends}
+use Rattle.walk.specs.inner.Along.{NamePlaced, NamePassed}
+use Rattle.walk.specs.inner.Front.{Ends}
 use Rattle.walk.proofs.Passing.{placed-next}
 use Rattle.walk.proofs.Fronts.{tail-cut, item-later}
 use Rattle.fault.specs.declared.Least.{Least}
 use Rattle.fault.specs.Fault.{lesser}
 use Rattle.fault.proofs.Order.{true-false}
-use Rattle.judge.specs.Judged.{Single, Member}
+use Rattle.judge.specs.inner.Judged.{Single, Member}
 use Rattle.judge.proofs.Values.{single-past, single-object, member-blank, member-array, member-single, object-shut, object-past, object-other, object-members}
 use Rattle.judge.proofs.Going.{ItemsMet, items-begin, items-next, items-end, array-ends, array-other}
 use Rattle.judge.proofs.Meeting.{Meeting, meeting-start, meeting-next, meeting-ends, meeting-end}

@@ -1,7 +1,7 @@
 -- `brackets` goes by the value's kind.
 use borrow.Author.Needs.{needs}
 use mathlib.Core.Path.{sym, ap, _∙_}
-use Rattle.judge.specs.Judged.{bracketsOf}
+use Rattle.judge.specs.inner.Judged.{bracketsOf}
 use Rattle.judge.proofs.part.brackets.Statement.{statement}
 use Rattle.judge.proofs.part.brackets.Tie as tie
 

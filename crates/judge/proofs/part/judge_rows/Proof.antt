@@ -3,10 +3,10 @@ use borrow.Author.Needs.{needs}
 use mathlib.Core.Path.{_≡_, sym, ap, _∙_}
 use Prim.Native.Nat.{_+_, _-_, _<_}
 use native.Mathlib.Omega.{arith}
-use Rattle.schema.specs.Line.{lineAt}
+use Rattle.schema.specs.inner.Line.{lineAt}
 use Rattle.schema.specs.declared.Line.{Line}
 use Rattle.schema.specs.Table23.{table23}
-use Rattle.slots.specs.Rows.{mostRows, rowLine}
+use Rattle.slots.specs.inner.Rows.{mostRows, rowLine}
 use Rattle.slots.proofs.Named.{row-line-first, row-line-next}
 use Rattle.judge.proofs.Going.{RowsGo, rows-start, rows-next, rows-end, rows-full}
 use Rattle.judge.proofs.part.judge_rows.Statement.{statement}

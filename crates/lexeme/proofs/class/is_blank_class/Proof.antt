@@ -1,6 +1,6 @@
 -- The code's test is the definition's.
 use mathlib.Core.Path.{refl}
-use Rattle.lexeme.specs.Class.{blankOf}
+use Rattle.lexeme.specs.inner.Class.{blankOf}
 use Rattle.lexeme.proofs.class.is_blank_class.Statement.{statement}
 use Rattle.lexeme.proofs.class.is_blank_class.Tie as tie
 

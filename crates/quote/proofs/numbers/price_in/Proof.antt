@@ -4,9 +4,9 @@ use mathlib.Core.Path.{_≡_, sym, ap, subst, _∙_}
 use Rattle.text.specs.Text.{textOf}
 use Rattle.walk.specs.Part.{kindAt}
 use Rattle.decimal.specs.Decimals.{priceOf}
-use Rattle.decimal.specs.Formed.{IsPrice}
+use Rattle.decimal.specs.inner.Formed.{IsPrice}
 use Rattle.decimal.proofs.Formed.{number-formed, price-formed}
-use Rattle.fields.specs.Values.{code}
+use Rattle.fields.specs.inner.Values.{code}
 use Rattle.quote.proofs.Cleared.{price-number-clear, price-text-clear}
 use Rattle.quote.proofs.Ways.{price-read, price-text-read}
 use Rattle.quote.proofs.numbers.price_in.Statement.{statement}

@@ -6,9 +6,9 @@ use native.Mathlib.Omega.{arith}
 use lib.ListN.{length}
 use Rattle.walk.specs.declared.ItemStep.the-variants as step
 use Rattle.walk.specs.Walk.{itemAt}
-use Rattle.walk.specs.Along.{AlongItems, ItemPlaced}
+use Rattle.walk.specs.inner.Along.{AlongItems, ItemPlaced}
 use Rattle.walk.proofs.Parts.{item-whole}
-use Rattle.quote.specs.Lookup.{isPlan, lookup}
+use Rattle.quote.specs.inner.Lookup.{isPlan, lookup}
 use Rattle.quote.proofs.Looking.{recordOf, Looks, looks-start, looks-end, looks-here, looks-later}
 use Rattle.quote.proofs.plans.find_plan.Statement.{statement}
 use Rattle.quote.proofs.plans.find_plan.Tie as tie

@@ -4,8 +4,8 @@ use mathlib.Core.List.{[]}
 use mathlib.Core.Logic.{_⊎_}
 use mathlib.Core.Path.{_≡_, sym, subst}
 use Rattle.schema.specs.Shape as shape
-use Rattle.quote.specs.Values.{segmentBy}
-use Rattle.quote.specs.Clear.{ClearValue}
+use Rattle.quote.specs.inner.Values.{segmentBy}
+use Rattle.quote.specs.inner.Clear.{ClearValue}
 use Rattle.quote.proofs.Fields.{start-clear, rate-clear, interval-clear, end-clear}
 use Rattle.quote.proofs.segment.segment_in.Statement.{statement}
 use Rattle.quote.proofs.segment.segment_in.Tie as tie

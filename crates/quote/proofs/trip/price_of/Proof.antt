@@ -2,9 +2,9 @@
 use borrow.Author.Needs.{needs}
 use mathlib.Core.Path.{sym, ap, subst, _∙_}
 use Rattle.schema.specs.Shape as shape
-use Rattle.fare.specs.Folds.{ofPrice}
-use Rattle.quote.specs.Values.{priceBy}
-use Rattle.quote.specs.Clear.{ClearValue}
+use Rattle.fare.specs.inner.Folds.{ofPrice}
+use Rattle.quote.specs.inner.Values.{priceBy}
+use Rattle.quote.specs.inner.Clear.{ClearValue}
 use Rattle.quote.proofs.Fields.{price-clear}
 use Rattle.quote.proofs.trip.price_of.Statement.{statement}
 use Rattle.quote.proofs.trip.price_of.Tie as tie

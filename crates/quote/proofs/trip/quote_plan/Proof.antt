@@ -14,7 +14,7 @@ use Rattle.fare.specs.declared.Minutes.{Minutes}
 use Rattle.fare.specs.declared.Kilometres.{Kilometres}
 use Rattle.fare.specs.declared.Charged.{Charged}
 use Rattle.fare.specs.Charges.{minutesOf, kilometresOf}
-use Rattle.fare.specs.Folds.{withAll}
+use Rattle.fare.specs.inner.Folds.{withAll}
 use Rattle.fare.proofs.Worth.{clamped-difference}
 use Rattle.fare.proofs.Bound.{minutes-short, kilometres-short}
 use Rattle.quote.specs.Quote.{priced}

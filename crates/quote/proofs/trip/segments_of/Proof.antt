@@ -3,10 +3,10 @@ use borrow.Author.Needs.{needs}
 use mathlib.Core.List.{List}
 use mathlib.Core.Path.{_≡_, sym, ap, subst, _∙_}
 use Prim.Native.Nat.{ℕ}
-use Rattle.fare.specs.Folds.{Fills}
-use Rattle.fields.specs.Values.{memberOf, arrayBy}
-use Rattle.quote.specs.Values.{segmentsBy}
-use Rattle.quote.specs.Clear.{ClearSegments}
+use Rattle.fare.specs.inner.Folds.{Fills}
+use Rattle.fields.specs.inner.Values.{memberOf, arrayBy}
+use Rattle.quote.specs.inner.Values.{segmentsBy}
+use Rattle.quote.specs.inner.Clear.{ClearSegments}
 use Rattle.quote.proofs.trip.segments_of.Statement.{statement}
 use Rattle.quote.proofs.trip.segments_of.Tie as tie
 

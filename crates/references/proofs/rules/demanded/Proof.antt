@@ -2,7 +2,7 @@
 use mathlib.Core.Bool.{Bool, true}
 use mathlib.Core.Path.{sym, ap, _∙_}
 use borrow.Author.Tests.{lt-ltb, le-ltb, not-true, not-false}
-use Rattle.fields.specs.Values.{thereBy}
+use Rattle.fields.specs.inner.Values.{thereBy}
 use Rattle.references.specs.References.{demanded}
 use Rattle.references.proofs.rules.demanded.Statement.{statement}
 use Rattle.references.proofs.rules.demanded.Tie as tie

@@ -6,10 +6,10 @@ use mathlib.Core.Path.{_≡_, refl, sym, ap, _∙_}
 use Prim.Native.Nat.{ℕ, _<_}
 use lib.ListN.{length}
 use borrow.Author.Tests.{lt-ltb}
-use Rattle.fields.specs.Values.{textBy, thereBy}
+use Rattle.fields.specs.inner.Values.{textBy, thereBy}
 use Rattle.document.proofs.Records.{recordShape, pickedItems}
 use Rattle.references.specs.References.{named, demanded}
-use Rattle.references.specs.Known.{fieldOf, testOf}
+use Rattle.references.specs.inner.Known.{fieldOf, testOf}
 use Rattle.references.proofs.rules.demanded_by.Statement.{statement}
 use Rattle.references.proofs.rules.demanded_by.Tie as tie
 

@@ -5,7 +5,7 @@ use Rattle.text.specs.Text.{textOf}
 use Rattle.fields.proofs.Ways.{text-none, text-some}
 use Rattle.document.proofs.Records.{recordShape, pickedItems}
 use Rattle.references.specs.References.{anyWith, named}
-use Rattle.references.specs.Known.{fieldOf, testOf}
+use Rattle.references.specs.inner.Known.{fieldOf, testOf}
 use Rattle.references.proofs.rules.named.Statement.{statement}
 use Rattle.references.proofs.rules.named.Tie as tie
 

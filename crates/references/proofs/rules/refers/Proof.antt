@@ -4,11 +4,11 @@ use mathlib.Core.Bool.{Bool, not}
 use mathlib.Core.Path.{_≡_, sym, ap, _∙_}
 use Rattle.word.specs.Kinds.{dangling}
 use Rattle.text.specs.Text.{textOf}
-use Rattle.fields.specs.Values.{textBy}
+use Rattle.fields.specs.inner.Values.{textBy}
 use Rattle.fields.proofs.Ways.{text-none, text-some}
 use Rattle.document.proofs.Records.{recordShape, pickedItems}
 use Rattle.references.specs.References.{when, any, anyWith, refers}
-use Rattle.references.specs.Known.{fieldOf}
+use Rattle.references.specs.inner.Known.{fieldOf}
 use Rattle.references.proofs.rules.refers.Statement.{statement}
 use Rattle.references.proofs.rules.refers.Tie as tie
 

@@ -9,11 +9,11 @@ use Rattle.limits.specs.Ceilings.{records}
 use Rattle.text.specs.Text.{textOf}
 use Rattle.walk.specs.Walk.{itemsOf}
 use Rattle.document.proofs.Records.{recordShape, pickedItems}
-use Rattle.ids.specs.Ids.{recordBytes, lastWith}
-use Rattle.ids.specs.Notes.{linkAt, Searched}
+use Rattle.ids.specs.inner.Ids.{recordBytes, lastWith}
+use Rattle.ids.specs.inner.Notes.{linkAt, Searched}
 use Rattle.ids.proofs.Chains.{from-head, head-all, chain-room, chain-next}
 use Rattle.references.specs.References.{anyWith}
-use Rattle.references.specs.Known.{anyMeets, fieldOf, testedOf}
+use Rattle.references.specs.inner.Known.{anyMeets, fieldOf, testedOf}
 use Rattle.references.proofs.Meets.{meets-picked}
 use Rattle.references.proofs.Searches.{Comes, comes-start, comes-end, comes-on, comes-whole, comes-met, comes-past, comes-less}
 use Rattle.references.proofs.search.meets.Statement.{statement}

@@ -3,9 +3,9 @@ use borrow.Author.Needs.{needs}
 use mathlib.Core.Path.{sym, ap, _∙_}
 use Prim.Native.Nat.{ℕ}
 use borrow.Author.Tests.{ne-eqb}
-use Rattle.fields.specs.Values.{textBy, thereBy}
+use Rattle.fields.specs.inner.Values.{textBy, thereBy}
 use Rattle.references.specs.References.{notHuman}
-use Rattle.references.specs.Known.{passing}
+use Rattle.references.specs.inner.Known.{passing}
 use Rattle.references.proofs.search.passes.Statement.{statement}
 use Rattle.references.proofs.search.passes.Tie as tie
 

@@ -1,7 +1,7 @@
 -- The cases of the code are those of the definition.
 use mathlib.Core.Path.{refl, sym, ap₂, _∙_}
 use borrow.Author.Needs.{needs}
-use Rattle.rings.specs.Least.{lesser}
+use Rattle.rings.specs.inner.Least.{lesser}
 use Rattle.rings.proofs.Order.{none-lesser, lesser-none, second-first, first-first}
 use Rattle.rings.proofs.LeastFound.lesser.Statement.{statement}
 use Rattle.rings.proofs.LeastFound.lesser.Tie as tie

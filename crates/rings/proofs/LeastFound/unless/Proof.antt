@@ -2,7 +2,7 @@
 use mathlib.Core.Path.{sym, ap, _∙_}
 use Rattle.scalar.specs.Scalars.{unless}
 use Rattle.rings.specs.Rings.{at}
-use Rattle.rings.specs.Least.{leastFound}
+use Rattle.rings.specs.inner.Least.{leastFound}
 use Rattle.rings.proofs.Numbers.{least-one, least-empty}
 use Rattle.rings.proofs.LeastFound.unless.Statement.{statement}
 use Rattle.rings.proofs.LeastFound.unless.Tie as tie

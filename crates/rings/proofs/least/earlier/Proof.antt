@@ -1,6 +1,6 @@
 -- The tests of the code are those of the definition, in their order.
 use borrow.Author.Tests.{lt-ltb, le-ltb}
-use Rattle.rings.specs.Least.{earlier}
+use Rattle.rings.specs.inner.Least.{earlier}
 use Rattle.rings.proofs.least.earlier.Statement.{statement}
 use Rattle.rings.proofs.least.earlier.Tie as tie
 

@@ -1,7 +1,7 @@
 -- The kind that the first byte tells, asked for one kind.
 use mathlib.Core.Path.{sym, ap, _∙_}
 use borrow.Author.Needs.{needs}
-use Rattle.rings.specs.Parts.{isNumber}
+use Rattle.rings.specs.inner.Parts.{isNumber}
 use Rattle.rings.proofs.position.is_number.Statement.{statement}
 use Rattle.rings.proofs.position.is_number.Tie as tie
 

@@ -2,8 +2,8 @@
 use mathlib.Core.Path.{ap, _∙_}
 use native.Mathlib.Omega.{arith}
 use borrow.Author.Needs.{needs}
-use Rattle.rings.specs.Least.{lesser}
-use Rattle.rings.specs.Parts.{numberShape}
+use Rattle.rings.specs.inner.Least.{lesser}
+use Rattle.rings.specs.inner.Parts.{numberShape}
 use Rattle.rings.proofs.Picked.{left-end, left-more}
 use Rattle.rings.proofs.Positions.{spotted-as, spotted-one, spotted-more, broken-map}
 use Rattle.rings.proofs.position.judge_behind.Statement.{statement}

@@ -5,7 +5,7 @@ use mathlib.Core.List.{List}
 use borrow.Author.Needs.{needs}
 use Rattle.schema.specs.Pick.{Picked}
 use Rattle.rings.specs.Rings.{pointOf}
-use Rattle.rings.specs.Parts.{numberShape, listKinds, Spotted}
+use Rattle.rings.specs.inner.Parts.{numberShape, listKinds, Spotted}
 use Rattle.rings.proofs.Picked.{left-start, left-end, left-more}
 use Rattle.rings.proofs.Positions.{spotted-empty, broken-map}
 use Rattle.rings.proofs.position.judge_numbers.Statement.{statement}

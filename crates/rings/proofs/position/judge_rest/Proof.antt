@@ -2,7 +2,7 @@
 use mathlib.Core.Path.{ap, _∙_}
 use native.Mathlib.Omega.{arith}
 use borrow.Author.Needs.{needs}
-use Rattle.rings.specs.Least.{lesser}
+use Rattle.rings.specs.inner.Least.{lesser}
 use Rattle.rings.proofs.Positions.{rest-none, rest-one, rest-two}
 use Rattle.rings.proofs.position.judge_rest.Statement.{statement}
 use Rattle.rings.proofs.position.judge_rest.Tie as tie

@@ -4,7 +4,7 @@ use borrow.Author.Needs.{needs}
 use Rattle.word.specs.Kinds.{badRing}
 use Rattle.scalar.specs.Scalars.{unless}
 use Rattle.rings.specs.Rings.{at}
-use Rattle.rings.specs.Least.{leastFound}
+use Rattle.rings.specs.inner.Least.{leastFound}
 use Rattle.rings.proofs.Areas.{area-faulty, area-many, area-asked, filled, filled-size}
 use Rattle.rings.proofs.ring.judge_area.Statement.{statement}
 use Rattle.rings.proofs.ring.judge_area.Tie as tie

@@ -1,7 +1,7 @@
 -- The counts, the positions and the area, each with its own faults.
 use mathlib.Core.Path.{ap, ap₂, _∙_}
 use borrow.Author.Needs.{needs}
-use Rattle.rings.specs.Least.{lesser}
+use Rattle.rings.specs.inner.Least.{lesser}
 use Rattle.rings.specs.declared.LeastFound.{LeastFound}
 use Rattle.rings.proofs.Areas.{ring-tells}
 use Rattle.rings.proofs.ring.judge_positions.Statement.{statement}

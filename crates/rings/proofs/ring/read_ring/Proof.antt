@@ -5,8 +5,8 @@ use Prim.Native.Nat.{_+_, _-_}
 use native.Mathlib.Omega.{arith}
 use lib.ListN.{length}
 use borrow.Author.Needs.{needs}
-use Rattle.walk.specs.Along.{ItemPlaced}
-use Rattle.rings.specs.Parts.{positionShape, Listing, partsOf, Charted}
+use Rattle.walk.specs.inner.Along.{ItemPlaced}
+use Rattle.rings.specs.inner.Parts.{positionShape, Listing, partsOf, Charted}
 use Rattle.rings.proofs.Going.{Room, Passed, passed-start, passed-within, passed-room, passed-more, Going, going-start, going-whole, going-next}
 use Rattle.rings.proofs.Charts.{charted-start, charted-stored, Drawn, drawn-start, drawn-more}
 use Rattle.rings.proofs.Areas.{spotFound, single, ring-read}

@@ -2,7 +2,7 @@
 use borrow.Author.Needs.{needs}
 use Rattle.limits.specs.Ceilings.{positions}
 use Rattle.schema.specs.Shape as shape
-use Rattle.rings.specs.Parts.{positionShape}
+use Rattle.rings.specs.inner.Parts.{positionShape}
 use Rattle.rings.proofs.Picked.{items-parts}
 use Rattle.rings.proofs.Areas.{clean-ring, outlined}
 use Rattle.rings.proofs.ring.ring_points.Statement.{statement}

@@ -5,7 +5,7 @@ use borrow.Author.Needs.{needs}
 use Rattle.word.specs.Kinds.{tooMany}
 use Rattle.scalar.specs.Scalars.{unless}
 use Rattle.rings.specs.Rings.{at}
-use Rattle.rings.specs.Least.{lesser, leastFound}
+use Rattle.rings.specs.inner.Least.{lesser, leastFound}
 use Rattle.rings.specs.declared.LeastFound.{LeastFound}
 use Rattle.rings.proofs.Zones.{coordinates-found}
 use Rattle.rings.proofs.zone.judge_coordinates.Statement.{statement}

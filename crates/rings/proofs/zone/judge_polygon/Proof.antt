@@ -7,7 +7,7 @@ use borrow.Author.Tests.{not-true, not-false}
 use Rattle.word.specs.Kinds.{badRing}
 use Rattle.scalar.specs.Scalars.{unless}
 use Rattle.rings.specs.Rings.{at}
-use Rattle.rings.specs.Least.{lesser, leastFound}
+use Rattle.rings.specs.inner.Least.{lesser, leastFound}
 use Rattle.rings.specs.declared.LeastFound.{LeastFound}
 use Rattle.rings.proofs.Zones.{polygon-array, polygon-other}
 use Rattle.rings.proofs.zone.judge_polygon.Statement.{statement}

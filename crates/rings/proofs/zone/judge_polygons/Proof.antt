@@ -4,10 +4,10 @@ use Prim.Native.Nat.{_+_, _-_, _<_}
 use native.Mathlib.Omega.{arith}
 use lib.ListN.{length}
 use borrow.Author.Needs.{needs}
-use Rattle.walk.specs.Along.{ItemPlaced}
+use Rattle.walk.specs.inner.Along.{ItemPlaced}
 use Rattle.rings.specs.Rings.{polygon, polygonPositions, polygonRings}
-use Rattle.rings.specs.Least.{leastFound}
-use Rattle.rings.specs.Parts.{polygonShape, Listing}
+use Rattle.rings.specs.inner.Least.{leastFound}
+use Rattle.rings.specs.inner.Parts.{polygonShape, Listing}
 use Rattle.rings.proofs.Going.{Room, Passed, passed-start, passed-room, passed-more, Going, going-start, going-end, going-whole, going-more, Counting, counting-start, counting-end, counting-more}
 use Rattle.rings.proofs.Zones.{polygons-found, polygons-rings}
 use Rattle.rings.proofs.zone.judge_polygons.Statement.{statement}

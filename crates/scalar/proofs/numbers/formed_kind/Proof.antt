@@ -2,7 +2,7 @@
 use mathlib.Core.Path.{sym, _∙_}
 use borrow.Author.Needs.{needs}
 use Rattle.decimal.proofs.Formed.{number-formed}
-use Rattle.scalar.specs.Listed.{inBounds}
+use Rattle.scalar.specs.inner.Listed.{inBounds}
 use Rattle.scalar.proofs.Ranges.{formed-value, formed-unformed}
 use Rattle.scalar.proofs.numbers.formed_kind.Statement.{statement}
 use Rattle.scalar.proofs.numbers.formed_kind.Tie as tie

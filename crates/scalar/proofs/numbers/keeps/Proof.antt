@@ -5,7 +5,7 @@ use borrow.Author.Needs.{needs}
 use borrow.Author.Tests.{not-true, not-false}
 use Rattle.decimal.specs.declared.Decimal.{Decimal}
 use Rattle.scalar.specs.declared.numbers.Bounds.{Bounds}
-use Rattle.scalar.specs.Listed.{inBounds}
+use Rattle.scalar.specs.inner.Listed.{inBounds}
 use Rattle.scalar.proofs.Ranges.{price-below, price-money}
 use Rattle.scalar.proofs.numbers.keeps.Statement.{statement}
 use Rattle.scalar.proofs.numbers.keeps.Tie as tie

@@ -3,7 +3,7 @@ use mathlib.Core.Path.{refl}
 use borrow.Author.Needs.{needs}
 use Rattle.schema.proofs.Letters.{sortFrom}
 use Rattle.scalar.specs.Scalars.{numberKinds}
-use Rattle.scalar.specs.Listed.{inBounds}
+use Rattle.scalar.specs.inner.Listed.{inBounds}
 use Rattle.scalar.proofs.Sorts.{by-letter, no-number}
 use Rattle.scalar.proofs.numbers.number_kind.Statement.{statement}
 use Rattle.scalar.proofs.numbers.number_kind.Tie as tie

@@ -6,7 +6,7 @@ use lib.ListN.{length, take, drop}
 use borrow.Author.Needs.{needs}
 use Rattle.text.specs.Text.{textOf}
 use Rattle.schema.specs.Table23.{table23}
-use Rattle.schema.specs.Line.{lineWords, wordsOf, wordsAt}
+use Rattle.schema.specs.inner.Line.{lineWords, wordsOf, wordsAt}
 use Rattle.schema.proofs.Walk.{read-fits, read-part}
 use Rattle.scalar.specs.Scalars.{anyWord}
 use Rattle.scalar.proofs.Words.{words-end, words-here, words-next, all-words}

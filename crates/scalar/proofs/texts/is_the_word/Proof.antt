@@ -4,7 +4,7 @@ use borrow.Author.Needs.{needs}
 use Rattle.text.specs.Text.{textOf, same}
 use Rattle.schema.specs.declared.Range.{Range}
 use Rattle.schema.specs.Table23.{table23}
-use Rattle.schema.specs.Line.{wordAt}
+use Rattle.schema.specs.inner.Line.{wordAt}
 use Rattle.scalar.proofs.texts.is_the_word.Statement.{statement}
 use Rattle.scalar.proofs.texts.is_the_word.Tie as tie
 

@@ -3,7 +3,7 @@ use mathlib.Core.Path.{sym, _∙_}
 use borrow.Author.Needs.{needs}
 use Rattle.text.specs.Text.{textOf}
 use Rattle.decimal.proofs.Formed.{price-formed}
-use Rattle.scalar.specs.Listed.{inBounds}
+use Rattle.scalar.specs.inner.Listed.{inBounds}
 use Rattle.scalar.proofs.Ranges.{pricing-value, pricing-unformed, pricing-none}
 use Rattle.scalar.proofs.texts.price_kind.Statement.{statement}
 use Rattle.scalar.proofs.texts.price_kind.Tie as tie

@@ -4,7 +4,7 @@ use native.Mathlib.Omega.{arith}
 use lib.ListN.{length, List·getD-eq-default}
 use borrow.Author.Needs.{needs}
 use Rattle.schema.specs.Table23.{table23, written23}
-use Rattle.schema.specs.Line.{fileRanges, nowhere, laidOut}
+use Rattle.schema.specs.inner.Line.{fileRanges, nowhere, laidOut}
 use Rattle.schema.proofs.Columns.{range-columns}
 use Rattle.schema.proofs.lines.file_lines.Statement.{statement}
 use Rattle.schema.proofs.lines.file_lines.Tie as tie

@@ -1,7 +1,7 @@
 -- The code's column is that of the lines, by computation.
 use mathlib.Core.Path.{refl}
 use Rattle.schema.specs.Table23.{written23}
-use Rattle.schema.specs.Line.{laidOut}
+use Rattle.schema.specs.inner.Line.{laidOut}
 use Rattle.schema.proofs.lines.insides.Statement.{statement}
 use Rattle.schema.proofs.lines.insides.Tie as tie
 

@@ -4,7 +4,7 @@ use native.Mathlib.Omega.{arith}
 use lib.ListN.{length, List·getD-eq-default}
 use borrow.Author.Needs.{needs}
 use Rattle.schema.specs.Table23.{table23, written23}
-use Rattle.schema.specs.Line.{linesOf, noLine, laidOut}
+use Rattle.schema.specs.inner.Line.{linesOf, noLine, laidOut}
 use Rattle.schema.proofs.Columns.{line-columns}
 use Rattle.schema.proofs.lines.line_at.Statement.{statement}
 use Rattle.schema.proofs.lines.line_at.Tie as tie

@@ -1,7 +1,7 @@
 -- Each column of the code is the column that the table's lines have, by computation.
 use mathlib.Core.Path.{refl}
 use Rattle.schema.specs.Table23.{written23}
-use Rattle.schema.specs.Line.{laidOut}
+use Rattle.schema.specs.inner.Line.{laidOut}
 use Rattle.schema.proofs.lines.line_columns.Statement.{statement}
 use Rattle.schema.proofs.lines.line_columns.Tie as tie
 

@@ -4,7 +4,7 @@ use native.Mathlib.Omega.{arith}
 use lib.ListN.{length, getD, List·getD-eq-default}
 use borrow.Author.Needs.{needs}
 use Rattle.schema.specs.Table23.{table23, written23}
-use Rattle.schema.specs.Line.{namesOf, rangesFrom, nowhere, laidOut}
+use Rattle.schema.specs.inner.Line.{namesOf, rangesFrom, nowhere, laidOut}
 use Rattle.schema.proofs.Columns.{range-columns}
 use Rattle.schema.proofs.names.name_at.Statement.{statement}
 use Rattle.schema.proofs.names.name_at.Tie as tie

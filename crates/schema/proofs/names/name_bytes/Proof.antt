@@ -1,7 +1,7 @@
 -- The bytes of the code are all names one after the other, by computation.
 use mathlib.Core.Path.{refl}
 use Rattle.schema.specs.Table23.{written23}
-use Rattle.schema.specs.Line.{laidOut}
+use Rattle.schema.specs.inner.Line.{laidOut}
 use Rattle.schema.proofs.names.name_bytes.Statement.{statement}
 use Rattle.schema.proofs.names.name_bytes.Tie as tie
 

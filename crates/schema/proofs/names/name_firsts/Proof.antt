@@ -1,7 +1,7 @@
 -- The code's column is that of the names' first places, by computation.
 use mathlib.Core.Path.{refl}
 use Rattle.schema.specs.Table23.{written23}
-use Rattle.schema.specs.Line.{laidOut}
+use Rattle.schema.specs.inner.Line.{laidOut}
 use Rattle.schema.proofs.names.name_firsts.Statement.{statement}
 use Rattle.schema.proofs.names.name_firsts.Tie as tie
 

@@ -6,7 +6,7 @@ use lib.ListN.{length, take, drop}
 use borrow.Author.Needs.{needs}
 use Rattle.text.specs.Text.{textOf, same}
 use Rattle.schema.specs.Table23.{table23}
-use Rattle.schema.specs.Line.{namesOf}
+use Rattle.schema.specs.inner.Line.{namesOf}
 use Rattle.schema.proofs.Computed.{names-length}
 use Rattle.schema.proofs.Walk.{read-fits, read-part}
 use Rattle.schema.proofs.names.name_is.Statement.{statement}

@@ -4,7 +4,7 @@ use native.Mathlib.Omega.{arith}
 use borrow.Author.Needs.{needs}
 use Rattle.text.specs.Text.{textOf, sameWord}
 use Rattle.schema.specs.Table23.{table23, written23}
-use Rattle.schema.specs.Line.{wordsOf, laidOut}
+use Rattle.schema.specs.inner.Line.{wordsOf, laidOut}
 use Rattle.schema.proofs.Computed.{words-length}
 use Rattle.schema.proofs.Walk.{read-fits, read-part}
 use Rattle.schema.proofs.words.word_is.Statement.{statement}

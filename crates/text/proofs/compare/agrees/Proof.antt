@@ -8,7 +8,7 @@ use borrow.Author.Tests.{not-true, not-false}
 use lib.ListN.{length, drop, drop-of-length-le}
 use Rattle.lexeme.proofs.Rests.{at-cons}
 use Rattle.text.specs.Text.{textOf}
-use Rattle.text.specs.Walk.{agreeing, cased, left}
+use Rattle.text.specs.inner.Walk.{agreeing, cased, left}
 use Rattle.text.proofs.Decoding.{left-at, no-byte, one-byte}
 use Rattle.text.proofs.Steps.{same-short, same-differ, same-next, ends-plain}
 use Rattle.text.proofs.compare.agrees.Statement.{statement}

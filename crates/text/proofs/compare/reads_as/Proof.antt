@@ -8,7 +8,7 @@ use borrow.Author.Tests.{not-true, not-false}
 use lib.ListN.{length, drop, drop-of-length-le}
 use Rattle.lexeme.proofs.Rests.{at-cons}
 use Rattle.text.specs.Text.{textOf}
-use Rattle.text.specs.Walk.{agreeing, cased}
+use Rattle.text.specs.inner.Walk.{agreeing, cased}
 use Rattle.text.proofs.Decoding.{text-end, text-plain}
 use Rattle.text.proofs.Lengths.{agreeing-longer}
 use Rattle.text.proofs.Steps.{same-long, same-differ, same-next, ends-at}

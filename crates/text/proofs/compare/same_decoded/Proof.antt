@@ -5,7 +5,7 @@ use borrow.Author.Needs.{needs}
 use borrow.Author.Tests.{eq-eqb, ne-eqb}
 use lib.ListN.{length}
 use Rattle.text.specs.Text.{textOf, same}
-use Rattle.text.specs.Walk.{left}
+use Rattle.text.specs.inner.Walk.{left}
 use Rattle.text.proofs.Decoding.{left-at, no-byte, one-byte}
 use Rattle.text.proofs.Steps.{ends-text, same-long, same-differ, same-next}
 use Rattle.text.proofs.compare.same_decoded.Statement.{statement}

@@ -8,7 +8,8 @@ use lib.ListN.{length, drop}
 use Rattle.lexeme.specs.Character.{bytesOf}
 use Rattle.lexeme.specs.Character.Surrogates.{paired}
 use Rattle.character.proofs.Inside.{character-inside}
-use Rattle.text.specs.Text.{textOf, digestFrom, digest}
+use Rattle.text.specs.Text.{textOf}
+use Rattle.text.specs.inner.Digest.{digestFrom, digest}
 use Rattle.text.proofs.Decoding.{text-end, text-quote, text-fault, text-plain, text-character}
 use Rattle.text.proofs.Steps.{digest-end, digest-next, digest-append}
 use Rattle.text.proofs.digest.digest_of.Statement.{statement}

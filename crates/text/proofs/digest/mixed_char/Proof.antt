@@ -2,7 +2,7 @@
 use mathlib.Core.Path.{_≡_}
 use native.Mathlib.Omega.{arith}
 use borrow.Author.Needs.{needs}
-use Rattle.text.specs.Text.{digestFrom}
+use Rattle.text.specs.inner.Digest.{digestFrom}
 use Rattle.text.proofs.Decoding.{bytes-four}
 use Rattle.text.proofs.digest.mixed_char.Statement.{statement}
 use Rattle.text.proofs.digest.mixed_char.Tie as tie

@@ -8,7 +8,7 @@ use lib.Dec.{eqb}
 use lib.ListN.{length}
 use Rattle.notation.specs.Choice.{_and_}
 use Rattle.text.specs.Text.{textOf, capitals, currency}
-use Rattle.text.specs.Walk.{left}
+use Rattle.text.specs.inner.Walk.{left}
 use Rattle.text.proofs.Decoding.{left-at, no-byte, one-byte}
 use Rattle.text.proofs.Steps.{currency-start, currency-end, currency-past, currency-other, currency-next}
 use Rattle.text.proofs.measure.is_currency.Statement.{statement}

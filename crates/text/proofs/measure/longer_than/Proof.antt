@@ -8,7 +8,7 @@ use borrow.Author.Tests.{le-ltb}
 use lib.Dec.{ltb}
 use lib.ListN.{length}
 use Rattle.text.specs.Text.{textOf}
-use Rattle.text.specs.Walk.{left}
+use Rattle.text.specs.inner.Walk.{left}
 use Rattle.text.proofs.Decoding.{left-at, no-byte, one-byte}
 use Rattle.text.proofs.Lengths.{text-length}
 use Rattle.text.proofs.Steps.{count-end, count-past, count-next}

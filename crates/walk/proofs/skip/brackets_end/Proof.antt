@@ -6,7 +6,7 @@ use mathlib.Core.Path.{_≡_, refl, sym, ap, _∙_}
 use native.Mathlib.Omega.{arith}
 use lib.ListN.{length, drop}
 use Rattle.lexeme.proofs.Rests.{place-at}
-use Rattle.walk.specs.Skip.{outside, enclosed}
+use Rattle.walk.specs.inner.Skip.{outside, enclosed}
 use Rattle.walk.proofs.Skips.{enclosed-all}
 use Rattle.walk.proofs.Ends.{below-between, Ended, ended, brackets-on, brackets-string, brackets-open, brackets-other, brackets-close, brackets-cut}
 use Rattle.walk.proofs.skip.brackets_end.Statement.{statement}

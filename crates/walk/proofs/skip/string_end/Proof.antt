@@ -7,7 +7,7 @@ use mathlib.Core.Path.{_≡_, refl, sym, _∙_}
 use native.Mathlib.Omega.{arith}
 use lib.ListN.{length, drop}
 use Rattle.lexeme.proofs.Rests.{place-at}
-use Rattle.walk.specs.Skip.{quoted}
+use Rattle.walk.specs.inner.Skip.{quoted}
 use Rattle.walk.proofs.Quotes.{quoted-past, pass-itself}
 use Rattle.walk.proofs.Ends.{above-itself, string-closes, string-escapes, escape-later}
 use Rattle.walk.proofs.skip.string_end.Statement.{statement}

@@ -1,6 +1,6 @@
 -- What is given, or else the later one.
 use borrow.Author.Needs.{needs}
-use Rattle.zone.specs.Values.{orFlag}
+use Rattle.zone.specs.inner.Values.{orFlag}
 use Rattle.zone.proofs.Flag.or.Statement.{statement}
 use Rattle.zone.proofs.Flag.or.Tie as tie
 

@@ -3,7 +3,7 @@ use borrow.Author.Needs.{needs}
 use borrow.Author.Tests.{not-true, not-false}
 use mathlib.Core.Bool.{true, false}
 use mathlib.Core.Path.{_≡_, sym, _∙_}
-use Rattle.zone.specs.Values.{isFlag, isLimit, isFull}
+use Rattle.zone.specs.inner.Values.{isFlag, isLimit, isFull}
 use Rattle.zone.proofs.Given.is_full.Statement.{statement}
 use Rattle.zone.proofs.Given.is_full.Tie as tie
 

@@ -1,6 +1,6 @@
 -- Value by value.
 use borrow.Author.Needs.{needs}
-use Rattle.zone.specs.Values.{orGiven}
+use Rattle.zone.specs.inner.Values.{orGiven}
 use Rattle.zone.proofs.Combining.{same-given}
 use Rattle.zone.proofs.Given.or.Statement.{statement}
 use Rattle.zone.proofs.Given.or.Tie as tie

@@ -1,7 +1,7 @@
 -- No rule, or the values one by one.
 use borrow.Author.Needs.{needs}
 use borrow.Author.Tests.{not-true, not-false}
-use Rattle.zone.specs.Values.{rulingBy}
+use Rattle.zone.specs.inner.Values.{rulingBy}
 use Rattle.zone.proofs.Given.ruling.Statement.{statement}
 use Rattle.zone.proofs.Given.ruling.Tie as tie
 

@@ -1,6 +1,6 @@
 -- What is given, or else the later one.
 use borrow.Author.Needs.{needs}
-use Rattle.zone.specs.Values.{orLimit}
+use Rattle.zone.specs.inner.Values.{orLimit}
 use Rattle.zone.proofs.Limit.or.Statement.{statement}
 use Rattle.zone.proofs.Limit.or.Tie as tie
 

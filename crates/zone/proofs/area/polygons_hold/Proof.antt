@@ -4,9 +4,9 @@ use mathlib.Core.Path.{_≡_, sym, ap, _∙_}
 use Prim.Native.Nat.{_-_}
 use native.Mathlib.Omega.{arith}
 use lib.ListN.{length}
-use Rattle.walk.specs.Along.{ItemPlaced}
-use Rattle.geometry.specs.Shifted.{point}
-use Rattle.rings.specs.Parts.{polygonShape, picked, partsOf}
+use Rattle.walk.specs.inner.Along.{ItemPlaced}
+use Rattle.geometry.specs.inner.Shifted.{point}
+use Rattle.rings.specs.inner.Parts.{polygonShape, picked, partsOf}
 use Rattle.document.specs.Document.{elements}
 use Rattle.zone.specs.Zone.{ringsHold, polygonsHold}
 use Rattle.zone.proofs.Cleared.{polygon-rings, polygon-clean}

@@ -6,9 +6,9 @@ use mathlib.Core.Path.{sym, subst, _∙_}
 use Prim.Native.Nat.{_-_}
 use native.Mathlib.Omega.{arith}
 use lib.ListN.{length}
-use Rattle.walk.specs.Along.{ItemPlaced}
-use Rattle.geometry.specs.Shifted.{point}
-use Rattle.rings.specs.Parts.{ringShape, picked, partsOf}
+use Rattle.walk.specs.inner.Along.{ItemPlaced}
+use Rattle.geometry.specs.inner.Shifted.{point}
+use Rattle.rings.specs.inner.Parts.{ringShape, picked, partsOf}
 use Rattle.zone.specs.Zone.{ringsHold}
 use Rattle.zone.proofs.Cleared.{ring-clean}
 use Rattle.zone.proofs.Looping.{Loops, loop-start, loop-end, loop-whole, loop-fit, loop-here, loop-more}

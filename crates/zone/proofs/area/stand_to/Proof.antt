@@ -3,7 +3,7 @@ use borrow.Author.Needs.{needs}
 use native.Mathlib.Omega.{arith}
 use mathlib.Core.Path.{ap, _∙_}
 use lib.ListN.{length-take}
-use Rattle.geometry.specs.Shifted.{point, stands}
+use Rattle.geometry.specs.inner.Shifted.{point, stands}
 use Rattle.zone.proofs.Cleared.{ring-lons, ring-lats, ring-range, ring-points}
 use Rattle.zone.proofs.area.stand_to.Statement.{statement}
 use Rattle.zone.proofs.area.stand_to.Tie as tie

@@ -3,12 +3,12 @@ use borrow.Author.Needs.{needs}
 use mathlib.Core.Path.{_≡_, sym, ap, subst, _∙_}
 use Rattle.notation.specs.Ascii.{bytes}
 use Rattle.walk.specs.Part.{Whole, treeOf}
-use Rattle.geometry.specs.Shifted.{point}
+use Rattle.geometry.specs.inner.Shifted.{point}
 use Rattle.rings.specs.Rings.{polygonsFound}
-use Rattle.rings.specs.Parts.{polygonShape, partsOf}
-use Rattle.fields.specs.Values.{memberOf, arrayBy}
+use Rattle.rings.specs.inner.Parts.{polygonShape, partsOf}
+use Rattle.fields.specs.inner.Values.{memberOf, arrayBy}
 use Rattle.zone.specs.Zone.{polygonsHold}
-use Rattle.zone.specs.Clean.{CleanItems}
+use Rattle.zone.specs.inner.Clean.{CleanItems}
 use Rattle.zone.proofs.Zoned.{polygonBytes, zone-polygons}
 use Rattle.zone.proofs.Cleared.{geometry-whole, zone-clean}
 use Rattle.zone.proofs.area.zone_holds.Statement.{statement}

@@ -3,10 +3,10 @@ use borrow.Author.Needs.{needs}
 use mathlib.Core.Path.{_≡_, sym, ap, subst, _∙_}
 use lib.ListN.{length}
 use Rattle.notation.specs.Ascii.{bytes}
-use Rattle.rings.specs.Parts.{Listing, partsOf}
-use Rattle.fields.specs.Values.{memberOf, arrayBy}
+use Rattle.rings.specs.inner.Parts.{Listing, partsOf}
+use Rattle.fields.specs.inner.Values.{memberOf, arrayBy}
 use Rattle.zone.specs.Zone.{anyText}
-use Rattle.zone.specs.Values.{idShape}
+use Rattle.zone.specs.inner.Values.{idShape}
 use Rattle.zone.proofs.Fields.{member-listing, applies-all, applies-named}
 use Rattle.zone.proofs.rules.applies.Statement.{statement}
 use Rattle.zone.proofs.rules.applies.Tie as tie

@@ -1,6 +1,6 @@
 -- Each member is read by itself.
 use borrow.Author.Needs.{needs}
-use Rattle.zone.specs.Values.{givenBy}
+use Rattle.zone.specs.inner.Values.{givenBy}
 use Rattle.zone.proofs.rules.given_in.Statement.{statement}
 use Rattle.zone.proofs.rules.given_in.Tie as tie
 

@@ -4,12 +4,12 @@ use mathlib.Core.Path.{_≡_, sym, _∙_}
 use Prim.Native.Nat.{_-_}
 use native.Mathlib.Omega.{arith}
 use lib.ListN.{length}
-use Rattle.walk.specs.Along.{ItemPlaced}
-use Rattle.rings.specs.Parts.{picked, partsOf}
+use Rattle.walk.specs.inner.Along.{ItemPlaced}
+use Rattle.rings.specs.inner.Parts.{picked, partsOf}
 use Rattle.document.specs.Document.{textIn}
-use Rattle.fields.specs.Values.{isId}
+use Rattle.fields.specs.inner.Values.{isId}
 use Rattle.zone.specs.Zone.{anyText}
-use Rattle.zone.specs.Values.{idShape}
+use Rattle.zone.specs.inner.Values.{idShape}
 use Rattle.zone.proofs.Fields.{id-text}
 use Rattle.zone.proofs.Looping.{Loops, loop-start, loop-end, loop-whole, loop-here, loop-more}
 use Rattle.zone.proofs.Loops.{ids, any-none, any-here, any-later}

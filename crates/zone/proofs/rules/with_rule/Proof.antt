@@ -2,7 +2,7 @@
 use borrow.Author.Needs.{needs}
 use borrow.Author.Tests.{not-true, not-false}
 use mathlib.Core.Path.{sym, ap, _∙_}
-use Rattle.zone.specs.Values.{orGiven}
+use Rattle.zone.specs.inner.Values.{orGiven}
 use Rattle.zone.proofs.Fields.{rule-given}
 use Rattle.zone.proofs.Combining.{rule-joined, rule-passed}
 use Rattle.zone.proofs.rules.with_rule.Statement.{statement}

@@ -6,10 +6,10 @@ use mathlib.Core.Path.{_≡_, sym, ap, _∙_}
 use Prim.Native.Nat.{_-_}
 use native.Mathlib.Omega.{arith}
 use lib.ListN.{length}
-use Rattle.walk.specs.Along.{ItemPlaced}
+use Rattle.walk.specs.inner.Along.{ItemPlaced}
 use Rattle.schema.specs.Table23.{rule}
 use Rattle.schema.specs.Pick.{Picked}
-use Rattle.rings.specs.Parts.{picked, partsOf}
+use Rattle.rings.specs.inner.Parts.{picked, partsOf}
 use Rattle.zone.proofs.Combining.{withRules, rules-none, rules-next, given-full}
 use Rattle.zone.proofs.Looping.{Loops, loop-start, loop-end, loop-whole, loop-here, loop-more}
 use Rattle.zone.proofs.Loops.{rulesFor}

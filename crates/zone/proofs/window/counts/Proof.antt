@@ -2,7 +2,7 @@
 use borrow.Author.Needs.{needs}
 use borrow.Author.Tests.{not-true, not-false}
 use mathlib.Core.Path.{sym, ap, _∙_}
-use Rattle.fields.specs.Values.{spelledBy}
+use Rattle.fields.specs.inner.Values.{spelledBy}
 use Rattle.zone.specs.Zone.{integer, begun, unended}
 use Rattle.zone.proofs.Ways.{counts-not, counts-begun}
 use Rattle.zone.proofs.window.counts.Statement.{statement}

@@ -6,13 +6,13 @@ use mathlib.Core.Path.{_≡_, refl, sym, ap, subst, _∙_}
 use Prim.Native.Nat.{_-_}
 use native.Mathlib.Omega.{arith}
 use lib.ListN.{length}
-use Rattle.walk.specs.Along.{ItemPlaced}
+use Rattle.walk.specs.inner.Along.{ItemPlaced}
 use Rattle.schema.specs.Table23.{zone}
 use Rattle.schema.specs.Pick.{Picked}
-use Rattle.geometry.specs.Shifted.{point}
-use Rattle.rings.specs.Parts.{picked, partsOf}
+use Rattle.geometry.specs.inner.Shifted.{point}
+use Rattle.rings.specs.inner.Parts.{picked, partsOf}
 use Rattle.zone.specs.Zone.{rules, applicable}
-use Rattle.zone.specs.Values.{nothing, allGiven}
+use Rattle.zone.specs.inner.Values.{nothing, allGiven}
 use Rattle.zone.proofs.Cleared.{item-short}
 use Rattle.zone.proofs.Combining.{nothing-given, given-full, withRules, zones-none, zones-next}
 use Rattle.zone.proofs.Looping.{Loops, loop-along, loop-end, loop-whole, loop-fit, loop-here, loop-more}

@@ -1,10 +1,10 @@
 -- The zones stand where the code looks for them, each without a fault.
 use borrow.Author.Needs.{needs}
 use mathlib.Core.Path.{ap, _∙_}
-use Rattle.geometry.specs.Shifted.{point}
+use Rattle.geometry.specs.inner.Shifted.{point}
 use Rattle.clean.proofs.Cleans.{Sound, clean-sound}
 use Rattle.zone.specs.Answer.{answer}
-use Rattle.zone.specs.Values.{rulingBy}
+use Rattle.zone.specs.inner.Values.{rulingBy}
 use Rattle.zone.proofs.Files.{none-absent, zones-clean, file-answer}
 use Rattle.zone.proofs.zones.rule_in.Statement.{statement}
 use Rattle.zone.proofs.zones.rule_in.Tie as tie

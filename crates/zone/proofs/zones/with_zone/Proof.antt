@@ -6,10 +6,10 @@ use mathlib.Core.Bool.{true}
 use Rattle.notation.specs.Ascii.{bytes}
 use Rattle.walk.specs.Part.{Whole, treeOf}
 use Rattle.schema.specs.Table23.{rule}
-use Rattle.geometry.specs.Shifted.{point}
-use Rattle.rings.specs.Parts.{Listing, partsOf}
-use Rattle.fields.specs.Values.{memberOf, arrayBy}
-use Rattle.zone.specs.Values.{countsBy}
+use Rattle.geometry.specs.inner.Shifted.{point}
+use Rattle.rings.specs.inner.Parts.{Listing, partsOf}
+use Rattle.fields.specs.inner.Values.{memberOf, arrayBy}
+use Rattle.zone.specs.inner.Values.{countsBy}
 use Rattle.zone.proofs.Combining.{withRules}
 use Rattle.zone.proofs.Fields.{member-listing}
 use Rattle.zone.proofs.Cleared.{properties-whole}

@@ -1,7 +1,7 @@
 -- A digit goes into the run of its phase.
 use mathlib.Core.Path.{sym, ap, _∙_}
 use borrow.Author.Needs.{needs}
-use Rattle.decimal.specs.Priced.{onDigit}
+use Rattle.decimal.specs.inner.Priced.{onDigit}
 use Rattle.decimal.proofs.quoted.Progress.digit.Statement.{statement}
 use Rattle.decimal.proofs.quoted.Progress.digit.Tie as tie
 

@@ -1,7 +1,7 @@
 -- The text may end after its whole digits, or after a digit behind the point.
 use mathlib.Core.Path.{sym, ap, _∙_}
 use borrow.Author.Needs.{needs}
-use Rattle.decimal.specs.Priced.{finished}
+use Rattle.decimal.specs.inner.Priced.{finished}
 use Rattle.decimal.proofs.Progress.{part-none, part-some}
 use Rattle.decimal.proofs.quoted.Progress.finish.Statement.{statement}
 use Rattle.decimal.proofs.quoted.Progress.finish.Tie as tie

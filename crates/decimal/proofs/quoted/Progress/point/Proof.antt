@@ -1,7 +1,7 @@
 -- A point follows the whole digits, and nothing else.
 use mathlib.Core.Path.{sym, ap, _∙_}
 use borrow.Author.Needs.{needs}
-use Rattle.decimal.specs.Priced.{onPoint}
+use Rattle.decimal.specs.inner.Priced.{onPoint}
 use Rattle.decimal.proofs.quoted.Progress.point.Statement.{statement}
 use Rattle.decimal.proofs.quoted.Progress.point.Tie as tie
 

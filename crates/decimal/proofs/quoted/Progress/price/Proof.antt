@@ -1,7 +1,7 @@
 -- With no digit too many the price is the number of its digits.
 use borrow.Author.Needs.{needs}
 use borrow.Author.Tests.{le-leb, lt-leb}
-use Rattle.decimal.specs.Priced.{priceSo}
+use Rattle.decimal.specs.inner.Priced.{priceSo}
 use Rattle.decimal.proofs.quoted.Progress.price.Statement.{statement}
 use Rattle.decimal.proofs.quoted.Progress.price.Tie as tie
 

@@ -7,7 +7,7 @@ use lib.ListN.{length, getD, drop}
 use borrow.Author.Needs.{needs}
 use borrow.Author.Tests.{not-true, not-false}
 use Rattle.radix.proofs.Digits.{one-more, at-most}
-use Rattle.decimal.specs.Spelling.{runFrom}
+use Rattle.decimal.specs.inner.Spelling.{runFrom}
 use Rattle.decimal.proofs.Runs.{digit-range, run-end, run-stop, run-next}
 use Rattle.decimal.proofs.spelling.Run.of.Statement.{statement}
 use Rattle.decimal.proofs.spelling.Run.of.Tie as tie

@@ -1,0 +1,28 @@
+-- Stage C as it is found: file after file, up to the first that breaks a rule; and what stages A and B leave known of a file.
+use mathlib.Core.List.{List, []}
+use mathlib.Core.Path.{_≡_}
+use Prim.Native.Nat.{ℕ}
+use lib.ListN.{length}
+use Rattle.json.specs.declared.Syntax.the-variants.{Sound}
+use Rattle.json.specs.Text.{syntaxOf}
+use Rattle.schema.specs.Shape.{fileShape}
+use Rattle.schema.specs.Table23.{table23}
+use Rattle.fault.specs.Fault.{least}
+use Rattle.judge.specs.Faults.{fileFaults}
+use Rattle.clean.specs.declared.Cleanness.{Cleanness}
+use Rattle.clean.specs.declared.Cleanness.the-variants.{Clean}
+use Rattle.clean.specs.Clean.{treeOf, broken}
+use Rattle.cross.specs.Cross.{Files, crossFaults}
+
+-- the first file that is not clean, of six
+abbrev pub firstOf : (ℕ → Cleanness → Cleanness) → Cleanness
+firstOf judge = judge 1 (judge 2 (judge 3 (judge 4 (judge 5 (judge 6 Clean)))))
+
+-- stage C
+unfoldable pub stageC : Files → Cleanness
+stageC s = firstOf (λ file next. broken file (least (crossFaults s file)) next)
+
+-- a file is through stages A and B
+pub record Through (n : ℕ) (s : List ℕ) : Type 0 where
+  pub reads : (length s ≡ 0 → ⊥) → syntaxOf s ≡ Sound
+  pub faultless : (length s ≡ 0 → ⊥) → fileFaults (fileShape table23 n) (treeOf s) ≡ []

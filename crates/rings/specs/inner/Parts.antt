@@ -1,0 +1,174 @@
+-- Field 73 as code meets it: the items of an array one after the other, each judged by its own bytes, and what each function tells of them.
+use mathlib.Core.Bool.{Bool, true, false}
+use mathlib.Core.List.{List, [], _∷_, _++_, map}
+use mathlib.Core.Path.{_≡_}
+use Prim.Native.Nat.{ℕ, _+_, _*_, _≤_, _<_}
+use lib.Dec.{leb}
+use lib.ListN.{length, getD, take}
+use Rattle.limits.specs.Ceilings as ceiling
+use Rattle.notation.specs.Choice.{_⇒_else_, _and_}
+use Rattle.word.specs.Kinds.{wrongType, badRing}
+use Rattle.signed.specs.inner.Difference.{difference}
+use Rattle.json.specs.Tree as tree
+use Rattle.walk.specs.declared.Item.{Item}
+use Rattle.walk.specs.declared.ValueKind.{ValueKind}
+use Rattle.walk.specs.declared.ValueKind.the-variants as kind
+use Rattle.walk.specs.Walk.{part, itemsFrom, itemsOf}
+use Rattle.walk.specs.Part.{Whole, treeOf}
+use Rattle.walk.specs.inner.Along.{AlongItems}
+use Rattle.decimal.specs.Decimals.{numberOf}
+use Rattle.decimal.specs.Exact.{within}
+use Rattle.geometry.specs.Ring.{Point, sound}
+use Rattle.geometry.specs.inner.Shifted.{OnMap, InRange, point, points}
+use Rattle.schema.specs.Shape as shape
+use Rattle.schema.specs.Shape.{Shape}
+use Rattle.schema.specs.Pick.{Picked, bare, items, slots, pick}
+use Rattle.scalar.specs.Scalars.{unless, formed}
+use Rattle.rings.specs.Rings.{Found, at, ordinate, ordinateKinds, numberKinds, position, allSound, positionsFound, ringsFound, ringsPositions, polygon, polygonPositions, polygonRings, polygonsRings, polygonsFound}
+use Rattle.rings.specs.inner.Least.{leastFound}
+use Rattle.rings.specs.declared.LeastFound.{LeastFound}
+use Rattle.rings.specs.declared.LeastFound.the-variants.{None, At}
+use Rattle.rings.specs.declared.Ordinate.{Ordinate}
+use Rattle.rings.specs.declared.Spot.{Spot}
+use Rattle.rings.specs.declared.RingPoints.{RingPoints}
+use Rattle.rings.specs.declared.Judged.{Judged}
+use Rattle.rings.specs.declared.PolygonTally.{PolygonTally}
+use Rattle.rings.specs.declared.ZoneTally.{ZoneTally}
+
+-- the shapes inside field 73
+abbrev pub numberShape : Shape
+numberShape = shape.scalar shape.ordinate
+
+abbrev pub positionShape : Shape
+positionShape = shape.array shape.positions 3 numberShape
+
+abbrev pub ringShape : Shape
+ringShape = shape.array shape.positions ceiling.positions positionShape
+
+abbrev pub polygonShape : Shape
+polygonShape = shape.array shape.positions ceiling.rings ringShape
+
+-- p is an array, whole; or there is nothing
+pub record Listing (p : List ℕ) : Type 0 where
+  pub whole : 0 < length p → (is : tree.Items) × Whole p (tree.array is)
+
+-- an item of the array p, picked; all of them; and those that are left where a walk along the array has come to a place
+abbrev pub picked : Shape → List ℕ → Item → Picked
+picked σ p m = pick σ (treeOf (part p (m .value) (m .«value_end»)))
+
+unfoldable pub partsOf : Shape → List ℕ → List Picked
+partsOf σ p = map (picked σ p) (itemsOf p)
+
+pub record Left (σ : Shape) (p : List ℕ) (at : ℕ) (l : List Picked) : Type 0 where
+  pub along : at < length p → AlongItems p at
+  pub most : ℕ
+  pub enough : length p ≤ at + most
+  pub are : map (picked σ p) (itemsFrom most p at) ≡ l
+
+-- what a value's kind is asked for
+abbrev pub isArray : ValueKind → Bool
+isArray kind.Null = false
+isArray kind.Boolean = false
+isArray kind.Number = false
+isArray kind.String = false
+isArray kind.Array = true
+isArray kind.Object = false
+
+abbrev pub isNumber : ValueKind → Bool
+isNumber kind.Null = false
+isNumber kind.Boolean = false
+isNumber kind.Number = true
+isNumber kind.String = false
+isNumber kind.Array = false
+isNumber kind.Object = false
+
+-- a number from -k to k
+abbrev pub rangeKinds : ℕ → Picked → List ℕ
+rangeKinds k (bare tree.null) = wrongType ∷ []
+rangeKinds k (bare (tree.boolean b)) = wrongType ∷ []
+rangeKinds k (bare (tree.number s)) = formed (within k) (numberOf s)
+rangeKinds k (bare (tree.string s)) = wrongType ∷ []
+rangeKinds k (bare (tree.array is)) = wrongType ∷ []
+rangeKinds k (bare (tree.object ms)) = wrongType ∷ []
+rangeKinds k (items is) = wrongType ∷ []
+rangeKinds k (slots ss) = wrongType ∷ []
+
+-- where it is sound, its millionths, moved up by k degrees
+pub record Measured (k n : ℕ) (x : Picked) (o : Ordinate) : Type 0 where
+  pub least : o .least ≡ leastFound (at n (rangeKinds k x))
+  pub value : o .least ≡ None → difference (o .value) (k * 1_000_000) ≡ ordinate x
+
+-- the items of a position; and those behind lon and lat
+unfoldable pub listKinds : List Picked → List ℕ
+listKinds l = unless (leb 2 (length l) and leb (length l) 3) badRing ++ numberKinds l
+
+unfoldable pub restKinds : List Picked → List ℕ
+restKinds [] = []
+restKinds (z ∷ []) = ordinateKinds shape.ordinate z
+restKinds (z ∷ w ∷ l) = badRing ∷ ordinateKinds shape.ordinate z
+
+-- a position at the number n: its kinds, and where it is sound its point
+pub record Spotted (n : ℕ) (kinds : List ℕ) (q : Point) (s : Spot) : Type 0 where
+  pub least : s .least ≡ leastFound (at n kinds)
+  pub point : s .least ≡ None → point (s .point) ≡ q
+
+-- a value in which that much is found, with its positions
+pub record Tells (found : List Found) (count : ℕ) (r : Judged) : Type 0 where
+  pub least : r .least ≡ leastFound found
+  pub positions : r .positions ≡ count
+
+-- the rings of a polygon, the first position with the number n; a polygon; and the polygons of a zone
+pub record TellsRings (n : ℕ) (l : List Picked) (r : PolygonTally) : Type 0 where
+  pub rings : r .rings ≡ length l
+  pub positions : r .positions ≡ ringsPositions l
+  pub least : r .least ≡ leastFound (ringsFound n l)
+
+pub record TellsPolygon (n : ℕ) (x : Picked) (r : PolygonTally) : Type 0 where
+  pub rings : r .rings ≡ polygonRings x
+  pub positions : r .positions ≡ polygonPositions x
+  pub least : r .least ≡ leastFound (polygon n x)
+
+pub record TellsPolygons (n : ℕ) (l : List Picked) (r : ZoneTally) : Type 0 where
+  pub polygons : r .polygons ≡ length l
+  pub rings : r .rings ≡ polygonsRings l
+  pub least : r .least ≡ leastFound (polygonsFound n l)
+
+-- what is counted in any bytes: no more than there are bytes
+pub record PolygonRoom (bytes : ℕ) (r : PolygonTally) : Type 0 where
+  pub rings : r .rings ≤ bytes
+  pub positions : r .positions ≤ bytes
+
+-- the points of a ring, two lists of one length of which the first are filled
+pub record Charted (lons lats : List ℕ) : Type 0 where
+  pub east : length lons ≡ ceiling.positions
+  pub north : length lats ≡ ceiling.positions
+  pub map : (k : ℕ) → OnMap (record { lon = getD lons k 0; lat = getD lats k 0 })
+
+-- the positions of a ring, the first with the number n; where all are sound and not too many, their points
+pub record RingRead (n : ℕ) (l : List Picked) (r : RingPoints) : Type 0 where
+  pub count : r .count ≡ length l
+  pub least : r .least ≡ leastFound (positionsFound n l)
+  pub points : allSound l ≡ true → length l ≤ ceiling.positions
+      → points (take (r .count) (r .lons)) (take (r .count) (r .lats)) ≡ map position l
+
+-- what is read of any bytes: no more positions than bytes, and each on the map
+pub record RingRoom (bytes : ℕ) (r : RingPoints) : Type 0 where
+  pub within : r .count ≤ bytes
+  pub charted : Charted (r .lons) (r .lats)
+
+-- the points of a ring as geometry takes them
+pub record Outlined (l : List Picked) (r : RingPoints) : Type 0 where
+  pub count : r .count ≡ length l
+  pub range : InRange (take (r .count) (r .lons)) (take (r .count) (r .lats))
+  pub points : points (take (r .count) (r .lons)) (take (r .count) (r .lats)) ≡ map position l
+
+-- what the code asks of a ring that it has read: kind 11 where all positions are sound, there is room for them, and the ring is not sound
+abbrev pub onlySound : LeastFound → LeastFound → LeastFound
+onlySound None x = x
+onlySound (At n k) x = None
+
+unfoldable pub areaLeast : ℕ → RingPoints → LeastFound
+areaLeast n r =
+    onlySound (r .least)
+    (leb (r .count) ceiling.positions ⇒
+    leastFound (at n (unless (sound (points (take (r .count) (r .lons)) (take (r .count) (r .lats)))) badRing)) else None)
