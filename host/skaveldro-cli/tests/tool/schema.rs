@@ -1,4 +1,4 @@
-//! Every kind of line that `check --json` writes is held against its schema, by a validator of the keywords that the schema uses.
+//! Every kind of line that `--json` writes is held against the schema, by a validator of the keywords that it uses.
 
 use crate::feeds::{bikes, fed, feed, rename, run, sample, text, BIKE, SAMPLE};
 use crate::json::{read, Json};
@@ -6,7 +6,7 @@ use std::fs;
 use std::path::Path;
 
 fn schema() -> Json {
-    let path = Path::new(env!("CARGO_MANIFEST_DIR")).join("schema/check.schema.json");
+    let path = Path::new(env!("CARGO_MANIFEST_DIR")).join("schema/output.schema.json");
     read(&fs::read_to_string(path).expect("the schema is there"))
 }
 
@@ -140,6 +140,34 @@ fn every_kind_of_line() {
     assert_eq!(kinds(&["--nothing"]), r#"(2, "error")"#);
     assert_eq!(kinds(&["https://example.org/gbfs.json"]), r#"(2, "error")"#);
     assert_eq!(kinds(&[SAMPLE, "nowhere", &misnamed]), r#"(0, "folder") (2, "error") (2, "folder")"#);
+}
+
+/// The answers of the other questions, each of one line: its number, or the status where there is none.
+#[test]
+fn every_answer() {
+    let schema = schema();
+    let told = |words: &[&str]| {
+        let output = run(&[words, &["--json"]].concat());
+        let line = read(&text(output.stdout));
+        assert_eq!(refused(&line, &schema, &schema), None, "{words:?}: {line:?}");
+        line.get("answer").or(line.get("status")).cloned()
+    };
+    let number = |number| Some(Json::Number(number));
+    let cut = format!("{}/system_pricing_plans.json", feed("schema-cut", &[("system_pricing_plans.json", b"{")]));
+    assert_eq!(told(&["quote", SAMPLE, "electric", "600", "2500"]), number(0));
+    assert_eq!(told(&["quote", SAMPLE, "nothing", "600", "2500"]), number(6));
+    assert_eq!(told(&["quote", SAMPLE, "electric", "2678401", "0"]), number(4));
+    assert_eq!(told(&["quote", &cut, "electric", "0", "0"]), number(5));
+    assert_eq!(told(&["quote", "nowhere", "electric", "0", "0"]), number(2));
+    assert_eq!(told(&["zone", SAMPLE, "47.37", "8.543", "city_bike", "1716458431"]), number(0));
+    assert_eq!(told(&["zone", SAMPLE, "0", "0", "city_bike", "0"]), number(9));
+    assert_eq!(told(&["zone", SAMPLE, "91", "0", "city_bike", "0"]), number(8));
+    assert_eq!(told(&["show", SAMPLE, "vehicle_types.json", "1"]), number(0));
+    assert_eq!(told(&["show", SAMPLE, "vehicle_types.json", "99"]), number(10));
+    assert_eq!(told(&["explain", "1000000000000000"]), number(0));
+    assert_eq!(told(&["explain", "1462800300000000", SAMPLE]), number(0));
+    assert_eq!(told(&["explain", "2000000000000000"]), number(3));
+    assert_eq!(told(&["explain"]), number(2));
 }
 
 #[test]
