@@ -32,7 +32,6 @@ use Rattle.judge.specs.Faults.{fileFaults}
 use Rattle.document.specs.declared.Span.{Span}
 use Rattle.document.specs.declared.Span.the-variants as span
 use Rattle.document.specs.Spans.{topSpan, recordSpan}
-use Rattle.document.proofs.Cuts.{part-length}
 use Rattle.document.proofs.Records.{top-is}
 use Rattle.clean.specs.declared.Cleanness.{Cleanness}
 use Rattle.clean.specs.declared.Cleanness.the-variants.{Clean, Broken}
@@ -73,13 +72,10 @@ module _ (s : List ℕ) (e : syntaxOf s ≡ syntax.Sound) where
   pub top-there : topSpan s ≡ span.None → ⊥
   top-there h = let i = top-is s (passed s e) in let z : _≡_ {A = ℕ} 0 1 = cc in omega arith
 
-  module _ (from upto : ℕ) (h : topSpan s ≡ span.Is from upto) where
-    pub top-short : length (part s from upto) ≤ fileBytes
-    top-short =
-        let t = passed s e in let i = top-is s t in
-        let b : t .end ≡ upto = cc in
-        let n = t .inside in let m = t .short in omega (arith, part-length s from upto)
+  pub file-short : length s ≤ fileBytes
+  file-short = passed s e .short
 
+  module _ (from upto : ℕ) (h : topSpan s ≡ span.Is from upto) where
     pub top-whole : Whole (part s from upto) (treeOf s)
     top-whole =
         let t = passed s e in let i = top-is s t in

@@ -3,22 +3,24 @@ use borrow.Author.Needs.{needs}
 use mathlib.Core.Path.{_≡_, sym, ap, subst, _∙_}
 use mathlib.Core.List.{List}
 use Prim.Native.Nat.{ℕ, _≤_}
-use lib.ListN.{length}
+use lib.ListN.{length, length-take, length-drop}
+use native.Mathlib.Omega.{arith}
 use Rattle.limits.specs.Ceilings.{fileBytes}
 use Rattle.walk.specs.Part.{Whole}
 use Rattle.document.specs.inner.Spans.{Readable}
 use Rattle.clean.specs.Clean.{treeOf}
-use Rattle.clean.proofs.Judged.{top-there, top-short, top-whole}
+use Rattle.clean.proofs.Judged.{top-there, file-short, top-whole}
 use Rattle.clean.proofs.first_fault.Statement.{statement}
 use Rattle.clean.proofs.first_fault.Tie as tie
 
 returns : tie.Need-returns
 returns c = let t = c .before .before in absurd (top-there _ (t .before .before .pre) (sym (t .top-span .ensures (Readable.sound (t .before .before .pre))) ∙ c .enum-told .given .1))
 
+-- a part of the file is no longer than the file
 judge-file-requires : tie.Need-judge-file-requires
 judge-file-requires c κs =
-    let f = c .before .before in let t = f .before .before in
-    subst (λ (p : List ℕ). length p ≤ fileBytes) (sym (c .cut .ensures)) (top-short _ (t .before .before .pre) _ _ (sym (t .top-span .ensures (Readable.sound (t .before .before .pre))) ∙ f .from .given .1))
+    let short = file-short _ (c .before .before .before .before .before .before .pre) in
+    rw (c .cut .ensures, length-take, length-drop) (omega (arith, short))
 
 returns-2 : tie.Need-returns-2
 returns-2 c =
