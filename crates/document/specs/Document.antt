@@ -3,8 +3,7 @@
 use mathlib.Core.Bool.{Bool, true, false}
 use mathlib.Core.List.{List, [], _∷_}
 use Prim.Native.Nat.{ℕ}
-use Rattle.json.specs.Tree as tree
-use Rattle.schema.specs.Pick.{Picked, Slot, bare, items, slots, listOf, missing, once, twice, at}
+use Rattle.schema.specs.Pick.{Picked, Slot, bare, items, slots, listOf, missing, once, twice, at, single}
 
 -- a value, or none
 pub data Maybe (A : Type 0) : Type 0 where
@@ -42,34 +41,13 @@ along (f ∷ fs) x = elim (field f x) [ none ↦ none | some y ↦ along fs y ]
 
 -- the text of a string, the spelling of a number, the truth of a boolean
 abbrev pub textIn : Picked → Maybe (List ℕ)
-textIn (bare tree.null) = none
-textIn (bare (tree.boolean b)) = none
-textIn (bare (tree.number s)) = none
-textIn (bare (tree.string s)) = some s
-textIn (bare (tree.array is)) = none
-textIn (bare (tree.object ms)) = none
-textIn (items is) = none
-textIn (slots ss) = none
+textIn x = single (λ b. none) (λ n. none) (λ s. some s) none x
 
 abbrev pub spellingIn : Picked → Maybe (List ℕ)
-spellingIn (bare tree.null) = none
-spellingIn (bare (tree.boolean b)) = none
-spellingIn (bare (tree.number s)) = some s
-spellingIn (bare (tree.string s)) = none
-spellingIn (bare (tree.array is)) = none
-spellingIn (bare (tree.object ms)) = none
-spellingIn (items is) = none
-spellingIn (slots ss) = none
+spellingIn x = single (λ b. none) (λ n. some n) (λ s. none) none x
 
 abbrev pub truthIn : Picked → Maybe Bool
-truthIn (bare tree.null) = none
-truthIn (bare (tree.boolean b)) = some b
-truthIn (bare (tree.number s)) = none
-truthIn (bare (tree.string s)) = none
-truthIn (bare (tree.array is)) = none
-truthIn (bare (tree.object ms)) = none
-truthIn (items is) = none
-truthIn (slots ss) = none
+truthIn x = single (λ b. some b) (λ n. none) (λ s. none) none x
 
 abbrev pub then : {A B : Type 0} → Maybe A → (A → Maybe B) → Maybe B
 then none f = none

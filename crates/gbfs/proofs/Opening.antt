@@ -19,7 +19,7 @@ use Rattle.schema.specs.Pick.{Slot, once, twice, missing, again, given, put, fi
 use Rattle.fault.specs.declared.Fault.{Fault}
 use Rattle.fault.specs.Fault.{fault}
 use Rattle.fault.proofs.Order.{by-test}
-use Rattle.scalar.specs.Scalars.{kindsOf, textKinds}
+use Rattle.scalar.specs.Scalars.{kindsOf, sortKinds}
 use Rattle.judge.specs.Faults.{top, faulty, faults, rowFaults, fileFaults}
 use Rattle.gbfs.specs.Demand3.{Holds, here, later, Outdated, outdated}
 
@@ -80,7 +80,7 @@ module _ (rows : Rows) (ss : Slots) where
   slotted x = rowFaults (shape.row 1 shape.required (bytes "version") version rows) top (put 1 (λ y. pick version y) (given x) ss)
 
   opening-alone : (v : List ℕ) → same v (bytes "2.3") ≡ false → Opening (slotted (once (tree.string v)))
-  unfolding rowFaults pick faulty kindsOf textKinds
+  unfolding rowFaults pick faulty kindsOf sortKinds
   opening-alone [] e = record { kind = _; rest = _; is = refl }
   opening-alone (b ∷ v) e = record { kind = outOfRange; rest = rowFaults rows top ss; is = rw e }
 

@@ -19,7 +19,7 @@ use Rattle.decimal.specs.Exact.{natural, portion, within}
 use Rattle.text.specs.Text.{same, currency}
 use Rattle.schema.specs.Shape as sort
 use Rattle.schema.specs.Shape.{Sort}
-use Rattle.scalar.specs.Scalars.{unless, formed, anyMoney, priceMoney, pricing, anyWord, numberKinds, textKinds, booleanKinds, kindsOf}
+use Rattle.scalar.specs.Scalars.{unless, formed, anyMoney, priceMoney, pricing, anyWord, numberKinds, textKinds, booleanKinds, kindsOf, sortKinds}
 use Rattle.judge.specs.Bounds.{OfStageB}
 use Rattle.judge.proofs.Holds.{All, none, only}
 
@@ -47,7 +47,7 @@ integer-kinds true x = only (omega arith)
 integer-kinds false x = formed-kinds natural x
 
 number-kinds : (σ : Sort) (s : List ℕ) → AllStageB (numberKinds σ s)
-unfolding numberKinds
+unfolding sortKinds
 number-kinds sort.timestamp s = integer-kinds (hasPoint s) (numberOf s)
 number-kinds sort.integer s = integer-kinds (hasPoint s) (numberOf s)
 number-kinds sort.amount s = formed-kinds natural (numberOf s)
@@ -65,7 +65,7 @@ number-kinds (sort.exactly t) s = only (omega arith)
 number-kinds (sort.word ws) s = only (omega arith)
 
 text-kinds : (σ : Sort) (s : List ℕ) → AllStageB (textKinds σ s)
-unfolding textKinds
+unfolding sortKinds
 text-kinds sort.timestamp s = only (omega arith)
 text-kinds sort.integer s = only (omega arith)
 text-kinds sort.amount s = only (omega arith)
@@ -83,7 +83,7 @@ text-kinds (sort.exactly t) s = unless-kinds (same s t) _ (omega arith)
 text-kinds (sort.word ws) s = unless-kinds (anyWord ws s) _ (omega arith)
 
 boolean-kinds : (σ : Sort) → AllStageB (booleanKinds σ)
-unfolding booleanKinds
+unfolding sortKinds
 boolean-kinds sort.timestamp = only (omega arith)
 boolean-kinds sort.integer = only (omega arith)
 boolean-kinds sort.amount = only (omega arith)

@@ -31,7 +31,7 @@ use Rattle.schema.specs.Shape as shape
 use Rattle.schema.specs.Shape.{Shape, Rows, Sort}
 use Rattle.schema.specs.Pick.{Picked, pick, outline}
 use Rattle.schema.proofs.Tests.{and-right}
-use Rattle.scalar.specs.Scalars.{unless, formed, anyMoney, priceMoney, pricing, numberKinds, textKinds, booleanKinds, kindsOf}
+use Rattle.scalar.specs.Scalars.{unless, formed, anyMoney, priceMoney, pricing, numberKinds, textKinds, booleanKinds, kindsOf, sortKinds}
 use Rattle.judge.specs.declared.Place.{Place}
 use Rattle.judge.specs.Faults.{faulty, faults}
 use Rattle.document.specs.Document.{some, elementsOf, field, fieldItems}
@@ -169,7 +169,7 @@ price-true d e = money-true d (and-right (natural d) (anyMoney d) e)
 
 -- so each value is what its reader needs
 pub integer-clear : {q : List ℕ} → ClearValue shape.integer q → (code (kindAt q) ≡ 2) × (d : Decimal) × (numberOf q ≡ number.Value d)
-unfolding numberKinds textKinds booleanKinds
+unfolding sortKinds
 integer-clear {q} c =
     let n = number-clear shape.integer c (λ e. cons-nil e) (λ k. cons-nil (text-clear shape.integer c k)) in
     let v = go (hasPoint q) (n .1) in
@@ -180,7 +180,7 @@ integer-clear {q} c =
     go false e = formed-value natural (numberOf q) e
 
 pub money-clear : {q : List ℕ} → ClearValue shape.money q → (code (kindAt q) ≡ 2) × (d : Decimal) × (numberOf q ≡ number.Value d) × IsMoney d
-unfolding numberKinds textKinds booleanKinds
+unfolding sortKinds
 money-clear {q} c =
     let n = number-clear shape.money c (λ e. cons-nil e) (λ k. cons-nil (text-clear shape.money c k)) in
     let v = formed-value anyMoney (numberOf q) (n .1) in
@@ -188,14 +188,14 @@ money-clear {q} c =
 
 module _ {q : List ℕ} (c : ClearValue shape.price q) where
   pub price-number-clear : (code (kindAt q) ≡ 3 → ⊥) → (code (kindAt q) ≡ 2) × (d : Decimal) × (numberOf q ≡ number.Value d) × IsMoney d
-  unfolding numberKinds booleanKinds
+  unfolding sortKinds
   price-number-clear h =
       let n = number-clear shape.price c (λ e. cons-nil e) h in
       let v = formed-value priceMoney (numberOf q) (n .1) in
       (n .0, v .0, v .1, price-true (v .0) (v .2))
 
   pub price-text-clear : code (kindAt q) ≡ 3 → (d : Decimal) × (priceOf (textOf (inside q)) ≡ price.Value d) × IsMoney d
-  unfolding textKinds pricing
+  unfolding sortKinds pricing
   price-text-clear h = go (priceOf (textOf (inside q))) refl (text-clear shape.price c h)
     where
       go : (n : Price) → priceOf (textOf (inside q)) ≡ n → pricing n ≡ [] → (d : Decimal) × (priceOf (textOf (inside q)) ≡ price.Value d) × IsMoney d

@@ -31,7 +31,7 @@ use Rattle.rings.proofs.Order.{lesser-none}
 
 -- the sorts
 pub longitude-kinds : (x : Picked) → ordinateKinds shape.longitude x ≡ rangeKinds 180 x
-unfolding ordinateKinds kindsOf scalar.numberKinds scalar.textKinds scalar.booleanKinds
+unfolding ordinateKinds kindsOf scalar.sortKinds
 longitude-kinds (bare tree.null) = refl
 longitude-kinds (bare (tree.boolean b)) = refl
 longitude-kinds (bare (tree.number s)) = refl
@@ -42,7 +42,7 @@ longitude-kinds (items is) = refl
 longitude-kinds (slots ss) = refl
 
 pub latitude-kinds : (x : Picked) → ordinateKinds shape.latitude x ≡ rangeKinds 90 x
-unfolding ordinateKinds kindsOf scalar.numberKinds scalar.textKinds scalar.booleanKinds
+unfolding ordinateKinds kindsOf scalar.sortKinds
 latitude-kinds (bare tree.null) = refl
 latitude-kinds (bare (tree.boolean b)) = refl
 latitude-kinds (bare (tree.number s)) = refl
@@ -53,7 +53,7 @@ latitude-kinds (items is) = refl
 latitude-kinds (slots ss) = refl
 
 third-tree : (x : Json) → unless (isNumber (kindOf x)) wrongType ≡ ordinateKinds shape.ordinate (pick numberShape x)
-unfolding ordinateKinds kindsOf scalar.numberKinds scalar.textKinds scalar.booleanKinds pick
+unfolding ordinateKinds kindsOf scalar.sortKinds pick
 third-tree tree.null = refl
 third-tree (tree.boolean b) = refl
 third-tree (tree.number s) = refl

@@ -19,7 +19,7 @@ use Rattle.rings.specs.declared.LeastFound.the-variants.{None, At}
 
 -- opens every definition of this layer
 unfoldable pub ringing : Unit {0}
-unfolding reading treeOf deciding holding written23 each pick scalar.formed scalar.numberKinds scalar.textKinds scalar.booleanKinds scalar.kindsOf at listOf count ordinateKinds numberKinds positionKinds pointOf position none allSound positionsFound ringFound ringsFound ringsPositions polygonsRings polygonsFound coordinatesFound earlier lesser leastFound
+unfolding reading treeOf deciding holding written23 each pick scalar.formed scalar.sortKinds scalar.kindsOf at listOf count ordinateKinds numberKinds positionKinds pointOf position none allSound positionsFound ringFound ringsFound ringsPositions polygonsRings polygonsFound coordinatesFound earlier lesser leastFound
 ringing = tt
 
 abbrev pairs : List Found → List (ℕ × ℕ)

@@ -9,15 +9,13 @@ use lib.IntN.{ℤ, pos}
 use Rattle.limits.specs.Ceilings.{polygons, rings, zoneRings, positions}
 use Rattle.notation.specs.Choice.{_⇒_else_, _and_}
 use Rattle.word.specs.Kinds.{wrongType, tooMany, badRing}
-use Rattle.json.specs.Tree as tree
-use Rattle.json.specs.Tree.{Json}
 use Rattle.decimal.specs.declared.Number.{Number}
 use Rattle.decimal.specs.declared.Number.the-variants as number
 use Rattle.decimal.specs.Decimals.{numberOf}
 use Rattle.decimal.specs.Exact.{millionths}
 use Rattle.geometry.specs.Ring.{Point, sound}
 use Rattle.schema.specs.Shape as sort
-use Rattle.schema.specs.Pick.{Picked, PickedItems, bare, items, slots, listOf}
+use Rattle.schema.specs.Pick.{Picked, PickedItems, bare, items, slots, listOf, single}
 use Rattle.scalar.specs.Scalars.{unless, kindsOf}
 
 -- what is found at a position's number: its kind
@@ -58,14 +56,7 @@ coordinate (number.Value d) = millionths d
 coordinate number.Unformed = pos 0
 
 abbrev pub ordinate : Picked → ℤ
-ordinate (bare tree.null) = pos 0
-ordinate (bare (tree.boolean b)) = pos 0
-ordinate (bare (tree.number s)) = coordinate (numberOf s)
-ordinate (bare (tree.string s)) = pos 0
-ordinate (bare (tree.array is)) = pos 0
-ordinate (bare (tree.object ms)) = pos 0
-ordinate (items is) = pos 0
-ordinate (slots ss) = pos 0
+ordinate x = single (λ b. pos 0) (λ s. coordinate (numberOf s)) (λ s. pos 0) (pos 0) x
 
 unfoldable pub pointOf : List Picked → Point
 pointOf [] = record { lon = pos 0; lat = pos 0 }

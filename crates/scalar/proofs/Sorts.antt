@@ -9,7 +9,7 @@ use Rattle.schema.specs.Shape.{Sort}
 use Rattle.schema.specs.inner.Line.{sortLetter, sortWords}
 use Rattle.schema.proofs.Letters.{sortFrom, sort-from}
 use Rattle.text.specs.Text.{same}
-use Rattle.scalar.specs.Scalars.{unless, anyWord, numberKinds, textKinds, booleanKinds}
+use Rattle.scalar.specs.Scalars.{unless, anyWord, numberKinds, textKinds, booleanKinds, sortKinds}
 
 sort-of : (σ : Sort) {letter : ℕ} (k : ℕ) → sortLetter σ ≡ letter → letter ≡ k → σ ≡ sortFrom k (sortWords σ)
 sort-of σ k e i = sym (sort-from σ) ∙ ap (λ (l : ℕ). sortFrom l (sortWords σ)) (e ∙ i)
@@ -22,14 +22,14 @@ by-letter f s k i g σ e = ap (λ (τ : Sort). f τ s) (sort-of σ k e i) ∙ g 
 -- the text that a sort is, and the words that it allows
 pub text-exactly : (σ : Sort) {letter : ℕ} (s w : List ℕ) {ws : List (List ℕ)} → sortLetter σ ≡ letter → letter ≡ code "=" → ws ≡ sortWords σ →
     ((x : List ℕ) → ws ≡ x ∷ [] → w ≡ x) → textKinds σ s ≡ unless (same s w) outOfRange
-unfolding sortFrom textKinds
+unfolding sortFrom sortKinds
 text-exactly σ s w e i h only =
     let q = sort-of σ (code "=") e i in
     ap (λ (τ : Sort). textKinds τ s) q ∙ ap (λ (x : List ℕ). unless (same s x) outOfRange) (sym (only _ (h ∙ ap sortWords q)))
 
 pub text-word : (σ : Sort) {letter : ℕ} (s : List ℕ) {ws : List (List ℕ)} → sortLetter σ ≡ letter → letter ≡ code "w" → ws ≡ sortWords σ →
     textKinds σ s ≡ unless (anyWord ws s) outOfRange
-unfolding sortFrom textKinds
+unfolding sortFrom sortKinds
 text-word σ s e i h =
     ap (λ (τ : Sort). textKinds τ s) (sort-of σ (code "w") e i) ∙ ap (λ (x : List (List ℕ)). unless (anyWord x s) outOfRange) (sym h)
 
@@ -38,7 +38,7 @@ module _ {letter : ℕ} where
   pub no-number : (s : List ℕ) → (letter ≡ code "T" → ⊥) → (letter ≡ code "N" → ⊥) → (letter ≡ code "F" → ⊥) → (letter ≡ code "%" → ⊥) →
       (letter ≡ code "y" → ⊥) → (letter ≡ code "x" → ⊥) → (letter ≡ code "z" → ⊥) → (letter ≡ code "m" → ⊥) → (letter ≡ code "p" → ⊥) →
       (σ : Sort) → sortLetter σ ≡ letter → numberKinds σ s ≡ wrongType ∷ []
-  unfolding numberKinds
+  unfolding sortKinds
   no-number s t n f o y x z m p sort.timestamp e = absurd (t (sym e))
   no-number s t n f o y x z m p sort.integer e = absurd (n (sym e))
   no-number s t n f o y x z m p sort.amount e = absurd (f (sym e))
@@ -57,7 +57,7 @@ module _ {letter : ℕ} where
 
   pub no-text : (s : List ℕ) → (letter ≡ code "p" → ⊥) → (letter ≡ code "S" → ⊥) → (letter ≡ code "i" → ⊥) → (letter ≡ code "c" → ⊥) →
       (letter ≡ code "=" → ⊥) → (letter ≡ code "w" → ⊥) → (σ : Sort) → sortLetter σ ≡ letter → textKinds σ s ≡ wrongType ∷ []
-  unfolding textKinds
+  unfolding sortKinds
   no-text s p t i c x w sort.timestamp e = refl
   no-text s p t i c x w sort.integer e = refl
   no-text s p t i c x w sort.amount e = refl
@@ -75,7 +75,7 @@ module _ {letter : ℕ} where
   no-text s p t i c x w (sort.word ws) e = absurd (w (sym e))
 
   pub no-boolean : (letter ≡ code "B" → ⊥) → (σ : Sort) → sortLetter σ ≡ letter → booleanKinds σ ≡ wrongType ∷ []
-  unfolding booleanKinds
+  unfolding sortKinds
   no-boolean b sort.timestamp e = refl
   no-boolean b sort.integer e = refl
   no-boolean b sort.amount e = refl

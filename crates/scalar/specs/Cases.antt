@@ -14,11 +14,11 @@ use Rattle.schema.specs.Shape as sort
 use Rattle.schema.specs.Shape.{Sort}
 use Rattle.schema.specs.Table23.{table23, written23}
 use Rattle.schema.specs.inner.Line.{wordsAt, laidOut}
-use Rattle.scalar.specs.Scalars.{formed, anyMoney, priceMoney, pricing, anyWord, numberKinds, textKinds, booleanKinds, kindsOf}
+use Rattle.scalar.specs.Scalars.{formed, anyMoney, priceMoney, pricing, anyWord, kindsOf, sortKinds}
 
 -- opens every definition of this layer
 unfoldable pub judging : Unit {0}
-unfolding comparing deciding formed anyMoney priceMoney pricing anyWord numberKinds textKinds booleanKinds kindsOf
+unfolding comparing deciding formed anyMoney priceMoney pricing anyWord sortKinds kindsOf
 judging = tt
 
 -- what a value says against a sort: nothing is wrong, or one of three kinds

@@ -1,5 +1,6 @@
 -- The picked document: of a tree, what a table lists, in the table's order. Everything that is judged, quoted or answered is a function
 -- of it, so order of members, unlisted members, blanks and spellings cannot matter.
+use mathlib.Core.Bool.{Bool}
 use mathlib.Core.List.{List, [], _∷_}
 use Prim.Native.Nat.{ℕ}
 use lib.Dec.{eqb}
@@ -115,3 +116,14 @@ at field (present f x rest) = eqb field f ⇒ once x else at field rest
 unfoldable pub listOf : PickedItems → List Picked
 listOf noItem = []
 listOf (item x is) = x ∷ listOf is
+
+-- by what a single value is: the truth of a boolean, the spelling of a number, the text of a string; anything else is `other`
+abbrev pub single : {A : Type 0} → (Bool → A) → (List ℕ → A) → (List ℕ → A) → (other : A) → Picked → A
+single truth spelling text other (bare tree.null) = other
+single truth spelling text other (bare (tree.boolean b)) = truth b
+single truth spelling text other (bare (tree.number s)) = spelling s
+single truth spelling text other (bare (tree.string s)) = text s
+single truth spelling text other (bare (tree.array is)) = other
+single truth spelling text other (bare (tree.object ms)) = other
+single truth spelling text other (items is) = other
+single truth spelling text other (slots ss) = other
