@@ -27,7 +27,7 @@ use Rattle.cross.specs.Stage.{fileOf}
 use Rattle.quote.specs.Quote.{quoteOf}
 use Rattle.zone.specs.Answer.{rulingOf}
 use Rattle.geometry.specs.Ring.{Point}
-use Rattle.gbfs.specs.Verdict.{Feeds, bytesOf, picked, rulesA, faultsB, everyFile, stageA, stageB, stageC, orElse, rules, first, verdictOf, said}
+use Rattle.gbfs.specs.Verdict.{Feeds, bytesOf, picked, rulesA, faultsB, everyFile, stageA, stageBBy, stageC, orElse, rulesBy, rules, first, verdictOf, said}
 use Rattle.gbfs.specs.Demand3 as demand
 use Rattle.gbfs.specs.Demand3.{LaterFile, LaterSet, Agree}
 use Rattle.gbfs.proofs.Answers.{told, number-room, word-room}
@@ -85,7 +85,7 @@ module _ (s t : Feeds) (later : LaterSet s t) where
       }
 
   rules-same : rules s ≡ rules t
-  unfolding rules stageA stageB stageC
+  unfolding rulesBy stageA stageBBy stageC
   rules-same =
       ap₂ orElse (every-same _ _ (λ file h i. at file h i .reads))
       (ap₂ orElse (every-same _ _ (λ file h i. ap (map (place file)) (at file h i .faults)))
