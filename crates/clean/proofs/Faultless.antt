@@ -21,7 +21,7 @@ use Rattle.fault.specs.declared.Fault.{Fault}
 use Rattle.scalar.specs.Scalars.{unless}
 use Rattle.rings.specs.Rings as rings
 use Rattle.judge.specs.declared.Place.{Place}
-use Rattle.judge.specs.Faults.{Judge, faulty, absence, itemPlace, byNumbering, eachItem, coordinateFaults, slotFaults, faults, rowFaults}
+use Rattle.judge.specs.Faults.{Judge, faulty, absence, itemPlace, byNumbering, eachItem, coordinateFaults, slotFaults, faultsBy, faults, rowFaultsBy, rowFaults}
 use Rattle.document.specs.Document.{none, some, onceOnly, field, fieldItems, along}
 use Rattle.document.specs.inner.Path.{path}
 use Rattle.document.proofs.Fields as fields
@@ -69,7 +69,7 @@ slot-once judge p φ rest g twice ss e = none-faulty p φ _ _ (none-left _ (rest
 
 pub required-there : {f : ℕ} {name : List ℕ} {σ : Shape} {rows : Rows} → Requires f name σ rows → (p : Place) (ms : Members) → rowFaults rows p (pickRows rows ms) ≡ []
     → (z : Json) × (given (find name ms) ≡ once z) × (faults σ p f (pick σ z) ≡ [])
-unfolding rowFaults pickRows
+unfolding rowFaultsBy pickRows
 required-there {f} {name} {σ} (here {rows = rows}) p ms e =
     slot-once (λ q g y. faults σ q g y) p f (λ q rest. rowFaults rows q rest) (λ y. pick σ y) (given (find name ms)) (pickRows rows ms) e
 required-there (below {g = g} {need = need} {n = n} {τ = τ} {rows = rows} i r) p ms e =
@@ -78,7 +78,7 @@ required-there (below {g = g} {need = need} {n = n} {τ = τ} {rows = rows} i r)
 module _ (p : Place) (φ : ℕ) where
   pub object-there : (rows : Rows) (x : Json) → faults (shape.object rows) p φ (pick (shape.object rows) x) ≡ []
       → (ms : Members) × (x ≡ tree.object ms) × (rowFaults rows p (pickRows rows ms) ≡ [])
-  unfolding faults pick
+  unfolding faultsBy pick
   object-there rows (tree.object ms) e = (ms, refl, e)
   object-there rows tree.null e = none-faulty p φ _ _ e
   object-there rows (tree.boolean b) e = none-faulty p φ _ _ e
@@ -91,7 +91,7 @@ module _ (p : Place) (φ : ℕ) where
     pub array-there : (x : Json) → faults (shape.array numbering most σ) p φ (pick (shape.array numbering most σ) x) ≡ []
         → (is : PickedItems) × (pick (shape.array numbering most σ) x ≡ items is) × (leb (rings.count is) most ≡ true)
         × (eachItem (λ q f y. faults σ q f y) numbering p φ 0 is ≡ [])
-    unfolding faults pick
+    unfolding faultsBy pick
     array-there (tree.array js) e =
         let is = each (λ y. pick σ y) js in
         let excess = faulty p φ (unless (leb (rings.count is) most) tooMany) in
@@ -128,7 +128,7 @@ slot-sound judge need p φ rest g twice ss e = none-faulty p φ _ _ (none-left _
 
 pub row-sound : {f : ℕ} {name : List ℕ} {σ : Shape} {rows : Rows} → Lists f name σ rows → (p : Place) (ms : Members) → rowFaults rows p (pickRows rows ms) ≡ []
     → (given (find name ms) ≡ missing) ⊎ ((z : Json) × (given (find name ms) ≡ once z) × (faults σ p f (pick σ z) ≡ []))
-unfolding rowFaults pickRows
+unfolding rowFaultsBy pickRows
 row-sound {f} {name} {σ} (fields.here {need = need} {rows = rows}) p ms e =
     slot-sound (λ q g y. faults σ q g y) need p f (λ q rest. rowFaults rows q rest) (λ y. pick σ y) (given (find name ms)) (pickRows rows ms) e
 row-sound (fields.below {g = g} {need = need} {n = n} {τ = τ} {rows = rows} i r) p ms e =

@@ -36,19 +36,19 @@ use Rattle.document.proofs.Records.{top-is}
 use Rattle.clean.specs.declared.Cleanness.{Cleanness}
 use Rattle.clean.specs.declared.Cleanness.the-variants.{Clean, Broken}
 use Rattle.clean.specs.declared.Shown.the-variants.{NoFile}
-use Rattle.clean.specs.Clean.{treeOf, idField, repeats, place, broken, judged, cleanOf}
+use Rattle.clean.specs.Clean.{treeOf, idField, repeats, place, broken, judged, cleanBy, cleanOf}
 use Rattle.clean.specs.inner.Blamed.{blamed}
 use Rattle.clean.specs.Show.{answer, ofClean, ofSpan, shownOf}
 use Rattle.clean.proofs.Repeated.{tree-is}
 
 -- a file that is not there, and one that is
 pub clean-absent : (file : ℕ) (s : List ℕ) → length s ≡ 0 → Clean ≡ cleanOf file s
-unfolding cleanOf
+unfolding cleanBy
 clean-absent file [] e = refl
 clean-absent file (b ∷ s) e = absurd (omega arith)
 
 pub clean-there : (file : ℕ) (s : List ℕ) → (length s ≡ 0 → ⊥) → judged file s (syntaxOf s) ≡ cleanOf file s
-unfolding cleanOf
+unfolding cleanBy
 clean-there file [] h = absurd (h refl)
 clean-there file (b ∷ s) h = refl
 

@@ -35,7 +35,7 @@ use Rattle.fault.proofs.Order.{later-record}
 use Rattle.fault.proofs.Leasts.{least-one, least-none, none-least, least-early}
 use Rattle.rings.specs.Rings as rings
 use Rattle.judge.specs.declared.Place.{Place}
-use Rattle.judge.specs.Faults.{top, faults, fileFaults}
+use Rattle.judge.specs.Faults.{top, faults, fileFaultsBy, fileFaults}
 use Rattle.document.specs.Document as document
 use Rattle.document.specs.Document.{Maybe, none, some, then, textIn, elementsOf, along}
 use Rattle.document.specs.inner.Path.{path}
@@ -161,7 +161,7 @@ pub record Repeats (n : ℕ) (s p : List ℕ) : Type 0 where
   pub names : least (repeats n (pick (fileShape table23 n) (clean.treeOf s))) ≡ blamed (idField n) (firstRepeat n (recordBytes p))
 
 pub held : (n : ℕ) → 1 ≤ n → n ≤ 6 → (s : List ℕ) (t : Passed s) → fileFaults (fileShape table23 n) (t .tree) ≡ [] → Held n s (t .tree)
-unfolding fileFaults recordsOf rings.count
+unfolding fileFaultsBy recordsOf rings.count
 held n h i s t e =
     let d = demands-there (demands-to n h i) top 0 (t .tree) e in
     let a = array-there top (d .1) shape.records (λ b c. refl) ceiling.records (recordShape n) (d .0) (d .3) in

@@ -39,7 +39,7 @@ use Rattle.document.proofs.Records.{recordShape, itemTrees, array, as-many, Rec
 use Rattle.document.proofs.Trees.{object-braces, records-trees}
 use Rattle.clean.specs.declared.Cleanness.{Cleanness}
 use Rattle.clean.specs.declared.Cleanness.the-variants.{Clean, Broken}
-use Rattle.clean.specs.Clean.{treeOf, broken, judged, cleanOf}
+use Rattle.clean.specs.Clean.{treeOf, broken, judged, cleanBy, cleanOf}
 use Rattle.clean.specs.Show.{Answer, shown, ofSpan, shownOf}
 use Rattle.clean.specs.ShowTree.{Has, IsRecord, ShowsRecords}
 use Rattle.clean.proofs.Faultless.{object-there}
@@ -152,7 +152,7 @@ unfolding recordTrees
 absent-none file = ap (recordTrees file) absent-null ∙ none-along (namesTo file)
 
 absent-shown : (file n : ℕ) → 1 ≤ file → file ≤ 6 → shownOf file n [] .number ≡ 10
-unfolding cleanOf
+unfolding cleanBy
 absent-shown file n h i = ap (λ (a : Answer). a .number) (sym (shown-of file n [] h i Clean refl) ∙ ap ofSpan (no-record file n))
 
 -- The law.

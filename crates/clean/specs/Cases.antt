@@ -16,12 +16,12 @@ use Rattle.document.specs.Document.{none, some}
 use Rattle.document.specs.Spans.{membersAlong, topSpan, namesTo, recordsSpan, nth, recordSpan}
 use Rattle.document.specs.Trees.{valueAlong, listed, recordTrees, numbered}
 use Rattle.judge.specs.Cases.{judging}
-use Rattle.clean.specs.Clean.{treeOf, idField, recordsOf, usedBefore, repeatedId, repeatsFrom, repeats, cleanOf}
+use Rattle.clean.specs.Clean.{treeOf, idField, recordsOf, usedBefore, repeatedId, repeatsFrom, repeats, cleanBy}
 use Rattle.clean.specs.Show.{refused, shown, shownOf}
 
 -- opens every definition of this layer
 unfoldable pub showing : Unit {0}
-unfolding judging gathering foundIn pick.at document.field document.along document.text membersAlong topSpan namesTo recordsSpan nth recordSpan valueAlong listed recordTrees numbered treeOf idField recordsOf usedBefore repeatedId repeatsFrom repeats cleanOf shownOf
+unfolding judging gathering foundIn pick.at document.field document.along document.text membersAlong topSpan namesTo recordsSpan nth recordSpan valueAlong listed recordTrees numbered treeOf idField recordsOf usedBefore repeatedId repeatsFrom repeats cleanBy shownOf
 showing = tt
 
 abbrev mark : ℕ → ℕ

@@ -15,14 +15,15 @@ use Rattle.json.specs.Text.{text, syntaxOf}
 use Rattle.text.specs.Text.{same}
 use Rattle.schema.specs.Shape.{fileShape}
 use Rattle.schema.specs.Table23.{table23}
-use Rattle.schema.specs.Pick.{Picked, pick}
+use Rattle.schema.specs.Pick.{Picked, PickedItems, pick}
 use Rattle.fault.specs.declared.Fault.{Fault}
 use Rattle.fault.specs.declared.Least.{Least}
 use Rattle.fault.specs.declared.Least.the-variants.{None, Is}
 use Rattle.fault.specs.Fault.{fault, least}
 use Rattle.document.specs.Document as document
 use Rattle.document.specs.Document.{none, some, elementsOf, along}
-use Rattle.judge.specs.Faults.{fileFaults}
+use Rattle.rings.specs.Rings.{Found, coordinatesFound}
+use Rattle.judge.specs.Faults.{fileFaultsBy}
 use Rattle.clean.specs.declared.Cleanness.{Cleanness}
 use Rattle.clean.specs.declared.Cleanness.the-variants.{Clean, Broken}
 
@@ -68,15 +69,21 @@ abbrev pub broken : ℕ → Least → Cleanness → Cleanness
 broken file None next = next
 broken file (Is f) next = Broken (place file f)
 
--- a file of which stage A finds this
-abbrev pub judged : ℕ → List ℕ → Syntax → Cleanness
-judged file s (syntax.Fault kind offset) =
+-- a file of which stage A finds this; `coordinates` tells what is found in field 73
+abbrev pub judgedBy : (coordinates : PickedItems → List Found) → ℕ → List ℕ → Syntax → Cleanness
+judgedBy coordinates file s (syntax.Fault kind offset) =
     Broken (record { file = file; kind = kind; field = 0; «record» = 0; sub = 0; offset = offset })
-judged file s syntax.Sound =
-    broken file (least (fileFaults (fileShape table23 file) (treeOf s)))
+judgedBy coordinates file s syntax.Sound =
+    broken file (least (fileFaultsBy coordinates (fileShape table23 file) (treeOf s)))
     (broken file (least (repeats file (pick (fileShape table23 file) (treeOf s)))) Clean)
 
 -- an absent file is clean
-unfoldable pub cleanOf : ℕ → List ℕ → Cleanness
-cleanOf file [] = Clean
-cleanOf file (b ∷ s) = judged file (b ∷ s) (syntaxOf (b ∷ s))
+unfoldable pub cleanBy : (coordinates : PickedItems → List Found) → ℕ → List ℕ → Cleanness
+cleanBy coordinates file [] = Clean
+cleanBy coordinates file (b ∷ s) = judgedBy coordinates file (b ∷ s) (syntaxOf (b ∷ s))
+
+abbrev pub cleanOf : ℕ → List ℕ → Cleanness
+cleanOf = cleanBy coordinatesFound
+
+abbrev pub judged : ℕ → List ℕ → Syntax → Cleanness
+judged = judgedBy coordinatesFound

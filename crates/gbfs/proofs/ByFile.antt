@@ -22,7 +22,7 @@ use Rattle.clean.specs.Clean.{place, broken}
 use Rattle.cross.specs.Cross.{crossFaults}
 use Rattle.cross.specs.inner.Stage as cross
 use Rattle.cross.specs.inner.Stage.{firstOf}
-use Rattle.gbfs.specs.Verdict.{Feeds, bytesOf, picked, syntaxRules, rulesA, faultsB, everyFile, stageA, stageB, stageC, orElse, rules, earlier, first, verdictOf}
+use Rattle.gbfs.specs.Verdict.{Feeds, bytesOf, picked, syntaxRules, rulesA, faultsB, everyFile, stageA, stageBBy, stageB, stageC, orElse, rulesBy, earlier, first, verdictOf}
 use Rattle.gbfs.specs.inner.Stages.{orNext, malformed, brokenA, firstA, firstB, staged}
 use Rattle.gbfs.proofs.Every.{all-at, all-map}
 use Rattle.gbfs.proofs.Order.{same-file, higher-file}
@@ -147,7 +147,7 @@ module _ (s : Feeds) where
       ∙ ap firstOf (λ i file next. first-read file (bytesOf s file) next i)
 
   pub first-stageB : first (stageB s) ≡ firstB s
-  unfolding stageB firstB
+  unfolding stageBBy firstB
   first-stageB = first-placed (λ file. faultsB file (bytesOf s file))
 
   first-stageC : first (stageC s) ≡ cross.stageC (picked s)
@@ -155,7 +155,7 @@ module _ (s : Feeds) where
   first-stageC = first-placed (crossFaults (picked s))
 
   pub verdict-staged : verdictOf s ≡ staged s
-  unfolding verdictOf rules staged
+  unfolding verdictOf rulesBy staged
   verdict-staged =
       first-orElse (stageA s) (orElse (stageB s) (stageC s))
       ∙ ap₂ orNext first-stageA (first-orElse (stageB s) (stageC s) ∙ ap₂ orNext first-stageB first-stageC)

@@ -16,7 +16,7 @@ use Rattle.clean.specs.declared.Cleanness.{Cleanness}
 use Rattle.clean.specs.declared.Cleanness.the-variants.{Clean, Broken}
 use Rattle.clean.specs.Clean.{place}
 use Rattle.cross.specs.Cross.{crossFaults}
-use Rattle.gbfs.specs.Verdict.{Feeds, bytesOf, picked, syntaxRules, rulesA, faultsB, everyFile, stageA, stageB, stageC, orElse, rules, before, first, verdictOf}
+use Rattle.gbfs.specs.Verdict.{Feeds, bytesOf, picked, syntaxRules, rulesA, faultsB, everyFile, stageA, stageBBy, stageB, stageC, orElse, rulesBy, rules, before, first, verdictOf}
 use Rattle.gbfs.specs.Demand2.{First}
 use Rattle.gbfs.proofs.Every.{all-at, every-all}
 use Rattle.gbfs.proofs.Order.{faultOf, same-file, not-before-file}
@@ -69,7 +69,7 @@ offsets-orElse [] m o n = n
 offsets-orElse (p ∷ l) m o n = o
 
 offsets : (s : Feeds) → Offsets (rules s)
-unfolding rules stageA stageB stageC
+unfolding rulesBy stageA stageBBy stageC
 offsets s =
     offsets-orElse (stageA s) _
     (record { at = _; are = every-all (λ file. rulesA file (bytesOf s file)) (λ file h i. read-offset (bytesOf s) file (bytesOf s file) refl) })

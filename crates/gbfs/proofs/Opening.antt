@@ -20,7 +20,7 @@ use Rattle.fault.specs.declared.Fault.{Fault}
 use Rattle.fault.specs.Fault.{fault}
 use Rattle.fault.proofs.Order.{by-test}
 use Rattle.scalar.specs.Scalars.{kindsOf, sortKinds}
-use Rattle.judge.specs.Faults.{top, faulty, faults, rowFaults, fileFaults}
+use Rattle.judge.specs.Faults.{top, faulty, faultsBy, rowFaultsBy, rowFaults, fileFaultsBy, fileFaults}
 use Rattle.gbfs.specs.Demand3.{Holds, here, later, Outdated, outdated}
 
 -- the slot of a name under which a string is held: that string once, or twice whatever
@@ -80,18 +80,18 @@ module _ (rows : Rows) (ss : Slots) where
   slotted x = rowFaults (shape.row 1 shape.required (bytes "version") version rows) top (put 1 (λ y. pick version y) (given x) ss)
 
   opening-alone : (v : List ℕ) → same v (bytes "2.3") ≡ false → Opening (slotted (once (tree.string v)))
-  unfolding rowFaults pick faulty kindsOf sortKinds
+  unfolding rowFaultsBy pick faulty kindsOf sortKinds
   opening-alone [] e = record { kind = _; rest = _; is = refl }
   opening-alone (b ∷ v) e = record { kind = outOfRange; rest = rowFaults rows top ss; is = rw e }
 
   opening-slot : {v : List ℕ} {x : Slot Json} → Seen v x → same v (bytes "2.3") ≡ false → Opening (slotted x)
-  unfolding rowFaults faulty
+  unfolding rowFaultsBy faulty
   opening-slot {v} alone e = opening-alone v e
   opening-slot repeated e = record { kind = _; rest = _; is = refl }
 
 opening-object : (v : List ℕ) (rows : Rows) (ms : Members) → Seen v (find (bytes "version") ms) → same v (bytes "2.3") ≡ false
     → Opening (fileFaults (headed rows) (tree.object ms))
-unfolding fileFaults faults pick
+unfolding fileFaultsBy faultsBy pick
 opening-object v rows ms s e = opening-slot rows (pickRows rows ms) s e
 
 not-same : (x y : List ℕ) → (x ≡ y → ⊥) → same x y ≡ false

@@ -14,7 +14,7 @@ use Rattle.judge.specs.Faults.{fileFaults}
 use Rattle.clean.specs.declared.Cleanness.the-variants.{Clean}
 use Rattle.clean.specs.Clean.{treeOf, place}
 use Rattle.cross.specs.inner.Stage.{Through}
-use Rattle.gbfs.specs.Verdict.{Feeds, bytesOf, syntaxRules, rulesA, faultsB, stageA, stageB}
+use Rattle.gbfs.specs.Verdict.{Feeds, bytesOf, syntaxRules, rulesA, faultsB, stageA, stageBBy, stageB}
 use Rattle.gbfs.specs.inner.Stages.{firstA, firstB}
 use Rattle.gbfs.proofs.Every.{every-none}
 use Rattle.gbfs.proofs.First.{first-clean}
@@ -44,7 +44,7 @@ all-read s a file h i =
     reads file (bytesOf s file) (every-none (λ n. rulesA n (bytesOf s n)) (first-clean (stageA s) (first-stageA s ∙ a)) file h i)
 
 pub all-through : (s : Feeds) → firstA s ≡ Clean → firstB s ≡ Clean → (file : ℕ) → 1 ≤ file → file ≤ 6 → Through file (bytesOf s file)
-unfolding stageB
+unfolding stageBBy
 all-through s a b file h i =
     let y = every-none (λ n. map (place n) (faultsB n (bytesOf s n))) (first-clean (stageB s) (first-stageB s ∙ b)) file h i in
     record { reads = all-read s a file h i; faultless = faultless file (bytesOf s file) (no-places file (faultsB file (bytesOf s file)) y) }

@@ -17,7 +17,7 @@ use Rattle.schema.specs.Pick.{pick, Picked}
 use Rattle.schema.proofs.PickLater.{pick-later₁}
 use Rattle.schema.proofs.Computed.{distinct}
 use Rattle.fault.specs.Fault.{least}
-use Rattle.judge.specs.Faults.{top, faults, fileFaults}
+use Rattle.judge.specs.Faults.{top, faults, fileFaultsBy}
 use Rattle.clean.specs.declared.Cleanness.{Cleanness}
 use Rattle.clean.specs.declared.Cleanness.the-variants.{Clean}
 use Rattle.clean.specs.Clean.{treeOf, place, repeats, broken, judged, cleanOf}
@@ -27,7 +27,7 @@ use Rattle.cross.specs.Stage.{fileOf}
 use Rattle.quote.specs.Quote.{quoteOf}
 use Rattle.zone.specs.Answer.{rulingOf}
 use Rattle.geometry.specs.Ring.{Point}
-use Rattle.gbfs.specs.Verdict.{Feeds, bytesOf, picked, rulesA, faultsB, everyFile, stageA, stageB, stageC, orElse, rules, first, verdictOf, said}
+use Rattle.gbfs.specs.Verdict.{Feeds, bytesOf, picked, rulesA, faultsB, everyFile, stageA, stageBBy, stageC, orElse, rulesBy, rules, first, verdictOf, said}
 use Rattle.gbfs.specs.Demand3 as demand
 use Rattle.gbfs.specs.Demand3.{LaterFile, LaterSet, Agree}
 use Rattle.gbfs.proofs.Answers.{told, number-room, word-room}
@@ -39,7 +39,7 @@ abbrev onPicked : ℕ → Picked → Cleanness
 onPicked file x = broken file (least (faults (fileShape table23 file) top 0 x)) (broken file (least (repeats file x)) Clean)
 
 clean-of : (file : ℕ) (s : List ℕ) → syntaxOf s ≡ Sound → cleanOf file s ≡ onPicked file (pick (fileShape table23 file) (treeOf s))
-unfolding fileFaults
+unfolding fileFaultsBy
 clean-of file s e = sym (clean-there file s (there s e)) ∙ ap (judged file s) e
 
 picked-tree : (file : ℕ) {x : Json} (s : List ℕ) → Spells depth x s → pick (fileShape table23 file) (treeOf s) ≡ pick (fileShape table23 file) x
@@ -54,7 +54,7 @@ record Same (file : ℕ) (s t : List ℕ) : Type 0 where
   cleans : cleanOf file s ≡ cleanOf file t
 
 same : (file : ℕ) {s t : List ℕ} → LaterFile file s t → Same file s t
-unfolding fileFaults
+unfolding fileFaultsBy
 same file demand.absent = record { reads = refl; faults = refl; files = refl; trees = refl; cleans = refl }
 same file (demand.present {s = s} {t = t} a b l) =
     let i = spells-sound s (a .short) (a .spells) in let j = spells-sound t (b .short) (b .spells) in
@@ -85,7 +85,7 @@ module _ (s t : Feeds) (later : LaterSet s t) where
       }
 
   rules-same : rules s ≡ rules t
-  unfolding rules stageA stageB stageC
+  unfolding rulesBy stageA stageBBy stageC
   rules-same =
       ap₂ orElse (every-same _ _ (λ file h i. at file h i .reads))
       (ap₂ orElse (every-same _ _ (λ file h i. ap (map (place file)) (at file h i .faults)))

@@ -36,7 +36,7 @@ use Rattle.clean.specs.declared.Cleanness.{Cleanness}
 use Rattle.clean.specs.declared.Cleanness.the-variants.{Clean, Broken}
 use Rattle.clean.specs.Clean as clean
 use Rattle.clean.specs.Clean.{treeOf, place}
-use Rattle.gbfs.specs.Verdict.{Feeds, bytesOf, syntaxRules, rulesA, faultsB, stageA, stageB, stageC, orElse, rules, before, first, verdictOf}
+use Rattle.gbfs.specs.Verdict.{Feeds, bytesOf, syntaxRules, rulesA, faultsB, stageA, stageBBy, stageB, stageC, orElse, rulesBy, rules, before, first, verdictOf}
 use Rattle.gbfs.specs.inner.Stages.{firstB}
 use Rattle.gbfs.specs.Demand3.{OtherVersion, OfStageA, Ahead, malformed, earlier, header, Refused}
 use Rattle.gbfs.proofs.Passed.{syntax-kind, tree-spelled, faults-there}
@@ -117,7 +117,7 @@ stageB-kind s =
 
 -- which rules count
 only-stageA : (s : Feeds) (p : Parts) (l : List Parts) → stageA s ≡ p ∷ l → rules s ≡ stageA s
-unfolding rules
+unfolding rulesBy
 only-stageA s p l e = ap (λ (m : List Parts). orElse m (orElse (stageB s) (stageC s))) e ∙ sym e
 
 orElse-some : (l m : List Parts) (p : Parts) → List·Memᴰ p l → orElse l m ≡ l
@@ -138,13 +138,13 @@ module _ (s : Feeds) (file : ℕ) (h : 1 ≤ file) (i : file ≤ 6) (o : OtherVe
     broken = place file (fault 0 1 0 (opens .kind))
 
     in-stageB : List·Memᴰ broken (stageB s)
-    unfolding stageB
+    unfolding stageBBy
     in-stageB =
         every-member (λ n. map (place n) (faultsB n (bytesOf s n))) broken file h i
         (subst (λ (l : List Fault). List·Memᴰ broken (map (place file) l)) (sym (opens .is)) (List·Memᴰ·head refl))
 
     only-stageB : rules s ≡ stageB s
-    unfolding rules
+    unfolding rulesBy
     only-stageB = ap (λ (l : List Parts). orElse l (orElse (stageB s) (stageC s))) a ∙ orElse-some (stageB s) (stageC s) broken in-stageB
 
     -- what no fault at field 1 comes before

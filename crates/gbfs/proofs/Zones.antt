@@ -22,7 +22,7 @@ use Rattle.geometry.proofs.Polygon.{edge-held}
 use Rattle.clean.specs.declared.Cleanness.{Cleanness}
 use Rattle.clean.specs.declared.Cleanness.the-variants.{Clean, Broken}
 use Rattle.clean.specs.Clean.{treeOf, cleanOf}
-use Rattle.zone.specs.Zone.{outline, counts, ringsHold, polygonsHold, polygonsOf, applies, zoneRulesBy, zoneRules, rulesBy, rules, applicable, rulesAt, otherwise, firstGiven}
+use Rattle.zone.specs.Zone.{outline, counts, ringsHold, polygonsHoldBy, polygonsHold, polygonsOf, applies, zoneRulesBy, zoneRules, rulesBy, rules, applicable, zonesOf, rulesAt, otherwise, firstGiven}
 use Rattle.zone.specs.Answer.{Answer, refused, found, ruleOf, values, onMap, ofRules, ofClean, rulingOf}
 use Rattle.gbfs.specs.Demand2.{ZoneRule, everyRule, rulesIn, HeldBy, onEdge, byFirst, Holding, Applies, FirstWith, here, later, NoneWith, Giving, FirstValue, by, byNone, Together}
 
@@ -84,13 +84,13 @@ module _ (q : Point) where
   inPolygon p = ringsHold (elements p) q
 
   held-holding : (z : Picked) → polygonsHold (polygonsOf z) q ≡ true → Holding z q
-  unfolding polygonsHold
+  unfolding polygonsHoldBy
   held-holding z e =
       let p = any-one inPolygon (λ l. polygonsHold l q) refl (λ x l. refl) (polygonsOf z) e in
       record { polygon = p .0; ofZone = p .1; held = rings-by (elements (p .0)) (p .2) }
 
   holding-held : (z : Picked) → Holding z q → polygonsHold (polygonsOf z) q ≡ true
-  unfolding polygonsHold
+  unfolding polygonsHoldBy
   holding-held z h =
       one-any inPolygon (λ l. polygonsHold l q) refl (λ x l. refl) (polygonsOf z) (h .polygon) (h .ofZone) (by-rings (h .held))
 
@@ -282,11 +282,11 @@ module _ (q : Point) (type : List ℕ) (moment : ℕ) where
 
   module _ (s : List ℕ) where
     abbrev those : List Picked
-    those = rulesAt (pick (fileShape table23 6) (treeOf s)) q type moment
+    those = rulesAt s q type moment
 
     listed : Applying (rulesIn s) those
     unfolding rulesAt
-    listed = applying (elementsOf (along (4 ∷ 5 ∷ 7 ∷ []) (pick (fileShape table23 6) (treeOf s))))
+    listed = applying (zonesOf s)
 
     in-order : rulingOf s q type moment ≡ asked (onMap q) (cleanOf 6 s) those
     unfolding rulingOf

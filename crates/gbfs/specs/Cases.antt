@@ -18,11 +18,11 @@ use Rattle.clean.specs.declared.Cleanness.the-variants.{Clean, Broken}
 use Rattle.clean.specs.Clean as clean
 use Rattle.references.specs.References as references
 use Rattle.cross.specs.Cross as cross
-use Rattle.gbfs.specs.Verdict.{bytesOf, stageA, stageB, stageC, rules, before, first, verdictOf, said}
+use Rattle.gbfs.specs.Verdict.{bytesOf, stageA, stageBBy, stageC, rulesBy, before, first, verdictOf, said}
 
 -- opens every definition of a verdict
 unfoldable pub judgingSets : Unit {0}
-unfolding judging pick.at document.field document.fieldItems document.along document.text document.spelling clean.treeOf clean.idField clean.recordsOf clean.usedBefore clean.repeatedId clean.repeatsFrom clean.repeats references.anyWith cross.recordsIn cross.repeatsIn cross.sumOf cross.availableFaults cross.idFaults cross.ruleFaults cross.typeFaults cross.statusFaults cross.bikeFaults cross.zoneFaults cross.each cross.faultsOf cross.absentees cross.fileIn cross.crossFaults bytesOf stageA stageB stageC rules before first verdictOf
+unfolding judging pick.at document.field document.fieldItems document.along document.text document.spelling clean.treeOf clean.idField clean.recordsOf clean.usedBefore clean.repeatedId clean.repeatsFrom clean.repeats references.anyWith cross.recordsIn cross.repeatsIn cross.sumOf cross.availableFaults cross.idFaults cross.ruleFaults cross.typeFaults cross.statusFaults cross.bikeFaults cross.zoneFaults cross.each cross.faultsOf cross.absentees cross.fileIn cross.crossFaults bytesOf stageA stageBBy stageC rulesBy before first verdictOf
 judgingSets = tt
 
 abbrev mark : ℕ → ℕ

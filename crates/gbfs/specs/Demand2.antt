@@ -15,7 +15,7 @@ use Rattle.schema.specs.Shape.{fileShape}
 use Rattle.schema.specs.Table23.{table23}
 use Rattle.schema.specs.Pick.{Picked, pick}
 use Rattle.document.specs.Document as document
-use Rattle.document.specs.Document.{Maybe, some, elements, elementsOf, field, fieldItems, along, spelling, truth, given}
+use Rattle.document.specs.Document.{Maybe, some, elements, field, fieldItems, spelling, truth, given}
 use Rattle.decimal.specs.Exact.{tenThousandths}
 use Rattle.fare.specs.declared.Segment.{Segment}
 use Rattle.fare.specs.Charges.{charge, charges, clamped, greatestEnd, past}
@@ -26,7 +26,7 @@ use Rattle.clean.specs.Clean.{treeOf, cleanOf}
 use Rattle.quote.specs.Plan.{priceAt, perMinute, perKilometre, planOf, plans}
 use Rattle.quote.specs.Quote as quote
 use Rattle.quote.specs.Quote.{mostSeconds, mostMetres, quoteOf}
-use Rattle.zone.specs.Zone.{outline, counts, applies}
+use Rattle.zone.specs.Zone.{outline, counts, polygonsOf, applies, zonesOf}
 use Rattle.zone.specs.Answer as zone
 use Rattle.zone.specs.Answer.{ruleOf, onMap, rulingOf}
 use Rattle.gbfs.specs.Verdict.{Feeds, rules, before, numberOf, bufferOf}
@@ -100,7 +100,7 @@ everyRule (z ∷ zs) =
     ]
 
 abbrev pub rulesIn : List ℕ → List ZoneRule
-rulesIn s = everyRule (elementsOf (along (4 ∷ 5 ∷ 7 ∷ []) (pick (fileShape table23 6) (treeOf s))))
+rulesIn s = everyRule (zonesOf s)
 
 -- a polygon of these rings holds the point: it is on an edge of one of them; or the first of them holds it, and it is inside no further one
 pub data HeldBy (q : Point) : List Picked → Type 0 where
@@ -111,7 +111,7 @@ pub data HeldBy (q : Point) : List Picked → Type 0 where
 -- a zone holds the point: one of its polygons does
 pub record Holding (zone : Picked) (q : Point) : Type 0 where
   pub polygon : Picked
-  pub ofZone : List·Memᴰ polygon (elementsOf (along (71 ∷ 73 ∷ []) zone))
+  pub ofZone : List·Memᴰ polygon (polygonsOf zone)
   pub held : HeldBy q (elements polygon)
 
 -- a rule applies: its zone holds the point and counts at the moment, and it names the type or has no field 78

@@ -27,7 +27,7 @@ use Rattle.fault.specs.Fault.{least, lesser}
 use Rattle.quote.specs.Cases.{quoting}
 use Rattle.references.specs.References.{anyWith}
 use Rattle.cross.specs.Cross.{recordsIn, repeatsIn, sumOf, availableFaults, idFaults, ruleFaults, typeFaults, statusFaults, bikeFaults, zoneFaults, each, faultsOf, absentees, fileIn, crossFaults}
-use Rattle.gbfs.specs.Verdict.{Feeds, bytesOf, stageA, stageB, stageC, rules, before, first, said, verdictOf}
+use Rattle.gbfs.specs.Verdict.{Feeds, bytesOf, stageA, stageBBy, stageC, rulesBy, before, first, said, verdictOf}
 
 -- a reading: what the definitions answer, and what the paper says, both as numbers
 pub record Reading : Type 0 where
@@ -153,5 +153,5 @@ agree [] = true
 agree (r ∷ l) = same (r .answered) (r .expected) and agree l
 
 readings : agree table ≡ true
-unfolding quoting holding fault.before least lesser wordOf packed digits weight numberFrom number recordsIn repeatsIn sumOf availableFaults idFaults ruleFaults typeFaults statusFaults bikeFaults zoneFaults each faultsOf absentees fileIn crossFaults anyWith bytesOf stageA stageB stageC rules before first verdictOf only text word priced fare held run table agree
+unfolding quoting holding fault.before least lesser wordOf packed digits weight numberFrom number recordsIn repeatsIn sumOf availableFaults idFaults ruleFaults typeFaults statusFaults bikeFaults zoneFaults each faultsOf absentees fileIn crossFaults anyWith bytesOf stageA stageBBy stageC rulesBy before first verdictOf only text word priced fare held run table agree
 readings = refl

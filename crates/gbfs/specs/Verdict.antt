@@ -14,9 +14,11 @@ use Rattle.json.specs.declared.Syntax.the-variants as syntax
 use Rattle.json.specs.Text.{syntaxOf}
 use Rattle.schema.specs.Shape.{fileShape}
 use Rattle.schema.specs.Table23.{table23}
+use Rattle.schema.specs.Pick.{PickedItems}
 use Rattle.fault.specs.declared.Fault.{Fault}
 use Rattle.fault.specs.Fault as fault
-use Rattle.judge.specs.Faults.{fileFaults}
+use Rattle.rings.specs.Rings.{Found, coordinatesFound}
+use Rattle.judge.specs.Faults.{fileFaultsBy}
 use Rattle.clean.specs.declared.Cleanness.{Cleanness}
 use Rattle.clean.specs.declared.Cleanness.the-variants.{Clean, Broken}
 use Rattle.clean.specs.Clean.{treeOf, place}
@@ -60,9 +62,9 @@ abbrev pub rulesA : ℕ → List ℕ → List Parts
 rulesA file [] = []
 rulesA file (b ∷ s) = syntaxRules file (syntaxOf (b ∷ s))
 
-abbrev pub faultsB : ℕ → List ℕ → List Fault
-faultsB file [] = []
-faultsB file (b ∷ s) = fileFaults (fileShape table23 file) (treeOf (b ∷ s))
+abbrev pub faultsBBy : (coordinates : PickedItems → List Found) → ℕ → List ℕ → List Fault
+faultsBBy coordinates file [] = []
+faultsBBy coordinates file (b ∷ s) = fileFaultsBy coordinates (fileShape table23 file) (treeOf (b ∷ s))
 
 -- all files, from 1 to 6
 abbrev pub everyFile : {A : Type 0} → (ℕ → List A) → List A
@@ -71,8 +73,8 @@ everyFile f = f 1 ++ f 2 ++ f 3 ++ f 4 ++ f 5 ++ f 6
 unfoldable pub stageA : Feeds → List Parts
 stageA s = everyFile (λ file. rulesA file (bytesOf s file))
 
-unfoldable pub stageB : Feeds → List Parts
-stageB s = everyFile (λ file. map (place file) (faultsB file (bytesOf s file)))
+unfoldable pub stageBBy : (coordinates : PickedItems → List Found) → Feeds → List Parts
+stageBBy coordinates s = everyFile (λ file. map (place file) (faultsBBy coordinates file (bytesOf s file)))
 
 unfoldable pub stageC : Feeds → List Parts
 stageC s = everyFile (λ file. map (place file) (crossFaults (picked s) file))
@@ -82,9 +84,18 @@ abbrev pub orElse : {A : Type 0} → List A → List A → List A
 orElse [] m = m
 orElse (x ∷ l) m = x ∷ l
 
--- the broken rules of a set
-unfoldable pub rules : Feeds → List Parts
-rules s = orElse (stageA s) (orElse (stageB s) (stageC s))
+-- the broken rules of a set; `coordinates` tells what is found in field 73
+unfoldable pub rulesBy : (coordinates : PickedItems → List Found) → Feeds → List Parts
+rulesBy coordinates s = orElse (stageA s) (orElse (stageBBy coordinates s) (stageC s))
+
+abbrev pub rules : Feeds → List Parts
+rules = rulesBy coordinatesFound
+
+abbrev pub faultsB : ℕ → List ℕ → List Fault
+faultsB = faultsBBy coordinatesFound
+
+abbrev pub stageB : Feeds → List Parts
+stageB = stageBBy coordinatesFound
 
 -- their order: by file, then record, field, sub and kind
 unfoldable pub before : Parts → Parts → Bool

@@ -21,7 +21,7 @@ use Rattle.fault.specs.Fault.{fault, before, least}
 use Rattle.fault.proofs.Order.{by-test, true-false, later-record}
 use Rattle.rings.specs.Rings.{count}
 use Rattle.judge.specs.declared.Place.{Place}
-use Rattle.judge.specs.Faults.{top, Judge, faulty, absence, itemPlace, eachItem, arrayFaults, coordinateFaults, scalarFaults, objectFaults, byNumbering, slotFaults, faults, rowFaults, fileFaults}
+use Rattle.judge.specs.Faults.{top, Judge, faulty, absence, itemPlace, eachItem, arrayFaults, coordinateFaults, scalarFaults, objectFaults, byNumbering, slotFaults, faultsBy, faults, rowFaults, fileFaultsBy, fileFaults}
 use Rattle.judge.specs.Bounds.{OfStageB, Fitting, greatest, fields}
 use Rattle.judge.specs.inner.Tidy.{header, inRecord, inItem}
 use Rattle.judge.specs.inner.Tidy.{Level, tidyArray, tidy, tidyRows}
@@ -207,7 +207,7 @@ array-keeps shape.positions inItem judge inner p φ known most at keeps t x = tr
 
 -- All shapes.
 mutual
-  unfolding faults tidy
+  unfolding faultsBy tidy
 
   keeps : (σ : Shape) (l : Level) (φ : ℕ) → φ ≤ fields → tidy σ l φ ≡ true → Keeps (λ q f y. faults σ q f y) l φ
   keeps shape.unlisted l φ known t p at x = holds-least none
@@ -232,7 +232,7 @@ mutual
 
 -- Files: the shape of every number is tidy from the top value on, which is field 0.
 pub shape-fits : (σ : Shape) → tidy σ header 0 ≡ true → (x : Json) (f : Fault) → least (fileFaults σ x) ≡ Is f → Fitting f
-unfolding fileFaults
+unfolding fileFaultsBy
 shape-fits σ t x f e = holds-is (keeps σ header 0 (omega arith) t top (refl, refl) (pick σ x)) e .fits (omega arith)
 
 pub file-tidy : (file : ℕ) → tidy (fileShape table23 file) header 0 ≡ true

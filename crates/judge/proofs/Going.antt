@@ -45,7 +45,7 @@ use Rattle.fault.proofs.Leasts.{lesser-none, none-lesser, lesser-assoc, least-a
 use Rattle.scalar.specs.Scalars.{unless}
 use Rattle.judge.specs.declared.Place.{Place}
 use Rattle.rings.specs.Rings.{count}
-use Rattle.judge.specs.Faults.{Judge, faulty, itemPlace, eachItem, arrayFaults, faults, rowFaults}
+use Rattle.judge.specs.Faults.{Judge, faulty, itemPlace, eachItem, arrayFaults, faultsBy, faults, rowFaultsBy, rowFaults}
 use Rattle.judge.specs.inner.Ready.{plain, ready, readyRows}
 use Rattle.judge.specs.inner.Judged.{bracketsOf, itemPlaceOf, memberFaults, rowLeast, Single, Array, Member, Kept, Listed, RowsJudged}
 use Rattle.judge.proofs.Lines.{line-field, line-numbering, line-most, line-item, item-told, line-place, plain-single, bracketless, whole-items, no-items}
@@ -61,7 +61,7 @@ passed acc this rest e t = lesser-assoc acc this rest ∙ ap (lesser acc) (sym e
 pub row-first : (q : Place) (field : ℕ) (need : Need) (name : List ℕ) (σ : Shape) (rows : Rows) (ms : Members) →
     least (rowFaults (shape.row field need name σ rows) q (pickRows (shape.row field need name σ rows) ms)) ≡
     lesser (least (memberFaults need σ q field (given (find name ms)))) (least (rowFaults rows q (pickRows rows ms)))
-unfolding rowFaults pickRows
+unfolding rowFaultsBy pickRows
 row-first q field need name σ rows ms = go (given (find name ms))
   where
     go : (o : Slot Json) → least (rowFaults (shape.row field need name σ rows) q (put field (λ y. pick σ y) o (pickRows rows ms))) ≡
@@ -71,7 +71,7 @@ row-first q field need name σ rows ms = go (given (find name ms))
     go twice = least-append _ _
 
 pub no-rows : (q : Place) (ms : Members) → least (rowFaults shape.noRow q (pickRows shape.noRow ms)) ≡ None
-unfolding rowFaults least
+unfolding rowFaultsBy least
 no-rows q ms = refl
 
 -- the rows that are left, at line i and slot `row`
@@ -233,7 +233,7 @@ ready-items shape.positions n most σ level e = absurd (n refl)
 
 pub counted-faults : (numbering : Numbering) → (numberingLetter numbering ≡ code "p" → ⊥) → (most : ℕ) (σ : Shape) (q : Place) (φ : ℕ) (x : Picked) →
     faults (shape.array numbering most σ) q φ x ≡ arrayFaults (λ r f y. faults σ r f y) numbering most q φ x
-unfolding faults
+unfolding faultsBy
 counted-faults shape.records n most σ q φ x = refl
 counted-faults shape.subs n most σ q φ x = refl
 counted-faults shape.outer n most σ q φ x = refl

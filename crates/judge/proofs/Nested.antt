@@ -19,7 +19,7 @@ use Rattle.fault.specs.declared.Least.{Least}
 use Rattle.fault.specs.Fault.{least}
 use Rattle.fault.proofs.Order.{true-false}
 use Rattle.judge.specs.declared.Place.{Place}
-use Rattle.judge.specs.Faults.{coordinateFaults, faults}
+use Rattle.judge.specs.Faults.{coordinateFaults, faultsBy, faults}
 use Rattle.judge.specs.inner.Ready.{arrays, ready}
 use Rattle.judge.specs.inner.Judged.{Array}
 use Rattle.judge.proofs.Lines.{line-field, line-numbering}
@@ -73,7 +73,7 @@ nested-picked (suc n) σ τ s t x =
 
 position-faults : (numbering : Numbering) → numberingLetter numbering ≡ code "p" → (most : ℕ) (σ : Shape) (level : ℕ) → ready (shape.array numbering most σ) level ≡ true →
     (q : Place) (φ : ℕ) (x : Json) → coordinateFaults q φ (pick coordinates x) ≡ faults (shape.array numbering most σ) q φ (pick (shape.array numbering most σ) x)
-unfolding ready faults arrays coordinates
+unfolding ready faultsBy arrays coordinates
 position-faults shape.records h most σ level e q φ x = absurd (omega arith)
 position-faults shape.subs h most σ level e q φ x = absurd (omega arith)
 position-faults shape.outer h most σ level e q φ x = absurd (omega arith)

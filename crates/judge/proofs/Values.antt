@@ -41,7 +41,7 @@ use Rattle.fault.proofs.Order.{by-test, true-false}
 use Rattle.scalar.specs.Scalars.{kindsOf}
 use Rattle.scalar.specs.inner.Listed.{listed}
 use Rattle.judge.specs.declared.Place.{Place}
-use Rattle.judge.specs.Faults.{faulty, absence, faults}
+use Rattle.judge.specs.Faults.{faulty, absence, faultsBy, faults}
 use Rattle.judge.specs.inner.Ready.{under, ready, readyRows}
 use Rattle.judge.specs.inner.Judged.{bracketsOf, absenceOf, memberFaults, rowLeast, Told, Single, Array, Member, MembersJudged, Object}
 use Rattle.judge.proofs.Lines.{how-many, line-field, line-need, line-value, row-told, whole-members, no-members}
@@ -58,7 +58,7 @@ outline-kinds sort (tree.array is) = refl
 outline-kinds sort (tree.object ms) = refl
 
 scalar-faults : (sort : Sort) (q : Place) (φ : ℕ) (x : Json) (ks : List ℕ) → kindsOf sort x ≡ ks → faulty q φ ks ≡ faults (shape.scalar sort) q φ (pick (shape.scalar sort) x)
-unfolding faults pick
+unfolding faultsBy pick
 scalar-faults sort q φ x ks e = ap (faulty q φ) (sym (outline-kinds sort x ∙ e))
 
 line-at-field : (i : ℕ) {line : Line} → line ≡ lineAt table23 i → line .field ≡ lineAt table23 i .field
@@ -219,7 +219,7 @@ module _ (p : List ℕ) (n first count field : ℕ) (q : Place) (level : ℕ) {r
 
   -- and what is one
   pub object-members : (level ≡ 0 → ⊥) → b ≡ code "{" → MembersJudged (take n p) first count q (level - 1) r → Object (take n p) first count field q level r
-  unfolding ready faults pick
+  unfolding ready faultsBy pick
   object-members some o j =
       record {
         is = λ rows l c e x w.

@@ -44,4 +44,4 @@ pub record Coordinates : Type 0 where
   pub firstFits : (p : Place) (field : ℕ) (is : PickedItems) (f : Fault) → p .«record» ≤ greatest → field ≤ fields
       → least (coordinateFaults p field (items is)) ≡ Is f → Fitting f
   -- where no polygon has more than one ring, document 01's faults are found and no other
-  pub oneRing : (p : Place) (field : ℕ) (is : PickedItems) → OneRingAtMost is → coordinateFaults p field (items is) ≡ numbered p field (coordinatesOfOne is)
+  pub oneRing : (p : Place) (field : ℕ) (is : PickedItems) → OneRingAtMost (listOf is) → coordinateFaults p field (items is) ≡ numbered p field (coordinatesOfOne is)

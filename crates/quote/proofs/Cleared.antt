@@ -33,7 +33,7 @@ use Rattle.schema.specs.Pick.{Picked, pick, outline}
 use Rattle.schema.proofs.Tests.{and-right}
 use Rattle.scalar.specs.Scalars.{unless, formed, anyMoney, priceMoney, pricing, numberKinds, textKinds, booleanKinds, kindsOf, sortKinds}
 use Rattle.judge.specs.declared.Place.{Place}
-use Rattle.judge.specs.Faults.{faulty, faults}
+use Rattle.judge.specs.Faults.{faulty, faultsBy, faults}
 use Rattle.document.specs.Document.{some, elementsOf, field, fieldItems}
 use Rattle.document.proofs.Fields.{Lists}
 use Rattle.document.proofs.Records.{pickedItems}
@@ -113,7 +113,7 @@ no-kinds p f (k ∷ ks) e = cons-nil e
 
 module _ (σ : Sort) {q : List ℕ} (c : ClearValue σ q) where
   value-kinds : kindsOf σ (outline (treeOf q)) ≡ []
-  unfolding faults pick
+  unfolding faultsBy pick
   value-kinds = no-kinds (c .place) (c .field) (kindsOf σ (outline (treeOf q))) (c .clear)
 
   -- a string's text, and a number's spelling

@@ -27,16 +27,13 @@ polygon-one n (items is) h = ap (λ (t : Bool). at n (unless t badRing) ++ rings
 polygon-one n (bare x) h = refl
 polygon-one n (slots ss) h = refl
 
-abbrev AtMostOne : List Picked → Type 0
-AtMostOne l = (x : Picked) → List·Memᴰ x l → polygonRings x ≤ 1
-
-polygons-one : (n : ℕ) (l : List Picked) → AtMostOne l → polygonsFound n l ≡ polygonsOfOne n l
+polygons-one : (n : ℕ) (l : List Picked) → OneRingAtMost l → polygonsFound n l ≡ polygonsOfOne n l
 unfolding polygonsFound polygonsOfOne
 polygons-one n [] one = refl
 polygons-one n (x ∷ l) one =
     ap₂ (λ (a b : List Found). a ++ b) (polygon-one n x (one x (List·Memᴰ·head refl))) (polygons-one (n + polygonPositions x) l (λ y i. one y (List·Memᴰ·tail i)))
 
-rings-few : (l : List Picked) → AtMostOne l → polygonsRings l ≤ length l
+rings-few : (l : List Picked) → OneRingAtMost l → polygonsRings l ≤ length l
 unfolding polygonsRings
 rings-few [] one = omega arith
 rings-few (x ∷ l) one = omega (arith, one x (List·Memᴰ·head refl), rings-few l (λ y i. one y (List·Memᴰ·tail i)))
@@ -49,7 +46,7 @@ zone-few m k h = go (leb m ceiling.polygons) refl
     go true e = le-leb k ceiling.zoneRings (omega (arith, h, leb-true m ceiling.polygons e))
     go false e = refl
 
-pub coordinates-one : (is : PickedItems) → OneRingAtMost is → coordinatesFound is ≡ coordinatesOfOne is
+pub coordinates-one : (is : PickedItems) → OneRingAtMost (listOf is) → coordinatesFound is ≡ coordinatesOfOne is
 unfolding coordinatesFound coordinatesOfOne count
 coordinates-one is one =
     ap₂ (λ (t : Bool) (l : List Found). at 0 (unless t tooMany) ++ l) (zone-few (length (listOf is)) (polygonsRings (listOf is)) (rings-few (listOf is) one))

@@ -22,6 +22,6 @@ polygonsOfOne n (x ∷ l) = polygonOfOne n x ++ polygonsOfOne (n + polygonPositi
 unfoldable pub coordinatesOfOne : PickedItems → List Found
 coordinatesOfOne is = at 0 (unless (leb (count is) polygons) tooMany) ++ polygonsOfOne 1 (listOf is)
 
--- no polygon has more than one ring; one that has none, or is no array, may be among them
-abbrev pub OneRingAtMost : PickedItems → Type 0
-OneRingAtMost is = (polygon : Picked) → List·Memᴰ polygon (listOf is) → polygonRings polygon ≤ 1
+-- none of these polygons has more than one ring; one that has none, or is no array, may be among them
+abbrev pub OneRingAtMost : List Picked → Type 0
+OneRingAtMost l = (polygon : Picked) → List·Memᴰ polygon l → polygonRings polygon ≤ 1

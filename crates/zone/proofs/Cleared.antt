@@ -24,7 +24,7 @@ use Rattle.rings.specs.declared.RingPoints.{RingPoints}
 use Rattle.geometry.specs.inner.Shifted.{InRange, points}
 use Rattle.rings.proofs.Picked.{Listed, items-parts}
 use Rattle.judge.specs.declared.Place.{Place}
-use Rattle.judge.specs.Faults.{faulty, numbered, faults}
+use Rattle.judge.specs.Faults.{faulty, numbered, faultsBy, faults}
 use Rattle.document.specs.Document.{Maybe, none, some, elements, elementsOf, field, along}
 use Rattle.document.proofs.Fields.{none-some}
 use Rattle.fields.specs.inner.Values.{memberOf}
@@ -93,7 +93,7 @@ numbered-none p field [] e = refl
 numbered-none p field (x ∷ l) e = cons-nil e
 
 coordinates-clear : (p : Place) (field : ℕ) (x : Picked) → faults coordinates p field x ≡ [] → polygonsFound 1 (elements x) ≡ []
-unfolding coordinates faults faulty coordinatesFound
+unfolding coordinates faultsBy faulty coordinatesFound
 coordinates-clear p field (items is) e =
     let many = at 0 (unless (areZoneCounts (count is) (polygonsRings (listOf is))) tooMany) in
     append-eq-nil-iff {p = many} .0 (numbered-none p field (coordinatesFound is) e) .1

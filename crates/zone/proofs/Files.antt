@@ -27,8 +27,8 @@ use Rattle.zone.specs.inner.Clean.{CleanZones}
 use Rattle.zone.proofs.Combining.{given-answered}
 
 module _ (q : Point) (type : List ℕ) (moment : ℕ) where
-  pub none-absent : (s : List ℕ) → length s ≡ 0 → answer NoRule ≡ ofRules (rulesAt (pick (fileShape table23 6) (treeOf s)) q type moment)
-  unfolding reading treeOf fileShape table23 zones file pick field along rulesAt rulesBy applicable
+  pub none-absent : (s : List ℕ) → length s ≡ 0 → answer NoRule ≡ ofRules (rulesAt s q type moment)
+  unfolding reading treeOf fileShape table23 zones file pick field along recordsOf rulesAt rulesBy applicable
   none-absent [] e = refl
   none-absent (b ∷ s) e = absurd (omega arith)
 
@@ -53,8 +53,8 @@ module _ {s p : List ℕ} (k : Sound 6 s) (f : RecordsFrom 6 s p) where
       }
 
   pub file-answer : (q : Point) (type : List ℕ) (moment : ℕ)
-      → answer (rulingBy (allGiven (applicable (rules (partsOf zone p) q moment) type))) ≡ ofRules (rulesAt (pick (fileShape table23 6) (treeOf s)) q type moment)
-  unfolding recordsOf rulesAt
+      → answer (rulingBy (allGiven (applicable (rules (partsOf zone p) q moment) type))) ≡ ofRules (rulesAt s q type moment)
+  unfolding rulesAt
   file-answer q type moment =
       given-answered (applicable (rules (partsOf zone p) q moment) type)
       ∙ ap (λ l. ofRules (applicable (rules l q moment) type)) (sym (held .are ∙ zones-are))

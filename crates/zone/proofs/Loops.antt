@@ -15,7 +15,7 @@ use Rattle.rings.specs.inner.Parts.{ringShape, polygonShape}
 use Rattle.document.specs.Document.{Maybe, none, some, elements, textIn}
 use Rattle.fields.specs.inner.Values.{isId}
 use Rattle.zone.specs.declared.Given.{Given}
-use Rattle.zone.specs.Zone.{outline, ringsHold, polygonsHold, anyText, rules}
+use Rattle.zone.specs.Zone.{outline, ringsHold, polygonsHoldBy, polygonsHold, anyText, rules}
 use Rattle.zone.specs.inner.Values.{idShape}
 use Rattle.zone.specs.inner.Clean.{Faultless}
 use Rattle.zone.proofs.Looping.{Loop}
@@ -92,16 +92,16 @@ module _ (q : Point) where
       record { shape = polygonShape; from = λ a l. polygonsHold l q; Fit = λ l. (n : ℕ) × (polygonsFound n l ≡ []); rest = polygons-rest }
 
   pub polygons-none : polygonsHold [] q ≡ false
-  unfolding polygonsHold
+  unfolding polygonsHoldBy
   polygons-none = refl
 
   pub polygons-here : (x : Picked) (l : List Picked) → ringsHold (elements x) q ≡ true → polygonsHold (x ∷ l) q ≡ true
-  unfolding polygonsHold
-  polygons-here x l e = rw (polygonsHold, e)
+  unfolding polygonsHoldBy
+  polygons-here x l e = rw (polygonsHoldBy, e)
 
   pub polygons-later : (x : Picked) (l : List Picked) → ringsHold (elements x) q ≡ false → polygonsHold (x ∷ l) q ≡ polygonsHold l q
-  unfolding polygonsHold
-  polygons-later x l e = rw (polygonsHold, e)
+  unfolding polygonsHoldBy
+  polygons-later x l e = rw (polygonsHoldBy, e)
 
 -- rules and zones, by the laws of `Combining`
 module _ (type : List ℕ) where

@@ -14,13 +14,13 @@ use Rattle.geometry.specs.Ring.{Point}
 use Rattle.document.specs.Document as document
 use Rattle.judge.specs.Cases.{judging}
 use Rattle.clean.specs.Clean as clean
-use Rattle.zone.specs.Zone.{counts, ringsHold, polygonsHold, anyText, applies, zoneRulesBy, rulesBy, applicable, rulesAt, firstGiven}
+use Rattle.zone.specs.Zone.{counts, ringsHold, polygonsHoldBy, anyText, applies, zoneRulesBy, rulesBy, applicable, rulesAt, firstGiven}
 use Rattle.word.specs.Word.{noParts}
 use Rattle.zone.specs.Answer.{Answer, refused, found, values, onMap, rulingOf}
 
 -- opens every definition of this layer
 unfoldable pub ruled : Unit {0}
-unfolding judging pick.at document.field document.fieldItems document.along document.text document.spelling document.truth clean.treeOf clean.idField clean.recordsOf clean.usedBefore clean.repeatedId clean.repeatsFrom clean.repeats clean.cleanOf counts ringsHold polygonsHold anyText applies zoneRulesBy rulesBy applicable rulesAt firstGiven values onMap rulingOf
+unfolding judging pick.at document.field document.fieldItems document.along document.text document.spelling document.truth clean.treeOf clean.idField clean.recordsOf clean.usedBefore clean.repeatedId clean.repeatsFrom clean.repeats clean.cleanBy counts ringsHold polygonsHoldBy anyText applies zoneRulesBy rulesBy applicable rulesAt firstGiven values onMap rulingOf
 ruled = tt
 
 abbrev mark : ℕ → ℕ

@@ -12,13 +12,12 @@ use walk::ItemStep;
 use walk::pass_item;
 ghost use mathlib.Core.Path.{_≡_};
 ghost use Rattle.walk.specs.Part.{treeOf};
-ghost use Rattle.schema.specs.Shape.{fileShape};
-ghost use Rattle.schema.specs.Table23.{table23, zone};
+ghost use Rattle.schema.specs.Table23.{zone};
 ghost use Rattle.schema.specs.Pick.{pick};
 ghost use Rattle.geometry.specs.inner.Shifted.{OnMap, point};
 ghost use Rattle.rings.specs.inner.Parts.{partsOf};
 ghost use Rattle.clean.specs.declared.Cleanness.the-variants.{Clean};
-ghost use Rattle.clean.specs.Clean.{treeOf as fileTree, cleanOf};
+ghost use Rattle.clean.specs.Clean.{cleanOf};
 ghost use Rattle.zone.specs.Zone.{zoneRules, rules, applicable, rulesAt};
 ghost use Rattle.zone.specs.Answer.{answer, ofRules};
 ghost use Rattle.zone.specs.inner.Values.{orGiven, allGiven};
@@ -67,7 +66,7 @@ fn given_by_zones(p: &[u8], q: Position, type_id: &[u8], moment: u64) -> Given
 // The answer by a clean file; an absent one has no zones.
 pub fn rule_in(s: &[u8], q: Position, type_id: &[u8], moment: u64) -> Ruling
     requires { ⌜ (cleanOf 6 (now s) ≡ Clean) × OnMap q ⌝ }
-    ensures { λ r. ⌜ answer r ≡ ofRules (rulesAt (pick (fileShape table23 6) (fileTree (now (s .entry)))) (point q) (now («type_id» .entry)) moment) ⌝ }
+    ensures { λ r. ⌜ answer r ≡ ofRules (rulesAt (now (s .entry)) (point q) (now («type_id» .entry)) moment) ⌝ }
 {
     if s.len() == 0 {
         return Ruling::NoRule;
