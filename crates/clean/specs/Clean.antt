@@ -62,8 +62,7 @@ repeats file x = repeatsFrom (idField file) 1 [] (recordsOf file x)
 
 -- the parts of a word for a fault of a file
 abbrev pub place : ℕ → Fault → Parts
-place file f =
-    record { file = file; kind = f .kind; field = f .field; «record» = f .«record»; sub = f .sub; offset = 0 }
+place file f = record { file = file; kind = f .kind; field = f .field; «record» = f .«record»; sub = f .sub; offset = 0 }
 
 abbrev pub broken : ℕ → Least → Cleanness → Cleanness
 broken file None next = next

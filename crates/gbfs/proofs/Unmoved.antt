@@ -25,6 +25,7 @@ use Rattle.clean.proofs.Judged.{clean-there}
 use Rattle.cross.specs.Cross.{present, Files, crossFaults}
 use Rattle.cross.specs.Stage.{fileOf}
 use Rattle.quote.specs.Quote.{quoteOf}
+use Rattle.zone.specs.Zone.{rulesAt}
 use Rattle.zone.specs.Answer.{rulingOf}
 use Rattle.geometry.specs.Ring.{Point}
 use Rattle.gbfs.specs.Verdict.{Feeds, bytesOf, picked, rulesA, faultsB, everyFile, stageA, stageBBy, stageC, orElse, rulesBy, rules, first, verdictOf, said}
@@ -100,7 +101,7 @@ module _ (s t : Feeds) (later : LaterSet s t) where
   quote-same id seconds metres = let h = at 5 (omega arith) (omega arith) in rw (h .cleans, h .trees)
 
   ruling-same : (q : Point) (type : List ℕ) (moment : ℕ) → rulingOf (s .zones) q type moment ≡ rulingOf (t .zones) q type moment
-  unfolding bytesOf rulingOf
+  unfolding bytesOf rulingOf rulesAt
   ruling-same q type moment = let h = at 6 (omega arith) (omega arith) in rw (h .cleans, h .trees)
 
 pub unmoved : (s t : Feeds) → LaterSet s t → Agree s t

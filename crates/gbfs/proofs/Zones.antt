@@ -9,11 +9,9 @@ use Prim.Native.Nat.{ℕ}
 use native.Mathlib.Omega.{arith}
 use Rattle.notation.specs.Choice.{_⇒_else_, _and_}
 use Rattle.word.specs.Word.{noParts}
-use Rattle.schema.specs.Shape.{fileShape}
-use Rattle.schema.specs.Table23.{table23}
-use Rattle.schema.specs.Pick.{Picked, pick}
+use Rattle.schema.specs.Pick.{Picked}
 use Rattle.schema.proofs.Tests.{and-left, and-right}
-use Rattle.document.specs.Document.{Maybe, none, some, elements, elementsOf, field, fieldItems, along, spelling, truth, given}
+use Rattle.document.specs.Document.{Maybe, none, some, elements, field, fieldItems, spelling, truth, given}
 use Rattle.fault.proofs.Order.{by-test, true-false}
 use Rattle.geometry.specs.Ring.{Point}
 use Rattle.geometry.specs.Held.{onRing, odd, sideOf, holds, onAny, inAny, polygonHolds}
@@ -21,7 +19,7 @@ use Rattle.geometry.proofs.Any.{any-one, one-any}
 use Rattle.geometry.proofs.Polygon.{edge-held}
 use Rattle.clean.specs.declared.Cleanness.{Cleanness}
 use Rattle.clean.specs.declared.Cleanness.the-variants.{Clean, Broken}
-use Rattle.clean.specs.Clean.{treeOf, cleanOf}
+use Rattle.clean.specs.Clean.{cleanOf}
 use Rattle.zone.specs.Zone.{outline, counts, ringsHold, polygonsHoldBy, polygonsHold, polygonsOf, applies, zoneRulesBy, zoneRules, rulesBy, rules, applicable, zonesOf, rulesAt, otherwise, firstGiven}
 use Rattle.zone.specs.Answer.{Answer, refused, found, ruleOf, values, onMap, ofRules, ofClean, rulingOf}
 use Rattle.gbfs.specs.Demand2.{ZoneRule, everyRule, rulesIn, HeldBy, onEdge, byFirst, Holding, Applies, FirstWith, here, later, NoneWith, Giving, FirstValue, by, byNone, Together}

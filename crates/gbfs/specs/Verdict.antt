@@ -55,8 +55,7 @@ picked s = filesOf (s .vehicleTypes) (s .stations) (s .statuses) (s .bikes) (s .
 -- what a file breaks in stage A, B or C; an absent file breaks nothing in A and B
 abbrev pub syntaxRules : ℕ → Syntax → List Parts
 syntaxRules file syntax.Sound = []
-syntaxRules file (syntax.Fault kind offset) =
-    record { file = file; kind = kind; field = 0; «record» = 0; sub = 0; offset = offset } ∷ []
+syntaxRules file (syntax.Fault kind offset) = record { file = file; kind = kind; field = 0; «record» = 0; sub = 0; offset = offset } ∷ []
 
 abbrev pub rulesA : ℕ → List ℕ → List Parts
 rulesA file [] = []

@@ -49,13 +49,11 @@ Judge = Place → ℕ → Picked → List Fault
 -- items one after another, numbered from n + 1 on; an item's own faults stand on the array's field
 unfoldable pub eachItem : Judge → Numbering → Place → ℕ → ℕ → PickedItems → List Fault
 eachItem judge numbering p field n noItem = []
-eachItem judge numbering p field n (item x is) =
-    judge (itemPlace numbering (n + 1) p) field x ++ eachItem judge numbering p field (n + 1) is
+eachItem judge numbering p field n (item x is) = judge (itemPlace numbering (n + 1) p) field x ++ eachItem judge numbering p field (n + 1) is
 
 -- an array with at most so many items
 abbrev pub arrayFaults : Judge → Numbering → ℕ → Place → ℕ → Picked → List Fault
-arrayFaults judge numbering most p field (items is) =
-    faulty p field (unless (leb (count is) most) tooMany) ++ eachItem judge numbering p field 0 is
+arrayFaults judge numbering most p field (items is) = faulty p field (unless (leb (count is) most) tooMany) ++ eachItem judge numbering p field 0 is
 arrayFaults judge numbering most p field (bare x) = faulty p field (wrongType ∷ [])
 arrayFaults judge numbering most p field (slots ss) = faulty p field (wrongType ∷ [])
 
@@ -94,9 +92,7 @@ unfoldable mutual
   faultsBy coordinates shape.unlisted p field x = []
   faultsBy coordinates (shape.scalar σ) p field x = scalarFaults σ p field x
   faultsBy coordinates (shape.array numbering most σ) p field x =
-      byNumbering numbering
-      (arrayFaults (λ q f y. faultsBy coordinates σ q f y) numbering most p field x)
-      (coordinateFaultsBy coordinates p field x)
+      byNumbering numbering (arrayFaults (λ q f y. faultsBy coordinates σ q f y) numbering most p field x) (coordinateFaultsBy coordinates p field x)
   faultsBy coordinates (shape.object rows) p field x = objectFaults (λ q ss. rowFaultsBy coordinates rows q ss) p field x
 
   pub rowFaultsBy : (coordinates : PickedItems → List Found) → Rows → Place → Slots → List Fault
@@ -108,7 +104,7 @@ unfoldable mutual
 unfoldable pub fileFaultsBy : (coordinates : PickedItems → List Found) → Shape → Json → List Fault
 fileFaultsBy coordinates σ x = faultsBy coordinates σ top 0 (pick σ x)
 
--- with what is found in coordinates by the rules in force
+-- the same by the rules in force
 abbrev pub coordinateFaults : Place → ℕ → Picked → List Fault
 coordinateFaults = coordinateFaultsBy coordinatesFound
 

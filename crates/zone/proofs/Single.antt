@@ -97,16 +97,13 @@ zones-along : (s : List ℕ) → zonesOf s ≡ elementsOf (along (4 ∷ 5 ∷ 7 
 unfolding recordsOf
 zones-along s = refl
 
+zone-alike : (x : Json) → OneRingAtMost (polygonsOf (pick zone x)) → Alike zone (pick zone x)
+zone-alike x one = way-same _ _ to-polygons x (λ y e. coordinates-same y (subst OneRingAtMost (ap elementsOf e) one))
+
 zones-alike : (s : List ℕ) → WithoutHoles s → Alike (fileShape table23 6) (pick (fileShape table23 6) (treeOf s))
 zones-alike s one =
     way-same _ _ to-zones (treeOf s)
-    (λ x e.
-      records-same _ _ ceiling.records zone x
-      (λ z i.
-        way-same _ _ to-polygons z
-        (λ y h.
-          coordinates-same y
-          (subst OneRingAtMost (ap elementsOf h) (one (pick zone z) (subst (List·Memᴰ (pick zone z)) (sym (zones-along s ∙ ap elementsOf e)) i))))))
+    (λ x e. records-same _ _ ceiling.records zone x (λ z i. zone-alike z (one _ (subst (List·Memᴰ (pick zone z)) (sym (zones-along s ∙ ap elementsOf e)) i))))
 
 -- what stage B finds in a file
 abbrev SameFile : (file : ℕ) → (s : List ℕ) → Type 0

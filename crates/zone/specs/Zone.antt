@@ -44,14 +44,14 @@ unfoldable pub polygonsHoldBy : (rings : List Picked → Point → Bool) → Lis
 polygonsHoldBy rings [] q = false
 polygonsHoldBy rings (p ∷ ps) q = rings (elements p) q ⇒ true else polygonsHoldBy rings ps q
 
-abbrev pub polygonsHold : List Picked → Point → Bool
-polygonsHold = polygonsHoldBy ringsHold
-
 abbrev pub polygonsOf : Picked → List Picked
 polygonsOf zone = elementsOf (along (71 ∷ 73 ∷ []) zone)
 
 abbrev pub zoneHolds : Picked → Point → Bool
-zoneHolds zone q = polygonsHold (polygonsOf zone) q
+zoneHolds zone q = polygonsHoldBy ringsHold (polygonsOf zone) q
+
+abbrev pub polygonsHold : List Picked → Point → Bool
+polygonsHold = polygonsHoldBy ringsHold
 
 -- a rule is for this type where it names it, or has no field 78
 unfoldable pub anyText : List Picked → List ℕ → Bool
