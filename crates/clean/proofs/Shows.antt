@@ -141,7 +141,7 @@ absent-none : (file : ℕ) → recordTrees file (treeOf []) ≡ []
 unfolding recordTrees
 absent-none file = ap (recordTrees file) absent-null ∙ go (wayTo file)
   where
-    go : (o : Maybe Way) → elim o [ none ↦ [] | some w ↦ itemsIn (valueAlong (map (λ k. k .name) (w .keys)) tree.null) ] ≡ []
+    go : (o : Maybe Way) → _≡_ {A = List Json} (elim o [ none ↦ [] | some w ↦ itemsIn (valueAlong (map (λ k. k .name) (w .keys)) tree.null) ]) []
     go none = refl
     go (some w) = none-along _
 

@@ -39,7 +39,7 @@ abbrev recordsOf : Shape → Shape
 recordsOf σ = shape.array shape.records ceiling.records σ
 
 -- The test.
-abbrev demanded : Need → Bool
+abbrev pub demanded : Need → Bool
 demanded shape.required = true
 demanded shape.optional = false
 demanded shape.conditional = false

@@ -13,7 +13,7 @@ use Rattle.lexeme.proofs.Steps.{by-test, true-false}
 use Rattle.json.specs.Tree.{Json}
 use Rattle.walk.specs.Part.{Whole}
 use Rattle.schema.specs.Shape as shape
-use Rattle.schema.specs.Shape.{Shape, Rows, Sort, Sort-discrete, Need}
+use Rattle.schema.specs.Shape.{Shape, Rows, Sort, Sort-discrete}
 use Rattle.schema.specs.Table23.{table23}
 use Rattle.schema.specs.Records.{Key, wayIn, idIn, recordShape, idKey, identified}
 use Rattle.schema.specs.Pick.{pick}
@@ -21,19 +21,14 @@ use Rattle.schema.specs.Later.{rowsOf}
 use Rattle.schema.proofs.Computed.{every, first-files, no-file}
 use Rattle.document.specs.Document.{text}
 use Rattle.document.proofs.Fields.{none-some, some-some}
-use Rattle.document.proofs.Ways.{Requires, here, lists}
+use Rattle.document.proofs.Ways.{Requires, here, lists, demanded}
 use Rattle.fields.proofs.Fields.{field-text}
 use Rattle.ids.specs.inner.Ids.{idField, idName, idValue, idOf}
 
 -- a shape whose first row is required and has an id
-abbrev demanding : Need → Bool
-demanding shape.required = true
-demanding shape.optional = false
-demanding shape.conditional = false
-
 abbrev firstDemanded : Rows → Bool
 firstDemanded shape.noRow = false
-firstDemanded (shape.row f need name σ rows) = demanding need
+firstDemanded (shape.row f need name σ rows) = demanded need
 
 unfoldable named : Shape → Bool
 named σ = elim (idIn (rowsOf σ)) [ none ↦ false | some k ↦ firstDemanded (rowsOf σ) ]

@@ -17,12 +17,12 @@ use Rattle.clean.proofs.judge_ids.Tie as tie
 
 returns : tie.Need-returns
 returns c =
-    let f = c .before in let g = f .before in let e : idField (g .args .file) ≡ 0 = sym (f .id-field .ensures) ∙ c .if1 .taken in
+    let f = c .before in let g = f .before .before in let e : idField (g .args .file) ≡ 0 = sym (f .id-field .ensures) ∙ c .if1 .taken in
     ap (λ (z : Least). broken (g .args .file) z Clean) (sym (repeats-none (g .args .file) (λ h i. omega (arith, id-field (g .args .file) i, e)) _))
 
 repeat-of-requires : tie.Need-repeat-of-requires
 repeat-of-requires c κs =
-    let i = c .before in let f = i .before in let x = f .before .pre in (λ e. i .if1 .left (f .id-field .ensures ∙ e), x .0, x .1)
+    let f = c .before in let x = f .before .before .pre in (λ e. c .if1 .left (f .id-field .ensures ∙ e), x .0, x .1)
 
 returns-2 : tie.Need-returns-2
 returns-2 c =
@@ -31,7 +31,7 @@ returns-2 c =
 
 returns-3 : tie.Need-returns-3
 returns-3 c =
-    let r = c .before in let f = r .before .before .before in let file = f .before .args .file in let n = r .repeat-of .result in
+    let r = c .before in let f = r .before .before in let file = f .before .before .args .file in let n = r .repeat-of .result in
     ap (λ (φ : ℕ). Broken (place file (fault n φ 0 idTwice))) (f .id-field .ensures) ∙ ids-broken file n _ (r .repeat-of .ensures) (c .if2 .left)
 
 pub judge-ids-spec : {M : Type 1} → statement M
