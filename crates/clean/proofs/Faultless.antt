@@ -1,21 +1,20 @@
 -- What a file without a fault of stage B is sure to hold: each required member once, of its shape, and so an array of records, no more than
 -- the ceiling, in each of which no fault is found either. And of a row of any need: its field is not there, or faultless.
 use mathlib.Core.Bool.{Bool, true, false}
-use mathlib.Core.List.{List, [], _∷_, _++_, List·Memᴰ, List·Memᴰ·cases-cons, List·Memᴰ·not-nil}
+use mathlib.Core.List.{List, [], _∷_, _++_, map, List·Memᴰ, List·Memᴰ·cases-cons, List·Memᴰ·not-nil}
 use mathlib.Core.Logic.{_⊎_, inl, inr, ⊎-elim}
 use mathlib.Core.Path.{_≡_, refl, sym, ap, _∙_}
-use Prim.Native.Nat.{ℕ, zero, suc, _+_, _≤_}
+use Prim.Native.Nat.{ℕ, _+_, _≤_}
 use native.Mathlib.Omega.{arith}
-use lib.Dec.{eqb, leb}
+use lib.Dec.{leb}
 use lib.ListN.{length}
 use borrow.Author.Tests.{leb-true}
-use Rattle.limits.specs.Ceilings as ceiling
 use Rattle.word.specs.Kinds.{nameTwice, tooMany}
 use Rattle.json.specs.Tree as tree
 use Rattle.json.specs.Tree.{Json, Members}
 use Rattle.schema.specs.Shape as shape
-use Rattle.schema.specs.Shape.{Shape, Rows, Need, Numbering, fileShape}
-use Rattle.schema.specs.Table23.{table23, listing, file, zones}
+use Rattle.schema.specs.Shape.{Shape, Rows, Need, Numbering}
+use Rattle.schema.specs.Records.{Key}
 use Rattle.schema.specs.Pick.{Picked, PickedItems, items, noItem, item, Slots, Slot, missing, once, twice, given, put, each, pick, pickRows, find, listOf}
 use Rattle.fault.specs.declared.Fault.{Fault}
 use Rattle.scalar.specs.Scalars.{unless}
@@ -23,10 +22,9 @@ use Rattle.rings.specs.Rings as rings
 use Rattle.judge.specs.declared.Place.{Place}
 use Rattle.judge.specs.Faults.{Judge, faulty, absence, itemPlace, byNumbering, eachItem, coordinateFaults, slotFaults, faultsBy, faults, rowFaultsBy, rowFaults}
 use Rattle.document.specs.Document.{none, some, onceOnly, field, fieldItems, along}
-use Rattle.document.specs.inner.Path.{path}
 use Rattle.document.proofs.Fields as fields
 use Rattle.document.proofs.Fields.{Lists, over, at-row}
-use Rattle.document.proofs.Records.{recordShape}
+use Rattle.document.proofs.Ways.{Requires, here, below, lists, Leads, arrived, into}
 
 cons-nil : {A B : Type 0} {x : A} {l : List A} → x ∷ l ≡ [] → B
 cons-nil e = let z : _≡_ {A = ℕ} 0 1 = cc in absurd (omega arith)
@@ -43,15 +41,6 @@ none-right (x ∷ xs) ys e = cons-nil e
 none-faulty : {B : Type 0} (p : Place) (φ k : ℕ) (ks : List ℕ) → faulty p φ (k ∷ ks) ≡ [] → B
 unfolding faulty
 none-faulty p φ k ks e = cons-nil e
-
--- the first row of the field f is required, and has this name and shape
-pub data Requires (f : ℕ) (name : List ℕ) (σ : Shape) : Rows → Type 0 where
-  here : {rows : Rows} → Requires f name σ (shape.row f shape.required name σ rows)
-  below : {g : ℕ} {need : Need} {n : List ℕ} {τ : Shape} {rows : Rows} → eqb f g ≡ false → Requires f name σ rows → Requires f name σ (shape.row g need n τ rows)
-
-pub lists : {f : ℕ} {name : List ℕ} {σ : Shape} {rows : Rows} → Requires f name σ rows → Lists f name σ rows
-lists here = fields.here
-lists (below e r) = fields.below e (lists r)
 
 -- a slot in which nothing is found leaves the rows below
 slot-rest : (judge : Judge) (need : Need) (p : Place) (φ : ℕ) (rest : Place → Slots → List Fault) (g : Json → Picked) (o : Slot Json) (ss : Slots)
@@ -160,30 +149,14 @@ pub field-there : {f : ℕ} {name : List ℕ} {σ : Shape} {rows : Rows} → Req
 unfolding field pick
 field-there {σ = σ} r ms z e = ap onceOnly (at-row (lists r) ms) ∙ ap (λ (o : Slot Json). onceOnly (over (pick σ) o)) e
 
--- required rows that lead on
-pub data Demands : Shape → List ℕ → Shape → Type 0 where
-  arrived : {σ : Shape} → Demands σ [] σ
-  into : {f : ℕ} {name : List ℕ} {σ τ : Shape} {rows : Rows} {fs : List ℕ} → Requires f name σ rows → Demands σ fs τ → Demands (shape.object rows) (f ∷ fs) τ
-
-pub demands-there : {σ τ : Shape} {fs : List ℕ} → Demands σ fs τ → (p : Place) (φ : ℕ) (x : Json) → faults σ p φ (pick σ x) ≡ []
-    → (z : Json) × (ψ : ℕ) × (along fs (pick σ x) ≡ some (pick τ z)) × (faults τ p ψ (pick τ z) ≡ [])
+-- along rows that are required and lead on
+pub demands-there : {σ τ : Shape} {ks : List Key} → Leads σ ks τ → (p : Place) (φ : ℕ) (x : Json) → faults σ p φ (pick σ x) ≡ []
+    → (z : Json) × (ψ : ℕ) × (along (map (λ k. k .field) ks) (pick σ x) ≡ some (pick τ z)) × (faults τ p ψ (pick τ z) ≡ [])
 unfolding along
 demands-there arrived p φ x e = (x, φ, refl, e)
-demands-there (into {f = f} {rows = rows} {fs = fs} r d) p φ x e =
+demands-there (into {f = f} {rows = rows} r d) p φ x e =
     let o = object-there p φ rows x e in
     let h = required-there r p (o .0) (o .2) in
     let k = demands-there d p f (h .0) (h .2) in
     let g = ap (λ (y : Json). field f (pick (shape.object rows) y)) (o .1) ∙ field-there r (o .0) (h .0) (h .1) in
     (k .0, k .1, rw (along, g) (k .2), k .3)
-
--- the records of each file are demanded
-pub demands-to : (n : ℕ) → 1 ≤ n → n ≤ 6 → Demands (fileShape table23 n) (path (eqb n 6)) (shape.array shape.records ceiling.records (recordShape n))
-unfolding fileShape table23 listing file zones recordShape
-demands-to zero h i = absurd (omega arith)
-demands-to (suc zero) h i = into (below refl (below refl (below refl here))) (into here arrived)
-demands-to (suc (suc zero)) h i = into (below refl (below refl (below refl here))) (into here arrived)
-demands-to (suc (suc (suc zero))) h i = into (below refl (below refl (below refl here))) (into here arrived)
-demands-to (suc (suc (suc (suc zero)))) h i = into (below refl (below refl (below refl here))) (into here arrived)
-demands-to (suc (suc (suc (suc (suc zero))))) h i = into (below refl (below refl (below refl here))) (into here arrived)
-demands-to (suc (suc (suc (suc (suc (suc zero)))))) h i = into (below refl (below refl (below refl here))) (into here (into (below refl here) arrived))
-demands-to (suc (suc (suc (suc (suc (suc (suc n))))))) h i = absurd (omega arith)

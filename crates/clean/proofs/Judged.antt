@@ -33,10 +33,11 @@ use Rattle.document.specs.declared.Span.{Span}
 use Rattle.document.specs.declared.Span.the-variants as span
 use Rattle.document.specs.Spans.{topSpan, recordSpan}
 use Rattle.document.proofs.Records.{top-is}
+use Rattle.ids.specs.inner.Ids.{idField}
 use Rattle.clean.specs.declared.Cleanness.{Cleanness}
 use Rattle.clean.specs.declared.Cleanness.the-variants.{Clean, Broken}
 use Rattle.clean.specs.declared.Shown.the-variants.{NoFile}
-use Rattle.clean.specs.Clean.{treeOf, idField, repeats, place, broken, judged, cleanBy, cleanOf}
+use Rattle.clean.specs.Clean.{treeOf, repeats, place, broken, judged, cleanBy, cleanOf}
 use Rattle.clean.specs.inner.Blamed.{blamed}
 use Rattle.clean.specs.Show.{answer, ofClean, ofSpan, shownOf}
 use Rattle.clean.proofs.Repeated.{tree-is}

@@ -1,6 +1,6 @@
 -- What "show record" shows, told by trees. A clean file that is there passes stages A and B, so its records stand in an array, each an object without a fault, and
 -- the code's spans are those of the tree's items; an absent file has none.
-use mathlib.Core.List.{List, [], _∷_}
+use mathlib.Core.List.{List, [], _∷_, map}
 use mathlib.Core.Path.{_≡_, refl, sym, ap, subst, _∙_}
 use Prim.Native.Nat.{ℕ, zero, suc, _≤_, _<_}
 use native.Mathlib.Omega.{arith}
@@ -22,20 +22,22 @@ use Rattle.walk.specs.Part as walk
 use Rattle.walk.specs.Part.{Whole}
 use Rattle.walk.proofs.Files.{passed}
 use Rattle.walk.proofs.Parts.{itemOf}
-use Rattle.schema.specs.Shape as shape
-use Rattle.schema.specs.Shape.{Shape, Rows, fileShape}
-use Rattle.schema.specs.Table23.{table23, vehicleType, station, status, bike, plan, zone}
+use Rattle.schema.specs.Shape.{Shape, fileShape}
+use Rattle.schema.specs.Table23.{table23}
+use Rattle.schema.specs.Records.{Way, wayTo, recordShape}
 use Rattle.schema.specs.Pick.{pick}
 use Rattle.fault.specs.declared.Least.{Least}
 use Rattle.fault.specs.declared.Least.the-variants.{None, Is}
 use Rattle.fault.specs.Fault.{least}
 use Rattle.fault.proofs.Leasts.{least-none}
 use Rattle.judge.specs.Faults.{fileFaults, faults}
-use Rattle.document.specs.Spans.{namesTo, recordSpan}
+use Rattle.document.specs.Document.{Maybe, none, some}
+use Rattle.document.specs.Spans.{recordSpan}
 use Rattle.document.specs.inner.Spans.{Listed}
 use Rattle.document.specs.Trees.{valueAlong, itemsIn, recordTrees, numbered}
 use Rattle.document.proofs.Rests.{records-listed, no-record}
-use Rattle.document.proofs.Records.{recordShape, itemTrees, array, as-many, RecordAt, record-at, record-past, record-none}
+use Rattle.document.proofs.Ways.{records-of}
+use Rattle.document.proofs.Records.{itemTrees, array, as-many, RecordAt, record-at, record-past, record-none}
 use Rattle.document.proofs.Trees.{object-braces, records-trees}
 use Rattle.clean.specs.declared.Cleanness.{Cleanness}
 use Rattle.clean.specs.declared.Cleanness.the-variants.{Clean, Broken}
@@ -48,18 +50,6 @@ use Rattle.clean.proofs.Judged.{clean-there, shown-none, shown-of}
 
 never-broken : {A : Type 0} {p : _} → Broken p ≡ Clean → A
 never-broken e = let z : _≡_ {A = ℕ} 0 1 = cc in absurd (omega arith)
-
--- the records of each file are objects
-record-rows : (n : ℕ) → 1 ≤ n → n ≤ 6 → (rows : Rows) × (recordShape n ≡ shape.object rows)
-unfolding recordShape vehicleType station status bike plan zone
-record-rows zero h i = absurd (omega arith)
-record-rows (suc zero) h i = (_, refl)
-record-rows (suc (suc zero)) h i = (_, refl)
-record-rows (suc (suc (suc zero))) h i = (_, refl)
-record-rows (suc (suc (suc (suc zero)))) h i = (_, refl)
-record-rows (suc (suc (suc (suc (suc zero))))) h i = (_, refl)
-record-rows (suc (suc (suc (suc (suc (suc zero)))))) h i = (_, refl)
-record-rows (suc (suc (suc (suc (suc (suc (suc n))))))) h i = absurd (omega arith)
 
 -- a clean file passes stages A and B
 module _ (file : ℕ) (s : List ℕ) (some : length s ≡ 0 → ⊥) (e : cleanOf file s ≡ Clean) where
@@ -97,9 +87,9 @@ module _ (file : ℕ) (s : List ℕ) (some : length s ≡ 0 → ⊥) (e : cleanO
     object k r =
         let d = records h i in
         let y = d .sound (pick (recordShape file) (r .tree)) (r .picked) in
-        let rows = record-rows file h i in
-        let o = object-there (y .0) (d .field) (rows .0) (r .tree)
-        (subst (λ (σ : Shape). faults σ (y .0) (d .field) (pick σ (r .tree)) ≡ []) (rows .1) (y .1)) in
+        let w = records-of file h i in
+        let o = object-there (y .0) (d .field) (w .rows) (r .tree)
+        (subst (λ (σ : Shape). faults σ (y .0) (d .field) (pick σ (r .tree)) ≡ []) (w .object) (y .1)) in
         (o .0, o .1)
 
     shown-at : (k : ℕ) → k < length (recordTrees file (treeOf s))
@@ -149,7 +139,11 @@ absent-null = rw (treeOf, text, value-empty depth)
 
 absent-none : (file : ℕ) → recordTrees file (treeOf []) ≡ []
 unfolding recordTrees
-absent-none file = ap (recordTrees file) absent-null ∙ none-along (namesTo file)
+absent-none file = ap (recordTrees file) absent-null ∙ go (wayTo file)
+  where
+    go : (o : Maybe Way) → _≡_ {A = List Json} (elim o [ none ↦ [] | some w ↦ itemsIn (valueAlong (map (λ k. k .name) (w .keys)) tree.null) ]) []
+    go none = refl
+    go (some w) = none-along _
 
 absent-shown : (file n : ℕ) → 1 ≤ file → file ≤ 6 → shownOf file n [] .number ≡ 10
 unfolding cleanBy

@@ -8,20 +8,21 @@ use Rattle.notation.specs.Choice.{_⇒_else_}
 use Rattle.word.specs.Word.{noParts}
 use Rattle.walk.specs.Walk.{part}
 use Rattle.walk.specs.Part as walk
+use Rattle.schema.specs.Records.{identified}
 use Rattle.schema.specs.Pick as pick
 use Rattle.slots.specs.Cases.{gathering}
 use Rattle.slots.specs.Found.{foundIn}
 use Rattle.document.specs.Document as document
 use Rattle.document.specs.Document.{none, some}
-use Rattle.document.specs.Spans.{membersAlong, topSpan, namesTo, recordsSpan, nth, recordSpan}
+use Rattle.document.specs.Spans.{membersAlong, topSpan, recordsSpan, nth, recordSpan}
 use Rattle.document.specs.Trees.{valueAlong, listed, recordTrees, numbered}
 use Rattle.judge.specs.Cases.{judging}
-use Rattle.clean.specs.Clean.{treeOf, idField, recordsOf, usedBefore, repeatedId, repeatsFrom, repeats, cleanBy}
+use Rattle.clean.specs.Clean.{treeOf, recordsOf, usedBefore, repeatedId, repeatsFrom, repeats, cleanBy}
 use Rattle.clean.specs.Show.{refused, shown, shownOf}
 
 -- opens every definition of this layer
 unfoldable pub showing : Unit {0}
-unfolding judging gathering foundIn pick.at document.field document.along document.text membersAlong topSpan namesTo recordsSpan nth recordSpan valueAlong listed recordTrees numbered treeOf idField recordsOf usedBefore repeatedId repeatsFrom repeats cleanBy shownOf
+unfolding judging identified gathering foundIn pick.at document.field document.along document.text membersAlong topSpan recordsSpan nth recordSpan valueAlong listed recordTrees numbered treeOf recordsOf usedBefore repeatedId repeatsFrom repeats cleanBy shownOf
 showing = tt
 
 abbrev mark : ℕ → ℕ

@@ -1,7 +1,6 @@
 -- A file without its set: document 01, below the table of questions. It is clean where neither stage A nor stage B nor kind 12 has anything against it.
-use mathlib.Core.List.{List, [], _∷_, _++_}
-use Prim.Native.Nat.{ℕ, _+_, _*_}
-use lib.Dec.{eqb}
+use mathlib.Core.List.{List, [], _∷_, _++_, map}
+use Prim.Native.Nat.{ℕ, _+_}
 use Rattle.notation.specs.Choice.{_⇒_else_}
 use Rattle.limits.specs.Ceilings.{depth}
 use Rattle.word.specs.declared.Parts.{Parts}
@@ -15,6 +14,7 @@ use Rattle.json.specs.Text.{text, syntaxOf}
 use Rattle.text.specs.Text.{same}
 use Rattle.schema.specs.Shape.{fileShape}
 use Rattle.schema.specs.Table23.{table23}
+use Rattle.schema.specs.Records.{wayTo, idKey}
 use Rattle.schema.specs.Pick.{Picked, PickedItems, pick}
 use Rattle.fault.specs.declared.Fault.{Fault}
 use Rattle.fault.specs.declared.Least.{Least}
@@ -31,13 +31,9 @@ use Rattle.clean.specs.declared.Cleanness.the-variants.{Clean, Broken}
 unfoldable pub treeOf : List ℕ → Json
 treeOf s = elim (text paired depth s) [ done x r ↦ x | bad k r ↦ Json.null ]
 
--- the field of a file's own ids; file 6 has none
-unfoldable pub idField : ℕ → ℕ
-idField file = eqb file 6 ⇒ 0 else file * 10
-
--- where the records of a picked file stand
+-- the records of a picked file
 unfoldable pub recordsOf : ℕ → Picked → List Picked
-recordsOf file x = elementsOf (along (eqb file 6 ⇒ 4 ∷ 5 ∷ 7 ∷ [] else 4 ∷ 5 ∷ []) x)
+recordsOf file x = elim (wayTo file) [ none ↦ [] | some w ↦ elementsOf (along (map (λ k. k .field) (w .keys)) x) ]
 
 -- a record before has this id
 unfoldable pub usedBefore : ℕ → List Picked → List ℕ → List ℕ
@@ -58,7 +54,7 @@ repeatsFrom f n passed [] = []
 repeatsFrom f n passed (x ∷ l) = repeatedId f n passed x ++ repeatsFrom f (n + 1) (x ∷ passed) l
 
 unfoldable pub repeats : ℕ → Picked → List Fault
-repeats file x = repeatsFrom (idField file) 1 [] (recordsOf file x)
+repeats file x = elim (idKey file) [ none ↦ [] | some k ↦ repeatsFrom (k .field) 1 [] (recordsOf file x) ]
 
 -- the parts of a word for a fault of a file
 abbrev pub place : ℕ → Fault → Parts

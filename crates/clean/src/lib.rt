@@ -5,6 +5,7 @@ use document::record_span;
 use document::top_span;
 use fault::Fault;
 use fault::Least;
+use ids::id::id_field;
 use json::Syntax;
 use json::check_syntax;
 use judge::judge_file;
@@ -72,15 +73,13 @@ pub fn first_fault(file: u8, s: &[u8]) -> Least
     }
 }
 
-// Kind 12 of a file that stages A and B pass. Records of file 6 have no ids.
+// Kind 12 of a file that stages A and B pass; there is none where its records have no ids.
 fn judge_ids(file: u8, s: &[u8]) -> Cleanness
     requires { ⌜ (syntaxOf (now s) ≡ Sound) × (least (fileFaults (fileShape table23 file) (treeOf (now s))) ≡ None) ⌝ }
     ensures { λ r. ⌜ r ≡ broken file (least (repeats file (pick (fileShape table23 file) (treeOf (now (s .entry)))))) Clean ⌝ }
 {
-    if file == 0 {
-        return Cleanness::Clean;
-    }
-    if 5 < file {
+    let field = id_field(file);
+    if field == 0 {
         return Cleanness::Clean;
     }
     let n = repeat_of(file, s);
@@ -90,7 +89,7 @@ fn judge_ids(file: u8, s: &[u8]) -> Cleanness
     Cleanness::Broken(Parts {
         file: file,
         kind: Kind::ID_TWICE,
-        field: file * 10,
+        field: field,
         record: n,
         sub: 0,
         offset: 0,

@@ -17,6 +17,7 @@ use Rattle.walk.specs.Walk.{itemsOf}
 use Rattle.walk.specs.Part.{treeOf}
 use Rattle.walk.proofs.Parts.{itemOf}
 use Rattle.schema.specs.Table23.{status, zone}
+use Rattle.schema.specs.Records.{recordShape, located}
 use Rattle.schema.specs.Pick.{Picked, pick}
 use Rattle.fault.specs.declared.Fault.{Fault}
 use Rattle.fault.specs.declared.Least.the-variants.{Is}
@@ -28,9 +29,9 @@ use Rattle.judge.proofs.Holds.{All, none, more, only, all-append, Holds, nothin
 use Rattle.document.specs.Document as document
 use Rattle.document.specs.Document.{Maybe, field, fieldItems, text, textIn, spelling, given}
 use Rattle.fields.specs.Values.{integerIn}
-use Rattle.document.proofs.Records.{recordShape}
 use Rattle.fields.proofs.Fields.{rowOf, listed}
 use Rattle.ids.specs.inner.Ids.{recordBytes, repeated, repeatFrom, firstRepeat}
+use Rattle.ids.proofs.Picked.{id-field}
 use Rattle.clean.specs.inner.Blamed.{blamed}
 use Rattle.clean.proofs.Faultless.{field-sound, items-few}
 use Rattle.references.specs.References.{when, anyWith, any, roomy, driven, named, refers, demanded}
@@ -140,7 +141,7 @@ module _ (n : ℕ) (h : n ≤ greatest) where
 
     record-fits : (file : ℕ) → 1 ≤ file → file ≤ 6 → faults (recordShape file) q φ (pick (recordShape file) x) ≡ []
         → All Fitting (faultsOf typed planned types stations plans file n (pick (recordShape file) x))
-    unfolding faultsOf recordShape status rowOf
+    unfolding faultsOf located status rowOf
     record-fits zero i j e = absurd (omega arith)
     record-fits (suc zero) i j e = type-fits planned plans _
     record-fits (suc (suc zero)) i j e = none
@@ -176,7 +177,7 @@ ids-least-fits n p h =
     by-test (ltb 5 n) (λ t. rw (idsLeast, repeatOf, t) nothing)
     (λ t.
     let i = ltb-false 5 n t in
-    rw (idsLeast, repeatOf, t)
+    rw (idsLeast, repeatOf, t, ← id-field n i)
     (blamed-fits (n * 10) (firstRepeat n (recordBytes p)) (omega arith) (omega (arith, repeat-few n 0 [] (recordBytes p), length-map (itemsOf p) (itemOf p)))))
 
 -- One file.

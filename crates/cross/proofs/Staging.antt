@@ -2,7 +2,7 @@
 use mathlib.Core.Bool.{false}
 use mathlib.Core.List.{List, [], _∷_}
 use mathlib.Core.Path.{_≡_, refl, sym, ap, _∙_}
-use Prim.Native.Nat.{ℕ, zero, suc, _+_, _*_, _-_, _≤_, _<_}
+use Prim.Native.Nat.{ℕ, zero, suc, _+_, _-_, _≤_, _<_}
 use native.Mathlib.Omega.{arith}
 use borrow.Author.Tests.{ne-eqb, le-ltb}
 use Rattle.word.specs.Kinds.{condition}
@@ -14,7 +14,7 @@ use Rattle.fault.specs.declared.Least.the-variants.{None, Is}
 use Rattle.fault.specs.Fault.{least, lesser}
 use Rattle.fault.proofs.Leasts.{none-least}
 use Rattle.judge.specs.Faults.{top, faulty}
-use Rattle.ids.specs.inner.Ids.{recordBytes, firstRepeat}
+use Rattle.ids.specs.inner.Ids.{idField, recordBytes, firstRepeat}
 use Rattle.ids.specs.inner.Notes.{Blank}
 use Rattle.ids.proofs.Entering.{noted-none}
 use Rattle.clean.specs.inner.Blamed.{blamed}
@@ -48,9 +48,9 @@ repeat-is file h p = rw (repeatOf, le-ltb 5 file h)
 -- a file by what is found of its records
 module _ (set : Set) (types stations plans : List ℕ) where
   pub file-is : {file : ℕ} {p : List ℕ} {found : Findings} → Finds set types stations plans file p found
-      → lesser (least (faulty top 0 (when (calledFor file set) condition))) (lesser (blamed (file * 10) (found .repeat)) (found .least)) ≡ fileLeast set types stations plans file p
+      → lesser (least (faulty top 0 (when (calledFor file set) condition))) (lesser (blamed (idField file) (found .repeat)) (found .least)) ≡ fileLeast set types stations plans file p
   unfolding fileLeast idsLeast
-  file-is {file} f = lesser-both refl (lesser-both (ap (blamed (file * 10)) (f .repeats)) (f .breaks))
+  file-is {file} f = lesser-both refl (lesser-both (ap (blamed (idField file)) (f .repeats)) (f .breaks))
 
   -- records of other files than 1, 3, 4 and 6 break nothing
   each-nothing : (file : ℕ) → (file ≡ 1 → ⊥) → (file ≡ 3 → ⊥) → (file ≡ 4 → ⊥) → (file ≡ 6 → ⊥)

@@ -9,13 +9,14 @@ use fault::Fault;
 use fault::Least;
 use fault::lesser;
 use ids::Notes;
+use ids::id::id_field;
 use ids::note::note;
 use judge::Place;
 use references::Set;
 use word::kind::Kind;
 ghost use mathlib.Core.Bool.{not};
 ghost use mathlib.Core.Path.{_≡_};
-ghost use Prim.Native.Nat.{_*_, _≤_};
+ghost use Prim.Native.Nat.{_≤_};
 ghost use lib.ListN.{length};
 ghost use Rattle.notation.specs.Choice.{_and_};
 ghost use Rattle.word.specs.Kinds.{condition};
@@ -23,7 +24,7 @@ ghost use Rattle.walk.specs.Walk.{itemsOf};
 ghost use Rattle.fault.specs.declared.Least.the-variants.{None};
 ghost use Rattle.fault.specs.Fault.{least, lesser as lesserOf};
 ghost use Rattle.judge.specs.Faults.{top, faulty};
-ghost use Rattle.ids.specs.inner.Ids.{Singles};
+ghost use Rattle.ids.specs.inner.Ids.{idField, Singles};
 ghost use Rattle.ids.specs.inner.Notes.{Noted, Blank};
 ghost use Rattle.clean.specs.inner.Blamed.{blamed};
 ghost use Rattle.references.specs.References.{when};
@@ -81,15 +82,15 @@ fn judge_presence(file: u8, set: Set) -> Least
 
 // The rule that the first record breaks which repeats an id, by its number; none where that is 0.
 fn judge_ids(file: u8, repeat: u16) -> Least
-    requires { ⌜ file ≤ 6 ⌝ }
-    ensures { λ r. ⌜ r ≡ blamed (file * 10) repeat ⌝ }
+    ensures { λ r. ⌜ r ≡ blamed (idField file) repeat ⌝ }
 {
     if repeat == 0 {
         return Least::None;
     }
+    let field = id_field(file);
     Least::Is(Fault {
         record: repeat as u32,
-        field: file * 10,
+        field: field,
         sub: 0,
         kind: Kind::ID_TWICE,
     })
@@ -97,8 +98,7 @@ fn judge_ids(file: u8, repeat: u16) -> Least
 
 // One file of the set, by what is found of its records.
 fn judge_file(file: u8, found: Findings, set: Set) -> Least
-    requires { ⌜ file ≤ 6 ⌝ }
-    ensures { λ r. ⌜ r ≡ lesserOf (least (faulty top 0 (when (calledFor file set) condition))) (lesserOf (blamed (file * 10) (found .repeat)) (found .least)) ⌝ }
+    ensures { λ r. ⌜ r ≡ lesserOf (least (faulty top 0 (when (calledFor file set) condition))) (lesserOf (blamed (idField file) (found .repeat)) (found .least)) ⌝ }
 {
     let a = judge_presence(file, set);
     let b = judge_ids(file, found.repeat);

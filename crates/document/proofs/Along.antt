@@ -1,11 +1,10 @@
 -- The code's steps along the names that lead to a file's records: the top value, a member in a span, an item by its number.
-use mathlib.Core.List.{List, [], _∷_}
+use mathlib.Core.List.{List, [], _∷_, map}
 use mathlib.Core.Path.{_≡_, refl, sym, ap, _∙_}
 use Prim.Native.Nat.{ℕ, zero, suc, _+_, _-_, _≤_, _<_}
 use native.Mathlib.Omega.{arith}
 use lib.ListN.{length, drop}
-use borrow.Author.Tests.{ne-eqb}
-use Rattle.notation.specs.Ascii.{bytes}
+use Rattle.notation.specs.Maybe.{none, some}
 use Rattle.limits.specs.Ceilings.{depth}
 use Rattle.lexeme.specs.declared.Scan.the-variants as scan
 use Rattle.lexeme.specs.Read.{Read, placed}
@@ -23,9 +22,12 @@ use Rattle.walk.proofs.Rests.{rest-drop, rest-blanks, rest-there}
 use Rattle.walk.proofs.Folds.{itemSteps, one-more}
 use Rattle.walk.proofs.Finding.{valued-at}
 use Rattle.walk.proofs.Files.{passed}
+use Rattle.schema.specs.Table23.{table23}
+use Rattle.schema.specs.Records.{Way, wayIn, wayTo}
+use Rattle.schema.proofs.Computed.{no-file}
 use Rattle.document.specs.declared.Span.{Span}
 use Rattle.document.specs.declared.Span.the-variants.{None, Is}
-use Rattle.document.specs.Spans.{memberAt, membersAlong, topSpan, namesTo, recordsSpan, nth}
+use Rattle.document.specs.Spans.{memberAt, membersAlong, topSpan, recordsSpan, nth}
 use Rattle.document.specs.inner.Spans.{Readable}
 
 -- the top value, where it was read
@@ -58,21 +60,19 @@ module _ (s : List ℕ) (from : ℕ) (e : from ≡ place s (blanks s)) where
       v (l .what) (drop (t .end) s) (ap (λ (n : ℕ). value paired depth (drop n s)) e ∙ l .reads) (t .after) ∙ sym (place-at s (t .end) (l .upto)) in
       rw (e, u) (sym (top-found s (t .end) (t .found)))
 
--- two names, or three
-module _ (file : ℕ) (s a b : List ℕ) where
-  pub along-two : namesTo file ≡ a ∷ b ∷ [] → memberAt s b (memberAt s a (topSpan s)) ≡ recordsSpan file s
+-- two names, or three; no number of a file has none
+module _ (file : ℕ) (s a b : List ℕ) {w : Way} (e : wayTo file ≡ some w) where
+  pub along-two : map (λ k. k .name) (w .keys) ≡ a ∷ b ∷ [] → memberAt s b (memberAt s a (topSpan s)) ≡ recordsSpan file s
   unfolding recordsSpan membersAlong
-  along-two e = rw (recordsSpan, e)
+  along-two i = rw (recordsSpan, e, i)
 
-  pub along-three : (d : List ℕ) → namesTo file ≡ a ∷ b ∷ d ∷ [] → memberAt s d (memberAt s b (memberAt s a (topSpan s))) ≡ recordsSpan file s
+  pub along-three : (d : List ℕ) → map (λ k. k .name) (w .keys) ≡ a ∷ b ∷ d ∷ [] → memberAt s d (memberAt s b (memberAt s a (topSpan s))) ≡ recordsSpan file s
   unfolding recordsSpan membersAlong
-  along-three d e = rw (recordsSpan, e)
+  along-three d i = rw (recordsSpan, e, i)
 
--- those of any other number than 1 to 5
-pub names-else : (file : ℕ) → (file ≡ 1 → ⊥) → (file ≡ 2 → ⊥) → (file ≡ 3 → ⊥) → (file ≡ 4 → ⊥) → (file ≡ 5 → ⊥)
-    → namesTo file ≡ bytes "data" ∷ bytes "geofencing_zones" ∷ bytes "features" ∷ []
-unfolding namesTo
-names-else file a b c d e = rw (namesTo, ne-eqb file 1 a, ne-eqb file 2 b, ne-eqb file 3 c, ne-eqb file 4 d, ne-eqb file 5 e)
+pub along-none : (file : ℕ) (s : List ℕ) → (1 ≤ file → file ≤ 6 → ⊥) → recordsSpan file s ≡ None
+unfolding recordsSpan wayTo wayIn table23
+along-none file s h = let e : wayTo file ≡ none = ap wayIn (no-file table23 file h) in rw (recordsSpan, e)
 
 -- items by number, counted down
 module _ (from : ℕ) (m : Item) (l : List Item) where

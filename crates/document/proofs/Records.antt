@@ -3,10 +3,8 @@ use mathlib.Core.List.{List, [], _∷_, map, List·Memᴰ, List·Memᴰ·head, L
 use mathlib.Core.Path.{_≡_, refl, sym, ap, subst, _∙_}
 use Prim.Native.Nat.{ℕ, zero, suc, _+_, _-_, _≤_, _<_}
 use native.Mathlib.Omega.{arith}
-use lib.Dec.{eqb}
 use lib.ListN.{length, drop, length-map}
 use Rattle.limits.specs.Ceilings as ceiling
-use Rattle.notation.specs.Choice.{_⇒_else_}
 use Rattle.json.specs.Tree as tree
 use Rattle.json.specs.Tree.{Json, Items}
 use Rattle.walk.specs.declared.Item.{Item}
@@ -21,18 +19,19 @@ use Rattle.walk.proofs.Open.{front-map}
 use Rattle.walk.proofs.Files.{valueStart, Passed}
 use Rattle.schema.specs.Shape as shape
 use Rattle.schema.specs.Shape.{Shape, Rows, fileShape}
-use Rattle.schema.specs.Table23.{table23, listing, file, zones, vehicleType, station, status, bike, plan, zone}
+use Rattle.schema.specs.Table23.{table23}
+use Rattle.schema.specs.Records.{Key, recordShape}
 use Rattle.schema.specs.Pick.{Picked, PickedItems, items, pick, each, listOf}
 use Rattle.document.specs.declared.Span.{Span}
 use Rattle.document.specs.declared.Span.the-variants.{None, Is}
 use Rattle.document.specs.Document.{Maybe, none, some, field, along}
-use Rattle.document.specs.inner.Path.{path}
 use Rattle.document.specs.Trees as trees
 use Rattle.document.specs.Trees.{numbered}
-use Rattle.document.specs.Spans.{membersAlong, topSpan, namesTo, recordsSpan, nth, nthIn}
+use Rattle.document.specs.Spans.{membersAlong, topSpan, recordsSpan, nth, nthIn}
 use Rattle.document.proofs.Cuts.{part-part, part-inside}
 use Rattle.document.proofs.Along.{top-found, nth-zero}
-use Rattle.document.proofs.Fields.{Lists, here, below, none-some, some-some, field-held, Stands, reached}
+use Rattle.document.proofs.Fields.{none-some, some-some, field-held, Stands, reached}
+use Rattle.document.proofs.Ways.{lists, Leads, arrived, into, Recorded}
 
 -- the value of a file that passes
 module _ (s : List ℕ) (t : Passed s) where
@@ -41,12 +40,6 @@ module _ (s : List ℕ) (t : Passed s) where
 
   pub top-stands : Stands s (valueStart s) (t .end) (t .tree)
   top-stands = record { whole = t .whole; some = t .some; inside = t .inside }
-
--- rows that lead on
-pub data Leads : Shape → List ℕ → List (List ℕ) → Shape → Type 0 where
-  arrived : {σ : Shape} → Leads σ [] [] σ
-  into : {f : ℕ} {name : List ℕ} {σ τ : Shape} {rows : Rows} {fs : List ℕ} {names : List (List ℕ)} → Lists f name σ rows → Leads σ fs names τ
-      → Leads (shape.object rows) (f ∷ fs) (name ∷ names) τ
 
 -- what stands at a span, from which y is picked
 pub record Picks (s : List ℕ) (span : Span) (σ : Shape) (y : Picked) : Type 0 where
@@ -65,37 +58,18 @@ along-into f fs x y e = go (field f x) refl e
     go none h k = none-some k
     go (some z) h k = (z, h, k)
 
--- the fields along a path are the members along its names
-pub leads-on : {σ τ : Shape} {fs : List ℕ} {names : List (List ℕ)} → Leads σ fs names τ → (s : List ℕ) (from upto : ℕ) (x : Json) → Stands s from upto x
-    → (y : Picked) → along fs (pick σ x) ≡ some y → Picks s (membersAlong s names (Is from upto)) τ y
+-- the fields along a way are the members along its names
+pub leads-on : {σ τ : Shape} {ks : List Key} → Leads σ ks τ → (s : List ℕ) (from upto : ℕ) (x : Json) → Stands s from upto x
+    → (y : Picked) → along (map (λ k. k .field) ks) (pick σ x) ≡ some y → Picks s (membersAlong s (map (λ k. k .name) ks) (Is from upto)) τ y
 unfolding along membersAlong
 leads-on arrived s from upto x w y e = record { start = from; end = upto; tree = x; is = refl; there = w; picked = some-some e }
-leads-on (into {f = f} {name = name} {rows = rows} {fs = fs} {names = names} l r) s from upto x w y e =
+leads-on (into {f = f} {name = name} {rows = rows} {ks = ks} l r) s from upto x w y e =
+    let fs = map (λ k. k .field) ks in let names = map (λ k. k .name) ks in
     let t = along-into f fs (pick (shape.object rows) x) y e in
-    let d = field-held l x (t .1) in
+    let d = field-held (lists l) x (t .1) in
     let v = reached s name from upto (subst (Stands s from upto) (d .object) w) (d .value) (d .found) in
     let q = leads-on r s (v .start) (v .end) (d .value) (v .there) y (ap (along fs) (d .picked) ∙ t .2) in
     record { start = q .start; end = q .end; tree = q .tree; is = ap (membersAlong s names) (v .is) ∙ q .is; there = q .there; picked = q .picked }
-
--- the shape of a file's records, and the rows that lead to them
-unfoldable pub recordShape : ℕ → Shape
-recordShape n =
-    eqb n 1 ⇒ vehicleType else
-    eqb n 2 ⇒ station else
-    eqb n 3 ⇒ status else
-    eqb n 4 ⇒ bike else
-    eqb n 5 ⇒ plan else zone
-
-pub leads-to : (n : ℕ) → 1 ≤ n → n ≤ 6 → Leads (fileShape table23 n) (path (eqb n 6)) (namesTo n) (shape.array shape.records ceiling.records (recordShape n))
-unfolding fileShape table23 listing file zones namesTo recordShape
-leads-to zero h i = absurd (omega arith)
-leads-to (suc zero) h i = into (below refl (below refl (below refl here))) (into here arrived)
-leads-to (suc (suc zero)) h i = into (below refl (below refl (below refl here))) (into here arrived)
-leads-to (suc (suc (suc zero))) h i = into (below refl (below refl (below refl here))) (into here arrived)
-leads-to (suc (suc (suc (suc zero)))) h i = into (below refl (below refl (below refl here))) (into here arrived)
-leads-to (suc (suc (suc (suc (suc zero))))) h i = into (below refl (below refl (below refl here))) (into here arrived)
-leads-to (suc (suc (suc (suc (suc (suc zero)))))) h i = into (below refl (below refl (below refl here))) (into here (into (below refl here) arrived))
-leads-to (suc (suc (suc (suc (suc (suc (suc n))))))) h i = absurd (omega arith)
 
 -- the items of the array p, picked
 abbrev pub pickedItems : Shape → List ℕ → List Picked
@@ -150,13 +124,13 @@ module _ (numbering : shape.Numbering) (most : ℕ) (σ : Shape) (is : PickedIte
             ∙ list-each (λ y. pick σ y) (itemsOf q) (λ m. treeOf (itemOf q m));
       }
 
--- of a file that passes, where the path to its records is there
-pub records-stand : (n : ℕ) → 1 ≤ n → n ≤ 6 → (s : List ℕ) (t : Passed s) (is : PickedItems) → along (path (eqb n 6)) (pick (fileShape table23 n) (t .tree)) ≡ some (items is)
-    → Records s (recordsSpan n s) (recordShape n) (listOf is)
+-- of a file that passes, where the way to its records is there
+pub records-stand : (n : ℕ) (d : Recorded n) (s : List ℕ) (t : Passed s) (is : PickedItems)
+    → along (map (λ k. k .field) (d .way .keys)) (pick (fileShape table23 n) (t .tree)) ≡ some (items is) → Records s (recordsSpan n s) (recordShape n) (listOf is)
 unfolding recordsSpan
-records-stand n h i s t is e =
-    array-records shape.records ceiling.records (recordShape n) is (subst (λ (z : Span). Picks s (membersAlong s (namesTo n) z) (shape.array shape.records ceiling.records (recordShape n)) (items is)) (sym (top-is s t))
-    (leads-on (leads-to n h i) s (valueStart s) (t .end) (t .tree) (top-stands s t) (items is) e))
+records-stand n d s t is e =
+    let p = leads-on (d .leads) s (valueStart s) (t .end) (t .tree) (top-stands s t) (items is) e in
+    rw (recordsSpan, d .is, top-is s t) (array-records shape.records ceiling.records (recordShape n) is p)
 
 -- items by number
 module _ (from : ℕ) where

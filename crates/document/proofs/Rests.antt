@@ -1,11 +1,12 @@
 -- The rest of a file from its records on, name by name: where the span of a value is one, the rest that the code has come to begins with that value.
-use mathlib.Core.List.{List, [], _∷_, List·Memᴰ}
+use mathlib.Core.List.{List, [], _∷_, map, List·Memᴰ}
 use mathlib.Core.Path.{_≡_, refl, sym, ap, subst, _∙_}
 use Prim.Native.Nat.{ℕ, _+_, _-_, _≤_}
 use native.Mathlib.Omega.{arith}
 use lib.ListN.{length, take, drop, length-take, length-drop}
 use lib.Seq.{drop-drop}
 use Rattle.limits.specs.Ceilings.{depth}
+use Rattle.notation.specs.Maybe.{Maybe, none, some}
 use Rattle.json.specs.declared.Syntax.the-variants.{Sound}
 use Rattle.json.specs.Tree.{Json}
 use Rattle.json.specs.Text.{syntaxOf}
@@ -20,13 +21,14 @@ use Rattle.walk.proofs.Wholes.{whole-some}
 use Rattle.walk.proofs.Parts.{itemOf}
 use Rattle.walk.proofs.Open.{front-items, front-each}
 use Rattle.schema.specs.Shape.{Shape}
+use Rattle.schema.specs.Records.{Way, wayTo}
 use Rattle.schema.specs.Pick.{Picked}
 use Rattle.slots.specs.declared.Found.{Found}
 use Rattle.slots.specs.declared.Found.the-variants.{Missing, Once, Twice}
 use Rattle.slots.specs.Found.{foundIn}
 use Rattle.document.specs.declared.Span.{Span}
 use Rattle.document.specs.declared.Span.the-variants.{None, Is}
-use Rattle.document.specs.Spans.{moved, memberAt, membersAlong, topSpan, namesTo, recordsSpan, nth, nthIn, recordSpan}
+use Rattle.document.specs.Spans.{moved, memberAt, membersAlong, topSpan, recordsSpan, nth, nthIn, recordSpan}
 use Rattle.document.specs.inner.Spans.{Listed, ValueFrom, RecordsFrom}
 use Rattle.document.proofs.Cuts.{part-rest}
 use Rattle.document.proofs.Fields.{Stands, stands-found}
@@ -75,6 +77,11 @@ begins-member s name span p r b v =
               ∙ ap (drop a) e ∙ drop-drop a at s ∙ ap (λ (z : ℕ). drop z s) g,
         )
 
+-- a number without records has none to begin
+pub no-records : (file : ℕ) (s r : List ℕ) → recordsSpan file s ≡ None → length r ≤ length s → RecordsFrom file s r
+no-records file s r e h =
+    record { inside = h; starts = λ i from upto j. let k : None ≡ Is from upto = sym e ∙ j in let z : _≡_ {A = ℕ} 0 1 = cc in absurd (omega arith) }
+
 pub records-begin : (file : ℕ) (s : List ℕ) (span : Span) (r : List ℕ) → span ≡ recordsSpan file s → Begins s span r → RecordsFrom file s r
 records-begin file s span r e b = record { inside = b .inside; starts = λ h from upto i. b .starts h from upto (e ∙ i) .2 }
 
@@ -120,11 +127,14 @@ none-along s (name ∷ names) = none-along s names
 
 pub no-record : (file n : ℕ) → recordSpan file [] n ≡ None
 unfolding recordSpan recordsSpan topSpan blanks
-no-record file n =
-    ap (λ (z : Span). nthIn [] (membersAlong [] (namesTo file) z) n) none ∙ ap (λ (z : Span). nthIn [] z n) (none-along [] (namesTo file))
+no-record file n = go (wayTo file)
   where
-    none : topSpan [] ≡ None
-    none = rw (topSpan, value-empty depth)
+    empty : topSpan [] ≡ None
+    empty = rw (topSpan, value-empty depth)
+
+    go : (o : Maybe Way) → nthIn [] (elim o [ none ↦ None | some w ↦ membersAlong [] (map (λ k. k .name) (w .keys)) (topSpan []) ]) n ≡ None
+    go none = refl
+    go (some w) = ap (λ (z : Span). nthIn [] z n) (ap (membersAlong [] (map (λ k. k .name) (w .keys))) empty ∙ none-along [] _)
 
 -- the n-th record, in the rest p
 module _ (file : ℕ) (s p : List ℕ) (n : ℕ) (f : RecordsFrom file s p) where

@@ -3,12 +3,8 @@
 use mathlib.Core.Bool.{Bool, true, false}
 use mathlib.Core.List.{List, [], _∷_}
 use Prim.Native.Nat.{ℕ}
+pub use Rattle.notation.specs.Maybe.{Maybe, none, some}
 use Rattle.schema.specs.Pick.{Picked, Slot, bare, items, slots, listOf, missing, once, twice, at, single}
-
--- a value, or none
-pub data Maybe (A : Type 0) : Type 0 where
-  none : Maybe A
-  some : A → Maybe A
 
 abbrev pub onceOnly : {A : Type 0} → Slot A → Maybe A
 onceOnly missing = none

@@ -10,6 +10,7 @@ use Rattle.radix.specs.Radix as radix
 use Rattle.radix.specs.Fields.{packed}
 use Rattle.word.specs.Form.{form1}
 use Rattle.word.specs.Word.{wordOf}
+use Rattle.schema.specs.Records.{identified}
 use Rattle.schema.specs.Pick as pick
 use Rattle.document.specs.Document as document
 use Rattle.judge.specs.Cases.{judging}
@@ -22,7 +23,7 @@ use Rattle.gbfs.specs.Verdict.{bytesOf, stageA, stageBBy, stageC, rulesB
 
 -- opens every definition of a verdict
 unfoldable pub judgingSets : Unit {0}
-unfolding judging pick.at document.field document.fieldItems document.along document.text document.spelling clean.treeOf clean.idField clean.recordsOf clean.usedBefore clean.repeatedId clean.repeatsFrom clean.repeats references.anyWith cross.recordsIn cross.repeatsIn cross.sumOf cross.availableFaults cross.idFaults cross.ruleFaults cross.typeFaults cross.statusFaults cross.bikeFaults cross.zoneFaults cross.each cross.faultsOf cross.absentees cross.fileIn cross.crossFaults bytesOf stageA stageBBy stageC rulesBy before first verdictOf
+unfolding judging identified pick.at document.field document.fieldItems document.along document.text document.spelling clean.treeOf clean.recordsOf clean.usedBefore clean.repeatedId clean.repeatsFrom clean.repeats references.anyWith cross.recordsIn cross.repeatsIn cross.sumOf cross.availableFaults cross.idFaults cross.ruleFaults cross.typeFaults cross.statusFaults cross.bikeFaults cross.zoneFaults cross.each cross.faultsOf cross.absentees cross.fileIn cross.crossFaults bytesOf stageA stageBBy stageC rulesBy before first verdictOf
 judgingSets = tt
 
 abbrev mark : ℕ → ℕ

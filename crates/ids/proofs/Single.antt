@@ -8,8 +8,7 @@ use Prim.Native.Nat.{ℕ, zero, suc, _<_}
 use native.Mathlib.Omega.{arith}
 use lib.Dec.{eqb}
 use lib.ListN.{length}
-use borrow.Author.Tests.{eqb-true, ne-eqb}
-use Rattle.notation.specs.Ascii.{bytes}
+use borrow.Author.Tests.{eqb-true}
 use Rattle.notation.specs.Choice.{_⇒_else_}
 use Rattle.lexeme.specs.Character.{within}
 use Rattle.lexeme.specs.Numbers.{digit}
@@ -35,11 +34,6 @@ use Rattle.fields.specs.inner.Values.{code, foundBytes, Standing, memberOf, tex
 use Rattle.fields.proofs.Ways.{member-found}
 use Rattle.ids.specs.inner.Ids.{idName, idValue, idOf, Unmet, IdPlace, hasId}
 use Rattle.ids.specs.inner.Notes.{kept}
-
--- of any other number than 1 to 4
-pub id-name-else : (file : ℕ) → (file ≡ 1 → ⊥) → (file ≡ 2 → ⊥) → (file ≡ 3 → ⊥) → (file ≡ 4 → ⊥) → bytes "plan_id" ≡ idName file
-unfolding idName
-id-name-else file a b c d = rw (idName, ne-eqb file 1 a, ne-eqb file 2 b, ne-eqb file 3 c, ne-eqb file 4 d)
 
 -- no bytes have no id
 no-text : textBy [] ≡ none

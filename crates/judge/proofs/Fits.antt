@@ -3,7 +3,7 @@
 use mathlib.Core.Bool.{Bool, true, false}
 use mathlib.Core.List.{List, [], _∷_, _++_}
 use mathlib.Core.Path.{_≡_, refl}
-use Prim.Native.Nat.{ℕ, zero, suc, _+_, _≤_, _<_}
+use Prim.Native.Nat.{ℕ, _+_, _≤_, _<_}
 use native.Mathlib.Omega.{arith}
 use lib.Dec.{leb}
 use borrow.Author.Tests.{leb-true}
@@ -14,6 +14,7 @@ use Rattle.schema.specs.Shape.{Shape, Rows, Need, Numbering, Sort, fileShape}
 use Rattle.schema.specs.Table23.{table23, written23}
 use Rattle.schema.specs.Pick.{Picked, PickedItems, Slots, bare, items, slots, noItem, item, noSlot, absent, repeated, present, pick, listOf}
 use Rattle.schema.proofs.Tests.{and-left, and-right}
+use Rattle.schema.proofs.Computed.{every, every-file}
 use Rattle.fault.specs.declared.Fault.{Fault}
 use Rattle.fault.specs.declared.Least.{Least}
 use Rattle.fault.specs.declared.Least.the-variants.{Is}
@@ -236,15 +237,8 @@ unfolding fileFaultsBy
 shape-fits σ t x f e = holds-is (keeps σ header 0 (omega arith) t top (refl, refl) (pick σ x)) e .fits (omega arith)
 
 pub file-tidy : (file : ℕ) → tidy (fileShape table23 file) header 0 ≡ true
-unfolding fileShape written23 tidy
-file-tidy zero = refl
-file-tidy (suc zero) = refl
-file-tidy (suc (suc zero)) = refl
-file-tidy (suc (suc (suc zero))) = refl
-file-tidy (suc (suc (suc (suc zero)))) = refl
-file-tidy (suc (suc (suc (suc (suc zero))))) = refl
-file-tidy (suc (suc (suc (suc (suc (suc zero)))))) = refl
-file-tidy (suc (suc (suc (suc (suc (suc (suc file))))))) = refl
+unfolding every written23 tidy
+file-tidy file = every-file (λ σ. tidy σ header 0) table23 refl refl file
 
 pub first-fits : (file : ℕ) (x : Json) (f : Fault) → least (fileFaults (fileShape table23 file) x) ≡ Is f → Fitting f
 first-fits file x f e = shape-fits (fileShape table23 file) (file-tidy file) x f e

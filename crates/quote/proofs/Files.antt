@@ -18,14 +18,15 @@ use Rattle.walk.specs.Part.{Whole, treeOf}
 use Rattle.walk.specs.inner.Along.{AlongItems}
 use Rattle.walk.proofs.Parts.{itemOf, items-whole}
 use Rattle.schema.specs.Shape.{fileShape}
-use Rattle.schema.specs.Table23.{table23, listing, file, plan}
+use Rattle.schema.specs.Table23.{table23, plan}
+use Rattle.schema.specs.Records.{located}
 use Rattle.schema.specs.Pick.{Picked, pick}
 use Rattle.schema.proofs.Tests.{and-left, and-right}
 use Rattle.judge.specs.declared.Place.{Place}
 use Rattle.judge.specs.Faults.{faults}
 use Rattle.document.specs.Document.{none, some, field, along}
 use Rattle.document.specs.inner.Spans.{RecordsFrom}
-use Rattle.document.proofs.Records.{recordShape, pickedItems}
+use Rattle.document.proofs.Records.{pickedItems}
 use Rattle.document.proofs.Rests.{rest-along, rest-picked}
 use Rattle.clean.specs.declared.Cleanness.{Cleanness}
 use Rattle.clean.specs.declared.Cleanness.the-variants.{Clean}
@@ -77,7 +78,7 @@ module _ (p id : List ℕ) (φ from upto : ℕ) where
 
 -- an absent file has no plans
 plans-absent : (s id : List ℕ) → length s ≡ 0 → planOf (plans (pick (fileShape table23 5) (clean.treeOf s))) id ≡ none
-unfolding planOf plans along field pick fileShape table23 listing file clean.treeOf text blanks value valueBy read.then
+unfolding located planOf plans recordsOf along field pick clean.treeOf text blanks value valueBy read.then
 plans-absent [] id e = refl
 plans-absent (b ∷ s) id e = absurd (omega arith)
 
@@ -103,12 +104,12 @@ module _ {s p : List ℕ} (k : Sound 5 s) (f : RecordsFrom 5 s p) where
   plans-along = rest-along f (k .reads) (held .there)
 
   records-are : held .list ≡ pickedItems plan p
-  unfolding recordShape
+  unfolding located
   records-are = rest-picked f (k .reads) (held .there)
 
   module _ (id : List ℕ) where
     plans-are : planAt p (lookup p id) ≡ planOf (plans (pick (fileShape table23 5) (clean.treeOf s))) id
-    unfolding plans recordsOf
+    unfolding plans
     plans-are = lookup-plan p id ∙ ap (λ (l : List Picked). planOf l id) (sym (held .are ∙ records-are))
 
     quoted : (o : Lookup) → lookup p id ≡ o → (seconds metres : ℕ)
@@ -121,7 +122,7 @@ module _ {s p : List ℕ} (k : Sound 5 s) (f : RecordsFrom 5 s p) where
 
     module _ (start end : ℕ) (e : lookup p id ≡ found.Plan start end) where
       pub quote-clear : ClearPlan (part p start end)
-      unfolding lookup recordShape
+      unfolding lookup located
       quote-clear =
           clear-in p id (held .field) start end (itemsOf p) (items-whole p) (λ y i. held .sound y (subst (List·Memᴰ y) (sym records-are) i)) e
 

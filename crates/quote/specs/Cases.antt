@@ -9,18 +9,19 @@ use lib.Dec.{eqb}
 use lib.IntN.{pos}
 use Rattle.notation.specs.Ascii.{bytes}
 use Rattle.notation.specs.Choice.{_⇒_else_}
+use Rattle.schema.specs.Records.{identified}
 use Rattle.schema.specs.Pick.{at}
 use Rattle.document.specs.Document as document
 use Rattle.fare.specs.Cases.{charging}
 use Rattle.judge.specs.Cases.{judging}
-use Rattle.clean.specs.Clean.{treeOf, idField, recordsOf, usedBefore, repeatedId, repeatsFrom, repeats, cleanBy}
+use Rattle.clean.specs.Clean.{treeOf, recordsOf, usedBefore, repeatedId, repeatsFrom, repeats, cleanBy}
 use Rattle.quote.specs.Plan.{priceAt, segment, perKilometre, perMinute, planOf, plans, tripAmount, pastMinutes, pastKilometres}
 use Rattle.quote.specs.Quote.{Answer, refused, unclean, priced, cleanQuote, short, quoteOf}
 use Rattle.quote.specs.Longer.{Ride, quoteFor}
 
 -- opens every definition of a quote
 unfoldable pub quoting : Unit {0}
-unfolding judging charging at document.field document.fieldItems document.along document.text document.spelling treeOf idField recordsOf usedBefore repeatedId repeatsFrom repeats cleanBy priceAt segment perKilometre perMinute planOf plans tripAmount pastMinutes pastKilometres cleanQuote short quoteOf
+unfolding judging identified charging at document.field document.fieldItems document.along document.text document.spelling treeOf recordsOf usedBefore repeatedId repeatsFrom repeats cleanBy priceAt segment perKilometre perMinute planOf plans tripAmount pastMinutes pastKilometres cleanQuote short quoteOf
 quoting = tt
 
 abbrev mark : ℕ → ℕ

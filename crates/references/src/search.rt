@@ -15,10 +15,12 @@ ghost use mathlib.Core.Path.{_≡_};
 ghost use Rattle.notation.specs.Choice.{_⇒_else_};
 ghost use Rattle.text.specs.Text.{textOf};
 ghost use Rattle.walk.specs.Part.{Whole, treeOf};
-ghost use Rattle.document.proofs.Records.{recordShape, pickedItems};
+ghost use Rattle.schema.specs.Records.{recordShape};
+ghost use Rattle.document.proofs.Records.{pickedItems};
 ghost use Rattle.fields.specs.inner.Values.{textBy};
+ghost use Rattle.ids.specs.inner.Ids.{idField};
 ghost use Rattle.references.specs.References.{anyWith, notHuman};
-ghost use Rattle.references.specs.inner.Known.{Searchable, passing, fieldOf, testedOf};
+ghost use Rattle.references.specs.inner.Known.{Searchable, passing, testedOf};
 
 // Whether no human drives, by the value of field 12.
 pub fn is_driven(value: &[u8]) -> bool
@@ -57,7 +59,7 @@ fn passes_test(file: u8, q: &[u8], tested: bool) -> bool
 // Shut out: a record passed over because a later one has its id.
 pub fn meets(file: u8, p: &[u8], notes: &[u32; Notes::SIZE], id: &[u8], tested: bool) -> bool
     requires { ⌜ Searchable file (now p) (now notes) ⌝ }
-    ensures { λ r. ⌜ r ≡ anyWith (testedOf file tested) (fieldOf file) (pickedItems (recordShape file) (now (p .entry))) (textOf (now (id .entry))) ⌝ }
+    ensures { λ r. ⌜ r ≡ anyWith (testedOf file tested) (idField file) (pickedItems (recordShape file) (now (p .entry))) (textOf (now (id .entry))) ⌝ }
 {
     let digest = digest_of(id);
     let mut j = search(file, p, notes, last(notes, digest), id, digest);

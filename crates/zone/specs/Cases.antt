@@ -9,6 +9,7 @@ use lib.Dec.{eqb}
 use lib.IntN.{pos, negsuc}
 use Rattle.notation.specs.Ascii.{bytes}
 use Rattle.notation.specs.Choice.{_⇒_else_}
+use Rattle.schema.specs.Records.{identified}
 use Rattle.schema.specs.Pick as pick
 use Rattle.geometry.specs.Ring.{Point}
 use Rattle.document.specs.Document as document
@@ -20,7 +21,7 @@ use Rattle.zone.specs.Answer.{Answer, refused, found, values, onMap, rul
 
 -- opens every definition of this layer
 unfoldable pub ruled : Unit {0}
-unfolding judging pick.at document.field document.fieldItems document.along document.text document.spelling document.truth clean.treeOf clean.idField clean.recordsOf clean.usedBefore clean.repeatedId clean.repeatsFrom clean.repeats clean.cleanBy counts ringsHold polygonsHoldBy anyText applies zoneRulesBy rulesBy applicable rulesAt firstGiven values onMap rulingOf
+unfolding judging identified pick.at document.field document.fieldItems document.along document.text document.spelling document.truth clean.treeOf clean.recordsOf clean.usedBefore clean.repeatedId clean.repeatsFrom clean.repeats clean.cleanBy counts ringsHold polygonsHoldBy anyText applies zoneRulesBy rulesBy applicable rulesAt firstGiven values onMap rulingOf
 ruled = tt
 
 abbrev mark : ℕ → ℕ

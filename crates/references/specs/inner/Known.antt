@@ -2,7 +2,7 @@
 -- whose records have ids.
 use mathlib.Core.Bool.{Bool, true, false}
 use mathlib.Core.List.{List, []}
-use Prim.Native.Nat.{ℕ, zero, suc, _*_, _≤_}
+use Prim.Native.Nat.{ℕ, zero, suc, _≤_}
 use lib.Dec.{eqb, ltb}
 use lib.ListN.{length, getD}
 use Rattle.notation.specs.Ascii.{bytes}
@@ -30,10 +30,7 @@ unfoldable pub anyMeets : ℕ → Bool → List ℕ → List (List ℕ) → ℕ 
 anyMeets file tested id rs zero = false
 anyMeets file tested id rs (suc n) = meeting file tested id (getD rs n []) ⇒ true else anyMeets file tested id rs n
 
--- the same by what is picked: the field of the id, the sort that is asked about
-abbrev pub fieldOf : ℕ → ℕ
-fieldOf file = file * 10
-
+-- the same by what is picked
 abbrev pub testOf : ℕ → Picked → Bool
 testOf file = eqb file 1 ⇒ driven else eqb file 2 ⇒ roomy else any
 

@@ -1,8 +1,10 @@
 -- `judge_bike` joins what the fields of its position, its type, its station and its plan break by the record's slots.
 use borrow.Author.Needs.{needs}
 use mathlib.Core.Path.{ap, _∙_}
+use Rattle.schema.specs.Records.{recordShape, identified}
 use Rattle.fault.specs.Fault.{least}
-use Rattle.document.proofs.Records.{recordShape, pickedItems}
+use Rattle.document.proofs.Records.{pickedItems}
+use Rattle.ids.specs.inner.Ids.{idField}
 use Rattle.cross.specs.Cross.{at}
 use Rattle.cross.proofs.Joined.{both, breaks}
 use Rattle.cross.proofs.Gathering.{bike-is}
@@ -16,7 +18,7 @@ refers-requires-2 : tie.Need-refers-requires-2
 refers-requires-2 c κs = c .before .before .before .before .before .before .before .before .before .before .before .before .before .before .pre .3
 
 returns : tie.Need-returns
-unfolding recordShape
+unfolding identified idField
 returns c ms w =
     let l₂ = c .before in let l = l₂ .before in let b₂ = l .before in let f₂ = b₂ .before in let v₆ = f₂ .before in
     let b = v₆ .before in let f = b .before in let j = f .before in let v₅ = j .before in let v₄ = v₅ .before in let i = v₄ .before in

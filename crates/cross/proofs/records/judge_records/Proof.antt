@@ -11,9 +11,9 @@ use Rattle.json.specs.Tree.{Members}
 use Rattle.walk.specs.Part.{Whole, treeOf}
 use Rattle.walk.specs.inner.Along.{ItemPlaced}
 use Rattle.walk.proofs.Parts.{itemOf}
+use Rattle.schema.specs.Records.{recordShape}
 use Rattle.schema.specs.Pick.{pick}
 use Rattle.fault.specs.Fault.{least as leastOf}
-use Rattle.document.proofs.Records.{recordShape}
 use Rattle.fields.proofs.Sizes.{part-short}
 use Rattle.ids.proofs.Passing.{Noting, noting-start, noting-end, noting-room, noting-record, noting-more}
 use Rattle.cross.specs.inner.Judged.{broken}

@@ -11,8 +11,9 @@ use Rattle.notation.specs.Choice.{_and_}
 use Rattle.word.specs.Kinds.{sumDiffers}
 use Rattle.walk.specs.inner.Along.{AlongItems}
 use Rattle.schema.specs.Table23.{available}
+use Rattle.schema.specs.Records.{recordShape}
 use Rattle.fault.specs.Fault.{least}
-use Rattle.document.proofs.Records.{recordShape, pickedItems}
+use Rattle.document.proofs.Records.{pickedItems}
 use Rattle.fields.specs.Values.{integerIn}
 use Rattle.fields.specs.inner.Values.{thereBy, arrayBy, spelledBy}
 use Rattle.fields.proofs.Sizes.{array-short}

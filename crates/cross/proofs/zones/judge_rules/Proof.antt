@@ -12,8 +12,9 @@ use Rattle.walk.specs.inner.Along.{AlongItems, ItemPlaced}
 use Rattle.walk.proofs.Parts.{itemOf}
 use Rattle.schema.specs.Shape.{Sort, scalar}
 use Rattle.schema.specs.Table23.{rule}
+use Rattle.schema.specs.Records.{recordShape}
 use Rattle.fault.specs.Fault.{least as leastOf}
-use Rattle.document.proofs.Records.{recordShape, pickedItems}
+use Rattle.document.proofs.Records.{pickedItems}
 use Rattle.fields.specs.inner.Values.{memberOf, arrayBy}
 use Rattle.fields.proofs.Arrays.{member-along}
 use Rattle.cross.specs.Cross.{idFaults}

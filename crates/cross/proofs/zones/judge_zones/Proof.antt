@@ -8,9 +8,10 @@ use lib.ListN.{length}
 use Rattle.walk.specs.Part.{Whole, treeOf}
 use Rattle.walk.specs.inner.Along.{ItemPlaced}
 use Rattle.walk.proofs.Parts.{itemOf}
+use Rattle.schema.specs.Records.{recordShape}
 use Rattle.schema.specs.Pick.{pick}
 use Rattle.fault.specs.Fault.{least as leastOf}
-use Rattle.document.proofs.Records.{recordShape, pickedItems}
+use Rattle.document.proofs.Records.{pickedItems}
 use Rattle.fields.proofs.Sizes.{part-short}
 use Rattle.cross.specs.Cross.{zoneFaults}
 use Rattle.cross.proofs.Walked.{Goes, goes-start, goes-end, goes-more, left-among, left-whole}
