@@ -12,7 +12,7 @@ use Rattle.notation.specs.Ascii.{bytes}
 use Rattle.notation.specs.Choice.{_and_}
 use Rattle.lexeme.specs.Character.{within}
 use Rattle.lexeme.specs.Numbers.{digit}
-use Rattle.lexeme.specs.Tokens.{start}
+use Rattle.lexeme.specs.inner.Start.{start}
 use Rattle.json.specs.Tree.{Json}
 use Rattle.walk.specs.Part.{Whole, kindAt}
 use Rattle.decimal.specs.declared.Number.{Number}

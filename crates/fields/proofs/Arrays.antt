@@ -11,7 +11,7 @@ use lib.ListN.{length}
 use Rattle.notation.specs.Choice.{_⇒_else_}
 use Rattle.lexeme.specs.Character.{within}
 use Rattle.lexeme.specs.Numbers.{digit}
-use Rattle.lexeme.specs.Tokens.{start}
+use Rattle.lexeme.specs.inner.Start.{start}
 use Rattle.json.specs.Tree.{Json, Items}
 use Rattle.walk.specs.declared.Item.{Item}
 use Rattle.walk.specs.declared.ItemStep.{ItemStep}

@@ -12,7 +12,8 @@ use borrow.Author.Tests.{eqb-true}
 use Rattle.notation.specs.Choice.{_⇒_else_}
 use Rattle.lexeme.specs.Character.{within}
 use Rattle.lexeme.specs.Numbers.{digit}
-use Rattle.lexeme.specs.Tokens.{blanks, start}
+use Rattle.lexeme.specs.Tokens.{blanks}
+use Rattle.lexeme.specs.inner.Start.{start}
 use Rattle.lexeme.proofs.Steps.{by-test}
 use Rattle.text.specs.Text.{textOf, same}
 use Rattle.json.specs.Tree.{Json, Members}

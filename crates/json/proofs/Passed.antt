@@ -9,12 +9,13 @@ use Rattle.lexeme.specs.Read.{Read}
 use Rattle.lexeme.specs.Read.Read.{done}
 use Rattle.lexeme.specs.Character.{lone}
 use Rattle.lexeme.specs.Strings as Strings
-use Rattle.lexeme.specs.Tokens.{blanks, start}
+use Rattle.lexeme.specs.Tokens.{blanks}
+use Rattle.lexeme.specs.inner.Start.{start}
 use Rattle.lexeme.proofs.Reading.{Eats, Stops}
 use Rattle.lexeme.proofs.Steps.{bad-done, made-reads, made-done, then-reads, then-done, blanks-stop}
 use Rattle.json.specs.Cases.{reading}
 use Rattle.json.specs.Tree.{Json, itemsOf, membersOf}
-use Rattle.json.specs.Text.{expect, bracketed, member, valueAt, valueBy, value, finish, text}
+use Rattle.json.specs.Text.{expect, bracketed, member, valueBy, value, finish, text}
 use Rattle.json.specs.Spelling as Spelling
 use Rattle.json.specs.Spelling.{Padded, Listed}
 use Rattle.json.specs.Grammar.{String, Scalar, Elements, Enclosed, Member, Nested, Value, IsText}
@@ -53,7 +54,7 @@ module _ {A : Type 0} {f : List ℕ → Read A} {S : List ℕ → Type 0} (k : P
   bracketed-passed c e = let m = enclosed e in (m .0, enclosed-read c accepts (m .1))
 
 string-begun : {s : List ℕ} → String s → Begun s
-unfolding reading
+unfolding reading start
 string-begun (String.quoted k) = refl
 
 string-passed : {s : List ℕ} → String s → (y : List ℕ) × ((q : List ℕ) → expect 0x22 (Strings.string lone 0) (s ++ q) ≡ done y q)
@@ -86,7 +87,7 @@ members {f} {S} k = record { eats = member-eats lone f (k .eats); begins = first
 
 -- values
 scalar-begun : {s : List ℕ} → Scalar s → Begun s
-unfolding reading
+unfolding reading start
 scalar-begun Scalar.no = refl
 scalar-begun Scalar.null = refl
 scalar-begun Scalar.yes = refl
@@ -94,7 +95,7 @@ scalar-begun (Scalar.number {s} n) = number-begun s (number-passed n)
 scalar-begun (Scalar.string k) = string-begun k
 
 quoted-reads : (d : ℕ) {s : List ℕ} → String s → (x : Json) × Reads (value lone d) x s
-unfolding valueBy valueAt start
+unfolding valueBy
 quoted-reads d (String.quoted {s} k) =
     let r = chars-read k in (
       Json.string (r .0),
@@ -110,7 +111,7 @@ scalar-reads d (Scalar.number {s} n) = (Json.number s, number-reads lone d s (nu
 scalar-reads d (Scalar.string k) = quoted-reads d k
 
 nested-begun : {S : List ℕ → Type 0} {s : List ℕ} → Nested S s → Begun s
-unfolding reading
+unfolding reading start
 nested-begun (Nested.scalar y) = scalar-begun y
 nested-begun (Nested.array ys) = refl
 nested-begun (Nested.object ms) = refl

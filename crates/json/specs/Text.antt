@@ -15,7 +15,7 @@ use Rattle.lexeme.specs.Read.Read.{done, bad}
 use Rattle.lexeme.specs.Character.{Surrogates, paired}
 use Rattle.lexeme.specs.Strings as Strings
 use Rattle.lexeme.specs.Numbers as Numbers
-use Rattle.lexeme.specs.Tokens.{blanks, literal, Start, start}
+use Rattle.lexeme.specs.Tokens.{blanks, literal}
 use Rattle.json.specs.declared.Syntax.{Syntax}
 use Rattle.json.specs.declared.Syntax.the-variants as syntax
 use Rattle.json.specs.Tree.{Json, itemsOf, membersOf}
@@ -66,23 +66,17 @@ member ρ value l =
     then (expect 0x22 (Strings.string ρ 0) l) (λ name r.
     expect 0x3a (λ q. made (λ x. (name, x)) (value (blanks q))) (blanks r))
 
--- a value, by what its first byte says; `arrays` and `objects` read those, from their bracket on
-unfoldable pub valueAt : Surrogates → (List ℕ → Read Json) → (List ℕ → Read Json) → ℕ → List ℕ → Read Json
-valueAt ρ arrays objects b r =
-    elim (start b) [
-      | Start.string ↦ made Json.string (Strings.string ρ 0 r)
-      | Start.number ↦ made Json.number (Numbers.number (b ∷ r))
-      | Start.array ↦ arrays (b ∷ r)
-      | Start.object ↦ objects (b ∷ r)
-      | Start.letterT ↦ literal (bytes "true") (Json.boolean true) (b ∷ r)
-      | Start.letterF ↦ literal (bytes "false") (Json.boolean false) (b ∷ r)
-      | Start.letterN ↦ literal (bytes "null") Json.null (b ∷ r)
-      | Start.other ↦ bad notJson (b ∷ r)
-    ]
-
+-- a value, by its first byte; `arrays` and `objects` read those, from their bracket on, and what begins as no other value does is read as a number
 unfoldable pub valueBy : Surrogates → (List ℕ → Read Json) → (List ℕ → Read Json) → List ℕ → Read Json
 valueBy ρ arrays objects [] = bad notJson []
-valueBy ρ arrays objects (b ∷ r) = valueAt ρ arrays objects b r
+valueBy ρ arrays objects (b ∷ r) =
+    eqb b 0x22 ⇒ made Json.string (Strings.string ρ 0 r) else
+    eqb b 0x5b ⇒ arrays (b ∷ r) else
+    eqb b 0x7b ⇒ objects (b ∷ r) else
+    eqb b 0x74 ⇒ literal (bytes "true") (Json.boolean true) (b ∷ r) else
+    eqb b 0x66 ⇒ literal (bytes "false") (Json.boolean false) (b ∷ r) else
+    eqb b 0x6e ⇒ literal (bytes "null") Json.null (b ∷ r) else
+    made Json.number (Numbers.number (b ∷ r))
 
 -- a value with at most so many levels of brackets; a bracket that opens one more is kind 4
 unfoldable pub value : Surrogates → ℕ → List ℕ → Read Json

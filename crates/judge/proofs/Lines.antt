@@ -10,7 +10,7 @@ use Rattle.word.specs.Kinds.{wrongType}
 use Rattle.json.specs.Tree as tree
 use Rattle.json.specs.Tree.{Json}
 use Rattle.lexeme.specs.Character.{byte}
-use Rattle.lexeme.specs.Tokens.{Start, start}
+use Rattle.lexeme.specs.inner.Start.{Start, start}
 use Rattle.walk.specs.Part.{Whole, kindOf, kindFrom, kindAt}
 use Rattle.walk.proofs.Fronts.{front-kind}
 use Rattle.schema.specs.declared.Line.{Line}

@@ -6,7 +6,7 @@ use native.Mathlib.Omega.{arith}
 use lib.ListN.{length}
 use Rattle.lexeme.specs.Character.{within}
 use Rattle.lexeme.specs.Numbers.{digit}
-use Rattle.lexeme.specs.Tokens.{start}
+use Rattle.lexeme.specs.inner.Start.{start}
 use Rattle.text.specs.Text.{textOf}
 use Rattle.walk.specs.Part.{kindAt, inside}
 use Rattle.decimal.specs.declared.Decimal.{Decimal}

@@ -12,7 +12,8 @@ use Rattle.lexeme.specs.Read.Read.{done}
 use Rattle.lexeme.specs.Character.{paired, byte, within}
 use Rattle.lexeme.specs.Numbers.{digit}
 use Rattle.lexeme.specs.Strings as Strings
-use Rattle.lexeme.specs.Tokens.{blanks, Start, start}
+use Rattle.lexeme.specs.Tokens.{blanks}
+use Rattle.lexeme.specs.inner.Start.{Start, start}
 use Rattle.lexeme.proofs.NumberParts.{equal-inside}
 use Rattle.lexeme.proofs.Placed.{Lands}
 use Rattle.lexeme.proofs.Rests.{next-drop, place-at}

@@ -12,7 +12,8 @@ use Rattle.limits.specs.Ceilings.{depth}
 use Rattle.lexeme.specs.Read.Read.{done}
 use Rattle.lexeme.specs.Character.{paired, byte, within}
 use Rattle.lexeme.specs.Numbers.{digit, either}
-use Rattle.lexeme.specs.Tokens.{blank, blanks, start}
+use Rattle.lexeme.specs.Tokens.{blank, blanks}
+use Rattle.lexeme.specs.inner.Start.{start}
 use Rattle.lexeme.proofs.Steps.{by-test, true-false, blanks-pass, blanks-stop}
 use Rattle.lexeme.proofs.Rests.{at-cons, rest-at}
 use Rattle.json.specs.Tree.{Json}

@@ -14,7 +14,8 @@ use Rattle.lexeme.specs.Read.Read.{done}
 use Rattle.lexeme.specs.Character.{paired, within}
 use Rattle.lexeme.specs.Strings as Strings
 use Rattle.lexeme.specs.Numbers.{digit}
-use Rattle.lexeme.specs.Tokens.{blanks, start}
+use Rattle.lexeme.specs.Tokens.{blanks}
+use Rattle.lexeme.specs.inner.Start.{start}
 use Rattle.lexeme.proofs.Reading.{Eats, Ok, Takes}
 use Rattle.lexeme.proofs.Steps.{by-test, bad-done, done-what, made-done, then-done, blanks-stop}
 use Rattle.lexeme.proofs.Takes.{solid-first}

@@ -15,15 +15,16 @@ use Rattle.lexeme.specs.Read.Read.{done, bad}
 use Rattle.lexeme.specs.Character.{paired, byte}
 use Rattle.lexeme.specs.Strings as Strings
 use Rattle.lexeme.specs.Numbers as Numbers
-use Rattle.lexeme.specs.Tokens.{Start, start}
+use Rattle.lexeme.specs.inner.Start.{Start, start}
 use Rattle.lexeme.proofs.Steps.{bad-done, made-done}
 use Rattle.lexeme.proofs.Takes.{string-spelled, string-eats}
 use Rattle.lexeme.proofs.Spells.{number-spells, literal-spells}
 use Rattle.json.specs.Tree as Tree
 use Rattle.json.specs.Tree.{Json}
-use Rattle.json.specs.Text.{bracketed, member, valueAt, valueBy, value}
+use Rattle.json.specs.Text.{bracketed, member, valueBy, value}
 use Rattle.json.proofs.Takes.{value-eats}
 use Rattle.walk.specs.Part.{Whole, treeOf, kindOf, kindFrom, kindAt, inside}
+use Rattle.json.proofs.Steps.{valueAt, value-start}
 
 -- elements between brackets, read with a level less than d
 pub record Opened {A B : Type 0} (d close : ℕ) (element : ℕ → List ℕ → Read A) (of : List A → B) (p r : List ℕ) (x : B) : Type 0 where
@@ -82,34 +83,34 @@ brackets (suc d) =
     }
 
 origin : (d : ℕ) (p r : List ℕ) (x : Json) → value paired d p ≡ done x r → Origin d p r x
-unfolding valueBy valueAt
-origin d [] r x e = bad-done (sym (brackets d .by []) ∙ e)
+unfolding valueAt
+origin d [] r x e = unfold valueBy in bad-done (sym (brackets d .by []) ∙ e)
 origin d (b ∷ l) r x e = go (start b) refl
   where
     k : Brackets d
     k = brackets d
 
-    reads : valueBy paired (k .arrays) (k .objects) (b ∷ l) ≡ done x r
-    reads = sym (k .by (b ∷ l)) ∙ e
+    reads : valueAt paired (k .arrays) (k .objects) b l ≡ done x r
+    reads = sym (value-start paired (k .arrays) (k .objects) b l) ∙ sym (k .by (b ∷ l)) ∙ e
 
     told : {y : Json} {t : Start} → start b ≡ t → kindFrom t ≡ kindOf y → Content d (b ∷ l) r y → y ≡ x → Origin d (b ∷ l) r x
     told h same c i = subst (Origin d (b ∷ l) r) i (record { kind = ap kindFrom h ∙ same; content = c })
 
     go : (t : Start) → start b ≡ t → Origin d (b ∷ l) r x
-    go Start.string h = let m = made-done Json.string (Strings.string paired 0 l) x r (rw (valueBy, valueAt, h) at reads) in told h refl (m .1) (m .2)
-    go Start.number h = let m = made-done Json.number (Numbers.number (b ∷ l)) x r (rw (valueBy, valueAt, h) at reads) in told h refl (m .1) (m .2)
-    go Start.array h = let m = k .array (b ∷ l) r x (rw (valueBy, valueAt, h) at reads) in told h refl (m .1) (m .2)
-    go Start.object h = let m = k .object (b ∷ l) r x (rw (valueBy, valueAt, h) at reads) in told h refl (m .1) (m .2)
+    go Start.string h = let m = made-done Json.string (Strings.string paired 0 l) x r (rw (valueAt, h) at reads) in told h refl (m .1) (m .2)
+    go Start.number h = let m = made-done Json.number (Numbers.number (b ∷ l)) x r (rw (valueAt, h) at reads) in told h refl (m .1) (m .2)
+    go Start.array h = let m = k .array (b ∷ l) r x (rw (valueAt, h) at reads) in told h refl (m .1) (m .2)
+    go Start.object h = let m = k .object (b ∷ l) r x (rw (valueAt, h) at reads) in told h refl (m .1) (m .2)
     go Start.letterT h =
-        let f = literal-spells (bytes "true") (Json.boolean true) (b ∷ l) r x (rw (valueBy, valueAt, h) at reads) in
+        let f = literal-spells (bytes "true") (Json.boolean true) (b ∷ l) r x (rw (valueAt, h) at reads) in
         told {y = Json.boolean true} h refl (f .0) (f .1)
     go Start.letterF h =
-        let f = literal-spells (bytes "false") (Json.boolean false) (b ∷ l) r x (rw (valueBy, valueAt, h) at reads) in
+        let f = literal-spells (bytes "false") (Json.boolean false) (b ∷ l) r x (rw (valueAt, h) at reads) in
         told {y = Json.boolean false} h refl (f .0) (f .1)
     go Start.letterN h =
-        let f = literal-spells (bytes "null") Json.null (b ∷ l) r x (rw (valueBy, valueAt, h) at reads) in
+        let f = literal-spells (bytes "null") Json.null (b ∷ l) r x (rw (valueAt, h) at reads) in
         told {y = Json.null} h refl (f .0) (f .1)
-    go Start.other h = bad-done (rw (valueBy, valueAt, h) at reads)
+    go Start.other h = bad-done (rw (valueAt, h) at reads)
 
 -- the laws
 module _ {p : List ℕ} {x : Json} (w : Whole p x) where

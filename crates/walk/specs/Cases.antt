@@ -5,6 +5,7 @@ use mathlib.Core.Path.{_≡_, refl}
 use Prim.Native.Nat.{ℕ}
 use Rattle.notation.specs.Ascii.{bytes}
 use Rattle.notation.specs.Case.{Case, Answers}
+use Rattle.lexeme.specs.inner.Start.{start}
 use Rattle.json.specs.Cases.{reading}
 use Rattle.json.specs.Tree.{Json}
 use Rattle.walk.specs.declared.Member.{Member}
@@ -17,7 +18,7 @@ use Rattle.walk.specs.inner.Skip.{quoted, enclosed, numbered, skipped}
 
 -- opens every definition of this layer
 unfoldable pub walking : Unit {0}
-unfolding reading onward memberIn memberAt membersFrom membersOf itemIn itemAt itemsFrom itemsOf treeOf kindAt quoted enclosed numbered skipped
+unfolding reading onward memberIn memberAt membersFrom membersOf itemIn itemAt itemsFrom itemsOf treeOf start kindAt quoted enclosed numbered skipped
 walking = tt
 
 abbrev at : ℕ → ℕ → ℕ → ℕ → ℕ → Member

@@ -9,7 +9,7 @@ use Rattle.limits.specs.Ceilings as ceiling
 use Rattle.notation.specs.Ascii.{bytes}
 use Rattle.lexeme.specs.Character.{within}
 use Rattle.lexeme.specs.Numbers.{digit}
-use Rattle.lexeme.specs.Tokens.{start}
+use Rattle.lexeme.specs.inner.Start.{start}
 use Rattle.json.specs.Tree.{Json}
 use Rattle.walk.specs.Part.{Whole, kindAt}
 use Rattle.walk.proofs.Wholes.{whole-some}
