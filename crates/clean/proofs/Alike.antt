@@ -16,7 +16,7 @@ use Rattle.json.specs.Tree.{Json, Items, Members}
 use Rattle.schema.specs.Shape as shape
 use Rattle.schema.specs.Shape.{Shape, Rows, Need, Numbering, fileShape}
 use Rattle.schema.specs.Table23.{table23}
-use Rattle.schema.specs.Pick.{Picked, PickedItems, Slots, Slot, missing, once, twice, given, put, each, pick, pickRows, find, listOf}
+use Rattle.schema.specs.Pick.{Picked, PickedItems, Slots, Slot, missing, once, twice, given, put, each, pick, pickRows, find, listOf, elements}
 use Rattle.schema.proofs.Tests.{and-left, and-right}
 use Rattle.fault.specs.declared.Fault.{Fault}
 use Rattle.fault.specs.Fault.{least}
@@ -24,7 +24,7 @@ use Rattle.scalar.specs.Scalars.{unless}
 use Rattle.rings.specs.Rings.{Found, count}
 use Rattle.judge.specs.declared.Place.{Place}
 use Rattle.judge.specs.Faults.{Judge, faulty, itemPlace, absence, eachItem, arrayFaults, objectFaults, slotFaults, faultsBy, rowFaultsBy, fileFaultsBy}
-use Rattle.document.specs.Document.{none, some, onceOnly, elements, field, along}
+use Rattle.document.specs.Document.{none, some, onceOnly, field, along}
 use Rattle.document.proofs.Fields as fields
 use Rattle.document.proofs.Fields.{Lists, over, at-row}
 use Rattle.clean.specs.declared.Cleanness.the-variants.{Clean}

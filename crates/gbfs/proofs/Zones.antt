@@ -9,9 +9,9 @@ use Prim.Native.Nat.{ℕ}
 use native.Mathlib.Omega.{arith}
 use Rattle.notation.specs.Choice.{_⇒_else_, _and_}
 use Rattle.word.specs.Word.{noParts}
-use Rattle.schema.specs.Pick.{Picked}
+use Rattle.schema.specs.Pick.{Picked, elements}
 use Rattle.schema.proofs.Tests.{and-left, and-right}
-use Rattle.document.specs.Document.{Maybe, none, some, elements, field, fieldItems, spelling, truth, given}
+use Rattle.document.specs.Document.{Maybe, none, some, field, fieldItems, spelling, truth, given}
 use Rattle.fault.proofs.Order.{by-test, true-false}
 use Rattle.geometry.specs.Ring.{Point}
 use Rattle.geometry.specs.Held.{onRing, odd, sideOf, holds, onAny, inAny, polygonHolds}

@@ -13,9 +13,9 @@ use Rattle.word.specs.Form.{form1}
 use Rattle.word.specs.Word.{noParts, wordOf, IsWord, readWord}
 use Rattle.schema.specs.Shape.{fileShape}
 use Rattle.schema.specs.Table23.{table23}
-use Rattle.schema.specs.Pick.{Picked, pick}
+use Rattle.schema.specs.Pick.{Picked, pick, elements}
 use Rattle.document.specs.Document as document
-use Rattle.document.specs.Document.{Maybe, some, elements, field, fieldItems, spelling, truth, given}
+use Rattle.document.specs.Document.{Maybe, some, field, fieldItems, spelling, truth, given}
 use Rattle.decimal.specs.Exact.{tenThousandths}
 use Rattle.fare.specs.declared.Segment.{Segment}
 use Rattle.fare.specs.Charges.{charge, charges, clamped, greatestEnd, past}

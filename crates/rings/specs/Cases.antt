@@ -12,7 +12,7 @@ use Rattle.geometry.specs.Cases.{holding}
 use Rattle.schema.specs.Table23.{coordinates, written23}
 use Rattle.schema.specs.Pick.{Picked, PickedItems, bare, items, slots, noItem, item, each, pick, listOf}
 use Rattle.scalar.specs.Scalars as scalar
-use Rattle.rings.specs.Rings.{Found, at, count, ordinateKinds, numberKinds, positionKinds, pointOf, position, none, allSound, positionsFound, ringFound, ringsFound, ringsPositions, polygonsRings, polygonsFound, coordinatesFound}
+use Rattle.rings.specs.Rings.{Found, at, count, ordinateKinds, numberKinds, positionKinds, pointOf, position, none, allSound, positionsFound, ringFound, ringsFound, itemTotal, polygonsFound, coordinatesFound}
 use Rattle.rings.specs.inner.Least.{earlier, lesser, leastFound}
 use Rattle.rings.specs.inner.Parts.{ringShape, positionShape}
 use Rattle.rings.specs.declared.LeastFound.{LeastFound}
@@ -20,7 +20,7 @@ use Rattle.rings.specs.declared.LeastFound.the-variants.{None, At}
 
 -- opens every definition of this layer
 unfoldable pub ringing : Unit {0}
-unfolding reading treeOf deciding holding written23 each pick scalar.formed scalar.sortKinds scalar.kindsOf at listOf count ordinateKinds numberKinds positionKinds pointOf position none allSound positionsFound ringFound ringsFound ringsPositions polygonsRings polygonsFound coordinatesFound earlier lesser leastFound
+unfolding reading treeOf deciding holding written23 each pick scalar.formed scalar.sortKinds scalar.kindsOf at listOf count ordinateKinds numberKinds positionKinds pointOf position none allSound positionsFound ringFound ringsFound itemTotal polygonsFound coordinatesFound earlier lesser leastFound
 ringing = tt
 
 -- what is found in the coordinates that a text spells: positions' numbers and kinds

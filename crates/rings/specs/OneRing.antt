@@ -6,7 +6,7 @@ use Rattle.limits.specs.Ceilings.{polygons}
 use Rattle.word.specs.Kinds.{wrongType, tooMany, badRing}
 use Rattle.schema.specs.Pick.{Picked, PickedItems, bare, items, slots, listOf}
 use Rattle.scalar.specs.Scalars.{unless}
-use Rattle.rings.specs.Rings.{Found, at, count, ringsFound, polygonPositions, polygonRings}
+use Rattle.rings.specs.Rings.{Found, at, count, ringsFound, polygonPositions, itemCount}
 
 -- a polygon: one ring
 abbrev pub polygonOfOne : ℕ → Picked → List Found
@@ -24,4 +24,4 @@ coordinatesOfOne is = at 0 (unless (leb (count is) polygons) tooMany) ++ polygon
 
 -- none of these polygons has more than one ring; one that has none, or is no array, may be among them
 abbrev pub OneRingAtMost : List Picked → Type 0
-OneRingAtMost l = (polygon : Picked) → List·Memᴰ polygon l → polygonRings polygon ≤ 1
+OneRingAtMost l = (polygon : Picked) → List·Memᴰ polygon l → itemCount polygon ≤ 1

@@ -15,7 +15,7 @@ use Rattle.decimal.specs.Decimals.{numberOf}
 use Rattle.decimal.specs.Exact.{millionths}
 use Rattle.geometry.specs.Ring.{Point, sound}
 use Rattle.schema.specs.Shape as sort
-use Rattle.schema.specs.Pick.{Picked, PickedItems, bare, items, slots, listOf, single}
+use Rattle.schema.specs.Pick.{Picked, PickedItems, bare, items, slots, listOf, elements, single}
 use Rattle.scalar.specs.Scalars.{unless, kindsOf}
 
 -- what is found at a position's number: its kind
@@ -64,9 +64,7 @@ pointOf (x ∷ []) = record { lon = ordinate x; lat = pos 0 }
 pointOf (x ∷ y ∷ rest) = record { lon = ordinate x; lat = ordinate y }
 
 unfoldable pub position : Picked → Point
-position (items is) = pointOf (listOf is)
-position (bare x) = pointOf []
-position (slots ss) = pointOf []
+position x = pointOf (elements x)
 
 -- no kinds at all
 unfoldable pub none : List ℕ → Bool
@@ -91,24 +89,23 @@ ringFound n l =
     -- first equals last, and the area sum is not zero
     (allSound l ⇒ at n (unless (sound (map position l)) badRing) else [])
 
--- an item of a polygon: what is found in it, and how many positions it has
+-- how many items an array has, and arrays have in all: the positions of a ring and of rings, the rings of a polygon and of polygons
+abbrev pub itemCount : Picked → ℕ
+itemCount x = length (elements x)
+
+unfoldable pub itemTotal : List Picked → ℕ
+itemTotal [] = 0
+itemTotal (x ∷ l) = itemCount x + itemTotal l
+
+-- an item of a polygon
 abbrev pub ring : ℕ → Picked → List Found
 ring n (items is) = ringFound n (listOf is)
 ring n (bare x) = at n (wrongType ∷ [])
 ring n (slots ss) = at n (wrongType ∷ [])
 
-abbrev pub ringPositions : Picked → ℕ
-ringPositions (items is) = count is
-ringPositions (bare x) = 0
-ringPositions (slots ss) = 0
-
 unfoldable pub ringsFound : ℕ → List Picked → List Found
 ringsFound n [] = []
-ringsFound n (x ∷ l) = ring n x ++ ringsFound (n + ringPositions x) l
-
-unfoldable pub ringsPositions : List Picked → ℕ
-ringsPositions [] = 0
-ringsPositions (x ∷ l) = ringPositions x + ringsPositions l
+ringsFound n (x ∷ l) = ring n x ++ ringsFound (n + itemCount x) l
 
 -- how many rings a polygon may have
 abbrev pub isRingCount : ℕ → Bool
@@ -121,19 +118,7 @@ polygon n (bare x) = at n (wrongType ∷ [])
 polygon n (slots ss) = at n (wrongType ∷ [])
 
 abbrev pub polygonPositions : Picked → ℕ
-polygonPositions (items is) = ringsPositions (listOf is)
-polygonPositions (bare x) = 0
-polygonPositions (slots ss) = 0
-
--- its rings: every item counts as one, an array or not
-abbrev pub polygonRings : Picked → ℕ
-polygonRings (items is) = count is
-polygonRings (bare x) = 0
-polygonRings (slots ss) = 0
-
-unfoldable pub polygonsRings : List Picked → ℕ
-polygonsRings [] = 0
-polygonsRings (x ∷ l) = polygonRings x + polygonsRings l
+polygonPositions x = itemTotal (elements x)
 
 unfoldable pub polygonsFound : ℕ → List Picked → List Found
 polygonsFound n [] = []
@@ -145,4 +130,4 @@ areZoneCounts m k = leb m polygons and leb k zoneRings
 
 -- all of field 73, where it is an array: too many polygons stand at 0, and so do too many rings
 unfoldable pub coordinatesFound : PickedItems → List Found
-coordinatesFound is = at 0 (unless (areZoneCounts (count is) (polygonsRings (listOf is))) tooMany) ++ polygonsFound 1 (listOf is)
+coordinatesFound is = at 0 (unless (areZoneCounts (count is) (itemTotal (listOf is))) tooMany) ++ polygonsFound 1 (listOf is)

@@ -117,6 +117,12 @@ unfoldable pub listOf : PickedItems → List Picked
 listOf noItem = []
 listOf (item x is) = x ∷ listOf is
 
+-- the items of an array; anything else has none
+abbrev pub elements : Picked → List Picked
+elements (items is) = listOf is
+elements (bare x) = []
+elements (slots ss) = []
+
 -- by what a single value is: the truth of a boolean, the spelling of a number, the text of a string; anything else is `other`
 abbrev pub single : {A : Type 0} → (Bool → A) → (List ℕ → A) → (List ℕ → A) → (other : A) → Picked → A
 single truth spelling text other (bare tree.null) = other

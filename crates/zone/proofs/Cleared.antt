@@ -15,17 +15,17 @@ use Rattle.walk.proofs.Parts.{itemOf}
 use Rattle.schema.specs.Shape as shape
 use Rattle.schema.specs.Shape.{Shape, Rows}
 use Rattle.schema.specs.Table23.{zone, coordinates}
-use Rattle.schema.specs.Pick.{Picked, PickedItems, bare, items, slots, pick, listOf}
+use Rattle.schema.specs.Pick.{Picked, PickedItems, bare, items, slots, pick, listOf, elements}
 use Rattle.word.specs.Kinds.{tooMany, badRing}
 use Rattle.scalar.specs.Scalars.{unless}
-use Rattle.rings.specs.Rings.{Found, at, count, ring, ringFound, ringsFound, position, isRingCount, polygon, polygonsRings, polygonsFound, areZoneCounts, coordinatesFound}
+use Rattle.rings.specs.Rings.{Found, at, count, ring, ringFound, ringsFound, position, isRingCount, polygon, itemTotal, polygonsFound, areZoneCounts, coordinatesFound}
 use Rattle.rings.specs.inner.Parts.{ringShape, polygonShape, picked, partsOf, Outlined}
 use Rattle.rings.specs.declared.RingPoints.{RingPoints}
 use Rattle.geometry.specs.inner.Shifted.{InRange, points}
 use Rattle.rings.proofs.Picked.{Listed, items-parts}
 use Rattle.judge.specs.declared.Place.{Place}
 use Rattle.judge.specs.Faults.{faulty, numbered, faultsBy, faults}
-use Rattle.document.specs.Document.{Maybe, none, some, elements, elementsOf, field, along}
+use Rattle.document.specs.Document.{Maybe, none, some, elementsOf, field, along}
 use Rattle.document.proofs.Fields.{none-some}
 use Rattle.fields.specs.inner.Values.{memberOf}
 use Rattle.fields.proofs.Sizes.{part-short, member-short, array-short}
@@ -95,7 +95,7 @@ numbered-none p field (x ∷ l) e = cons-nil e
 coordinates-clear : (p : Place) (field : ℕ) (x : Picked) → faults coordinates p field x ≡ [] → polygonsFound 1 (elements x) ≡ []
 unfolding coordinates faultsBy faulty coordinatesFound
 coordinates-clear p field (items is) e =
-    let many = at 0 (unless (areZoneCounts (count is) (polygonsRings (listOf is))) tooMany) in
+    let many = at 0 (unless (areZoneCounts (count is) (itemTotal (listOf is))) tooMany) in
     append-eq-nil-iff {p = many} .0 (numbered-none p field (coordinatesFound is) e) .1
 coordinates-clear p field (bare x) e = cons-nil e
 coordinates-clear p field (slots ss) e = cons-nil e

@@ -14,15 +14,15 @@ use Rattle.json.specs.Tree.{Json}
 use Rattle.schema.specs.Shape as shape
 use Rattle.schema.specs.Shape.{fileShape}
 use Rattle.schema.specs.Table23.{table23, written23, coordinates, zone}
-use Rattle.schema.specs.Pick.{Picked, pick}
+use Rattle.schema.specs.Pick.{Picked, pick, elements}
 use Rattle.geometry.specs.Ring.{Point}
 use Rattle.geometry.specs.Held.{holds, polygonHolds}
 use Rattle.geometry.proofs.Polygon.{polygons}
-use Rattle.rings.specs.Rings.{count, polygonRings, coordinatesFound}
+use Rattle.rings.specs.Rings.{count, itemCount, coordinatesFound}
 use Rattle.rings.specs.OneRing.{coordinatesOfOne, OneRingAtMost}
 use Rattle.rings.proofs.OneRing.{coordinates-one}
 use Rattle.judge.specs.Faults.{top, numbered, faultsBy, fileFaultsBy}
-use Rattle.document.specs.Document.{Maybe, none, some, elements, elementsOf, along, field, fieldItems}
+use Rattle.document.specs.Document.{Maybe, none, some, elementsOf, along, field, fieldItems}
 use Rattle.clean.specs.declared.Cleanness.{Cleanness}
 use Rattle.clean.specs.Clean.{treeOf, recordsOf, cleanOf}
 use Rattle.clean.proofs.Alike.{plain, Way, arrived, into, here, below, Same, plain-same, way-same, records-same, clean-alike}
@@ -43,7 +43,7 @@ module _ (q : Point) where
   one-ring (r ∷ []) e = polygons .alone (outline r) q ∙ either-false (holds (outline r) q)
   one-ring (r ∷ s ∷ rs) e = absurd (omega arith)
 
-  one-polygon : (p : Picked) → polygonRings p ≤ 1 → ringsHold (elements p) q ≡ ringsHoldOfOne (elements p) q
+  one-polygon : (p : Picked) → itemCount p ≤ 1 → ringsHold (elements p) q ≡ ringsHoldOfOne (elements p) q
   unfolding count
   one-polygon (Picked.items is) e = one-ring _ e
   one-polygon (Picked.bare x) e = one-ring [] (omega arith)

@@ -6,12 +6,11 @@ use mathlib.Core.Path.{_≡_}
 use Prim.Native.Nat.{ℕ, _≤_}
 use Rattle.notation.specs.Choice.{_⇒_else_}
 use Rattle.word.specs.Word.{noParts}
-use Rattle.schema.specs.Pick.{Picked}
+use Rattle.schema.specs.Pick.{Picked, elements}
 use Rattle.geometry.specs.Ring.{Point}
 use Rattle.geometry.specs.Held.{holds}
-use Rattle.rings.specs.Rings.{polygonRings}
+use Rattle.rings.specs.Rings.{itemCount}
 use Rattle.rings.specs.OneRing.{coordinatesOfOne, OneRingAtMost}
-use Rattle.document.specs.Document.{elements}
 use Rattle.clean.specs.declared.Cleanness.{Cleanness}
 use Rattle.clean.specs.Clean.{cleanBy, cleanOf}
 use Rattle.zone.specs.Zone.{outline, ringsHold, polygonsHoldBy, polygonsOf, zoneHolds, rulesBy, applicable, zonesOf}
@@ -41,7 +40,7 @@ rulingOfOne s q type moment =
     onMap q ⇒ ofClean (cleanOfOne 6 s) (ofRules (applicable (rulesBy zoneHoldsOfOne (zonesOf s) q moment) type)) else refused 8 noParts
 
 pub record Single : Type 0 where
-  pub polygon : (p : Picked) (q : Point) → polygonRings p ≤ 1 → ringsHold (elements p) q ≡ ringsHoldOfOne (elements p) q
+  pub polygon : (p : Picked) (q : Point) → itemCount p ≤ 1 → ringsHold (elements p) q ≡ ringsHoldOfOne (elements p) q
   pub zone : (z : Picked) (q : Point) → OneRingAtMost (polygonsOf z) → zoneHolds z q ≡ zoneHoldsOfOne z q
   -- any file judged alone; only file 6 has polygons
   pub clean : (file : ℕ) (s : List ℕ) → (file ≡ 6 → WithoutHoles s) → cleanOf file s ≡ cleanOfOne file s

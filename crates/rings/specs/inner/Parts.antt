@@ -24,7 +24,7 @@ use Rattle.schema.specs.Shape as shape
 use Rattle.schema.specs.Shape.{Shape}
 use Rattle.schema.specs.Pick.{Picked, bare, items, slots, pick}
 use Rattle.scalar.specs.Scalars.{unless, formed}
-use Rattle.rings.specs.Rings.{Found, at, ordinate, ordinateKinds, numberKinds, position, allSound, positionsFound, ringsFound, ringsPositions, polygon, polygonPositions, polygonRings, polygonsRings, polygonsFound}
+use Rattle.rings.specs.Rings.{Found, at, ordinate, ordinateKinds, numberKinds, position, allSound, positionsFound, ringsFound, itemTotal, polygon, polygonPositions, itemCount, polygonsFound}
 use Rattle.rings.specs.inner.Least.{leastFound}
 use Rattle.rings.specs.declared.LeastFound.{LeastFound}
 use Rattle.rings.specs.declared.LeastFound.the-variants.{None, At}
@@ -120,17 +120,17 @@ pub record Tells (found : List Found) (count : ℕ) (r : Judged) : Type 0 where
 -- the rings of a polygon, the first position with the number n; a polygon; and the polygons of a zone
 pub record TellsRings (n : ℕ) (l : List Picked) (r : PolygonTally) : Type 0 where
   pub rings : r .rings ≡ length l
-  pub positions : r .positions ≡ ringsPositions l
+  pub positions : r .positions ≡ itemTotal l
   pub least : r .least ≡ leastFound (ringsFound n l)
 
 pub record TellsPolygon (n : ℕ) (x : Picked) (r : PolygonTally) : Type 0 where
-  pub rings : r .rings ≡ polygonRings x
+  pub rings : r .rings ≡ itemCount x
   pub positions : r .positions ≡ polygonPositions x
   pub least : r .least ≡ leastFound (polygon n x)
 
 pub record TellsPolygons (n : ℕ) (l : List Picked) (r : ZoneTally) : Type 0 where
   pub polygons : r .polygons ≡ length l
-  pub rings : r .rings ≡ polygonsRings l
+  pub rings : r .rings ≡ itemTotal l
   pub least : r .least ≡ leastFound (polygonsFound n l)
 
 -- what is counted in any bytes: no more than there are bytes
