@@ -14,7 +14,7 @@ use Rattle.json.specs.Tree as tree
 use Rattle.json.specs.Tree.{Json, Members}
 use Rattle.walk.specs.declared.Item.{Item}
 use Rattle.walk.specs.Walk.{itemsFrom, itemsOf}
-use Rattle.walk.specs.Part.{treeOf}
+use Rattle.walk.specs.Part.{partTree}
 use Rattle.walk.proofs.Parts.{itemOf}
 use Rattle.walk.proofs.Files.{passed}
 use Rattle.schema.specs.Shape as shape
@@ -48,7 +48,7 @@ pub record InBytes (n : ℕ) (s p : List ℕ) : Type 0 where
   pub repeated : least (repeatsIn n (fileOf n s)) ≡ idsLeast n p
   pub singles : n ≤ 5 → Singles n p
   pub sound : (m : Item) → List·Memᴰ m (itemsOf p)
-      → (q : Place) × (φ : ℕ) × (faults (recordShape n) q φ (pick (recordShape n) (treeOf (itemOf p m))) ≡ [])
+      → (q : Place) × (φ : ℕ) × (faults (recordShape n) q φ (pick (recordShape n) (partTree (itemOf p m))) ≡ [])
 
 absent-bytes : (n : ℕ) → InBytes n [] []
 unfolding recordsIn repeatsIn idsLeast repeatOf firstRepeat repeatFrom recordBytes itemsOf itemsFrom
@@ -95,7 +95,7 @@ module _ (n : ℕ) (h : 1 ≤ n) (i : n ≤ 6) (b : ℕ) (r : List ℕ) (t : Thr
       (λ e. let o = object-there q φ (d .rows) x e in (o .0, o .1))
 
   abbrev pickedItem : Item → Picked
-  pickedItem m = pick (recordShape n) (treeOf (itemOf p m))
+  pickedItem m = pick (recordShape n) (partTree (itemOf p m))
 
   sound-item : (m : Item) → List·Memᴰ m (itemsOf p) → (q : Place) × (φ : ℕ) × (faults (recordShape n) q φ (pickedItem m) ≡ [])
   sound-item m j =

@@ -2,7 +2,7 @@
 use crate::records::Findings;
 use crate::records::judge_records;
 use crate::zones::judge_zones;
-use clean::Cleanness;
+use clean::Outcome;
 use clean::parts_of;
 use document::records_from;
 use fault::Fault;
@@ -27,11 +27,11 @@ ghost use Rattle.judge.specs.Faults.{top, faulty};
 ghost use Rattle.ids.specs.inner.Ids.{idField, Singles};
 ghost use Rattle.ids.specs.inner.Notes.{Noted, Blank};
 ghost use Rattle.clean.specs.inner.Blamed.{blamed};
-ghost use Rattle.references.specs.References.{when};
+ghost use Rattle.references.specs.References.{kindIf};
 ghost use Rattle.references.specs.inner.Known.{Searchable};
 ghost use Rattle.cross.specs.inner.Judged.{Known, Referring};
 ghost use Rattle.cross.specs.Stage.{filesOf};
-ghost use Rattle.cross.specs.inner.Stage.{Through, stageC};
+ghost use Rattle.cross.specs.inner.Stage.{Through, firstC};
 ghost use Rattle.cross.specs.inner.Staged.{Recorded, Finds, calledFor, repeatOf, numberedLeast, firstFrom};
 
 // The first broken rule of stage C, with its file; or none.
@@ -71,7 +71,7 @@ fn is_called_for(file: u8, set: Set) -> bool
 
 // The rule that a file breaks which is called for and not there; it stands in the header.
 fn judge_presence(file: u8, set: Set) -> Least
-    ensures { λ r. ⌜ r ≡ least (faulty top 0 (when (calledFor file set) condition)) ⌝ }
+    ensures { λ r. ⌜ r ≡ least (faulty top 0 (kindIf (calledFor file set) condition)) ⌝ }
 {
     let header = Place { record: 0, sub: 0 };
     if is_called_for(file, set) {
@@ -98,7 +98,7 @@ fn judge_ids(file: u8, repeat: u16) -> Least
 
 // One file of the set, by what is found of its records.
 fn judge_file(file: u8, found: Findings, set: Set) -> Least
-    ensures { λ r. ⌜ r ≡ lesserOf (least (faulty top 0 (when (calledFor file set) condition))) (lesserOf (blamed (idField file) (found .repeat)) (found .least)) ⌝ }
+    ensures { λ r. ⌜ r ≡ lesserOf (least (faulty top 0 (kindIf (calledFor file set) condition))) (lesserOf (blamed (idField file) (found .repeat)) (found .least)) ⌝ }
 {
     let a = judge_presence(file, set);
     let b = judge_ids(file, found.repeat);
@@ -337,9 +337,9 @@ pub fn judge_set(
     bikes: &[u8],
     plans: &[u8],
     zones: &[u8],
-) -> Cleanness
+) -> Outcome
     requires { ⌜ Through 1 (now types) × Through 2 (now stations) × Through 3 (now statuses) × Through 4 (now bikes) × Through 5 (now plans) × Through 6 (now zones) ⌝ }
-    ensures { λ r. ⌜ r ≡ stageC (filesOf (now (types .entry)) (now (stations .entry)) (now (statuses .entry)) (now (bikes .entry)) (now (plans .entry)) (now (zones .entry))) ⌝ }
+    ensures { λ r. ⌜ r ≡ firstC (filesOf (now (types .entry)) (now (stations .entry)) (now (statuses .entry)) (now (bikes .entry)) (now (plans .entry)) (now (zones .entry))) ⌝ }
 {
     let crossed = judge_parts(
         records_from(1, types),
@@ -351,7 +351,7 @@ pub fn judge_set(
         Set::of(types, stations, statuses, bikes, plans),
     );
     match crossed {
-        Crossed::Nothing => Cleanness::Clean,
-        Crossed::At(file, f) => Cleanness::Broken(parts_of(file, f)),
+        Crossed::Nothing => Outcome::Unbroken,
+        Crossed::At(file, f) => Outcome::Broken(parts_of(file, f)),
     }
 }

@@ -11,15 +11,15 @@ use Rattle.word.specs.Word.{noParts, wordOf}
 use Rattle.geometry.specs.Ring.{Point}
 use Rattle.rings.specs.OneRing.{coordinatesOfOne}
 use Rattle.document.specs.Spans.{recordSpan}
-use Rattle.clean.specs.declared.Cleanness.{Cleanness}
+use Rattle.clean.specs.declared.Outcome.{Outcome}
 use Rattle.clean.specs.Show.{ofSpan, ofClean, refused, shownOf}
 use Rattle.zone.specs.Answer.{rulingOf}
 use Rattle.zone.specs.Single.{WithoutHoles, cleanOfOne, rulingOfOne}
-use Rattle.gbfs.specs.Verdict.{Feeds, rulesBy, first, verdictOf, said, accepts, numberOf, bufferOf}
+use Rattle.gbfs.specs.Verdict.{Feeds, brokenRulesBy, first, verdictOf, said, accepts, numberOf, bufferOf}
 
 -- document 01's own verdict: the first broken rule of a set, by its rules on polygons
-abbrev pub verdictOfOne : Feeds → Cleanness
-verdictOfOne s = first (rulesBy coordinatesOfOne s)
+abbrev pub verdictOfOne : Feeds → Outcome
+verdictOfOne s = first (brokenRulesBy coordinatesOfOne s)
 
 pub record OneRing : Type 0 where
   -- the verdict, and so the number and the buffer of its question

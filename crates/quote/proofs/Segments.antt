@@ -14,7 +14,7 @@ use Rattle.notation.specs.Choice.{_⇒_else_, _and_}
 use Rattle.limits.specs.Ceilings.{segments}
 use Rattle.walk.specs.declared.Item.{Item}
 use Rattle.walk.specs.Walk.{itemsFrom, itemsOf}
-use Rattle.walk.specs.Part.{Whole, treeOf}
+use Rattle.walk.specs.Part.{Whole, partTree}
 use Rattle.walk.proofs.Folds.{itemSteps, one-more}
 use Rattle.walk.proofs.Parts.{itemOf, items-whole}
 use Rattle.schema.specs.Pick.{Picked, pick}
@@ -140,8 +140,8 @@ module _ (p : List ℕ) where
           }
 
 -- the segments of the bytes are the picked ones
-same-segments : (f : ℕ) (p : List ℕ) (ms : List Item) → ((m : Item) → List·Memᴰ m ms → Whole (itemOf p m) (treeOf (itemOf p m)))
-    → map (segmentOf p) ms ≡ map (segment f) (map (λ m. pick (table.segment f) (treeOf (itemOf p m))) ms)
+same-segments : (f : ℕ) (p : List ℕ) (ms : List Item) → ((m : Item) → List·Memᴰ m ms → Whole (itemOf p m) (partTree (itemOf p m)))
+    → map (segmentOf p) ms ≡ map (segment f) (map (λ m. pick (table.segment f) (partTree (itemOf p m))) ms)
 same-segments f p [] h = refl
 same-segments f p (m ∷ ms) h =
     ap₂ (λ (s : Segment) (l : List Segment). s ∷ l) (segment-is f (h m (List·Memᴰ·head refl))) (same-segments f p ms (λ t i. h t (List·Memᴰ·tail i)))

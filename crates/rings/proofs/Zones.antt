@@ -12,7 +12,7 @@ use Rattle.schema.specs.Shape as shape
 use Rattle.schema.specs.Table23.{coordinates}
 use Rattle.schema.specs.Pick.{Picked, PickedItems, items, pick, listOf}
 use Rattle.scalar.specs.Scalars.{unless}
-use Rattle.rings.specs.Rings.{Found, at, count, ring, itemCount, ringFound, ringsFound, itemTotal, polygon, polygonPositions, isRingCount, areZoneCounts, polygonsFound, coordinatesFound}
+use Rattle.rings.specs.Rings.{Found, foundAt, count, ring, itemCount, ringFound, ringsFound, itemTotal, polygon, polygonPositions, isRingCount, areZoneCounts, polygonsFound, coordinatesFound}
 use Rattle.rings.specs.inner.Least.{lesser, leastFound}
 use Rattle.rings.specs.inner.Parts.{positionShape, ringShape, polygonShape, Listing, partsOf, isArray, Tells, TellsRings, TellsPolygon, TellsPolygons}
 use Rattle.rings.specs.declared.LeastFound.{LeastFound}
@@ -58,7 +58,7 @@ module _ {p : List ℕ} {x : Json} (w : Whole p x) (n : ℕ) where
 
   -- an item of the coordinates
   pub polygon-array : (t : PolygonTally) (found : LeastFound) → isArray (kindAt p) ≡ true → (Listing p → TellsRings n (partsOf ringShape p) t)
-      → found ≡ lesser (leastFound (at n (unless (isRingCount (t .rings)) badRing))) (t .least)
+      → found ≡ lesser (leastFound (foundAt n (unless (isRingCount (t .rings)) badRing))) (t .least)
       → TellsPolygon n (pick polygonShape x) (record { rings = t .rings; positions = t .positions; least = found })
   unfolding count
   polygon-array t found e g f =
@@ -71,8 +71,8 @@ module _ {p : List ℕ} {x : Json} (w : Whole p x) (n : ℕ) where
         positions = rw (k .listed .parts) (h .positions);
         least =
             rw (k .listed .parts)
-            (f ∙ ap₂ lesser (ap (λ m. leastFound (at n (unless (isRingCount m) badRing))) (h .rings)) (h .least)
-            ∙ sym (least-append (at n (unless (isRingCount (length l)) badRing)) (ringsFound n l)));
+            (f ∙ ap₂ lesser (ap (λ m. leastFound (foundAt n (unless (isRingCount m) badRing))) (h .rings)) (h .least)
+            ∙ sym (least-append (foundAt n (unless (isRingCount (length l)) badRing)) (ringsFound n l)));
       }
 
   pub polygon-other : isArray (kindAt p) ≡ false → TellsPolygon n (pick polygonShape x) (record { rings = 0; positions = 0; least = At n wrongType })
@@ -81,7 +81,7 @@ module _ {p : List ℕ} {x : Json} (w : Whole p x) (n : ℕ) where
       rw (k .1) record { rings = refl; positions = refl; least = sym (least-one n wrongType) }
 
 abbrev counts : (m k : ℕ) → List Found
-counts m k = at 0 (unless (areZoneCounts m k) tooMany)
+counts m k = foundAt 0 (unless (areZoneCounts m k) tooMany)
 
 -- all of field 73
 pub coordinates-found : {p : List ℕ} (t : ZoneTally) → (Listing p → TellsPolygons 1 (partsOf polygonShape p) t)

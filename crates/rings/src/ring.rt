@@ -52,9 +52,9 @@ pub fn read_ring(p: &[u8], n: u32) -> RingPoints
         };
         let from = item.value;
         let upto = item.value_end;
-        let spot = judge_position(&p[from..upto], n + count);
-        let first = spot.least;
-        let point = spot.point;
+        let position = judge_position(&p[from..upto], n + count);
+        let first = position.least;
+        let point = position.point;
         least = least.lesser(first);
         keep(&mut lons, count, point.lon);
         keep(&mut lats, count, point.lat);

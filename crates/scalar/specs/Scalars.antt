@@ -72,7 +72,7 @@ sortKinds sort.amount = numbers (λ s. formed natural (numberOf s))
 sortKinds sort.portion = numbers (λ s. formed portion (numberOf s))
 sortKinds sort.latitude = numbers (λ s. formed (within 90) (numberOf s))
 sortKinds sort.longitude = numbers (λ s. formed (within 180) (numberOf s))
-sortKinds sort.ordinate = numbers (λ s. [])
+sortKinds sort.coordinate = numbers (λ s. [])
 sortKinds sort.money = numbers (λ s. formed anyMoney (numberOf s))
 sortKinds sort.price =
     record { ofNumber = λ s. formed priceMoney (numberOf s); ofText = λ s. pricing (priceOf s); ofBoolean = wrongType ∷ [] }

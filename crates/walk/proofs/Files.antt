@@ -22,13 +22,13 @@ use Rattle.json.specs.Text.{value, finish, text, verdictOf, syntaxOf}
 use Rattle.json.proofs.Local.{value-part}
 use Rattle.json.proofs.Takes.{value-eats, value-takes}
 use Rattle.lexeme.proofs.Placed.{ends}
-use Rattle.walk.specs.Walk.{place, part}
+use Rattle.walk.specs.Walk.{offsetOf, part}
 use Rattle.walk.specs.Part.{Whole}
 use Rattle.walk.proofs.Rests.{Rest, rest-drop, rest-blanks, rest-read, rest-inside, rest-there}
 
 -- where the value of a file begins
 abbrev pub valueStart : List ℕ → ℕ
-valueStart s = place s (blanks s)
+valueStart s = offsetOf s (blanks s)
 
 pub record Passed (s : List ℕ) : Type 0 where
   pub tree : Json
@@ -59,16 +59,16 @@ in-text s r x e short =
     let sq : Rest s q = rest-read (value paired depth) (value-takes paired depth) l q (a .0) (a .2) sl in
     let n : length q < length l = value-eats paired depth l q (a .0) (a .2) in
     let m : length l ≤ length s = rest-inside sl in
-    let v : value paired depth (drop (place s l) s) ≡ done x q = ap (value paired depth) (rest-there sl) ∙ a .2 ∙ ap (λ (z : Json). done z q) (f .1) in
-    let some : place s l < place s q = omega arith in
+    let v : value paired depth (drop (offsetOf s l) s) ≡ done x q = ap (value paired depth) (rest-there sl) ∙ a .2 ∙ ap (λ (z : Json). done z q) (f .1) in
+    let some : offsetOf s l < offsetOf s q = omega arith in
     record {
       tree = x;
-      end = place s q;
+      end = offsetOf s q;
       reads = e ∙ ap (done x) (f .2);
-      whole = record { reads = value-part paired depth x s (place s l) (place s q) (omega arith) (omega arith) (v ∙ ap (done x) (sym (rest-there sq))) };
+      whole = record { reads = value-part paired depth x s (offsetOf s l) (offsetOf s q) (omega arith) (omega arith) (v ∙ ap (done x) (sym (rest-there sq))) };
       some = some;
       inside = omega arith;
-      found = ends s q (place s q) (value paired depth (drop (place s l) s)) refl x v;
+      found = ends s q (offsetOf s q) (value paired depth (drop (offsetOf s l) s)) refl x v;
       after = ap blanks (rest-there sq) ∙ f .0;
       short = short;
     }

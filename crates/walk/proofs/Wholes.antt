@@ -13,17 +13,17 @@ use Rattle.notation.specs.Ascii.{bytes}
 use Rattle.lexeme.specs.Read.{Read, made}
 use Rattle.lexeme.specs.Read.Read.{done, bad}
 use Rattle.lexeme.specs.Character.{paired, byte}
-use Rattle.lexeme.specs.Strings as Strings
-use Rattle.lexeme.specs.Numbers as Numbers
+use Rattle.lexeme.specs.Strings
+use Rattle.lexeme.specs.Numbers
 use Rattle.lexeme.specs.inner.Start.{Start, start}
 use Rattle.lexeme.proofs.Steps.{bad-done, made-done}
 use Rattle.lexeme.proofs.Takes.{string-spelled, string-eats}
 use Rattle.lexeme.proofs.Spells.{number-spells, literal-spells}
-use Rattle.json.specs.Tree as Tree
+use Rattle.json.specs.Tree
 use Rattle.json.specs.Tree.{Json}
 use Rattle.json.specs.Text.{bracketed, member, valueBy, value}
 use Rattle.json.proofs.Takes.{value-eats}
-use Rattle.walk.specs.Part.{Whole, treeOf, kindOf, kindFrom, kindAt, inside}
+use Rattle.walk.specs.Part.{Whole, partTree, kindOf, kindFrom, kindAt, inside}
 use Rattle.json.proofs.Steps.{valueAt, value-start}
 
 -- elements between brackets, read with a level less than d
@@ -114,9 +114,9 @@ origin d (b ∷ l) r x e = go (start b) refl
 
 -- the laws
 module _ {p : List ℕ} {x : Json} (w : Whole p x) where
-  pub whole-tree : treeOf p ≡ x
-  unfolding treeOf
-  whole-tree = rw (treeOf, w .reads)
+  pub whole-tree : partTree p ≡ x
+  unfolding partTree
+  whole-tree = rw (partTree, w .reads)
 
   pub whole-some : 0 < length p
   whole-some = omega (arith, value-eats paired depth p [] x (w .reads))

@@ -23,7 +23,7 @@ use Rattle.rings.specs.OneRing.{coordinatesOfOne, OneRingAtMost}
 use Rattle.rings.proofs.OneRing.{coordinates-one}
 use Rattle.judge.specs.Faults.{top, numbered, faultsBy, fileFaultsBy}
 use Rattle.document.specs.Document.{Maybe, none, some, elementsOf, along, field, fieldItems}
-use Rattle.clean.specs.declared.Cleanness.{Cleanness}
+use Rattle.clean.specs.declared.Outcome.{Outcome}
 use Rattle.clean.specs.Clean.{treeOf, recordsOf, cleanOf}
 use Rattle.clean.proofs.Alike.{plain, Way, arrived, into, here, below, Same, plain-same, way-same, records-same, clean-alike}
 use Rattle.zone.specs.Zone.{outline, counts, ringsHold, polygonsHoldBy, polygonsHold, polygonsOf, zoneHolds, zoneRulesBy, rulesBy, applicable, zonesOf, rulesAt}
@@ -135,7 +135,7 @@ clean-one file s one = clean-alike _ _ file s (faults-one file s one)
 answered : (s : List ℕ) (q : Point) (type : List ℕ) (moment : ℕ) → WithoutHoles s → rulingOf s q type moment ≡ rulingOfOne s q type moment
 unfolding rulingOf rulesAt
 answered s q type moment one =
-    ap₂ (λ (c : Cleanness) (l : List Picked). onMap q ⇒ ofClean c (ofRules (applicable l type)) else refused 8 noParts) (clean-one 6 s (λ e. one))
+    ap₂ (λ (c : Outcome) (l : List Picked). onMap q ⇒ ofClean c (ofRules (applicable l type)) else refused 8 noParts) (clean-one 6 s (λ e. one))
     (zones-same q moment (zonesOf s) one)
 
 pub single : Single

@@ -21,7 +21,7 @@ use Rattle.zone.specs.Answer.{Answer, refused, found, values, onMap, rul
 
 -- opens every definition of this layer
 unfoldable pub ruled : Unit {0}
-unfolding judging identified pick.at document.field document.fieldItems document.along document.text document.spelling document.truth clean.treeOf clean.recordsOf clean.usedBefore clean.repeatedId clean.repeatsFrom clean.repeats clean.cleanBy counts ringsHold polygonsHoldBy anyText applies zoneRulesBy rulesBy applicable rulesAt firstGiven values onMap rulingOf
+unfolding judging identified pick.slotOf document.field document.fieldItems document.along document.text document.spelling document.truth clean.treeOf clean.recordsOf clean.usedBefore clean.repeatedId clean.repeatsFrom clean.repeats clean.cleanBy counts ringsHold polygonsHoldBy anyText applies zoneRulesBy rulesBy applicable rulesAt firstGiven values onMap rulingOf
 ruled = tt
 
 -- a file of these zones; a zone of these polygons, and of this one ring, with these other properties and these rules

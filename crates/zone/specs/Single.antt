@@ -11,7 +11,7 @@ use Rattle.geometry.specs.Ring.{Point}
 use Rattle.geometry.specs.Held.{holds}
 use Rattle.rings.specs.Rings.{itemCount}
 use Rattle.rings.specs.OneRing.{coordinatesOfOne, OneRingAtMost}
-use Rattle.clean.specs.declared.Cleanness.{Cleanness}
+use Rattle.clean.specs.declared.Outcome.{Outcome}
 use Rattle.clean.specs.Clean.{cleanBy, cleanOf}
 use Rattle.zone.specs.Zone.{outline, ringsHold, polygonsHoldBy, polygonsOf, zoneHolds, rulesBy, applicable, zonesOf}
 use Rattle.zone.specs.Answer.{Answer, refused, onMap, ofRules, ofClean, rulingOf}
@@ -22,7 +22,7 @@ WithoutHoles s = (zone : Picked) → List·Memᴰ zone (zonesOf s) → OneRingAt
 
 -- document 01's own: a file is clean by its rules on polygons, a polygon holds what a ring of it does, a zone what a polygon of it does; and the answer by
 -- these
-abbrev pub cleanOfOne : ℕ → List ℕ → Cleanness
+abbrev pub cleanOfOne : ℕ → List ℕ → Outcome
 cleanOfOne = cleanBy coordinatesOfOne
 
 unfoldable pub ringsHoldOfOne : List Picked → Point → Bool

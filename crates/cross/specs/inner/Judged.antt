@@ -8,7 +8,7 @@ use Rattle.json.specs.Tree as tree
 use Rattle.json.specs.Tree.{Members}
 use Rattle.walk.specs.declared.Item.{Item}
 use Rattle.walk.specs.Walk.{itemsOf}
-use Rattle.walk.specs.Part.{Whole, treeOf}
+use Rattle.walk.specs.Part.{Whole, partTree}
 use Rattle.walk.proofs.Parts.{itemOf}
 use Rattle.schema.specs.Records.{recordShape}
 use Rattle.schema.specs.Pick.{Picked, pick}
@@ -25,7 +25,7 @@ use Rattle.cross.specs.Cross.{faultsOf}
 
 -- every record of the array is an object
 abbrev pub Objects : List ℕ → Type 0
-Objects p = (m : Item) → List·Memᴰ m (itemsOf p) → (ms : Members) × (treeOf (itemOf p m) ≡ tree.object ms)
+Objects p = (m : Item) → List·Memᴰ m (itemsOf p) → (ms : Members) × (partTree (itemOf p m) ≡ tree.object ms)
 
 -- the bytes are an object's
 abbrev pub Object : List ℕ → Type 0

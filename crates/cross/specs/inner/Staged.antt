@@ -22,8 +22,8 @@ use Rattle.references.specs.declared.Set.{Set}
 use Rattle.cross.specs.declared.records.Findings.{Findings}
 use Rattle.cross.specs.declared.stage.Crossed.{Crossed}
 use Rattle.cross.specs.declared.stage.Crossed.the-variants.{Nothing, At}
-use Rattle.references.specs.References.{when}
-use Rattle.cross.specs.Cross.{each}
+use Rattle.references.specs.References.{kindIf}
+use Rattle.cross.specs.Cross.{eachRecord}
 use Rattle.cross.specs.inner.Judged as judged
 use Rattle.cross.specs.inner.Judged.{Objects}
 
@@ -52,13 +52,13 @@ module _ (set : Set) (types stations plans : List ℕ) where
   -- what is found of the records p of a file: the first that repeats an id, and the least of the rules that they break otherwise
   pub record Finds (file : ℕ) (p : List ℕ) (found : Findings) : Type 0 where
     pub repeats : found .repeat ≡ repeatOf file p
-    pub breaks : found .least ≡ least (each (judged.broken set types stations plans file) 1 (pickedItems (recordShape file) p))
+    pub breaks : found .least ≡ least (eachRecord (judged.broken set types stations plans file) 1 (pickedItems (recordShape file) p))
 
   -- the least of a file, of which p are the records
   unfoldable pub fileLeast : ℕ → List ℕ → Least
   fileLeast file p =
-      lesser (least (faulty top 0 (when (calledFor file set) condition)))
-      (lesser (idsLeast file p) (least (each (judged.broken set types stations plans file) 1 (pickedItems (recordShape file) p))))
+      lesser (least (faulty top 0 (kindIf (calledFor file set) condition)))
+      (lesser (idsLeast file p) (least (eachRecord (judged.broken set types stations plans file) 1 (pickedItems (recordShape file) p))))
 
   -- of the file with this number
   unfoldable pub numberedLeast : (statuses bikes zones : List ℕ) (file : ℕ) → Least

@@ -13,7 +13,7 @@ use Rattle.fields.specs.inner.Values.{memberOf, textBy, thereBy}
 use Rattle.ids.specs.inner.Ids.{hasId}
 use Rattle.ids.specs.inner.Notes.{Noted}
 use Rattle.references.specs.declared.Set.{Set}
-use Rattle.references.specs.References.{any, roomy, driven, notHuman}
+use Rattle.references.specs.References.{any, hasCapacity, motorized, notHuman}
 
 -- a record is of the sort that is asked about in its file
 abbrev pub passing : ℕ → List ℕ → Bool
@@ -32,7 +32,7 @@ anyMeets file tested id rs (suc n) = meeting file tested id (getD rs n []) ⇒ t
 
 -- the same by what is picked
 abbrev pub testOf : ℕ → Picked → Bool
-testOf file = eqb file 1 ⇒ driven else eqb file 2 ⇒ roomy else any
+testOf file = eqb file 1 ⇒ motorized else eqb file 2 ⇒ hasCapacity else any
 
 abbrev pub testedOf : ℕ → Bool → Picked → Bool
 testedOf file tested = tested ⇒ testOf file else any
