@@ -1,6 +1,6 @@
 -- The question "show record" on files, computed: the order of checking, and where records stand.
 use mathlib.Core.List.{List, [], _∷_}
-use mathlib.Core.Path.{_≡_, refl}
+use mathlib.Core.Path.{refl}
 use Prim.Native.Nat.{ℕ}
 use Rattle.notation.specs.Case.{Case, Answers, json}
 use Rattle.word.specs.Word.{noParts}

@@ -1,6 +1,6 @@
 -- Verdicts on sets, computed: what comes ahead of what. Document 01's own readings (k) and (l) stand in the table of all of them.
 use mathlib.Core.List.{List, [], _∷_, _++_}
-use mathlib.Core.Path.{_≡_, refl}
+use mathlib.Core.Path.{refl}
 use Prim.Native.Nat.{ℕ}
 use Prim.Native.String.{String}
 use Rattle.notation.specs.Case.{Case, Answers, json}

@@ -1,7 +1,7 @@
 -- Document 01's worked readings (a) to (l) as one table, (g) with document 02's W2: what is asked, and the paper's answer. One test runs over all of it.
 use mathlib.Core.Bool.{true, false}
 use mathlib.Core.List.{List, [], _∷_}
-use mathlib.Core.Path.{_≡_, refl}
+use mathlib.Core.Path.{refl}
 use Prim.Native.Nat.{ℕ}
 use Prim.Native.String.{String}
 use lib.ListN.{replicate}

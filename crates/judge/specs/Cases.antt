@@ -1,6 +1,6 @@
 -- Files and the first rule that each breaks, computed.
 use mathlib.Core.List.{List, [], _∷_, _++_}
-use mathlib.Core.Path.{_≡_, refl}
+use mathlib.Core.Path.{refl}
 use Prim.Native.Nat.{ℕ, zero, suc}
 use Prim.Native.String.{String}
 use Rattle.notation.specs.Case.{Case, Answers, json}

@@ -1,6 +1,6 @@
 -- Field 73 on cases, computed: every rule at its limit, with all that is found.
 use mathlib.Core.List.{List, [], _∷_, map}
-use mathlib.Core.Path.{_≡_, refl}
+use mathlib.Core.Path.{refl}
 use Prim.Native.Nat.{ℕ, zero, suc}
 use Prim.Native.String.{String}
 use Rattle.notation.specs.Ascii.{bytes}

@@ -1,7 +1,7 @@
 -- The zone rule on files, computed, where a rule is easy to get wrong. Document 01's own reading (j) stands in the table of all of them.
 use mathlib.Core.Bool.{Bool, true, false}
 use mathlib.Core.List.{List, [], _∷_, _++_}
-use mathlib.Core.Path.{_≡_, refl}
+use mathlib.Core.Path.{refl}
 use Prim.Native.Nat.{ℕ, _*_}
 use Prim.Native.String.{String}
 use lib.Dec.{eqb}
