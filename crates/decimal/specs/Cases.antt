@@ -17,11 +17,11 @@ use Rattle.decimal.specs.declared.Price.{Price}
 use Rattle.decimal.specs.declared.Number.the-variants as number
 use Rattle.decimal.specs.declared.Price.the-variants as price
 use Rattle.decimal.specs.Decimals.{valueOf, decimalOf, formed, behindPoint, behindWhole, numberOf, hasPoint, unsigned, priceOf}
-use Rattle.decimal.specs.Exact.{exact, natural, portion, within, millionths, moneyOf}
+use Rattle.decimal.specs.Exact.{exact, natural, portion, inRange, millionths, moneyOf}
 
 -- opens every definition of this layer
 unfoldable pub deciding : Unit {0}
-unfolding lexing number numberFrom valueOf decimalOf formed behindPoint behindWhole numberOf hasPoint unsigned priceOf exact natural portion within millionths moneyOf
+unfolding lexing number numberFrom valueOf decimalOf formed behindPoint behindWhole numberOf hasPoint unsigned priceOf exact natural portion inRange millionths moneyOf
 deciding = tt
 
 abbrev decimal : Bool → ℕ → ℕ → Decimal
@@ -74,19 +74,19 @@ integers = refl
 
 -- ranges, on the exact value
 latitudes :
-    map (of false (within 90)) ("90" ∷ "90.0" ∷ "-90" ∷ "89.999999999999999999" ∷ [])
+    map (of false (inRange 90)) ("90" ∷ "90.0" ∷ "-90" ∷ "89.999999999999999999" ∷ [])
     ≡ true ∷ true ∷ true ∷ true ∷ []
 unfolding deciding
 latitudes = refl
 
 off-latitudes :
-    map (of true (within 90)) ("90.00000001" ∷ "90.000000000000000001" ∷ "-90.00000001" ∷ "91" ∷ [])
+    map (of true (inRange 90)) ("90.00000001" ∷ "90.000000000000000001" ∷ "-90.00000001" ∷ "91" ∷ [])
     ≡ false ∷ false ∷ false ∷ false ∷ []
 unfolding deciding
 off-latitudes = refl
 
 longitudes :
-    map (of false (within 180)) ("180" ∷ "-180" ∷ "-180.000000000000000001" ∷ "180.000000000000000001" ∷ [])
+    map (of false (inRange 180)) ("180" ∷ "-180" ∷ "-180.000000000000000001" ∷ "180.000000000000000001" ∷ [])
     ≡ true ∷ true ∷ false ∷ false ∷ []
 unfolding deciding
 longitudes = refl

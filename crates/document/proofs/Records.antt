@@ -119,8 +119,8 @@ pub record Records (s : List ℕ) (span : Span) (σ : Shape) (l : List Picked) :
   pub there : Stands s start end (tree.array trees)
   pub picked : l ≡ pickedItems σ (part s start end)
 
-pub list-each : (f : Json → Picked) (ms : List Item) (g : Item → Json) → listOf (each f (tree.itemsOf (map g ms))) ≡ map (λ m. f (g m)) ms
-unfolding listOf each tree.itemsOf
+pub list-each : (f : Json → Picked) (ms : List Item) (g : Item → Json) → listOf (each f (tree.asItems (map g ms))) ≡ map (λ m. f (g m)) ms
+unfolding listOf each tree.asItems
 list-each f [] g = refl
 list-each f (m ∷ ms) g = ap (λ (l : List Picked). f (g m) ∷ l) (list-each f ms g)
 

@@ -73,8 +73,8 @@ module _ (σ : Shape) (p : List ℕ) where
         }
 
 -- an array's picked items
-each-list : (f : Json → Picked) (js : List Json) → listOf (each f (Tree.itemsOf js)) ≡ map f js
-unfolding listOf each Tree.itemsOf
+each-list : (f : Json → Picked) (js : List Json) → listOf (each f (Tree.asItems js)) ≡ map f js
+unfolding listOf each Tree.asItems
 each-list f [] = refl
 each-list f (j ∷ js) = ap (λ (l : List Picked). f j ∷ l) (each-list f js)
 

@@ -16,7 +16,7 @@ use Rattle.decimal.specs.declared.Price.{Price}
 use Rattle.decimal.specs.declared.Price.the-variants as price
 use Rattle.decimal.specs.declared.Money.the-variants as money
 use Rattle.decimal.specs.Decimals.{numberOf, hasPoint, priceOf}
-use Rattle.decimal.specs.Exact.{natural, portion, within, moneyOf}
+use Rattle.decimal.specs.Exact.{natural, portion, inRange, moneyOf}
 use Rattle.text.specs.Text.{same, sameWord, currency}
 use Rattle.schema.specs.Shape as sort
 use Rattle.schema.specs.Shape.{Sort}
@@ -53,8 +53,8 @@ numberKinds sort.timestamp s = hasPoint s ⇒ wrongType ∷ [] else formed natur
 numberKinds sort.integer s = hasPoint s ⇒ wrongType ∷ [] else formed natural (numberOf s)
 numberKinds sort.amount s = formed natural (numberOf s)
 numberKinds sort.portion s = formed portion (numberOf s)
-numberKinds sort.latitude s = formed (within 90) (numberOf s)
-numberKinds sort.longitude s = formed (within 180) (numberOf s)
+numberKinds sort.latitude s = formed (inRange 90) (numberOf s)
+numberKinds sort.longitude s = formed (inRange 180) (numberOf s)
 numberKinds sort.ordinate s = []
 numberKinds sort.money s = formed anyMoney (numberOf s)
 numberKinds sort.price s = formed priceMoney (numberOf s)
