@@ -17,7 +17,7 @@ use Rattle.word.specs.Kinds.{idTwice}
 use Rattle.json.specs.declared.Syntax.{Syntax}
 use Rattle.json.specs.declared.Syntax.the-variants as syntax
 use Rattle.json.specs.Tree.{Json}
-use Rattle.json.specs.Text.{text, verdictOf, syntaxOf}
+use Rattle.json.specs.Text.{text, syntaxBy, syntaxOf}
 use Rattle.walk.specs.Walk.{part}
 use Rattle.walk.specs.Part.{Whole}
 use Rattle.walk.proofs.Files.{Passed, passed, valueStart}
@@ -55,13 +55,13 @@ clean-there file (b ∷ s) h = refl
 
 -- stage A's offset fits the word
 pub offset-fits : (s : List ℕ) (k o : ℕ) → syntaxOf s ≡ syntax.Fault k o → o ≤ fileBytes
-unfolding syntaxOf verdictOf placed
+unfolding syntaxOf syntaxBy placed
 offset-fits s k o e = by-test (ltb fileBytes (length s)) long read
   where
     long : ltb fileBytes (length s) ≡ true → o ≤ fileBytes
     long h = let p : _≡_ {A = Syntax} (syntax.Fault _ 0) (syntax.Fault k o) = rw (h, syntaxOf) at e in let z : 0 ≡ o = cc in omega arith
 
-    go : (x : Read Json) → verdictOf (placed s x) ≡ syntax.Fault k o → length s ≤ fileBytes → o ≤ fileBytes
+    go : (x : Read Json) → syntaxBy (placed s x) ≡ syntax.Fault k o → length s ≤ fileBytes → o ≤ fileBytes
     go (done y r) i n = let z : _≡_ {A = ℕ} 0 1 = cc in absurd (omega arith)
     go (bad j r) i n = let z : length s - length r ≡ o = cc in omega arith
 

@@ -93,8 +93,8 @@ pub record Records (s : List ℕ) (span : Span) (σ : Shape) (l : List Picked) :
   pub there : Stands s start end (tree.array trees)
   pub picked : l ≡ pickedItems σ (part s start end)
 
-pub list-each : (f : Json → Picked) (ms : List Item) (g : Item → Json) → listOf (pickItems f (tree.itemsOf (map g ms))) ≡ map (λ m. f (g m)) ms
-unfolding listOf pickItems tree.itemsOf
+pub list-each : (f : Json → Picked) (ms : List Item) (g : Item → Json) → listOf (pickItems f (tree.asItems (map g ms))) ≡ map (λ m. f (g m)) ms
+unfolding listOf pickItems tree.asItems
 list-each f [] g = refl
 list-each f (m ∷ ms) g = ap (λ (l : List Picked). f (g m) ∷ l) (list-each f ms g)
 

@@ -107,8 +107,8 @@ along-tree s (name ∷ names) from upto x w a e h = go (along-tree s names) (fou
         let (z, g, v) = ih (from + c) (from + d) y (stands-found s name from upto w c d f) a e k in
         (z, rw (valueAlong, m) g, v)
 
-listed-of : (l : List Json) → listed (tree.itemsOf l) ≡ l
-unfolding listed tree.itemsOf
+listed-of : (l : List Json) → listed (tree.asItems l) ≡ l
+unfolding listed tree.asItems
 listed-of [] = refl
 listed-of (x ∷ l) = ap (λ (z : List Json). x ∷ z) (listed-of l)
 

@@ -186,11 +186,11 @@ judged p numbering σ q φ s m = (lesser (s .0) (least (faults σ (itemPlace num
 -- what the walk over the items comes to
 module _ (p : List ℕ) (numbering : Numbering) (σ : Shape) (q : Place) (φ : ℕ) where
   abbrev picks : List Item → PickedItems
-  picks ms = pickItems (λ y. pick σ y) (tree.itemsOf (map (λ m. partTree (itemOf p m)) ms))
+  picks ms = pickItems (λ y. pick σ y) (tree.asItems (map (λ m. partTree (itemOf p m)) ms))
 
   items-least : (ms : List Item) (acc : Least) (n : ℕ) →
       foldl (judged p numbering σ q φ) (acc, n) ms .0 ≡ lesser acc (least (eachItem (λ r f y. faults σ r f y) numbering q φ n (picks ms)))
-  unfolding pickItems tree.itemsOf
+  unfolding pickItems tree.asItems
   items-least [] acc n = sym (ap (lesser acc) (no-item (λ r f y. faults σ r f y) numbering q φ n) ∙ lesser-none acc)
   items-least (m ∷ ms) acc n =
       let this = least (faults σ (itemPlace numbering (n + 1) q) φ (pick σ (partTree (itemOf p m)))) in
@@ -199,7 +199,7 @@ module _ (p : List ℕ) (numbering : Numbering) (σ : Shape) (q : Place) (φ : �
       ∙ ap (lesser acc) (sym (item-first (λ r f y. faults σ r f y) numbering q φ n (pick σ (partTree (itemOf p m))) (picks ms)))
 
   items-count : (ms : List Item) (acc : Least) (n : ℕ) → foldl (judged p numbering σ q φ) (acc, n) ms .1 ≡ n + count (picks ms)
-  unfolding pickItems tree.itemsOf count listOf
+  unfolding pickItems tree.asItems count listOf
   items-count [] acc n = omega arith
   items-count (m ∷ ms) acc n = items-count ms _ (n + 1) ∙ omega arith
 

@@ -26,7 +26,7 @@ use Rattle.decimal.specs.declared.Price.{Price}
 use Rattle.decimal.specs.declared.Price.the-variants as price
 use Rattle.decimal.specs.declared.Money.the-variants as money
 use Rattle.decimal.specs.Decimals.{numberOf, priceOf}
-use Rattle.decimal.specs.Exact.{unit, size, within, amountOf, moneyOf}
+use Rattle.decimal.specs.Exact.{unit, size, inRange, amountOf, moneyOf}
 use Rattle.decimal.proofs.Tests.{within-is}
 use Rattle.document.specs.Document.{Maybe, none, some}
 use Rattle.document.proofs.Records.{pickedItems}
@@ -44,9 +44,9 @@ use Rattle.quote.proofs.Fields.{segment-is}
 
 money-most : (d : Decimal) → amountIn (moneyOf d) .size ≤ mostMoney
 unfolding moneyOf
-money-most d = go (within 1_000_000 d) refl _
+money-most d = go (inRange 1_000_000 d) refl _
   where
-    go : (a : Bool) → within 1_000_000 d ≡ a → (b : Bool)
+    go : (a : Bool) → inRange 1_000_000 d ≡ a → (b : Bool)
         → amountIn (a and b ⇒ money.Is (amountOf d) else money.Outside) .size ≤ mostMoney
     go false e b = omega arith
     go true e false = omega arith

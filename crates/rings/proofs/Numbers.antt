@@ -16,7 +16,7 @@ use Rattle.walk.proofs.Wholes.{whole-kind, whole-number}
 use Rattle.decimal.specs.declared.Decimal.{Decimal}
 use Rattle.decimal.specs.declared.Number.the-variants as number
 use Rattle.decimal.specs.Decimals.{numberOf}
-use Rattle.decimal.specs.Exact.{within, millionths}
+use Rattle.decimal.specs.Exact.{inRange, millionths}
 use Rattle.decimal.proofs.Millionths.{millionths-within}
 use Rattle.schema.specs.Shape as shape
 use Rattle.schema.specs.Pick.{Picked, bare, items, slots, pick}
@@ -121,7 +121,7 @@ up-to a h b e = go (decLe h a)
     go (no n) = omega (arith, n)
 
 -- so a coordinate in the range is at most twice its half
-pub inside-upto : (most v : ℕ) (d : Decimal) → within most d ≡ true → difference v (most * 1_000_000) ≡ millionths d → v ≤ most * 2_000_000
+pub inside-upto : (most v : ℕ) (d : Decimal) → inRange most d ≡ true → difference v (most * 1_000_000) ≡ millionths d → v ≤ most * 2_000_000
 inside-upto most v d f g =
     let k : natAbs (difference v (most * 1_000_000)) ≤ most * 1_000_000 = rw g (millionths-within most d f) in
     let q = up-to v (most * 1_000_000) (most * 1_000_000) k in
@@ -130,20 +130,20 @@ inside-upto most v d f g =
 module _ (most : ℕ) {p : List ℕ} {x : Json} (w : Whole p x) (e : isNumber (kindAt p) ≡ true) where
   pub unformed-kinds : numberOf p ≡ number.Unformed → rangeKinds most (pick numberShape x) ≡ numberForm ∷ []
   unfolding formed
-  unformed-kinds h = ap (rangeKinds most) (number-picked w e) ∙ ap (formed (within most)) h
+  unformed-kinds h = ap (rangeKinds most) (number-picked w e) ∙ ap (formed (inRange most)) h
 
   module _ (d : Decimal) (h : numberOf p ≡ number.Value d) where
-    pub outside-kinds : within most d ≡ false → rangeKinds most (pick numberShape x) ≡ outOfRange ∷ []
+    pub outside-kinds : inRange most d ≡ false → rangeKinds most (pick numberShape x) ≡ outOfRange ∷ []
     unfolding formed
-    outside-kinds f = ap (rangeKinds most) (number-picked w e) ∙ ap (formed (within most)) h ∙ ap (λ t. unless t outOfRange) f
+    outside-kinds f = ap (rangeKinds most) (number-picked w e) ∙ ap (formed (inRange most)) h ∙ ap (λ t. unless t outOfRange) f
 
-    pub measured-inside : (n v : ℕ) → within most d ≡ true → difference v (most * 1_000_000) ≡ millionths d
+    pub measured-inside : (n v : ℕ) → inRange most d ≡ true → difference v (most * 1_000_000) ≡ millionths d
         → FindsCoordinate most n (pick numberShape x) (record { least = None; value = v })
     unfolding formed
     measured-inside n v f g =
         subst (λ (y : Picked). FindsCoordinate most n y (record { least = None; value = v })) (sym (number-picked w e)) (
         record {
-          least = sym (ap (λ ks. leastFound (foundAt n ks)) (ap (formed (within most)) h ∙ ap (λ t. unless t outOfRange) f) ∙ least-empty n);
+          least = sym (ap (λ ks. leastFound (foundAt n ks)) (ap (formed (inRange most)) h ∙ ap (λ t. unless t outOfRange) f) ∙ least-empty n);
           value = λ z. g ∙ sym (ap inMillionths h);
         }
         )

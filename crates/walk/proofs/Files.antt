@@ -18,7 +18,7 @@ use Rattle.lexeme.proofs.Steps.{by-test, bad-done, done-what, done-rest, then-d
 use Rattle.json.specs.declared.Syntax.{Syntax}
 use Rattle.json.specs.declared.Syntax.the-variants as syntax
 use Rattle.json.specs.Tree.{Json}
-use Rattle.json.specs.Text.{value, finish, text, verdictOf, syntaxOf}
+use Rattle.json.specs.Text.{value, finish, text, syntaxBy, syntaxOf}
 use Rattle.json.proofs.Local.{value-part}
 use Rattle.json.proofs.Takes.{value-eats, value-takes}
 use Rattle.lexeme.proofs.Placed.{ends}
@@ -74,7 +74,7 @@ in-text s r x e short =
     }
 
 pub passed : (s : List ℕ) → syntaxOf s ≡ syntax.Sound → Passed s
-unfolding syntaxOf verdictOf placed
+unfolding syntaxOf syntaxBy placed
 passed s e = by-test (ltb fileBytes (length s)) long read
   where
     long : ltb fileBytes (length s) ≡ true → Passed s
@@ -82,7 +82,7 @@ passed s e = by-test (ltb fileBytes (length s)) long read
         let p : _≡_ {A = Syntax} (syntax.Fault _ 0) syntax.Sound = rw (h, syntaxOf) at e in
         absurd (let z : _≡_ {A = ℕ} 0 1 = cc in omega arith)
 
-    go : (o : Read Json) → text paired depth s ≡ o → verdictOf (placed s o) ≡ syntax.Sound → length s ≤ fileBytes → Passed s
+    go : (o : Read Json) → text paired depth s ≡ o → syntaxBy (placed s o) ≡ syntax.Sound → length s ≤ fileBytes → Passed s
     go (done x r) h i n = in-text s r x h n
     go (bad k r) h i n = absurd (let z : _≡_ {A = ℕ} 0 1 = cc in omega arith)
 

@@ -17,7 +17,7 @@ use Rattle.walk.specs.Walk.{part, itemsFrom, itemsOf}
 use Rattle.walk.specs.Part.{Whole, partTree}
 use Rattle.walk.specs.inner.Along.{AlongItems}
 use Rattle.decimal.specs.Decimals.{numberOf}
-use Rattle.decimal.specs.Exact.{within}
+use Rattle.decimal.specs.Exact.{inRange}
 use Rattle.geometry.specs.Ring.{Point, sound}
 use Rattle.geometry.specs.inner.Shifted.{OnMap, InRange, point, points}
 use Rattle.schema.specs.Shape as shape
@@ -86,7 +86,7 @@ isNumber kind.Object = false
 abbrev pub rangeKinds : ℕ → Picked → List ℕ
 rangeKinds k (bare tree.null) = wrongType ∷ []
 rangeKinds k (bare (tree.boolean b)) = wrongType ∷ []
-rangeKinds k (bare (tree.number s)) = formed (within k) (numberOf s)
+rangeKinds k (bare (tree.number s)) = formed (inRange k) (numberOf s)
 rangeKinds k (bare (tree.string s)) = wrongType ∷ []
 rangeKinds k (bare (tree.array is)) = wrongType ∷ []
 rangeKinds k (bare (tree.object ms)) = wrongType ∷ []
