@@ -73,8 +73,8 @@ module _ (σ : Shape) (p : List ℕ) where
         }
 
 -- an array's picked items
-each-list : (f : Json → Picked) (js : List Json) → listOf (pickItems f (Tree.itemsOf js)) ≡ map f js
-unfolding listOf pickItems Tree.itemsOf
+each-list : (f : Json → Picked) (js : List Json) → listOf (pickItems f (Tree.asItems js)) ≡ map f js
+unfolding listOf pickItems Tree.asItems
 each-list f [] = refl
 each-list f (j ∷ js) = ap (λ (l : List Picked). f j ∷ l) (each-list f js)
 

@@ -54,14 +54,14 @@ module _ (p : List ℕ) where
 
   module _ (name : List ℕ) where
     fold-found : (ms : List Member) (o : Found)
-        → treeIn p (foldl (noted p name) o ms) ≡ joined (treeIn p o) (find name (Tree.membersOf (map (memberTree p) ms)))
-    unfolding find Tree.membersOf
+        → treeIn p (foldl (noted p name) o ms) ≡ joined (treeIn p o) (find name (Tree.asMembers (map (memberTree p) ms)))
+    unfolding find Tree.asMembers
     fold-found [] o = sym (joined-missing (treeIn p o))
     fold-found (m ∷ ms) o =
         fold-found ms (noted p name o m)
-        ∙ joined-member (same (nameOf p m) name) (m .value) (m .«value_end») o (find name (Tree.membersOf (map (memberTree p) ms)))
-        ∙ ap (λ (t : Bool). joined (treeIn p o) (t ⇒ again (partTree (valueOf p m)) (find name (Tree.membersOf (map (memberTree p) ms)))
-        else find name (Tree.membersOf (map (memberTree p) ms)))) (same-sym (nameOf p m) name)
+        ∙ joined-member (same (nameOf p m) name) (m .value) (m .«value_end») o (find name (Tree.asMembers (map (memberTree p) ms)))
+        ∙ ap (λ (t : Bool). joined (treeIn p o) (t ⇒ again (partTree (valueOf p m)) (find name (Tree.asMembers (map (memberTree p) ms)))
+        else find name (Tree.asMembers (map (memberTree p) ms)))) (same-sym (nameOf p m) name)
 
     pub find-found : {ms : Tree.Members} → Whole p (Json.object ms) → find name ms ≡ treeIn p (foundIn p name)
     unfolding foundIn joined

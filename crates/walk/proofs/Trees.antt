@@ -127,13 +127,13 @@ module _ (p : List ℕ) where
   unfolding itemAt start digit within
   item-stops at q e = item-none p (blanks (drop at p)) (ap (value paired depth) e ∙ value-none depth (0x5d ∷ q) refl)
 
-  pub array-parts : {is : Tree.Items} → Whole p (Json.array is) → is ≡ Tree.itemsOf (map (λ m. partTree (itemOf p m)) (itemsOf p))
+  pub array-parts : {is : Tree.Items} → Whole p (Json.array is) → is ≡ Tree.asItems (map (λ m. partTree (itemOf p m)) (itemsOf p))
   unfolding itemsOf
   array-parts w =
       let o = whole-array w in
       let d = o .levels in
       let h : d ≤ depth = omega (arith, o .less) in
-      sym (ap Tree.itemsOf (bracketed-met p (itemSteps p) (λ m. partTree (itemOf p m)) 0x5d (value paired d) (value-eats paired d) (value-takes paired d)
+      sym (ap Tree.asItems (bracketed-met p (itemSteps p) (λ m. partTree (itemOf p m)) 0x5d (value paired d) (value-eats paired d) (value-takes paired d)
       (item-meets d h) item-stops refl 1 (o .elements) [] (o .reads)) ∙ o .is)
 
 -- members
@@ -175,7 +175,7 @@ module _ (p : List ℕ) where
   unfolding memberAt
   member-stops at q e = member-unnamed p (blanks (drop at p)) (ap (expect 0x22 (Strings.string paired 0)) e ∙ expect-other 0x22 _ 0x7d q refl)
 
-  pub object-parts : {ms : Tree.Members} → Whole p (Json.object ms) → ms ≡ Tree.membersOf (map memberTree (membersOf p))
+  pub object-parts : {ms : Tree.Members} → Whole p (Json.object ms) → ms ≡ Tree.asMembers (map memberTree (membersOf p))
   unfolding membersOf
   object-parts w =
       let o = whole-object w in
@@ -183,5 +183,5 @@ module _ (p : List ℕ) where
       let h : d ≤ depth = omega (arith, o .less) in
       let eats = member-eats paired (value paired d) (value-eats paired d) in
       let takes = member-takes paired (value paired d) (value-eats paired d) (value-takes paired d) in
-      sym (ap Tree.membersOf (bracketed-met p (memberSteps p) memberTree 0x7d (member paired (value paired d)) eats takes
+      sym (ap Tree.asMembers (bracketed-met p (memberSteps p) memberTree 0x7d (member paired (value paired d)) eats takes
       (member-meets d h) member-stops refl 1 (o .elements) [] (o .reads)) ∙ o .is)
