@@ -23,6 +23,7 @@ counts-agree (suc zero) h = refl
 counts-agree (suc (suc m)) h = absurd (omega (arith, h))
 
 polygon-one : (n : ℕ) (x : Picked) → itemCount x ≤ 1 → polygon n x ≡ polygonOfOne n x
+unfolding count
 polygon-one n (items is) h = ap (λ (t : Bool). foundAt n (unless t badRing) ++ ringsFound n (listOf is)) (counts-agree (count is) h)
 polygon-one n (bare x) h = refl
 polygon-one n (slots ss) h = refl

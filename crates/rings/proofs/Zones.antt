@@ -76,6 +76,7 @@ module _ {p : List ℕ} {x : Json} (w : Whole p x) (n : ℕ) where
       }
 
   pub polygon-other : isArray (kindAt p) ≡ false → TellsPolygon n (pick polygonShape x) (record { rings = 0; positions = 0; least = At n wrongType })
+  unfolding itemTotal
   polygon-other e =
       let k = other-picked shape.positions ceiling.rings ringShape x w e in
       rw (k .1) record { rings = refl; positions = refl; least = sym (least-one n wrongType) }
