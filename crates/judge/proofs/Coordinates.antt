@@ -23,10 +23,7 @@ rings-room [] few = omega arith
 rings-room (x ∷ l) few = omega (arith, few x (List·Memᴰ·head refl), rings-room l (λ y i. few y (List·Memᴰ·tail i)))
 
 polygon-room : (x : Picked) → ((r : Picked) → List·Memᴰ r (elements x) → itemCount r ≤ ceiling.positions) → polygonPositions x ≤ ceiling.positions * itemCount x
-unfolding count
-polygon-room (items is) few = rings-room (listOf is) few
-polygon-room (bare x) few = omega arith
-polygon-room (slots ss) few = omega arith
+polygon-room x few = rings-room (elements x) few
 
 polygons-room : (l : List Picked) → ((x r : Picked) → List·Memᴰ x l → List·Memᴰ r (elements x) → itemCount r ≤ ceiling.positions)
     → polygonsPositions l ≤ ceiling.positions * itemTotal l

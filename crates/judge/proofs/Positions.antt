@@ -102,6 +102,7 @@ rings-upTo n [] = none
 rings-upTo n (x ∷ l) = all-append (upTo-more (omega arith) (ring-upTo n x)) (upTo-more (omega arith) (rings-upTo (n + itemCount x) l))
 
 polygon-upTo : (n : ℕ) (x : Picked) → AllUpTo (n + polygonPositions x) (polygon n x)
+unfolding itemTotal
 polygon-upTo n (bare x) = no-array n
 polygon-upTo n (items is) = all-append (at-upTo n (omega arith) (unless-kinds (isRingCount (count is)) badRing (omega arith))) (rings-upTo n (listOf is))
 polygon-upTo n (slots ss) = no-array n
@@ -196,7 +197,7 @@ module _ (p : Place) (φ : ℕ) where
     -- a polygon of such rings
     long-polygon : (n : ℕ) (x : Picked) → n + ceiling.positions * itemCount x ≤ greatest → ceiling.positions * itemCount x < polygonPositions x
         → Small (p .«record») φ (N (polygon n x))
-    unfolding count
+    unfolding count itemTotal
     long-polygon n (bare x) h o = absurd (omega arith)
     long-polygon n (items is) h o =
         let l = listOf is in
