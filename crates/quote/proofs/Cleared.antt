@@ -37,10 +37,11 @@ use Rattle.judge.specs.Faults.{faulty, faultsBy, faults}
 use Rattle.document.specs.Document.{some, elementsOf, field, fieldItems}
 use Rattle.document.proofs.Fields.{Lists}
 use Rattle.document.proofs.Records.{pickedItems}
+use Rattle.document.proofs.Ways.{Requires, lists}
 use Rattle.fields.specs.inner.Values.{kindCode, memberOf, arrayBy}
 use Rattle.fields.proofs.Values.{Holds, member-holds}
 use Rattle.fields.proofs.Fields.{field-items}
-use Rattle.clean.proofs.Faultless.{Requires, lists, object-there, required-there, field-there, field-sound, items-few, array-there, items-there}
+use Rattle.clean.proofs.Faultless.{object-there, required-there, field-there, field-sound, items-few, array-there, items-there}
 use Rattle.quote.specs.inner.Clear.{Clear, ClearValue}
 
 cons-nil : {A B : Type 0} {x : A} {l : List A} → x ∷ l ≡ [] → B

@@ -27,10 +27,11 @@ use Rattle.judge.specs.declared.Place.{Place}
 use Rattle.judge.specs.Faults.{faulty, numbered, faultsBy, faults}
 use Rattle.document.specs.Document.{Maybe, none, some, elementsOf, field, along}
 use Rattle.document.proofs.Fields.{none-some}
+use Rattle.document.proofs.Ways.{Requires, here, below, lists, Leads, arrived, into}
 use Rattle.fields.specs.inner.Values.{memberOf}
 use Rattle.fields.proofs.Sizes.{part-short, member-short, array-short}
 use Rattle.fields.proofs.Values.{Holds, member-holds}
-use Rattle.clean.proofs.Faultless.{Requires, here, below, lists, Demands, arrived, into, demands-there}
+use Rattle.clean.proofs.Faultless.{demands-there}
 use Rattle.zone.specs.inner.Clean.{CleanRing, CleanItems, CleanZone}
 use Rattle.zone.proofs.Fields.{member-listing}
 use Rattle.zone.proofs.Zoned.{polygonBytes, propertyBytes, zone-polygons}
@@ -150,7 +151,7 @@ module _ {p : List ℕ} (c : CleanZone p) where
   properties-whole = required-whole {f = 74} (below refl (below refl here)) (c .whole) (c .clear .place) (c .clear .field) (c .clear .clear)
 
 -- the coordinates of a zone
-coordinates-demanded : Demands zone (71 ∷ 73 ∷ []) coordinates
+coordinates-demanded : Leads zone (record { field = 71; name = bytes "geometry" } ∷ record { field = 73; name = bytes "coordinates" } ∷ []) coordinates
 unfolding zone
 coordinates-demanded = into (below refl here) (into (below refl here) arrived)
 

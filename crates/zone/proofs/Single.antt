@@ -14,6 +14,7 @@ use Rattle.json.specs.Tree.{Json}
 use Rattle.schema.specs.Shape as shape
 use Rattle.schema.specs.Shape.{fileShape}
 use Rattle.schema.specs.Table23.{table23, written23, coordinates, zone}
+use Rattle.schema.specs.Records.{located}
 use Rattle.schema.specs.Pick.{Picked, pick, elements}
 use Rattle.geometry.specs.Ring.{Point}
 use Rattle.geometry.specs.Held.{holds, polygonHolds}
@@ -94,7 +95,7 @@ unfolding fileShape written23 plain
 to-zones = into (below refl refl (below refl refl (below refl refl (here refl)))) (into (here refl) (into (below refl refl (here refl)) arrived))
 
 zones-along : (s : List ℕ) → zonesOf s ≡ elementsOf (along (4 ∷ 5 ∷ 7 ∷ []) (pick (fileShape table23 6) (treeOf s)))
-unfolding recordsOf
+unfolding located recordsOf
 zones-along s = refl
 
 zone-alike : (x : Json) → OneRingAtMost (polygonsOf (pick zone x)) → Alike zone (pick zone x)
