@@ -1,51 +1,62 @@
 -- The kinds of document 01, "Kinds", by name.
 use Prim.Native.Nat.{ℕ}
 
--- Stage A: the file is too long (1) or no JSON text (2), a surrogate escape lacks its other half (3), a bracket goes past the deepest level (4).
+-- the file is too long
 abbrev pub tooLong : ℕ
 tooLong = 1
 
+-- the file is no JSON text
 abbrev pub notJson : ℕ
 notJson = 2
 
+-- a surrogate escape without its other half
 abbrev pub unpaired : ℕ
 unpaired = 3
 
+-- a bracket past the deepest level
 abbrev pub tooDeep : ℕ
 tooDeep = 4
 
--- Stage B: a listed name comes twice in one object (5), a required member is missing (6), a value is of the wrong type (7), a number is not in the form of listed
--- numbers (8), a value is out of range or none of those listed (9), there are too many items (10), a polygon, ring or position is none (11).
+-- a listed name twice in one object
 abbrev pub nameTwice : ℕ
 nameTwice = 5
 
+-- a required member is not there
 abbrev pub missing : ℕ
 missing = 6
 
+-- a value of the wrong type
 abbrev pub wrongType : ℕ
 wrongType = 7
 
+-- a number that is not in the form of listed numbers
 abbrev pub numberForm : ℕ
 numberForm = 8
 
+-- a value out of range, or none of those listed
 abbrev pub outOfRange : ℕ
 outOfRange = 9
 
+-- too many items
 abbrev pub tooMany : ℕ
 tooMany = 10
 
+-- a polygon, ring or position that is none
 abbrev pub badRing : ℕ
 badRing = 11
 
--- Stage C: an id was used before in its file (12), a reference names nothing (13), a condition is not met (14), a sum differs (15).
+-- an id used before in its file
 abbrev pub idTwice : ℕ
 idTwice = 12
 
+-- a reference to nothing
 abbrev pub dangling : ℕ
 dangling = 13
 
+-- a condition that is not met
 abbrev pub condition : ℕ
 condition = 14
 
+-- a sum that differs
 abbrev pub sumDiffers : ℕ
 sumDiffers = 15
