@@ -6,8 +6,10 @@ use borrow.Author.Tests.{lt-ltb, le-ltb, ne-eqb}
 use Rattle.lexeme.specs.declared.Next.{Next}
 use Rattle.lexeme.specs.inner.Class.{leadOf}
 use Rattle.lexeme.specs.Character.Surrogates.{paired}
-use Rattle.lexeme.specs.Character.{byte, Lead, lead, char1, escape, nextBy, next}
+use Rattle.lexeme.specs.Character.{byte, char1, escape, next}
+use Rattle.lexeme.specs.inner.Lead.{Lead, lead, nextBy}
 use Rattle.character.proofs.Ranges.{NoneOf}
+use Rattle.lexeme.proofs.Leads.{next-led}
 
 pub class-plain : (c : ℕ) → c < 14 → leadOf c ≡ Lead.plain
 unfolding leadOf
@@ -26,9 +28,8 @@ module _ (l : List ℕ) {c : ℕ} where
   by-class e f = f ∙ ap (λ k. nextBy paired l (leadOf k)) (sym e)
 
 pub next-class : {n : Next} {b : ℕ} (l : List ℕ) (c : ℕ) → b ≡ byte l 0 → leadOf c ≡ lead b → n ≡ nextBy paired l (leadOf c) → n ≡ next paired l
-unfolding next
-next-class l c e f g = g ∙ ap (nextBy paired l) (f ∙ ap lead e)
+next-class l c e f g = g ∙ sym (next-led paired l (ap lead (sym e) ∙ sym f))
 
 pub next-escape : {n : Next} {b : ℕ} (l : List ℕ) → b ≡ byte l 0 → b ≡ 0x5c → n ≡ escape paired l → n ≡ next paired l
-unfolding next nextBy lead
-next-escape l e f g = g ∙ ap (λ z. nextBy paired l (lead z)) (sym f ∙ e)
+unfolding next
+next-escape l e f g = g ∙ rw (← e, f)

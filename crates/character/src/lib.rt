@@ -23,12 +23,13 @@ ghost use lib.ListN.{drop};
 ghost use Rattle.lexeme.specs.Character as spec;
 ghost use Rattle.lexeme.specs.Character.{paired};
 ghost use Rattle.lexeme.specs.inner.Class.{leadOf, Classifies};
+ghost use Rattle.lexeme.specs.inner.Lead.{nextBy};
 
 // What stands at `at`, inside a string, where the first byte has the class.
 // Shut out: an overlong form, a surrogate or a number past 10FFFF let through as UTF-8; a control character taken for a plain one.
 pub fn next_by(table: &[u8; 256], s: &[u8], at: usize, class: u8) -> Next
     requires { ⌜ Classifies (now table) ⌝ }
-    ensures { λ r. ⌜ r ≡ spec.nextBy paired (drop at (now (s .entry))) (leadOf class) ⌝ }
+    ensures { λ r. ⌜ r ≡ nextBy paired (drop at (now (s .entry))) (leadOf class) ⌝ }
 {
     if class < Class::QUOTE {
         return Next::Character(Char {

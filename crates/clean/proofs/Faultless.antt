@@ -1,32 +1,30 @@
 -- What a file without a fault of stage B is sure to hold: each required member once, of its shape, and so an array of records, no more than
 -- the ceiling, in each of which no fault is found either. And of a row of any need: its field is not there, or faultless.
 use mathlib.Core.Bool.{Bool, true, false}
-use mathlib.Core.List.{List, [], _∷_, _++_, List·Memᴰ, List·Memᴰ·cases-cons, List·Memᴰ·not-nil}
+use mathlib.Core.List.{List, [], _∷_, _++_, map, List·Memᴰ, List·Memᴰ·cases-cons, List·Memᴰ·not-nil}
 use mathlib.Core.Logic.{_⊎_, inl, inr, ⊎-elim}
 use mathlib.Core.Path.{_≡_, refl, sym, ap, _∙_}
-use Prim.Native.Nat.{ℕ, zero, suc, _+_, _≤_}
+use Prim.Native.Nat.{ℕ, _+_, _≤_}
 use native.Mathlib.Omega.{arith}
-use lib.Dec.{eqb, leb}
+use lib.Dec.{leb}
 use lib.ListN.{length}
 use borrow.Author.Tests.{leb-true}
-use Rattle.limits.specs.Ceilings as ceiling
 use Rattle.word.specs.Kinds.{nameTwice, tooMany}
 use Rattle.json.specs.Tree as tree
 use Rattle.json.specs.Tree.{Json, Members}
 use Rattle.schema.specs.Shape as shape
-use Rattle.schema.specs.Shape.{Shape, Rows, Need, Numbering, fileShape}
-use Rattle.schema.specs.Table23.{table23, listing, file, zones}
-use Rattle.schema.specs.Pick.{Picked, PickedItems, items, noItem, item, Slots, Slot, missing, once, twice, given, put, each, pick, pickRows, find, listOf}
+use Rattle.schema.specs.Shape.{Shape, Rows, Need, Numbering}
+use Rattle.schema.specs.Records.{Key}
+use Rattle.schema.specs.Pick.{Picked, PickedItems, items, noItem, item, Slots, Slot, missing, once, twice, filled, put, pickItems, pick, pickRows, find, listOf}
 use Rattle.fault.specs.declared.Fault.{Fault}
 use Rattle.scalar.specs.Scalars.{unless}
 use Rattle.rings.specs.Rings as rings
 use Rattle.judge.specs.declared.Place.{Place}
-use Rattle.judge.specs.Faults.{Judge, faulty, absence, itemPlace, byNumbering, eachItem, coordinateFaults, slotFaults, faults, rowFaults}
+use Rattle.judge.specs.Faults.{Judge, faulty, absence, itemPlace, byNumbering, eachItem, coordinateFaults, slotFaults, faultsBy, faults, rowFaultsBy, rowFaults}
 use Rattle.document.specs.Document.{none, some, onceOnly, field, fieldItems, along}
-use Rattle.document.specs.inner.Path.{path}
 use Rattle.document.proofs.Fields as fields
 use Rattle.document.proofs.Fields.{Lists, over, at-row}
-use Rattle.document.proofs.Records.{recordShape}
+use Rattle.document.proofs.Ways.{Requires, here, below, lists, Leads, arrived, into}
 
 cons-nil : {A B : Type 0} {x : A} {l : List A} → x ∷ l ≡ [] → B
 cons-nil e = let z : _≡_ {A = ℕ} 0 1 = cc in absurd (omega arith)
@@ -44,15 +42,6 @@ none-faulty : {B : Type 0} (p : Place) (φ k : ℕ) (ks : List ℕ) → faulty p
 unfolding faulty
 none-faulty p φ k ks e = cons-nil e
 
--- the first row of the field f is required, and has this name and shape
-pub data Requires (f : ℕ) (name : List ℕ) (σ : Shape) : Rows → Type 0 where
-  here : {rows : Rows} → Requires f name σ (shape.row f shape.required name σ rows)
-  below : {g : ℕ} {need : Need} {n : List ℕ} {τ : Shape} {rows : Rows} → eqb f g ≡ false → Requires f name σ rows → Requires f name σ (shape.row g need n τ rows)
-
-pub lists : {f : ℕ} {name : List ℕ} {σ : Shape} {rows : Rows} → Requires f name σ rows → Lists f name σ rows
-lists here = fields.here
-lists (below e r) = fields.below e (lists r)
-
 -- a slot in which nothing is found leaves the rows below
 slot-rest : (judge : Judge) (need : Need) (p : Place) (φ : ℕ) (rest : Place → Slots → List Fault) (g : Json → Picked) (o : Slot Json) (ss : Slots)
     → slotFaults judge need p φ rest (put φ g o ss) ≡ [] → rest p ss ≡ []
@@ -68,17 +57,17 @@ slot-once judge p φ rest g (once z) ss e = (z, refl, none-left (judge p φ (g z
 slot-once judge p φ rest g twice ss e = none-faulty p φ _ _ (none-left _ (rest p ss) e)
 
 pub required-there : {f : ℕ} {name : List ℕ} {σ : Shape} {rows : Rows} → Requires f name σ rows → (p : Place) (ms : Members) → rowFaults rows p (pickRows rows ms) ≡ []
-    → (z : Json) × (given (find name ms) ≡ once z) × (faults σ p f (pick σ z) ≡ [])
-unfolding rowFaults pickRows
+    → (z : Json) × (filled (find name ms) ≡ once z) × (faults σ p f (pick σ z) ≡ [])
+unfolding rowFaultsBy pickRows
 required-there {f} {name} {σ} (here {rows = rows}) p ms e =
-    slot-once (λ q g y. faults σ q g y) p f (λ q rest. rowFaults rows q rest) (λ y. pick σ y) (given (find name ms)) (pickRows rows ms) e
+    slot-once (λ q g y. faults σ q g y) p f (λ q rest. rowFaults rows q rest) (λ y. pick σ y) (filled (find name ms)) (pickRows rows ms) e
 required-there (below {g = g} {need = need} {n = n} {τ = τ} {rows = rows} i r) p ms e =
-    required-there r p ms (slot-rest (λ q h y. faults τ q h y) need p g (λ q rest. rowFaults rows q rest) (λ y. pick τ y) (given (find n ms)) (pickRows rows ms) e)
+    required-there r p ms (slot-rest (λ q h y. faults τ q h y) need p g (λ q rest. rowFaults rows q rest) (λ y. pick τ y) (filled (find n ms)) (pickRows rows ms) e)
 
 module _ (p : Place) (φ : ℕ) where
   pub object-there : (rows : Rows) (x : Json) → faults (shape.object rows) p φ (pick (shape.object rows) x) ≡ []
       → (ms : Members) × (x ≡ tree.object ms) × (rowFaults rows p (pickRows rows ms) ≡ [])
-  unfolding faults pick
+  unfolding faultsBy pick
   object-there rows (tree.object ms) e = (ms, refl, e)
   object-there rows tree.null e = none-faulty p φ _ _ e
   object-there rows (tree.boolean b) e = none-faulty p φ _ _ e
@@ -91,9 +80,9 @@ module _ (p : Place) (φ : ℕ) where
     pub array-there : (x : Json) → faults (shape.array numbering most σ) p φ (pick (shape.array numbering most σ) x) ≡ []
         → (is : PickedItems) × (pick (shape.array numbering most σ) x ≡ items is) × (leb (rings.count is) most ≡ true)
         × (eachItem (λ q f y. faults σ q f y) numbering p φ 0 is ≡ [])
-    unfolding faults pick
+    unfolding faultsBy pick
     array-there (tree.array js) e =
-        let is = each (λ y. pick σ y) js in
+        let is = pickItems (λ y. pick σ y) js in
         let excess = faulty p φ (unless (leb (rings.count is) most) tooMany) in
         let inner = eachItem (λ q f y. faults σ q f y) numbering p φ 0 is in
         let h = sym (single (excess ++ inner) (coordinateFaults p φ (items is))) ∙ e in
@@ -127,12 +116,12 @@ slot-sound judge need p φ rest g (once z) ss e = inr (z, refl, none-left (judge
 slot-sound judge need p φ rest g twice ss e = none-faulty p φ _ _ (none-left _ (rest p ss) e)
 
 pub row-sound : {f : ℕ} {name : List ℕ} {σ : Shape} {rows : Rows} → Lists f name σ rows → (p : Place) (ms : Members) → rowFaults rows p (pickRows rows ms) ≡ []
-    → (given (find name ms) ≡ missing) ⊎ ((z : Json) × (given (find name ms) ≡ once z) × (faults σ p f (pick σ z) ≡ []))
-unfolding rowFaults pickRows
+    → (filled (find name ms) ≡ missing) ⊎ ((z : Json) × (filled (find name ms) ≡ once z) × (faults σ p f (pick σ z) ≡ []))
+unfolding rowFaultsBy pickRows
 row-sound {f} {name} {σ} (fields.here {need = need} {rows = rows}) p ms e =
-    slot-sound (λ q g y. faults σ q g y) need p f (λ q rest. rowFaults rows q rest) (λ y. pick σ y) (given (find name ms)) (pickRows rows ms) e
+    slot-sound (λ q g y. faults σ q g y) need p f (λ q rest. rowFaults rows q rest) (λ y. pick σ y) (filled (find name ms)) (pickRows rows ms) e
 row-sound (fields.below {g = g} {need = need} {n = n} {τ = τ} {rows = rows} i r) p ms e =
-    row-sound r p ms (slot-rest (λ q h y. faults τ q h y) need p g (λ q rest. rowFaults rows q rest) (λ y. pick τ y) (given (find n ms)) (pickRows rows ms) e)
+    row-sound r p ms (slot-rest (λ q h y. faults τ q h y) need p g (λ q rest. rowFaults rows q rest) (λ y. pick τ y) (filled (find n ms)) (pickRows rows ms) e)
 
 -- so its field is not there, or holds such a value
 module _ {f : ℕ} {name : List ℕ} {rows : Rows} (p : Place) (φ : ℕ) (x : Json) (e : faults (shape.object rows) p φ (pick (shape.object rows) x) ≡ []) where
@@ -141,7 +130,7 @@ module _ {f : ℕ} {name : List ℕ} {rows : Rows} (p : Place) (φ : ℕ) (x : J
   unfolding field pick
   field-sound {σ} l =
       let o = object-there p φ rows x e in
-      let is : (s : Slot Json) → given (find name (o .0)) ≡ s → field f (pick (shape.object rows) x) ≡ onceOnly (over (pick σ) s) =
+      let is : (s : Slot Json) → filled (find name (o .0)) ≡ s → field f (pick (shape.object rows) x) ≡ onceOnly (over (pick σ) s) =
       λ s k. ap (λ (y : Json). field f (pick (shape.object rows) y)) (o .1) ∙ ap onceOnly (at-row l (o .0)) ∙ ap (λ (t : Slot Json). onceOnly (over (pick σ) t)) k in
       ⊎-elim (λ k. inl (is missing k)) (λ k. inr (k .0, is (once (k .0)) (k .1), k .2)) (row-sound l p (o .0) (o .2))
 
@@ -155,35 +144,19 @@ module _ {f : ℕ} {name : List ℕ} {rows : Rows} (p : Place) (φ : ℕ) (x : J
       (field-sound l)
 
 -- the field of a required row
-pub field-there : {f : ℕ} {name : List ℕ} {σ : Shape} {rows : Rows} → Requires f name σ rows → (ms : Members) (z : Json) → given (find name ms) ≡ once z
+pub field-there : {f : ℕ} {name : List ℕ} {σ : Shape} {rows : Rows} → Requires f name σ rows → (ms : Members) (z : Json) → filled (find name ms) ≡ once z
     → field f (pick (shape.object rows) (tree.object ms)) ≡ some (pick σ z)
 unfolding field pick
 field-there {σ = σ} r ms z e = ap onceOnly (at-row (lists r) ms) ∙ ap (λ (o : Slot Json). onceOnly (over (pick σ) o)) e
 
--- required rows that lead on
-pub data Demands : Shape → List ℕ → Shape → Type 0 where
-  arrived : {σ : Shape} → Demands σ [] σ
-  into : {f : ℕ} {name : List ℕ} {σ τ : Shape} {rows : Rows} {fs : List ℕ} → Requires f name σ rows → Demands σ fs τ → Demands (shape.object rows) (f ∷ fs) τ
-
-pub demands-there : {σ τ : Shape} {fs : List ℕ} → Demands σ fs τ → (p : Place) (φ : ℕ) (x : Json) → faults σ p φ (pick σ x) ≡ []
-    → (z : Json) × (ψ : ℕ) × (along fs (pick σ x) ≡ some (pick τ z)) × (faults τ p ψ (pick τ z) ≡ [])
+-- along rows that are required and lead on
+pub demands-there : {σ τ : Shape} {ks : List Key} → Leads σ ks τ → (p : Place) (φ : ℕ) (x : Json) → faults σ p φ (pick σ x) ≡ []
+    → (z : Json) × (ψ : ℕ) × (along (map (λ k. k .field) ks) (pick σ x) ≡ some (pick τ z)) × (faults τ p ψ (pick τ z) ≡ [])
 unfolding along
 demands-there arrived p φ x e = (x, φ, refl, e)
-demands-there (into {f = f} {rows = rows} {fs = fs} r d) p φ x e =
+demands-there (into {f = f} {rows = rows} r d) p φ x e =
     let o = object-there p φ rows x e in
     let h = required-there r p (o .0) (o .2) in
     let k = demands-there d p f (h .0) (h .2) in
     let g = ap (λ (y : Json). field f (pick (shape.object rows) y)) (o .1) ∙ field-there r (o .0) (h .0) (h .1) in
     (k .0, k .1, rw (along, g) (k .2), k .3)
-
--- the records of each file are demanded
-pub demands-to : (n : ℕ) → 1 ≤ n → n ≤ 6 → Demands (fileShape table23 n) (path (eqb n 6)) (shape.array shape.records ceiling.records (recordShape n))
-unfolding fileShape table23 listing file zones recordShape
-demands-to zero h i = absurd (omega arith)
-demands-to (suc zero) h i = into (below refl (below refl (below refl here))) (into here arrived)
-demands-to (suc (suc zero)) h i = into (below refl (below refl (below refl here))) (into here arrived)
-demands-to (suc (suc (suc zero))) h i = into (below refl (below refl (below refl here))) (into here arrived)
-demands-to (suc (suc (suc (suc zero)))) h i = into (below refl (below refl (below refl here))) (into here arrived)
-demands-to (suc (suc (suc (suc (suc zero))))) h i = into (below refl (below refl (below refl here))) (into here arrived)
-demands-to (suc (suc (suc (suc (suc (suc zero)))))) h i = into (below refl (below refl (below refl here))) (into here (into (below refl here) arrived))
-demands-to (suc (suc (suc (suc (suc (suc (suc n))))))) h i = absurd (omega arith)

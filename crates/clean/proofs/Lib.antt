@@ -4,3 +4,4 @@ pub mod Repeated
 pub mod Judged
 pub mod Shows
 pub mod Cleans
+pub mod Alike

@@ -4,8 +4,7 @@ use mathlib.Core.Bool.{Bool, true, false}
 use mathlib.Core.List.{List, [], _∷_, map, List·Memᴰ, List·Memᴰ·head, List·Memᴰ·tail, List·Memᴰ·cases-cons, List·Memᴰ·not-nil, Memᴰ·map}
 use mathlib.Core.Logic.{⊎-elim}
 use mathlib.Core.Path.{_≡_, refl, sym, ap, subst, _∙_}
-use Prim.Native.Nat.{ℕ, zero, suc, _+_, _*_, _≤_}
-use native.Mathlib.Decide.{ℕ-discrete}
+use Prim.Native.Nat.{ℕ, _+_, _≤_}
 use native.Mathlib.Omega.{arith}
 use lib.Dec.{eqb}
 use lib.ListN.{length, length-map}
@@ -21,12 +20,13 @@ use Rattle.text.specs.Text.{same}
 use Rattle.walk.specs.declared.Item.{Item}
 use Rattle.walk.specs.Walk.{part, itemsOf}
 use Rattle.walk.specs.inner.Along.{AlongItems}
-use Rattle.walk.specs.Part.{treeOf}
+use Rattle.walk.specs.Part.{partTree}
 use Rattle.walk.proofs.Parts.{itemOf, items-whole}
 use Rattle.walk.proofs.Files.{Passed, passed}
 use Rattle.schema.specs.Shape as shape
 use Rattle.schema.specs.Shape.{Shape, fileShape}
-use Rattle.schema.specs.Table23.{table23, zone}
+use Rattle.schema.specs.Table23.{table23}
+use Rattle.schema.specs.Records.{recordShape}
 use Rattle.schema.specs.Pick.{Picked, items, pick, listOf}
 use Rattle.fault.specs.declared.Fault.{Fault}
 use Rattle.fault.specs.declared.Least.the-variants.{None}
@@ -35,22 +35,21 @@ use Rattle.fault.proofs.Order.{later-record}
 use Rattle.fault.proofs.Leasts.{least-one, least-none, none-least, least-early}
 use Rattle.rings.specs.Rings as rings
 use Rattle.judge.specs.declared.Place.{Place}
-use Rattle.judge.specs.Faults.{top, faults, fileFaults}
+use Rattle.judge.specs.Faults.{top, faults, fileFaultsBy, fileFaults}
 use Rattle.document.specs.Document as document
-use Rattle.document.specs.Document.{Maybe, none, some, then, textIn, elementsOf, along}
-use Rattle.document.specs.inner.Path.{path}
+use Rattle.document.specs.Document.{Maybe, none, some, elementsOf, along}
 use Rattle.document.specs.Spans.{recordsSpan}
 use Rattle.document.specs.inner.Spans.{RecordsFrom}
-use Rattle.document.proofs.Fields.{noRow, past, field-lacks}
+use Rattle.document.proofs.Ways.{records-of}
 use Rattle.document.proofs.Rests.{rest-along, rest-picked}
-use Rattle.document.proofs.Records.{recordShape, pickedItems, Records, records-stand}
-use Rattle.ids.specs.inner.Ids.{idOf, Singles, recordBytes, anyHas, repeated, repeatFrom, firstRepeat}
+use Rattle.document.proofs.Records.{pickedItems, Records, records-stand}
+use Rattle.ids.specs.inner.Ids.{idField, idOf, Singles, recordBytes, anyHas, repeated, repeatFrom, firstRepeat}
 use Rattle.ids.proofs.Passing.{repeated-none, repeated-some}
-use Rattle.ids.proofs.Picked.{id-picked}
+use Rattle.ids.proofs.Picked.{Identified, id-of, id-picked, no-id}
 use Rattle.clean.specs.Clean as clean
-use Rattle.clean.specs.Clean.{recordsOf, usedBefore, repeatedId, repeatsFrom, repeats, idField}
+use Rattle.clean.specs.Clean.{recordsOf, usedBefore, repeatedId, repeatsFrom, repeats}
 use Rattle.clean.specs.inner.Blamed.{blamed}
-use Rattle.clean.proofs.Faultless.{array-there, items-there, demands-there, demands-to}
+use Rattle.clean.proofs.Faultless.{array-there, items-there, demands-there}
 use Rattle.clean.proofs.Singles.{single-id}
 
 -- Repeats, by picked records and by bytes.
@@ -125,18 +124,14 @@ module _ (f file : ℕ) where
 
 -- the records of an array: the first that repeats an id has the least fault
 least-first : (file : ℕ) → 1 ≤ file → file ≤ 5 → (p : List ℕ)
-    → least (repeatsFrom (file * 10) 1 [] (pickedItems (recordShape file) p)) ≡ blamed (file * 10) (firstRepeat file (recordBytes p))
+    → least (repeatsFrom (idField file) 1 [] (pickedItems (recordShape file) p)) ≡ blamed (idField file) (firstRepeat file (recordBytes p))
 unfolding firstRepeat recordBytes
 least-first file h i p =
-    least-repeat (file * 10) file noName
-    (named-each (file * 10) file (λ m. pick (recordShape file) (treeOf (itemOf p m))) (itemOf p) (itemsOf p) (λ m j. id-picked file h i (items-whole p m j)))
+    least-repeat (idField file) file noName
+    (named-each (idField file) file (λ m. pick (recordShape file) (partTree (itemOf p m))) (itemOf p) (itemsOf p) (λ m j. id-picked file h i (items-whole p m j)))
     1 (omega arith)
 
 -- Files.
-
-paths-same : (t : Bool) → (t ⇒ 4 ∷ 5 ∷ 7 ∷ [] else 4 ∷ 5 ∷ []) ≡ path t
-paths-same true = refl
-paths-same false = refl
 
 -- the records of a file without a stage B fault
 pub record Held (n : ℕ) (s : List ℕ) (x : Json) : Type 0 where
@@ -147,11 +142,6 @@ pub record Held (n : ℕ) (s : List ℕ) (x : Json) : Type 0 where
   pub field : ℕ
   pub sound : (y : Picked) → List·Memᴰ y list → (q : Place) × (faults (recordShape n) q field y ≡ [])
 
--- the field of the ids
-pub id-field : (n : ℕ) → n ≤ 5 → n * 10 ≡ idField n
-unfolding idField
-id-field n i = rw (idField, ne-eqb n 6 (λ e. omega arith))
-
 -- kind 12 by the array p of the records
 pub record Repeats (n : ℕ) (s p : List ℕ) : Type 0 where
   pub short : length p ≤ ceiling.fileBytes
@@ -161,60 +151,30 @@ pub record Repeats (n : ℕ) (s p : List ℕ) : Type 0 where
   pub names : least (repeats n (pick (fileShape table23 n) (clean.treeOf s))) ≡ blamed (idField n) (firstRepeat n (recordBytes p))
 
 pub held : (n : ℕ) → 1 ≤ n → n ≤ 6 → (s : List ℕ) (t : Passed s) → fileFaults (fileShape table23 n) (t .tree) ≡ [] → Held n s (t .tree)
-unfolding fileFaults recordsOf rings.count
+unfolding fileFaultsBy recordsOf rings.count
 held n h i s t e =
-    let d = demands-there (demands-to n h i) top 0 (t .tree) e in
+    let r = records-of n h i in
+    let d = demands-there (r .leads) top 0 (t .tree) e in
     let a = array-there top (d .1) shape.records (λ b c. refl) ceiling.records (recordShape n) (d .0) (d .3) in
-    let way : along (path (eqb n 6)) (pick (fileShape table23 n) (t .tree)) ≡ some (items (a .0)) = d .2 ∙ ap some (a .1) in
+    let way : along (map (λ k. k .field) (r .way .keys)) (pick (fileShape table23 n) (t .tree)) ≡ some (items (a .0)) = d .2 ∙ ap some (a .1) in
     record {
       list = listOf (a .0);
-      are = ap (λ (fs : List ℕ). elementsOf (along fs (pick (fileShape table23 n) (t .tree)))) (paths-same (eqb n 6)) ∙ ap elementsOf way;
-      there = records-stand n h i s t (a .0) way;
+      are = rw (recordsOf, r .is) (ap elementsOf way);
+      there = records-stand n r s t (a .0) way;
       few = leb-true (rings.count (a .0)) ceiling.records (a .2);
       field = d .1;
       sound = items-there top (d .1) (λ q f y. faults (recordShape n) q f y) shape.records 0 (a .0) (a .3);
     }
 
 -- Files whose records have no ids of their own, and numbers of no file.
+pub repeats-none : (n : ℕ) → (1 ≤ n → n ≤ 5 → ⊥) → (x : Picked) → least (repeats n x) ≡ None
+unfolding repeats
+repeats-none n h x = let none = no-id n h in rw (repeats, none) (none-least [] refl)
 
-unnamed : (f : ℕ) (g : Item → Picked) → ((m : Item) → document.text f (g m) ≡ none) → (ms : List Item) (passed : List Picked) (n : ℕ) → repeatsFrom f n passed (map g ms) ≡ []
-unfolding repeatsFrom repeatedId
-unnamed f g e [] passed n = refl
-unnamed f g e (m ∷ ms) passed n = let ih = unnamed f g e ms (g m ∷ passed) (n + 1) in rw (repeatsFrom, repeatedId, e m, ih)
-
-zone-unnamed : (x : Json) → document.text 0 (pick (recordShape 6) x) ≡ none
-unfolding document.text recordShape zone
-zone-unnamed x = ap (λ (y : Maybe Picked). then y textIn) (field-lacks (past refl (past refl (past refl noRow))) x)
-
-zones-unnamed : (s : List ℕ) (t : Passed s) → fileFaults (fileShape table23 6) (t .tree) ≡ [] → repeats 6 (pick (fileShape table23 6) (t .tree)) ≡ []
+-- and the others
+repeats-some : (n : ℕ) → Identified n → (x : Picked) → repeats n x ≡ repeatsFrom (idField n) 1 [] (recordsOf n x)
 unfolding repeats idField
-zones-unnamed s t e =
-    let r = held 6 (omega arith) (omega arith) s t e in
-    let p = part s (r .there .start) (r .there .end) in
-    let g : Item → Picked = λ m. pick (recordShape 6) (treeOf (itemOf p m)) in
-    ap (repeatsFrom 0 1 []) (r .are ∙ r .there .picked) ∙ unnamed 0 g (λ m. zone-unnamed (treeOf (itemOf p m))) (itemsOf p) [] 1
-
--- nothing is listed, so there are no records
-listless : (n : ℕ) (t : Bool) (x : Json) → elementsOf (along (t ⇒ 4 ∷ 5 ∷ 7 ∷ [] else 4 ∷ 5 ∷ []) (pick shape.unlisted x)) ≡ []
-unfolding along document.field pick
-listless n true x = refl
-listless n false x = refl
-
-unlisted-none : (n : ℕ) (x : Json) → fileShape table23 n ≡ shape.unlisted → repeats n (pick (fileShape table23 n) x) ≡ []
-unfolding repeats recordsOf repeatsFrom
-unlisted-none n x e =
-    ap (λ (σ : Shape). repeatsFrom (idField n) 1 [] (recordsOf n (pick σ x))) e ∙ ap (repeatsFrom (idField n) 1 []) (listless n (eqb n 6) x)
-
-no-file : (n : ℕ) → (1 ≤ n → n ≤ 6 → ⊥) → fileShape table23 n ≡ shape.unlisted
-unfolding fileShape table23
-no-file zero h = refl
-no-file (suc zero) h = absurd (h (omega arith) (omega arith))
-no-file (suc (suc zero)) h = absurd (h (omega arith) (omega arith))
-no-file (suc (suc (suc zero))) h = absurd (h (omega arith) (omega arith))
-no-file (suc (suc (suc (suc zero)))) h = absurd (h (omega arith) (omega arith))
-no-file (suc (suc (suc (suc (suc zero))))) h = absurd (h (omega arith) (omega arith))
-no-file (suc (suc (suc (suc (suc (suc zero)))))) h = absurd (h (omega arith) (omega arith))
-no-file (suc (suc (suc (suc (suc (suc (suc n))))))) h = refl
+repeats-some n d x = rw (repeats, idField, d .is)
 
 pub tree-is : (s : List ℕ) (t : Passed s) → clean.treeOf s ≡ t .tree
 unfolding clean.treeOf
@@ -225,36 +185,23 @@ module _ (n : ℕ) (s : List ℕ) (reads : syntaxOf s ≡ Sound) (faultless : le
   none-found : (t : Passed s) → fileFaults (fileShape table23 n) (t .tree) ≡ []
   none-found t = ap (fileFaults (fileShape table23 n)) (sym (tree-is s t)) ∙ least-none _ faultless
 
-  -- of no ids
-  pub repeats-none : (1 ≤ n → n ≤ 5 → ⊥) → least (repeats n (pick (fileShape table23 n) (clean.treeOf s))) ≡ None
-  repeats-none h =
-      let t = passed s reads in
-      ap (λ (x : Json). least (repeats n (pick (fileShape table23 n) x))) (tree-is s t)
-      ∙ none-least _ (elim (ℕ-discrete n 6) [
-        | yes z ↦ go z t (none-found t)
-        | no z ↦ unlisted-none n (t .tree) (no-file n (λ j k. h j (omega arith)))
-      ])
-    where
-      go : n ≡ 6 → (x : Passed s) → fileFaults (fileShape table23 n) (x .tree) ≡ [] → repeats n (pick (fileShape table23 n) (x .tree)) ≡ []
-      go z x = subst (λ (k : ℕ). fileFaults (fileShape table23 k) (x .tree) ≡ [] → repeats k (pick (fileShape table23 k) (x .tree)) ≡ []) (sym z) (zones-unnamed s x)
-
   -- of ids, by the array p of its records
   module _ (h : 1 ≤ n) (i : n ≤ 5) where
     pub repeats-are : {p : List ℕ} → RecordsFrom n s p → Repeats n s p
-    unfolding repeats
     repeats-are {p} f =
         let t = passed s reads in let r = held n h (omega arith) s t (none-found t) in
         let l : r .list ≡ pickedItems (recordShape n) p = rest-picked f reads (r .there) in
         record {
           short = omega (arith, t .short, f .inside);
-          few = omega (arith, r .few, ap length l ∙ length-map (itemsOf p) (λ m. pick (recordShape n) (treeOf (itemOf p m))));
+          few = omega (arith, r .few, ap length l ∙ length-map (itemsOf p) (λ m. pick (recordShape n) (partTree (itemOf p m))));
           along = rest-along f reads (r .there);
           singles = λ m j.
-              let g : Item → Picked = λ k. pick (recordShape n) (treeOf (itemOf p k)) in
+              let g : Item → Picked = λ k. pick (recordShape n) (partTree (itemOf p k)) in
               let y = r .sound (g m) (subst (List·Memᴰ (g m)) (sym l) (Memᴰ·map g j)) in
               single-id n h i (items-whole p m j) (y .0) (r .field) (y .1);
           names =
-              ap (λ (x : Json). least (repeatsFrom (idField n) 1 [] (recordsOf n (pick (fileShape table23 n) x)))) (tree-is s t)
-              ∙ ap (λ (z : List Picked). least (repeatsFrom (idField n) 1 [] z)) (r .are ∙ l)
-              ∙ subst (λ (φ : ℕ). least (repeatsFrom φ 1 [] (pickedItems (recordShape n) p)) ≡ blamed φ (firstRepeat n (recordBytes p))) (id-field n i) (least-first n h i p);
+              let x = pick (fileShape table23 n) (clean.treeOf s) in
+              let are : recordsOf n x ≡ pickedItems (recordShape n) p =
+              ap (λ (y : Json). recordsOf n (pick (fileShape table23 n) y)) (tree-is s t) ∙ r .are ∙ l in
+              ap least (repeats-some n (id-of n h i) x ∙ ap (repeatsFrom (idField n) 1 []) are) ∙ least-first n h i p;
         }

@@ -1,56 +1,61 @@
--- The question "show record" on files, computed: the order of checking, and where records stand. In texts ' stands for a quotation mark.
-use mathlib.Core.List.{List, [], _∷_, map}
-use mathlib.Core.Path.{_≡_, refl}
+-- The question "show record" on files, computed: the order of checking, and where records stand.
+use mathlib.Core.List.{List, [], _∷_}
+use mathlib.Core.Path.{refl}
 use Prim.Native.Nat.{ℕ}
-use lib.Dec.{eqb}
-use Rattle.notation.specs.Ascii.{bytes}
-use Rattle.notation.specs.Choice.{_⇒_else_}
+use Rattle.notation.specs.Case.{Case, Answers, json}
 use Rattle.word.specs.Word.{noParts}
+use Rattle.json.specs.Tree.{Json}
 use Rattle.walk.specs.Walk.{part}
 use Rattle.walk.specs.Part as walk
+use Rattle.schema.specs.Records.{identified}
 use Rattle.schema.specs.Pick as pick
 use Rattle.slots.specs.Cases.{gathering}
 use Rattle.slots.specs.Found.{foundIn}
 use Rattle.document.specs.Document as document
-use Rattle.document.specs.Document.{none, some}
-use Rattle.document.specs.Spans.{membersAlong, topSpan, namesTo, recordsSpan, nth, recordSpan}
+use Rattle.document.specs.Document.{Maybe, none, some}
+use Rattle.document.specs.Spans.{membersAlong, topSpan, recordsSpan, nth, recordSpan}
 use Rattle.document.specs.Trees.{valueAlong, listed, recordTrees, numbered}
-use Rattle.judge.specs.Cases.{judging}
-use Rattle.clean.specs.Clean.{treeOf, idField, recordsOf, usedBefore, repeatedId, repeatsFrom, repeats, cleanOf}
-use Rattle.clean.specs.Show.{refused, shown, shownOf}
+use Rattle.judge.specs.Cases.{judging, inData}
+use Rattle.clean.specs.Clean.{treeOf, recordsOf, usedBefore, repeatedId, repeatsFrom, repeats, cleanBy}
+use Rattle.clean.specs.Show.{Answer, refused, shown, shownOf}
 
 -- opens every definition of this layer
 unfoldable pub showing : Unit {0}
-unfolding judging gathering foundIn pick.at document.field document.along document.text membersAlong topSpan namesTo recordsSpan nth recordSpan valueAlong listed recordTrees numbered treeOf idField recordsOf usedBefore repeatedId repeatsFrom repeats cleanOf shownOf
+unfolding judging identified gathering foundIn pick.slotOf document.field document.along document.text membersAlong topSpan recordsSpan nth recordSpan valueAlong listed recordTrees numbered treeOf recordsOf usedBefore repeatedId repeatsFrom repeats cleanBy shownOf
 showing = tt
-
-abbrev mark : ℕ → ℕ
-mark b = eqb b 0x27 ⇒ 0x22 else b
 
 -- a file of two vehicle types, with blanks around them and a brace in a name
 abbrev types : List ℕ
 types =
-    map mark (bytes "{'version':'2.3','last_updated':0,'ttl':0,'data':{'vehicle_types':[ {'vehicle_type_id':'a','form_factor':'bicycle','propulsion_type':'human'} , {'vehicle_type_id':'b','form_factor':'car','propulsion_type':'human','}':[{}]} ]}}")
+    inData (json "{'vehicle_types':[ {'vehicle_type_id':'a','form_factor':'bicycle','propulsion_type':'human'} , {'vehicle_type_id':'b','form_factor':'car','propulsion_type':'human','}':[{}]} ]}")
 
--- records are counted from 1, and there is none past the last
-by-number : map (λ n. shownOf 1 n types) (0 ∷ 1 ∷ 2 ∷ 3 ∷ []) ≡ refused 10 noParts ∷ shown 68 141 ∷ shown 144 222 ∷ refused 10 noParts ∷ []
-unfolding showing
-by-number = refl
+-- a file's number, a record's number and the file
+abbrev questions : List (Case (ℕ × ℕ × List ℕ) Answer)
+questions =
+    ("records are counted from 1", (1, 0, types), refused 10 noParts) ∷
+    ("the first", (1, 1, types), shown 68 141) ∷
+    ("the second", (1, 2, types), shown 144 222) ∷
+    ("none past the last", (1, 3, types), refused 10 noParts) ∷
+    ("none of an absent file", (1, 1, []), refused 10 noParts) ∷
+    ("no file 0, whatever it is", (0, 1, json "7"), refused 10 noParts) ∷
+    ("no file 7", (7, 1, json "7"), refused 10 noParts) ∷
+    ("no file 257", (257, 1, json "7"), refused 10 noParts) ∷
+    ("a file that is not clean, whatever the record", (1, 0, json "7"), refused 5 (record { file = 1; kind = 7; field = 0; «record» = 0; sub = 0; offset = 0 })) ∷
+    []
 
-by-tree : map (λ n. numbered n (recordTrees 1 (treeOf types))) (0 ∷ 1 ∷ 2 ∷ 3 ∷ [])
-    ≡ none ∷ some (walk.treeOf (part types 68 141)) ∷ some (walk.treeOf (part types 144 222)) ∷ none ∷ []
+questions-answered : Answers (λ c. shownOf (c .0) (c .1) (c .2)) questions
 unfolding showing
-by-tree = refl
+questions-answered = refl
 
--- the file's number is told first, then whether the file is clean, then the record's number
-no-file : map (λ file. shownOf file 1 (bytes "7")) (0 ∷ 7 ∷ 257 ∷ []) ≡ refused 10 noParts ∷ refused 10 noParts ∷ refused 10 noParts ∷ []
-unfolding showing
-no-file = refl
+-- the records of that file in its tree
+abbrev trees : List (Case ℕ (Maybe Json))
+trees =
+    ("records are counted from 1", 0, none) ∷
+    ("the first", 1, some (walk.partTree (part types 68 141))) ∷
+    ("the second", 2, some (walk.partTree (part types 144 222))) ∷
+    ("none past the last", 3, none) ∷
+    []
 
-not-clean : shownOf 1 0 (bytes "7") ≡ refused 5 (record { file = 1; kind = 7; field = 0; «record» = 0; sub = 0; offset = 0 })
+trees-answered : Answers (λ n. numbered n (recordTrees 1 (treeOf types))) trees
 unfolding showing
-not-clean = refl
-
-absent : shownOf 1 1 [] ≡ refused 10 noParts
-unfolding showing
-absent = refl
+trees-answered = refl

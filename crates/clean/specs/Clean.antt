@@ -1,7 +1,6 @@
 -- A file without its set: document 01, below the table of questions. It is clean where neither stage A nor stage B nor kind 12 has anything against it.
-use mathlib.Core.List.{List, [], _∷_, _++_}
-use Prim.Native.Nat.{ℕ, _+_, _*_}
-use lib.Dec.{eqb}
+use mathlib.Core.List.{List, [], _∷_, _++_, map}
+use Prim.Native.Nat.{ℕ, _+_}
 use Rattle.notation.specs.Choice.{_⇒_else_}
 use Rattle.limits.specs.Ceilings.{depth}
 use Rattle.word.specs.declared.Parts.{Parts}
@@ -15,28 +14,26 @@ use Rattle.json.specs.Text.{text, syntaxOf}
 use Rattle.text.specs.Text.{same}
 use Rattle.schema.specs.Shape.{fileShape}
 use Rattle.schema.specs.Table23.{table23}
-use Rattle.schema.specs.Pick.{Picked, pick}
+use Rattle.schema.specs.Records.{wayTo, idKey}
+use Rattle.schema.specs.Pick.{Picked, PickedItems, pick}
 use Rattle.fault.specs.declared.Fault.{Fault}
 use Rattle.fault.specs.declared.Least.{Least}
 use Rattle.fault.specs.declared.Least.the-variants.{None, Is}
 use Rattle.fault.specs.Fault.{fault, least}
 use Rattle.document.specs.Document as document
 use Rattle.document.specs.Document.{none, some, elementsOf, along}
-use Rattle.judge.specs.Faults.{fileFaults}
-use Rattle.clean.specs.declared.Cleanness.{Cleanness}
-use Rattle.clean.specs.declared.Cleanness.the-variants.{Clean, Broken}
+use Rattle.rings.specs.Rings.{Found, coordinatesFound}
+use Rattle.judge.specs.Faults.{fileFaultsBy}
+use Rattle.clean.specs.declared.Outcome.{Outcome}
+use Rattle.clean.specs.declared.Outcome.the-variants.{Unbroken, Broken}
 
 -- the tree of a file that stage A passes
 unfoldable pub treeOf : List ℕ → Json
 treeOf s = elim (text paired depth s) [ done x r ↦ x | bad k r ↦ Json.null ]
 
--- the field of a file's own ids; file 6 has none
-unfoldable pub idField : ℕ → ℕ
-idField file = eqb file 6 ⇒ 0 else file * 10
-
--- where the records of a picked file stand
+-- the records of a picked file
 unfoldable pub recordsOf : ℕ → Picked → List Picked
-recordsOf file x = elementsOf (along (eqb file 6 ⇒ 4 ∷ 5 ∷ 7 ∷ [] else 4 ∷ 5 ∷ []) x)
+recordsOf file x = elim (wayTo file) [ none ↦ [] | some w ↦ elementsOf (along (map (λ k. k .field) (w .keys)) x) ]
 
 -- a record before has this id
 unfoldable pub usedBefore : ℕ → List Picked → List ℕ → List ℕ
@@ -57,26 +54,31 @@ repeatsFrom f n passed [] = []
 repeatsFrom f n passed (x ∷ l) = repeatedId f n passed x ++ repeatsFrom f (n + 1) (x ∷ passed) l
 
 unfoldable pub repeats : ℕ → Picked → List Fault
-repeats file x = repeatsFrom (idField file) 1 [] (recordsOf file x)
+repeats file x = elim (idKey file) [ none ↦ [] | some k ↦ repeatsFrom (k .field) 1 [] (recordsOf file x) ]
 
 -- the parts of a word for a fault of a file
-abbrev pub place : ℕ → Fault → Parts
-place file f =
-    record { file = file; kind = f .kind; field = f .field; «record» = f .«record»; sub = f .sub; offset = 0 }
+abbrev pub faultParts : ℕ → Fault → Parts
+faultParts file f = record { file = file; kind = f .kind; field = f .field; «record» = f .«record»; sub = f .sub; offset = 0 }
 
-abbrev pub broken : ℕ → Least → Cleanness → Cleanness
+abbrev pub broken : ℕ → Least → Outcome → Outcome
 broken file None next = next
-broken file (Is f) next = Broken (place file f)
+broken file (Is f) next = Broken (faultParts file f)
 
--- a file of which stage A finds this
-abbrev pub judged : ℕ → List ℕ → Syntax → Cleanness
-judged file s (syntax.Fault kind offset) =
+-- a file of which stage A finds this; `coordinates` tells what is found in field 73
+abbrev pub judgedBy : (coordinates : PickedItems → List Found) → ℕ → List ℕ → Syntax → Outcome
+judgedBy coordinates file s (syntax.Fault kind offset) =
     Broken (record { file = file; kind = kind; field = 0; «record» = 0; sub = 0; offset = offset })
-judged file s syntax.Sound =
-    broken file (least (fileFaults (fileShape table23 file) (treeOf s)))
-    (broken file (least (repeats file (pick (fileShape table23 file) (treeOf s)))) Clean)
+judgedBy coordinates file s syntax.Sound =
+    broken file (least (fileFaultsBy coordinates (fileShape table23 file) (treeOf s)))
+    (broken file (least (repeats file (pick (fileShape table23 file) (treeOf s)))) Unbroken)
 
 -- an absent file is clean
-unfoldable pub cleanOf : ℕ → List ℕ → Cleanness
-cleanOf file [] = Clean
-cleanOf file (b ∷ s) = judged file (b ∷ s) (syntaxOf (b ∷ s))
+unfoldable pub cleanBy : (coordinates : PickedItems → List Found) → ℕ → List ℕ → Outcome
+cleanBy coordinates file [] = Unbroken
+cleanBy coordinates file (b ∷ s) = judgedBy coordinates file (b ∷ s) (syntaxOf (b ∷ s))
+
+abbrev pub cleanOf : ℕ → List ℕ → Outcome
+cleanOf = cleanBy coordinatesFound
+
+abbrev pub judged : ℕ → List ℕ → Syntax → Outcome
+judged = judgedBy coordinatesFound

@@ -16,8 +16,8 @@ ghost use Rattle.schema.specs.Pick.{pick};
 ghost use Rattle.fault.specs.declared.Least.the-variants.{None};
 ghost use Rattle.fault.specs.Fault.{least};
 ghost use Rattle.judge.specs.Faults.{fileFaults};
-ghost use Rattle.ids.specs.inner.Ids.{Singles, recordBytes, firstRepeat};
-ghost use Rattle.clean.specs.Clean.{treeOf, idField, repeats};
+ghost use Rattle.ids.specs.inner.Ids.{idField, Singles, recordBytes, firstRepeat};
+ghost use Rattle.clean.specs.Clean.{treeOf, repeats};
 ghost use Rattle.clean.specs.inner.Blamed.{blamed};
 
 // The number of the first record of the array `p` whose id one before it has; 0 where there is none.
@@ -30,9 +30,9 @@ fn first_repeat(file: u8, p: &[u8]) -> u16
     note(file, p, &mut notes)
 }
 
-// The same of one of the files 1 to 5, which stages A and B pass: the record that is blamed for the least repeat.
+// The same of a file whose records have ids, and which stages A and B pass: the record that is blamed for the least repeat.
 pub fn repeat_of(file: u8, s: &[u8]) -> u16
-    requires { ⌜ (1 ≤ file) × (file ≤ 5) × (syntaxOf (now s) ≡ Sound) × (least (fileFaults (fileShape table23 file) (treeOf (now s))) ≡ None) ⌝ }
+    requires { ⌜ (idField file ≡ 0 → ⊥) × (syntaxOf (now s) ≡ Sound) × (least (fileFaults (fileShape table23 file) (treeOf (now s))) ≡ None) ⌝ }
     ensures { λ r. ⌜ least (repeats file (pick (fileShape table23 file) (treeOf (now (s .entry))))) ≡ blamed (idField file) r ⌝ }
 {
     first_repeat(file, records_from(file, s))

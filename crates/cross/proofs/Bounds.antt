@@ -14,9 +14,10 @@ use Rattle.word.specs.Kinds.{idTwice, dangling, condition, sumDiffers}
 use Rattle.json.specs.Tree.{Json}
 use Rattle.walk.specs.declared.Item.{Item}
 use Rattle.walk.specs.Walk.{itemsOf}
-use Rattle.walk.specs.Part.{treeOf}
+use Rattle.walk.specs.Part.{partTree}
 use Rattle.walk.proofs.Parts.{itemOf}
 use Rattle.schema.specs.Table23.{status, zone}
+use Rattle.schema.specs.Records.{recordShape, located}
 use Rattle.schema.specs.Pick.{Picked, pick}
 use Rattle.fault.specs.declared.Fault.{Fault}
 use Rattle.fault.specs.declared.Least.the-variants.{Is}
@@ -28,13 +29,13 @@ use Rattle.judge.proofs.Holds.{All, none, more, only, all-append, Holds, nothin
 use Rattle.document.specs.Document as document
 use Rattle.document.specs.Document.{Maybe, field, fieldItems, text, textIn, spelling, given}
 use Rattle.fields.specs.Values.{integerIn}
-use Rattle.document.proofs.Records.{recordShape}
 use Rattle.fields.proofs.Fields.{rowOf, listed}
 use Rattle.ids.specs.inner.Ids.{recordBytes, repeated, repeatFrom, firstRepeat}
+use Rattle.ids.proofs.Picked.{id-field}
 use Rattle.clean.specs.inner.Blamed.{blamed}
 use Rattle.clean.proofs.Faultless.{field-sound, items-few}
-use Rattle.references.specs.References.{when, anyWith, any, roomy, driven, named, refers, demanded}
-use Rattle.cross.specs.Cross.{Files, at, absentees, sumOf, availableFaults, idFaults, ruleFaults, typeFaults, statusFaults, bikeFaults, zoneFaults, each, faultsOf, fileIn, crossFaults}
+use Rattle.references.specs.References.{kindIf, anyWith, any, hasCapacity, motorized, named, refers, demanded}
+use Rattle.cross.specs.Cross.{Files, recordPlace, absentees, sumOf, availableFaults, idFaults, ruleFaults, typeFaults, statusFaults, bikeFaults, zoneFaults, eachRecord, faultsOf, fileIn, crossFaults}
 use Rattle.cross.specs.Stage.{fileOf}
 use Rattle.cross.specs.inner.Staged.{repeatOf, idsLeast}
 use Rattle.cross.proofs.Files.{InBytes}
@@ -53,7 +54,7 @@ pub record Fitting (f : Fault) : Type 0 where
 
 -- Kinds.
 
-when-kinds : (t : Bool) (k : ℕ) → OfStageC k → All OfStageC (when t k)
+when-kinds : (t : Bool) (k : ℕ) → OfStageC k → All OfStageC (kindIf t k)
 when-kinds true k h = only h
 when-kinds false k h = none
 
@@ -66,12 +67,12 @@ refers-kinds (document.some id) f l = when-kinds (not (anyWith any f l id)) dang
 
 -- The n-th record.
 module _ (n : ℕ) (h : n ≤ greatest) where
-  field-fits : (sub φ : ℕ) → sub ≤ greatest → φ ≤ fields → {ks : List ℕ} → All OfStageC ks → All Fitting (faulty (at n sub) φ ks)
+  field-fits : (sub φ : ℕ) → sub ≤ greatest → φ ≤ fields → {ks : List ℕ} → All OfStageC ks → All Fitting (faulty (recordPlace n sub) φ ks)
   unfolding faulty
   field-fits sub φ i j none = none
   field-fits sub φ i j (more k ks) = more (record { rec = h; field = j; sub = i; kind = k }) (field-fits sub φ i j ks)
 
-  own-fits : (φ : ℕ) → φ ≤ fields → {ks : List ℕ} → All OfStageC ks → All Fitting (faulty (at n 0) φ ks)
+  own-fits : (φ : ℕ) → φ ≤ fields → {ks : List ℕ} → All OfStageC ks → All Fitting (faulty (recordPlace n 0) φ ks)
   own-fits φ j ks = field-fits 0 φ (omega arith) j ks
 
   available-fit : (types : List Picked) (sub : ℕ) (l : List Picked) → sub + length l ≤ greatest + 1 → All Fitting (availableFaults types n sub l)
@@ -93,7 +94,7 @@ module _ (n : ℕ) (h : n ≤ greatest) where
   type-fits : (planned : Bool) (plans : List Picked) (x : Picked) → All Fitting (typeFaults planned plans n x)
   unfolding typeFaults
   type-fits planned plans x =
-      all-append (own-fits 13 (omega arith) (demanded-kinds (driven x) (given (field 13 x))))
+      all-append (own-fits 13 (omega arith) (demanded-kinds (motorized x) (given (field 13 x))))
       (own-fits 14 (omega arith) (all-append (demanded-kinds planned (given (field 14 x))) (refers-kinds (text 14 x) 50 plans)))
 
   status-fits : (typed : Bool) (types stations : List Picked) (x : Picked) → length (fieldItems 37 x) ≤ greatest → All Fitting (statusFaults typed types stations n x)
@@ -103,7 +104,7 @@ module _ (n : ℕ) (h : n ≤ greatest) where
       all-append
       (all-append
       (all-append (own-fits 30 (omega arith) (refers-kinds (text 30 x) 20 stations))
-      (own-fits 32 (omega arith) (demanded-kinds (named roomy 20 stations (text 30 x)) (given (field 32 x)))))
+      (own-fits 32 (omega arith) (demanded-kinds (named hasCapacity 20 stations (text 30 x)) (given (field 32 x)))))
       (own-fits 37 (omega arith)
       (all-append (demanded-kinds typed (given (field 37 x))) (when-kinds differs sumDiffers (record { least = omega arith; most = omega arith })))))
       (available-fit types 1 (fieldItems 37 x) (omega arith))
@@ -118,7 +119,7 @@ module _ (n : ℕ) (h : n ≤ greatest) where
       (all-append
       (all-append (own-fits 41 (omega arith) (demanded-kinds free (given (field 41 x)))) (own-fits 42 (omega arith) (demanded-kinds free (given (field 42 x)))))
       (own-fits 45 (omega arith) (all-append (demanded-kinds typed (given (field 45 x))) (refers-kinds (text 45 x) 10 types))))
-      (own-fits 46 (omega arith) (demanded-kinds (named driven 10 types (text 45 x)) (given (field 46 x)))))
+      (own-fits 46 (omega arith) (demanded-kinds (named motorized 10 types (text 45 x)) (given (field 46 x)))))
       (own-fits 47 (omega arith) (refers-kinds (text 47 x) 20 stations)))
       (own-fits 48 (omega arith) (refers-kinds (text 48 x) 50 plans))
 
@@ -140,7 +141,7 @@ module _ (n : ℕ) (h : n ≤ greatest) where
 
     record-fits : (file : ℕ) → 1 ≤ file → file ≤ 6 → faults (recordShape file) q φ (pick (recordShape file) x) ≡ []
         → All Fitting (faultsOf typed planned types stations plans file n (pick (recordShape file) x))
-    unfolding faultsOf recordShape status rowOf
+    unfolding faultsOf located status rowOf
     record-fits zero i j e = absurd (omega arith)
     record-fits (suc zero) i j e = type-fits planned plans _
     record-fits (suc (suc zero)) i j e = none
@@ -152,8 +153,8 @@ module _ (n : ℕ) (h : n ≤ greatest) where
 
 -- Records one after another.
 each-fits : (faults′ : ℕ → Picked → List Fault) (g : Item → Picked) (n : ℕ) (ms : List Item) → n + length ms ≤ greatest + 1
-    → ((m : Item) → List·Memᴰ m ms → (k : ℕ) → k ≤ greatest → All Fitting (faults′ k (g m))) → All Fitting (each faults′ n (map g ms))
-unfolding each
+    → ((m : Item) → List·Memᴰ m ms → (k : ℕ) → k ≤ greatest → All Fitting (faults′ k (g m))) → All Fitting (eachRecord faults′ n (map g ms))
+unfolding eachRecord
 each-fits faults′ g n [] h k = none
 each-fits faults′ g n (m ∷ ms) h k =
     all-append (k m (List·Memᴰ·head refl) n (omega arith)) (each-fits faults′ g (n + 1) ms (omega arith) (λ l i. k l (List·Memᴰ·tail i)))
@@ -176,7 +177,7 @@ ids-least-fits n p h =
     by-test (ltb 5 n) (λ t. rw (idsLeast, repeatOf, t) nothing)
     (λ t.
     let i = ltb-false 5 n t in
-    rw (idsLeast, repeatOf, t)
+    rw (idsLeast, repeatOf, t, ← id-field n i)
     (blamed-fits (n * 10) (firstRepeat n (recordBytes p)) (omega arith) (omega (arith, repeat-few n 0 [] (recordBytes p), length-map (itemsOf p) (itemOf p)))))
 
 -- One file.
@@ -189,7 +190,7 @@ module _ (files : Files) (file : ℕ) (h : 1 ≤ file) (i : file ≤ 6) {s p : L
       let few = b .recorded .few in
       rw (crossFaults, e, b .picked)
       (holds-append _ _ (holds-append _ _ (holds-least presence) (rw (b .repeated) (ids-least-fits file p few)))
-      (holds-least (each-fits _ (λ m. pick (recordShape file) (treeOf (itemOf p m))) 1 (itemsOf p) (omega arith) (λ m j k l.
+      (holds-least (each-fits _ (λ m. pick (recordShape file) (partTree (itemOf p m))) 1 (itemsOf p) (omega arith) (λ m j k l.
       let y = b .sound m j in record-fits k l _ _ _ _ _ _ (y .0) (y .1) file h i (y .2)))))
 
   pub cross-fits : (f : Fault) → least (crossFaults files file) ≡ Is f → Fitting f

@@ -14,26 +14,28 @@ use Rattle.json.specs.Tree as tree
 use Rattle.json.specs.Tree.{Json, Members}
 use Rattle.walk.specs.declared.Item.{Item}
 use Rattle.walk.specs.Walk.{itemsFrom, itemsOf}
-use Rattle.walk.specs.Part.{treeOf}
+use Rattle.walk.specs.Part.{partTree}
 use Rattle.walk.proofs.Parts.{itemOf}
 use Rattle.walk.proofs.Files.{passed}
 use Rattle.schema.specs.Shape as shape
 use Rattle.schema.specs.Shape.{Shape, Rows, fileShape}
-use Rattle.schema.specs.Table23.{table23, vehicleType, station, status, bike, plan, zone}
+use Rattle.schema.specs.Table23.{table23}
+use Rattle.schema.specs.Records.{recordShape}
 use Rattle.schema.specs.Pick.{Picked, pick}
 use Rattle.fault.specs.Fault.{least}
 use Rattle.fault.proofs.Leasts.{none-least}
 use Rattle.judge.specs.declared.Place.{Place}
 use Rattle.judge.specs.Faults.{faults, fileFaults}
 use Rattle.document.specs.inner.Spans.{RecordsFrom}
-use Rattle.document.proofs.Records.{recordShape, pickedItems}
+use Rattle.document.proofs.Ways.{records-of}
+use Rattle.document.proofs.Records.{pickedItems}
 use Rattle.document.proofs.Rests.{none-from, rest-along, rest-picked}
 use Rattle.ids.specs.inner.Ids.{Singles, recordBytes, repeatFrom, firstRepeat}
 use Rattle.clean.specs.Clean as clean
 use Rattle.clean.specs.Clean.{repeats}
 use Rattle.clean.specs.inner.Blamed.{blamed}
 use Rattle.clean.proofs.Faultless.{object-there}
-use Rattle.clean.proofs.Repeated.{Held, held, tree-is, id-field, repeats-none, repeats-are}
+use Rattle.clean.proofs.Repeated.{Held, held, tree-is, repeats-none, repeats-are}
 use Rattle.cross.specs.Cross.{recordsIn, repeatsIn}
 use Rattle.cross.specs.Stage.{fileOf}
 use Rattle.cross.specs.inner.Stage.{Through}
@@ -46,7 +48,7 @@ pub record InBytes (n : ℕ) (s p : List ℕ) : Type 0 where
   pub repeated : least (repeatsIn n (fileOf n s)) ≡ idsLeast n p
   pub singles : n ≤ 5 → Singles n p
   pub sound : (m : Item) → List·Memᴰ m (itemsOf p)
-      → (q : Place) × (φ : ℕ) × (faults (recordShape n) q φ (pick (recordShape n) (treeOf (itemOf p m))) ≡ [])
+      → (q : Place) × (φ : ℕ) × (faults (recordShape n) q φ (pick (recordShape n) (partTree (itemOf p m))) ≡ [])
 
 absent-bytes : (n : ℕ) → InBytes n [] []
 unfolding recordsIn repeatsIn idsLeast repeatOf firstRepeat repeatFrom recordBytes itemsOf itemsFrom
@@ -58,18 +60,6 @@ absent-bytes n =
       singles = λ h m i. absurd (List·Memᴰ·not-nil i);
       sound = λ m i. absurd (List·Memᴰ·not-nil i);
     }
-
--- the shape of records is an object's
-object-shape : (n : ℕ) → 1 ≤ n → n ≤ 6 → (rows : Rows) × (recordShape n ≡ shape.object rows)
-unfolding recordShape vehicleType station status bike plan zone
-object-shape zero h i = absurd (omega arith)
-object-shape (suc zero) h i = (_, refl)
-object-shape (suc (suc zero)) h i = (_, refl)
-object-shape (suc (suc (suc zero))) h i = (_, refl)
-object-shape (suc (suc (suc (suc zero)))) h i = (_, refl)
-object-shape (suc (suc (suc (suc (suc zero))))) h i = (_, refl)
-object-shape (suc (suc (suc (suc (suc (suc zero)))))) h i = (_, refl)
-object-shape (suc (suc (suc (suc (suc (suc (suc n))))))) h i = absurd (omega arith)
 
 -- A file that is there, with the rest p from its records on.
 module _ (n : ℕ) (h : 1 ≤ n) (i : n ≤ 6) (b : ℕ) (r : List ℕ) (t : Through n (b ∷ r)) {p : List ℕ} (f : RecordsFrom n (b ∷ r) p) where
@@ -92,21 +82,20 @@ module _ (n : ℕ) (h : 1 ≤ n) (i : n ≤ 6) (b : ℕ) (r : List ℕ) (t : Thr
   repeated-is =
       let none = none-least _ (t .faultless (λ e. omega arith)) in
       by-test (ltb 5 n)
-      (λ u. rw (idsLeast, repeatOf, u) (repeats-none n s reads none (λ j k. let w = ltb-true 5 n u in omega arith)))
+      (λ u. rw (idsLeast, repeatOf, u) (repeats-none n (λ j k. let w = ltb-true 5 n u in omega arith) _))
       (λ u.
       let j : n ≤ 5 = ltb-false 5 n u in
-      rw (idsLeast, repeatOf, u)
-      (repeats-are n s reads none h j f .names ∙ ap (λ (φ : ℕ). blamed φ (firstRepeat n (recordBytes p))) (sym (id-field n j))))
+      rw (idsLeast, repeatOf, u) (repeats-are n s reads none h j f .names))
 
   -- records are objects
   record-object : (q : Place) (φ : ℕ) (x : Json) → faults (recordShape n) q φ (pick (recordShape n) x) ≡ [] → (ms : Members) × (x ≡ tree.object ms)
   record-object q φ x =
-      let d = object-shape n h i in
-      subst (λ (σ : Shape). faults σ q φ (pick σ x) ≡ [] → (ms : Members) × (x ≡ tree.object ms)) (sym (d .1))
-      (λ e. let o = object-there q φ (d .0) x e in (o .0, o .1))
+      let d = records-of n h i in
+      subst (λ (σ : Shape). faults σ q φ (pick σ x) ≡ [] → (ms : Members) × (x ≡ tree.object ms)) (sym (d .object))
+      (λ e. let o = object-there q φ (d .rows) x e in (o .0, o .1))
 
   abbrev pickedItem : Item → Picked
-  pickedItem m = pick (recordShape n) (treeOf (itemOf p m))
+  pickedItem m = pick (recordShape n) (partTree (itemOf p m))
 
   sound-item : (m : Item) → List·Memᴰ m (itemsOf p) → (q : Place) × (φ : ℕ) × (faults (recordShape n) q φ (pickedItem m) ≡ [])
   sound-item m j =

@@ -15,31 +15,31 @@ use Rattle.fault.specs.declared.Least.{Least}
 use Rattle.fault.specs.declared.Least.the-variants.{None, Is}
 use Rattle.fault.specs.Fault.{least, lesser}
 use Rattle.fault.proofs.Leasts.{lesser-assoc, least-append}
-use Rattle.clean.specs.declared.Cleanness.{Cleanness}
-use Rattle.clean.specs.declared.Cleanness.the-variants.{Clean, Broken}
-use Rattle.clean.specs.Clean.{place, broken}
+use Rattle.clean.specs.declared.Outcome.{Outcome}
+use Rattle.clean.specs.declared.Outcome.the-variants.{Unbroken, Broken}
+use Rattle.clean.specs.Clean.{faultParts, broken}
 use Rattle.references.specs.declared.Set.{Set}
 use Rattle.references.specs.inner.Known.{setOf}
 use Rattle.cross.specs.declared.stage.Crossed.{Crossed}
 use Rattle.cross.specs.declared.stage.Crossed.the-variants.{Nothing, At}
 use Rattle.cross.specs.Cross.{Files, here, absentees, fileIn, crossFaults}
 use Rattle.cross.specs.Stage.{fileOf, filesOf}
-use Rattle.cross.specs.inner.Stage.{stageC}
+use Rattle.cross.specs.inner.Stage.{firstC}
 use Rattle.cross.specs.inner.Staged.{calledFor, fileLeast, numberedLeast, crossing, firstFrom}
 use Rattle.cross.proofs.Files.{InBytes}
 use Rattle.cross.proofs.Bounds.{Fitting, cross-fits}
 use Rattle.cross.proofs.Staging.{first-at}
 
 -- a file's rule as a word's parts
-abbrev pub cleanness : Crossed → Cleanness
-cleanness Nothing = Clean
-cleanness (At file f) = Broken (place file f)
+abbrev pub cleanness : Crossed → Outcome
+cleanness Nothing = Unbroken
+cleanness (At file f) = Broken (faultParts file f)
 
 crossing-broken : (file : ℕ) (x : Least) (rest : Crossed) → cleanness (crossing file x rest) ≡ broken file x (cleanness rest)
 crossing-broken file None rest = refl
 crossing-broken file (Is f) rest = refl
 
-next-file : (file : ℕ) (rest : Crossed) {x y : Least} {c : Cleanness} → x ≡ y → cleanness rest ≡ c → cleanness (crossing file x rest) ≡ broken file y c
+next-file : (file : ℕ) (rest : Crossed) {x y : Least} {c : Outcome} → x ≡ y → cleanness rest ≡ c → cleanness (crossing file x rest) ≡ broken file y c
 next-file file rest {x} {y} e k = crossing-broken file x rest ∙ ap (λ (u : Least). broken file u (cleanness rest)) e ∙ ap (broken file y) k
 
 -- Files that are through stages A and B.
@@ -105,8 +105,8 @@ module _ {types stations statuses bikes plans zones a b c d e g : List ℕ} (all
   numbered-least : (file : ℕ) → 1 ≤ file → file ≤ 6 → leasts file ≡ least (crossFaults files file)
   numbered-least file h i = let t = number file h i in t .judged ∙ file-least file (t .bytes) (t .rest) (t .is) (t .held)
 
-  pub stage-is : cleanness (firstFrom leasts 1 6) ≡ stageC files
-  unfolding firstFrom stageC
+  pub stage-is : cleanness (firstFrom leasts 1 6) ≡ firstC files
+  unfolding firstFrom firstC
   stage-is =
       let e : (file : ℕ) → 1 ≤ file → file ≤ 6 → leasts file ≡ least (crossFaults files file) = numbered-least in
       next-file 1 (firstFrom leasts 2 5) (e 1 (omega arith) (omega arith))
@@ -128,14 +128,14 @@ module _ {types stations statuses bikes plans zones a b c d e g : List ℕ} (all
   pub first-small : (file : ℕ) (f : Fault) → firstFrom leasts 1 6 ≡ At file f → (f .«record» < 65_536) × (f .sub < 65_536)
   first-small file f e = let t = first-fits file f e in (omega (arith, t .1 .rec), omega (arith, t .1 .sub))
 
-  pub stage-fits : (p : Parts) → stageC files ≡ Broken p → Fits form1 p
+  pub stage-fits : (p : Parts) → firstC files ≡ Broken p → Fits form1 p
   stage-fits p e = go (firstFrom leasts 1 6) refl
     where
       go : (x : Crossed) → firstFrom leasts 1 6 ≡ x → Fits form1 p
-      go Nothing h = let k : Clean ≡ Broken p = ap cleanness (sym h) ∙ stage-is ∙ e in let z : _≡_ {A = ℕ} 0 1 = cc in absurd (omega arith)
+      go Nothing h = let k : Unbroken ≡ Broken p = ap cleanness (sym h) ∙ stage-is ∙ e in let z : _≡_ {A = ℕ} 0 1 = cc in absurd (omega arith)
       go (At file f) h =
-          let k : Broken (place file f) ≡ Broken p = ap cleanness (sym h) ∙ stage-is ∙ e in
-          let is : place file f ≡ p = cc in
+          let k : Broken (faultParts file f) ≡ Broken p = ap cleanness (sym h) ∙ stage-is ∙ e in
+          let is : faultParts file f ≡ p = cc in
           let t = first-fits file f h in
           let r = t .1 .rec in let s = t .1 .sub in let φ = t .1 .field in let κ = t .1 .kind .most in
           subst (Fits form1) is (omega arith, (omega arith, (omega arith, (omega arith, (omega arith, (omega arith, (omega arith, tt)))))))

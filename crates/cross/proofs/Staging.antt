@@ -2,7 +2,7 @@
 use mathlib.Core.Bool.{false}
 use mathlib.Core.List.{List, [], _∷_}
 use mathlib.Core.Path.{_≡_, refl, sym, ap, _∙_}
-use Prim.Native.Nat.{ℕ, zero, suc, _+_, _*_, _-_, _≤_, _<_}
+use Prim.Native.Nat.{ℕ, zero, suc, _+_, _-_, _≤_, _<_}
 use native.Mathlib.Omega.{arith}
 use borrow.Author.Tests.{ne-eqb, le-ltb}
 use Rattle.word.specs.Kinds.{condition}
@@ -14,17 +14,17 @@ use Rattle.fault.specs.declared.Least.the-variants.{None, Is}
 use Rattle.fault.specs.Fault.{least, lesser}
 use Rattle.fault.proofs.Leasts.{none-least}
 use Rattle.judge.specs.Faults.{top, faulty}
-use Rattle.ids.specs.inner.Ids.{recordBytes, firstRepeat}
+use Rattle.ids.specs.inner.Ids.{idField, recordBytes, firstRepeat}
 use Rattle.ids.specs.inner.Notes.{Blank}
 use Rattle.ids.proofs.Entering.{noted-none}
 use Rattle.clean.specs.inner.Blamed.{blamed}
 use Rattle.references.specs.declared.Set.{Set}
-use Rattle.references.specs.References.{when}
+use Rattle.references.specs.References.{kindIf}
 use Rattle.references.specs.inner.Known.{Searchable}
 use Rattle.cross.specs.declared.records.Findings.{Findings}
 use Rattle.cross.specs.declared.stage.Crossed.{Crossed}
 use Rattle.cross.specs.declared.stage.Crossed.the-variants.{Nothing, At}
-use Rattle.cross.specs.Cross.{each, faultsOf}
+use Rattle.cross.specs.Cross.{eachRecord, faultsOf}
 use Rattle.cross.specs.inner.Judged.{broken}
 use Rattle.cross.specs.inner.Staged.{Finds, calledFor, repeatOf, idsLeast, fileLeast, numberedLeast, crossing, firstFrom}
 use Rattle.cross.proofs.Fielded.{breaks-nothing}
@@ -48,19 +48,19 @@ repeat-is file h p = rw (repeatOf, le-ltb 5 file h)
 -- a file by what is found of its records
 module _ (set : Set) (types stations plans : List ℕ) where
   pub file-is : {file : ℕ} {p : List ℕ} {found : Findings} → Finds set types stations plans file p found
-      → lesser (least (faulty top 0 (when (calledFor file set) condition))) (lesser (blamed (file * 10) (found .repeat)) (found .least)) ≡ fileLeast set types stations plans file p
+      → lesser (least (faulty top 0 (kindIf (calledFor file set) condition))) (lesser (blamed (idField file) (found .repeat)) (found .least)) ≡ fileLeast set types stations plans file p
   unfolding fileLeast idsLeast
-  file-is {file} f = lesser-both refl (lesser-both (ap (blamed (file * 10)) (f .repeats)) (f .breaks))
+  file-is {file} f = lesser-both refl (lesser-both (ap (blamed (idField file)) (f .repeats)) (f .breaks))
 
   -- records of other files than 1, 3, 4 and 6 break nothing
   each-nothing : (file : ℕ) → (file ≡ 1 → ⊥) → (file ≡ 3 → ⊥) → (file ≡ 4 → ⊥) → (file ≡ 6 → ⊥)
-      → (n : ℕ) (l : List Picked) → each (broken set types stations plans file) n l ≡ []
-  unfolding each
+      → (n : ℕ) (l : List Picked) → eachRecord (broken set types stations plans file) n l ≡ []
+  unfolding eachRecord
   each-nothing file a b c d n [] = refl
-  each-nothing file a b c d n (x ∷ l) = rw (each, breaks-nothing _ _ _ _ _ file n a b c d x) (each-nothing file a b c d (n + 1) l)
+  each-nothing file a b c d n (x ∷ l) = rw (eachRecord, breaks-nothing _ _ _ _ _ file n a b c d x) (each-nothing file a b c d (n + 1) l)
 
   pub records-none : (file : ℕ) → (file ≡ 1 → ⊥) → (file ≡ 3 → ⊥) → (file ≡ 4 → ⊥) → (file ≡ 6 → ⊥)
-      → (l : List Picked) → None ≡ least (each (broken set types stations plans file) 1 l)
+      → (l : List Picked) → None ≡ least (eachRecord (broken set types stations plans file) 1 l)
   records-none file a b c d l = sym (none-least _ (each-nothing file a b c d 1 l))
 
 -- of no records all are noted

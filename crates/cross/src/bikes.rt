@@ -11,12 +11,13 @@ use slots::Slots;
 ghost use mathlib.Core.Bool.{not};
 ghost use mathlib.Core.List.{_++_};
 ghost use mathlib.Core.Path.{_≡_};
+ghost use Rattle.schema.specs.Records.{recordShape};
 ghost use Rattle.fault.specs.Fault.{least};
 ghost use Rattle.judge.specs.Faults.{faulty};
 ghost use Rattle.slots.specs.inner.Slots.{slotsOf, Gathered};
-ghost use Rattle.document.proofs.Records.{recordShape, pickedItems};
+ghost use Rattle.document.proofs.Records.{pickedItems};
 ghost use Rattle.fields.specs.inner.Values.{textBy, thereBy};
-ghost use Rattle.references.specs.References.{demanded as demandedOf, refers as refersTo, named as namedBy, driven as drivenOf};
+ghost use Rattle.references.specs.References.{demanded as demandedOf, refers as refersTo, named as namedBy, motorized as motorizedOf};
 ghost use Rattle.references.specs.inner.Known.{Searchable};
 ghost use Rattle.cross.specs.Cross.{bikeFaults};
 ghost use Rattle.cross.specs.inner.Judged.{Judges};
@@ -41,7 +42,7 @@ fn judge_vehicle(
     type_notes: &[u32; Notes::SIZE],
 ) -> Least
     requires { ⌜ Searchable 1 (now types) (now «type_notes») ⌝ }
-    ensures { λ r. ⌜ r ≡ least (faulty place 45 (demandedOf typed (thereBy (now (reference .entry))) ++ refersTo (textBy (now (reference .entry))) 10 (pickedItems (recordShape 1) (now (types .entry)))) ++ faulty place 46 (demandedOf (namedBy drivenOf 10 (pickedItems (recordShape 1) (now (types .entry))) (textBy (now (reference .entry)))) (thereBy (now (range .entry))))) ⌝ }
+    ensures { λ r. ⌜ r ≡ least (faulty place 45 (demandedOf typed (thereBy (now (reference .entry))) ++ refersTo (textBy (now (reference .entry))) 10 (pickedItems (recordShape 1) (now (types .entry)))) ++ faulty place 46 (demandedOf (namedBy motorizedOf 10 (pickedItems (recordShape 1) (now (types .entry))) (textBy (now (reference .entry)))) (thereBy (now (range .entry))))) ⌝ }
 {
     let a = place.broken(45, demanded(typed, reference));
     let b = place.broken(45, refers(reference, 1, types, type_notes));

@@ -26,14 +26,15 @@ ghost use Rattle.word.specs.Kinds.{sumDiffers};
 ghost use Rattle.scalar.specs.inner.Listed.{listed};
 ghost use Rattle.walk.specs.inner.Along.{AlongItems};
 ghost use Rattle.schema.specs.Table23.{available as availableShape};
+ghost use Rattle.schema.specs.Records.{recordShape};
 ghost use Rattle.fault.specs.Fault.{least};
 ghost use Rattle.judge.specs.Faults.{faulty};
 ghost use Rattle.slots.specs.inner.Slots.{slotsOf, Gathered};
-ghost use Rattle.document.proofs.Records.{recordShape, pickedItems};
+ghost use Rattle.document.proofs.Records.{pickedItems};
 ghost use Rattle.fields.specs.Values.{integerIn};
 ghost use Rattle.fields.specs.inner.Values.{textBy, thereBy, arrayBy, spelledBy};
-ghost use Rattle.references.specs.References.{when, demanded as demandedOf, refers as refersTo, named as namedBy, roomy as roomyOf};
-ghost use Rattle.cross.specs.Cross.{at, sumOf, availableFaults, statusFaults};
+ghost use Rattle.references.specs.References.{kindIf, demanded as demandedOf, refers as refersTo, named as namedBy, hasCapacity as hasCapacityOf};
+ghost use Rattle.cross.specs.Cross.{recordPlace, sumOf, availableFaults, statusFaults};
 ghost use Rattle.references.specs.inner.Known.{Searchable};
 ghost use Rattle.cross.specs.inner.Judged.{Object, Judges};
 
@@ -76,7 +77,7 @@ fn judge_available(p: &[u8], n: u32, types: &[u8], type_notes: &[u32; Notes::SIZ
 
 // What field 37 breaks whose counts do not sum to field 31: the kind, or 0.
 fn sum_kind(available: &[u8], sum: u64, bikes: &[u8]) -> u8
-    ensures { λ r. ⌜ listed r ≡ when (thereBy (now (available .entry)) and not (eqb sum (integerIn (spelledBy (now (bikes .entry)))))) sumDiffers ⌝ }
+    ensures { λ r. ⌜ listed r ≡ kindIf (thereBy (now (available .entry)) and not (eqb sum (integerIn (spelledBy (now (bikes .entry)))))) sumDiffers ⌝ }
 {
     if available.len() == 0 {
         return 0;
@@ -96,7 +97,7 @@ fn judge_station(
     station_notes: &[u32; Notes::SIZE],
 ) -> Least
     requires { ⌜ Searchable 2 (now stations) (now «station_notes») ⌝ }
-    ensures { λ r. ⌜ r ≡ least (faulty place 30 (refersTo (textBy (now (reference .entry))) 20 (pickedItems (recordShape 2) (now (stations .entry)))) ++ faulty place 32 (demandedOf (namedBy roomyOf 20 (pickedItems (recordShape 2) (now (stations .entry))) (textBy (now (reference .entry)))) (thereBy (now (docks .entry))))) ⌝ }
+    ensures { λ r. ⌜ r ≡ least (faulty place 30 (refersTo (textBy (now (reference .entry))) 20 (pickedItems (recordShape 2) (now (stations .entry)))) ++ faulty place 32 (demandedOf (namedBy hasCapacityOf 20 (pickedItems (recordShape 2) (now (stations .entry))) (textBy (now (reference .entry)))) (thereBy (now (docks .entry))))) ⌝ }
 {
     let a = place.broken(30, refers(reference, 2, stations, station_notes));
     let b = place.broken(
@@ -116,7 +117,7 @@ fn judge_counts(
     type_notes: &[u32; Notes::SIZE],
 ) -> Least
     requires { ⌜ Searchable 1 (now types) (now «type_notes») × (length (now available) ≤ fileBytes) × ((0 < length (arrayBy (now available))) → AlongItems (arrayBy (now available)) 1) ⌝ }
-    ensures { λ r. ⌜ r ≡ least (faulty (at n 0) 37 (demandedOf typed (thereBy (now (available .entry))) ++ when (thereBy (now (available .entry)) and not (eqb (sumOf (pickedItems availableShape (arrayBy (now (available .entry))))) (integerIn (spelledBy (now (bikes .entry)))))) sumDiffers) ++ availableFaults (pickedItems (recordShape 1) (now (types .entry))) n 1 (pickedItems availableShape (arrayBy (now (available .entry))))) ⌝ }
+    ensures { λ r. ⌜ r ≡ least (faulty (recordPlace n 0) 37 (demandedOf typed (thereBy (now (available .entry))) ++ kindIf (thereBy (now (available .entry)) and not (eqb (sumOf (pickedItems availableShape (arrayBy (now (available .entry))))) (integerIn (spelledBy (now (bikes .entry)))))) sumDiffers) ++ availableFaults (pickedItems (recordShape 1) (now (types .entry))) n 1 (pickedItems availableShape (arrayBy (now (available .entry))))) ⌝ }
 {
     let place = Place { record: n, sub: 0 };
     let tally = judge_available(array_in(available), n, types, type_notes);

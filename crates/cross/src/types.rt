@@ -6,10 +6,11 @@ use ids::Notes;
 use judge::Place;
 use references::rules::demanded;
 use references::rules::refers;
-use references::search::is_driven;
+use references::search::is_motorized;
 use slots::Slots;
+ghost use Rattle.schema.specs.Records.{recordShape};
 ghost use Rattle.slots.specs.inner.Slots.{slotsOf, Gathered};
-ghost use Rattle.document.proofs.Records.{recordShape, pickedItems};
+ghost use Rattle.document.proofs.Records.{pickedItems};
 ghost use Rattle.references.specs.inner.Known.{Searchable};
 ghost use Rattle.cross.specs.Cross.{typeFaults};
 ghost use Rattle.cross.specs.inner.Judged.{Judges};
@@ -29,9 +30,9 @@ pub fn judge_type<'s>(
     ensures { λ r. ⌜ Judges 1 (typeFaults planned (pickedItems (recordShape 5) (now (plans .entry))) n) (now (p .entry)) r ⌝ }
 {
     let place = Place { record: n, sub: 0 };
-    let driven = is_driven(value_in(p, state, from, upto, 2));
+    let motorized = is_motorized(value_in(p, state, from, upto, 2));
     let reference = value_in(p, state, from, upto, 4);
-    let a = place.broken(13, demanded(driven, value_in(p, state, from, upto, 3)));
+    let a = place.broken(13, demanded(motorized, value_in(p, state, from, upto, 3)));
     let b = place.broken(14, demanded(planned, reference));
     let c = place.broken(14, refers(reference, 5, plans, plan_notes));
     lesser(a, lesser(b, c))

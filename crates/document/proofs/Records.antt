@@ -3,15 +3,13 @@ use mathlib.Core.List.{List, [], _∷_, map, List·Memᴰ, List·Memᴰ·head, L
 use mathlib.Core.Path.{_≡_, refl, sym, ap, subst, _∙_}
 use Prim.Native.Nat.{ℕ, zero, suc, _+_, _-_, _≤_, _<_}
 use native.Mathlib.Omega.{arith}
-use lib.Dec.{eqb}
 use lib.ListN.{length, drop, length-map}
 use Rattle.limits.specs.Ceilings as ceiling
-use Rattle.notation.specs.Choice.{_⇒_else_}
 use Rattle.json.specs.Tree as tree
 use Rattle.json.specs.Tree.{Json, Items}
 use Rattle.walk.specs.declared.Item.{Item}
 use Rattle.walk.specs.Walk.{part, itemsOf}
-use Rattle.walk.specs.Part.{Whole, treeOf}
+use Rattle.walk.specs.Part.{Whole, partTree}
 use Rattle.walk.proofs.Places.{item-placed}
 use Rattle.walk.proofs.Folds as iterated
 use Rattle.walk.proofs.Folds.{itemSteps}
@@ -21,18 +19,19 @@ use Rattle.walk.proofs.Open.{front-map}
 use Rattle.walk.proofs.Files.{valueStart, Passed}
 use Rattle.schema.specs.Shape as shape
 use Rattle.schema.specs.Shape.{Shape, Rows, fileShape}
-use Rattle.schema.specs.Table23.{table23, listing, file, zones, vehicleType, station, status, bike, plan, zone}
-use Rattle.schema.specs.Pick.{Picked, PickedItems, items, pick, each, listOf}
+use Rattle.schema.specs.Table23.{table23}
+use Rattle.schema.specs.Records.{Key, recordShape}
+use Rattle.schema.specs.Pick.{Picked, PickedItems, items, pick, pickItems, listOf}
 use Rattle.document.specs.declared.Span.{Span}
 use Rattle.document.specs.declared.Span.the-variants.{None, Is}
 use Rattle.document.specs.Document.{Maybe, none, some, field, along}
-use Rattle.document.specs.inner.Path.{path}
 use Rattle.document.specs.Trees as trees
 use Rattle.document.specs.Trees.{numbered}
-use Rattle.document.specs.Spans.{membersAlong, topSpan, namesTo, recordsSpan, nth, nthIn}
+use Rattle.document.specs.Spans.{membersAlong, topSpan, recordsSpan, nth, nthIn}
 use Rattle.document.proofs.Cuts.{part-part, part-inside}
 use Rattle.document.proofs.Along.{top-found, nth-zero}
-use Rattle.document.proofs.Fields.{Lists, here, below, none-some, some-some, field-held, Stands, reached}
+use Rattle.document.proofs.Fields.{none-some, some-some, field-held, Stands, reached}
+use Rattle.document.proofs.Ways.{lists, Leads, arrived, into, Recorded}
 
 -- the value of a file that passes
 module _ (s : List ℕ) (t : Passed s) where
@@ -41,12 +40,6 @@ module _ (s : List ℕ) (t : Passed s) where
 
   pub top-stands : Stands s (valueStart s) (t .end) (t .tree)
   top-stands = record { whole = t .whole; some = t .some; inside = t .inside }
-
--- rows that lead on
-pub data Leads : Shape → List ℕ → List (List ℕ) → Shape → Type 0 where
-  arrived : {σ : Shape} → Leads σ [] [] σ
-  into : {f : ℕ} {name : List ℕ} {σ τ : Shape} {rows : Rows} {fs : List ℕ} {names : List (List ℕ)} → Lists f name σ rows → Leads σ fs names τ
-      → Leads (shape.object rows) (f ∷ fs) (name ∷ names) τ
 
 -- what stands at a span, from which y is picked
 pub record Picks (s : List ℕ) (span : Span) (σ : Shape) (y : Picked) : Type 0 where
@@ -65,50 +58,31 @@ along-into f fs x y e = go (field f x) refl e
     go none h k = none-some k
     go (some z) h k = (z, h, k)
 
--- the fields along a path are the members along its names
-pub leads-on : {σ τ : Shape} {fs : List ℕ} {names : List (List ℕ)} → Leads σ fs names τ → (s : List ℕ) (from upto : ℕ) (x : Json) → Stands s from upto x
-    → (y : Picked) → along fs (pick σ x) ≡ some y → Picks s (membersAlong s names (Is from upto)) τ y
+-- the fields along a way are the members along its names
+pub leads-on : {σ τ : Shape} {ks : List Key} → Leads σ ks τ → (s : List ℕ) (from upto : ℕ) (x : Json) → Stands s from upto x
+    → (y : Picked) → along (map (λ k. k .field) ks) (pick σ x) ≡ some y → Picks s (membersAlong s (map (λ k. k .name) ks) (Is from upto)) τ y
 unfolding along membersAlong
 leads-on arrived s from upto x w y e = record { start = from; end = upto; tree = x; is = refl; there = w; picked = some-some e }
-leads-on (into {f = f} {name = name} {rows = rows} {fs = fs} {names = names} l r) s from upto x w y e =
+leads-on (into {f = f} {name = name} {rows = rows} {ks = ks} l r) s from upto x w y e =
+    let fs = map (λ k. k .field) ks in let names = map (λ k. k .name) ks in
     let t = along-into f fs (pick (shape.object rows) x) y e in
-    let d = field-held l x (t .1) in
+    let d = field-held (lists l) x (t .1) in
     let v = reached s name from upto (subst (Stands s from upto) (d .object) w) (d .value) (d .found) in
     let q = leads-on r s (v .start) (v .end) (d .value) (v .there) y (ap (along fs) (d .picked) ∙ t .2) in
     record { start = q .start; end = q .end; tree = q .tree; is = ap (membersAlong s names) (v .is) ∙ q .is; there = q .there; picked = q .picked }
 
--- the shape of a file's records, and the rows that lead to them
-unfoldable pub recordShape : ℕ → Shape
-recordShape n =
-    eqb n 1 ⇒ vehicleType else
-    eqb n 2 ⇒ station else
-    eqb n 3 ⇒ status else
-    eqb n 4 ⇒ bike else
-    eqb n 5 ⇒ plan else zone
-
-pub leads-to : (n : ℕ) → 1 ≤ n → n ≤ 6 → Leads (fileShape table23 n) (path (eqb n 6)) (namesTo n) (shape.array shape.records ceiling.records (recordShape n))
-unfolding fileShape table23 listing file zones namesTo recordShape
-leads-to zero h i = absurd (omega arith)
-leads-to (suc zero) h i = into (below refl (below refl (below refl here))) (into here arrived)
-leads-to (suc (suc zero)) h i = into (below refl (below refl (below refl here))) (into here arrived)
-leads-to (suc (suc (suc zero))) h i = into (below refl (below refl (below refl here))) (into here arrived)
-leads-to (suc (suc (suc (suc zero)))) h i = into (below refl (below refl (below refl here))) (into here arrived)
-leads-to (suc (suc (suc (suc (suc zero))))) h i = into (below refl (below refl (below refl here))) (into here arrived)
-leads-to (suc (suc (suc (suc (suc (suc zero)))))) h i = into (below refl (below refl (below refl here))) (into here (into (below refl here) arrived))
-leads-to (suc (suc (suc (suc (suc (suc (suc n))))))) h i = absurd (omega arith)
-
 -- the items of the array p, picked
 abbrev pub pickedItems : Shape → List ℕ → List Picked
-pickedItems σ p = map (λ m. pick σ (treeOf (itemOf p m))) (itemsOf p)
+pickedItems σ p = map (λ m. pick σ (partTree (itemOf p m))) (itemsOf p)
 
 -- their trees
 abbrev pub itemTrees : List ℕ → List Json
-itemTrees p = map (λ m. treeOf (itemOf p m)) (itemsOf p)
+itemTrees p = map (λ m. partTree (itemOf p m)) (itemsOf p)
 
 -- they are the same where more follows the array
 pub open-items : {is : Items} (σ : Shape) (s : List ℕ) (from upto : ℕ) → Whole (part s from upto) (tree.array is)
     → pickedItems σ (drop from s) ≡ pickedItems σ (part s from upto)
-open-items σ s from upto w = front-map (drop from s) (upto - from) (λ m q. pick σ (treeOf q)) w
+open-items σ s from upto w = front-map (drop from s) (upto - from) (λ m q. pick σ (partTree q)) w
 
 -- an array at a span, whose items l is picked from
 pub record Records (s : List ℕ) (span : Span) (σ : Shape) (l : List Picked) : Type 0 where
@@ -119,13 +93,13 @@ pub record Records (s : List ℕ) (span : Span) (σ : Shape) (l : List Picked) :
   pub there : Stands s start end (tree.array trees)
   pub picked : l ≡ pickedItems σ (part s start end)
 
-pub list-each : (f : Json → Picked) (ms : List Item) (g : Item → Json) → listOf (each f (tree.itemsOf (map g ms))) ≡ map (λ m. f (g m)) ms
-unfolding listOf each tree.itemsOf
+pub list-each : (f : Json → Picked) (ms : List Item) (g : Item → Json) → listOf (pickItems f (tree.asItems (map g ms))) ≡ map (λ m. f (g m)) ms
+unfolding listOf pickItems tree.asItems
 list-each f [] g = refl
 list-each f (m ∷ ms) g = ap (λ (l : List Picked). f (g m) ∷ l) (list-each f ms g)
 
 module _ (numbering : shape.Numbering) (most : ℕ) (σ : Shape) (is : PickedItems) where
-  array-of : (x : Json) → pick (shape.array numbering most σ) x ≡ items is → (js : Items) × (x ≡ tree.array js) × (is ≡ each (λ y. pick σ y) js)
+  array-of : (x : Json) → pick (shape.array numbering most σ) x ≡ items is → (js : Items) × (x ≡ tree.array js) × (is ≡ pickItems (λ y. pick σ y) js)
   unfolding pick
   array-of (tree.array js) e = (js, refl, cc)
   array-of tree.null e = let z : _≡_ {A = ℕ} 0 1 = cc in absurd (omega arith)
@@ -146,17 +120,17 @@ module _ (numbering : shape.Numbering) (most : ℕ) (σ : Shape) (is : PickedIte
         is = p .is;
         there = w;
         picked =
-            ap listOf (a .2) ∙ ap (λ js. listOf (each (λ y. pick σ y) js)) (array-parts q (w .whole))
-            ∙ list-each (λ y. pick σ y) (itemsOf q) (λ m. treeOf (itemOf q m));
+            ap listOf (a .2) ∙ ap (λ js. listOf (pickItems (λ y. pick σ y) js)) (array-parts q (w .whole))
+            ∙ list-each (λ y. pick σ y) (itemsOf q) (λ m. partTree (itemOf q m));
       }
 
--- of a file that passes, where the path to its records is there
-pub records-stand : (n : ℕ) → 1 ≤ n → n ≤ 6 → (s : List ℕ) (t : Passed s) (is : PickedItems) → along (path (eqb n 6)) (pick (fileShape table23 n) (t .tree)) ≡ some (items is)
-    → Records s (recordsSpan n s) (recordShape n) (listOf is)
+-- of a file that passes, where the way to its records is there
+pub records-stand : (n : ℕ) (d : Recorded n) (s : List ℕ) (t : Passed s) (is : PickedItems)
+    → along (map (λ k. k .field) (d .way .keys)) (pick (fileShape table23 n) (t .tree)) ≡ some (items is) → Records s (recordsSpan n s) (recordShape n) (listOf is)
 unfolding recordsSpan
-records-stand n h i s t is e =
-    array-records shape.records ceiling.records (recordShape n) is (subst (λ (z : Span). Picks s (membersAlong s (namesTo n) z) (shape.array shape.records ceiling.records (recordShape n)) (items is)) (sym (top-is s t))
-    (leads-on (leads-to n h i) s (valueStart s) (t .end) (t .tree) (top-stands s t) (items is) e))
+records-stand n d s t is e =
+    let p = leads-on (d .leads) s (valueStart s) (t .end) (t .tree) (top-stands s t) (items is) e in
+    rw (recordsSpan, d .is, top-is s t) (array-records shape.records ceiling.records (recordShape n) is p)
 
 -- items by number
 module _ (from : ℕ) where
@@ -185,7 +159,7 @@ module _ {s : List ℕ} {span : Span} {σ : Shape} {l : List Picked} (r : Record
   array = part s (r .start) (r .end)
 
   pub as-many : length l ≡ length (itemsOf array)
-  as-many = ap length (r .picked) ∙ length-map (itemsOf array) (λ m. pick σ (treeOf (itemOf array m)))
+  as-many = ap length (r .picked) ∙ length-map (itemsOf array) (λ m. pick σ (partTree (itemOf array m)))
 
   -- the record of a number, counted from 1, with its tree
   pub record RecordAt (n : ℕ) : Type 0 where
@@ -200,7 +174,7 @@ module _ {s : List ℕ} {span : Span} {σ : Shape} {l : List Picked} (r : Record
   pub record-at : (k : ℕ) → k < length l → RecordAt (suc k)
   record-at k h =
       let a = r .start in
-      let t = nth-of a (λ m. treeOf (itemOf array m)) (itemsOf array) k (omega (arith, as-many)) in
+      let t = nth-of a (λ m. partTree (itemOf array m)) (itemsOf array) k (omega (arith, as-many)) in
       let m = t .0 in
       let i = item-inside array m (t .1) in
       let n : length array ≡ r .end - a = part-inside s a (r .end) (r .there .inside) in
@@ -210,16 +184,16 @@ module _ {s : List ℕ} {span : Span} {σ : Shape} {l : List Picked} (r : Record
       record {
         start = a + m .value;
         end = a + m .«value_end»;
-        tree = treeOf (itemOf array m);
+        tree = partTree (itemOf array m);
         is = ap (λ (z : Span). nthIn s z (suc k)) (r .is) ∙ t .2;
         numbered = t .3;
         there =
             record {
-              whole = subst (λ (q : List ℕ). Whole q (treeOf (itemOf array m))) same (items-whole array m (t .1));
+              whole = subst (λ (q : List ℕ). Whole q (partTree (itemOf array m))) same (items-whole array m (t .1));
               some = omega arith;
               inside = omega arith;
             };
-        picked = subst (List·Memᴰ (pick σ (treeOf (itemOf array m)))) (sym (r .picked)) (Memᴰ·map (λ j. pick σ (treeOf (itemOf array j))) (t .1));
+        picked = subst (List·Memᴰ (pick σ (partTree (itemOf array m)))) (sym (r .picked)) (Memᴰ·map (λ j. pick σ (partTree (itemOf array j))) (t .1));
       }
 
   pub record-past : (k : ℕ) → length l ≤ k → nthIn s span (suc k) ≡ None

@@ -1,32 +1,34 @@
 -- The rest of a file from its records on, name by name: where the span of a value is one, the rest that the code has come to begins with that value.
-use mathlib.Core.List.{List, [], _∷_, List·Memᴰ}
+use mathlib.Core.List.{List, [], _∷_, map, List·Memᴰ}
 use mathlib.Core.Path.{_≡_, refl, sym, ap, subst, _∙_}
 use Prim.Native.Nat.{ℕ, _+_, _-_, _≤_}
 use native.Mathlib.Omega.{arith}
 use lib.ListN.{length, take, drop, length-take, length-drop}
 use lib.Seq.{drop-drop}
 use Rattle.limits.specs.Ceilings.{depth}
+use Rattle.notation.specs.Maybe.{Maybe, none, some}
 use Rattle.json.specs.declared.Syntax.the-variants.{Sound}
 use Rattle.json.specs.Tree.{Json}
 use Rattle.json.specs.Text.{syntaxOf}
 use Rattle.json.proofs.Values.{value-empty}
 use Rattle.lexeme.specs.Tokens.{blanks}
 use Rattle.walk.specs.declared.Item.{Item}
-use Rattle.walk.specs.Walk.{place, part, itemsOf}
-use Rattle.walk.specs.Part.{Whole, treeOf}
+use Rattle.walk.specs.Walk.{offsetOf, part, itemsOf}
+use Rattle.walk.specs.Part.{Whole, partTree}
 use Rattle.walk.specs.inner.Along.{AlongItems}
 use Rattle.walk.proofs.Files.{passed}
 use Rattle.walk.proofs.Wholes.{whole-some}
 use Rattle.walk.proofs.Parts.{itemOf}
 use Rattle.walk.proofs.Open.{front-items, front-each}
 use Rattle.schema.specs.Shape.{Shape}
+use Rattle.schema.specs.Records.{Way, wayTo}
 use Rattle.schema.specs.Pick.{Picked}
 use Rattle.slots.specs.declared.Found.{Found}
 use Rattle.slots.specs.declared.Found.the-variants.{Missing, Once, Twice}
 use Rattle.slots.specs.Found.{foundIn}
 use Rattle.document.specs.declared.Span.{Span}
 use Rattle.document.specs.declared.Span.the-variants.{None, Is}
-use Rattle.document.specs.Spans.{moved, memberAt, membersAlong, topSpan, namesTo, recordsSpan, nth, nthIn, recordSpan}
+use Rattle.document.specs.Spans.{moved, memberSpan, membersAlong, topSpan, recordsSpan, nth, nthIn, recordSpan}
 use Rattle.document.specs.inner.Spans.{Listed, ValueFrom, RecordsFrom}
 use Rattle.document.proofs.Cuts.{part-rest}
 use Rattle.document.proofs.Fields.{Stands, stands-found}
@@ -36,17 +38,17 @@ pub record Begins (s : List ℕ) (span : Span) (p : List ℕ) : Type 0 where
   pub inside : length p ≤ length s
   pub starts : syntaxOf s ≡ Sound → (from upto : ℕ) → span ≡ Is from upto → (x : Json) × Stands s from upto x × (p ≡ drop from s)
 
-pub begins-top : (s : List ℕ) (at : ℕ) → at ≡ place s (blanks s) → Begins s (topSpan s) (part s at (length s))
+pub begins-top : (s : List ℕ) (at : ℕ) → at ≡ offsetOf s (blanks s) → Begins s (topSpan s) (part s at (length s))
 begins-top s at e =
     record {
       inside = omega (arith, ap length (part-rest s at), length-drop at s);
       starts = λ h from upto i.
           let t = passed s h in
-          let k : Is (place s (blanks s)) (t .end) ≡ Is from upto = sym (top-is s t) ∙ i in
-          let a : place s (blanks s) ≡ from = cc in
+          let k : Is (offsetOf s (blanks s)) (t .end) ≡ Is from upto = sym (top-is s t) ∙ i in
+          let a : offsetOf s (blanks s) ≡ from = cc in
           let b : t .end ≡ upto = cc in (
             t .tree,
-            subst (λ (z : ℕ). Stands s z upto (t .tree)) a (subst (λ (z : ℕ). Stands s (place s (blanks s)) z (t .tree)) b (top-stands s t)),
+            subst (λ (z : ℕ). Stands s z upto (t .tree)) a (subst (λ (z : ℕ). Stands s (offsetOf s (blanks s)) z (t .tree)) b (top-stands s t)),
             part-rest s at ∙ ap (λ (z : ℕ). drop z s) (e ∙ a),
           );
     }
@@ -57,23 +59,28 @@ moved-is at Missing from upto h = let z : _≡_ {A = ℕ} 0 1 = cc in absurd (om
 moved-is at (Once a e) from upto h = (a, e, refl, cc, cc)
 moved-is at Twice from upto h = let z : _≡_ {A = ℕ} 0 1 = cc in absurd (omega arith)
 
-pub begins-member : (s name : List ℕ) (span : Span) (p r : List ℕ) → Begins s span p → ValueFrom p name r → Begins s (memberAt s name span) r
+pub begins-member : (s name : List ℕ) (span : Span) (p r : List ℕ) → Begins s span p → ValueFrom p name r → Begins s (memberSpan s name span) r
 begins-member s name span p r b v =
     record { inside = let i = b .inside in let j = v .inside in omega arith; starts = λ h. go span (b .starts h) }
   where
     go : (span : Span) → ((from upto : ℕ) → span ≡ Is from upto → (x : Json) × Stands s from upto x × (p ≡ drop from s))
-        → (from upto : ℕ) → memberAt s name span ≡ Is from upto → (x : Json) × Stands s from upto x × (r ≡ drop from s)
+        → (from upto : ℕ) → memberSpan s name span ≡ Is from upto → (x : Json) × Stands s from upto x × (r ≡ drop from s)
     go None k from upto i = let z : _≡_ {A = ℕ} 0 1 = cc in absurd (omega arith)
     go (Is at end) k from upto i =
         let (x, w, e) = k at end refl in
         let (a, c, f, g, j) = moved-is at (foundIn (part s at end) name) from upto i in
         let same : part s at end ≡ take (end - at) p = ap (take (end - at)) (sym e) in
-        let y = treeOf (part (part s at end) a c) in (
+        let y = partTree (part (part s at end) a c) in (
           y,
           subst (λ (z : ℕ). Stands s z upto y) g (subst (λ (z : ℕ). Stands s (at + a) z y) j (stands-found s name at end w a c f)),
           v .starts (end - at) x (subst (λ (q : List ℕ). Whole q x) same (w .whole)) a c (ap (λ (q : List ℕ). foundIn q name) (sym same) ∙ f)
               ∙ ap (drop a) e ∙ drop-drop a at s ∙ ap (λ (z : ℕ). drop z s) g,
         )
+
+-- a number without records has none to begin
+pub no-records : (file : ℕ) (s r : List ℕ) → recordsSpan file s ≡ None → length r ≤ length s → RecordsFrom file s r
+no-records file s r e h =
+    record { inside = h; starts = λ i from upto j. let k : None ≡ Is from upto = sym e ∙ j in let z : _≡_ {A = ℕ} 0 1 = cc in absurd (omega arith) }
 
 pub records-begin : (file : ℕ) (s : List ℕ) (span : Span) (r : List ℕ) → span ≡ recordsSpan file s → Begins s span r → RecordsFrom file s r
 records-begin file s span r e b = record { inside = b .inside; starts = λ h from upto i. b .starts h from upto (e ∙ i) .2 }
@@ -120,11 +127,14 @@ none-along s (name ∷ names) = none-along s names
 
 pub no-record : (file n : ℕ) → recordSpan file [] n ≡ None
 unfolding recordSpan recordsSpan topSpan blanks
-no-record file n =
-    ap (λ (z : Span). nthIn [] (membersAlong [] (namesTo file) z) n) none ∙ ap (λ (z : Span). nthIn [] z n) (none-along [] (namesTo file))
+no-record file n = go (wayTo file)
   where
-    none : topSpan [] ≡ None
-    none = rw (topSpan, value-empty depth)
+    empty : topSpan [] ≡ None
+    empty = rw (topSpan, value-empty depth)
+
+    go : (o : Maybe Way) → nthIn [] (elim o [ none ↦ None | some w ↦ membersAlong [] (map (λ k. k .name) (w .keys)) (topSpan []) ]) n ≡ None
+    go none = refl
+    go (some w) = ap (λ (z : Span). nthIn [] z n) (ap (membersAlong [] (map (λ k. k .name) (w .keys))) empty ∙ none-along [] _)
 
 -- the n-th record, in the rest p
 module _ (file : ℕ) (s p : List ℕ) (n : ℕ) (f : RecordsFrom file s p) where

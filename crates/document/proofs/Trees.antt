@@ -17,13 +17,14 @@ use Rattle.json.proofs.Spellings.{value-spells}
 use Rattle.walk.specs.declared.Member.{Member}
 use Rattle.walk.specs.declared.ValueKind.the-variants as kind
 use Rattle.walk.specs.Walk.{part, itemsOf}
-use Rattle.walk.specs.Part.{Whole, treeOf, kindOf}
+use Rattle.walk.specs.Part.{Whole, partTree, kindOf}
 use Rattle.walk.proofs.Wholes.{whole-tree}
 use Rattle.walk.proofs.Parts.{itemOf}
 use Rattle.walk.proofs.Trees.{array-parts}
 use Rattle.walk.proofs.Memberless.{first-object, no-members}
 use Rattle.walk.proofs.Files.{valueStart, Passed}
 use Rattle.schema.specs.Shape.{Shape}
+use Rattle.schema.specs.Records.{Way, wayTo}
 use Rattle.schema.specs.Pick.{Picked}
 use Rattle.slots.specs.declared.Found.{Found}
 use Rattle.slots.specs.declared.Found.the-variants.{Missing, Once, Twice}
@@ -31,8 +32,8 @@ use Rattle.slots.specs.Found.{noted, foundIn}
 use Rattle.slots.specs.inner.Found.{treeIn}
 use Rattle.slots.proofs.Finds.{find-found}
 use Rattle.document.specs.declared.Span.the-variants.{None, Is}
-use Rattle.document.specs.Document.{none, some, onceOnly}
-use Rattle.document.specs.Spans.{moved, membersAlong, namesTo, recordsSpan}
+use Rattle.document.specs.Document.{Maybe, none, some, onceOnly}
+use Rattle.document.specs.Spans.{moved, membersAlong, topSpan, recordsSpan}
 use Rattle.document.specs.Trees.{member, valueAlong, listed, itemsIn, recordTrees}
 use Rattle.document.proofs.Fields.{Stands, stands-found}
 use Rattle.document.proofs.Records.{top-is, top-stands, itemTrees, Records}
@@ -101,13 +102,13 @@ along-tree s (name ∷ names) from upto x w a e h = go (along-tree s names) (fou
     go ih Missing f k = none-is (sym (none-along s names) ∙ k)
     go ih Twice f k = none-is (sym (none-along s names) ∙ k)
     go ih (Once c d) f k =
-        let y = treeOf (part p c d) in
+        let y = partTree (part p c d) in
         let m : member name x ≡ some y = member-found p name x (w .whole) ∙ ap (λ (o : Found). onceOnly (treeIn p o)) f in
         let (z, g, v) = ih (from + c) (from + d) y (stands-found s name from upto w c d f) a e k in
         (z, rw (valueAlong, m) g, v)
 
-listed-of : (l : List Json) → listed (tree.itemsOf l) ≡ l
-unfolding listed tree.itemsOf
+listed-of : (l : List Json) → listed (tree.asItems l) ≡ l
+unfolding listed tree.asItems
 listed-of [] = refl
 listed-of (x ∷ l) = ap (λ (z : List Json). x ∷ z) (listed-of l)
 
@@ -115,9 +116,13 @@ listed-of (x ∷ l) = ap (λ (z : List Json). x ∷ z) (listed-of l)
 pub records-trees : (file : ℕ) {s : List ℕ} {σ : Shape} {l : List Picked} (t : Passed s) (r : Records s (recordsSpan file s) σ l)
     → recordTrees file (t .tree) ≡ itemTrees (part s (r .start) (r .end))
 unfolding recordTrees recordsSpan
-records-trees file {s} t r =
-    let p = part s (r .start) (r .end) in
-    let (z, e, w) = along-tree s (namesTo file) (valueStart s) (t .end) (t .tree) (top-stands s t) (r .start) (r .end)
-    (ap (membersAlong s (namesTo file)) (sym (top-is s t)) ∙ r .is) in
-    let same : z ≡ tree.array (r .trees) = sym (whole-tree (w .whole)) ∙ whole-tree (r .there .whole) in
-    ap itemsIn (e ∙ ap some same) ∙ ap listed (array-parts p (r .there .whole)) ∙ listed-of (itemTrees p)
+records-trees file {s} t r = go (wayTo file) (r .is)
+  where
+    go : (o : Maybe Way) → elim o [ none ↦ None | some w ↦ membersAlong s (map (λ k. k .name) (w .keys)) (topSpan s) ] ≡ Is (r .start) (r .end)
+        → elim o [ none ↦ [] | some w ↦ itemsIn (valueAlong (map (λ k. k .name) (w .keys)) (t .tree)) ] ≡ itemTrees (part s (r .start) (r .end))
+    go none i = none-is i
+    go (some way) i =
+        let p = part s (r .start) (r .end) in let names = map (λ k. k .name) (way .keys) in
+        let (z, e, w) = along-tree s names (valueStart s) (t .end) (t .tree) (top-stands s t) (r .start) (r .end) (ap (membersAlong s names) (sym (top-is s t)) ∙ i) in
+        let same : z ≡ tree.array (r .trees) = sym (whole-tree (w .whole)) ∙ whole-tree (r .there .whole) in
+        ap itemsIn (e ∙ ap some same) ∙ ap listed (array-parts p (r .there .whole)) ∙ listed-of (itemTrees p)

@@ -3,13 +3,8 @@
 use mathlib.Core.Bool.{Bool, true, false}
 use mathlib.Core.List.{List, [], _∷_}
 use Prim.Native.Nat.{ℕ}
-use Rattle.json.specs.Tree as tree
-use Rattle.schema.specs.Pick.{Picked, Slot, bare, items, slots, listOf, missing, once, twice, at}
-
--- a value, or none
-pub data Maybe (A : Type 0) : Type 0 where
-  none : Maybe A
-  some : A → Maybe A
+pub use Rattle.notation.specs.Maybe.{Maybe, none, some}
+use Rattle.schema.specs.Pick.{Picked, Slot, bare, items, slots, missing, once, twice, slotOf, elements, single}
 
 abbrev pub onceOnly : {A : Type 0} → Slot A → Maybe A
 onceOnly missing = none
@@ -18,16 +13,11 @@ onceOnly twice = none
 
 -- the value of a field of an object
 unfoldable pub field : ℕ → Picked → Maybe Picked
-field f (slots ss) = onceOnly (at f ss)
+field f (slots ss) = onceOnly (slotOf f ss)
 field f (bare x) = none
 field f (items is) = none
 
 -- the items of an array
-abbrev pub elements : Picked → List Picked
-elements (items is) = listOf is
-elements (bare x) = []
-elements (slots ss) = []
-
 abbrev pub elementsOf : Maybe Picked → List Picked
 elementsOf none = []
 elementsOf (some x) = elements x
@@ -42,34 +32,13 @@ along (f ∷ fs) x = elim (field f x) [ none ↦ none | some y ↦ along fs y ]
 
 -- the text of a string, the spelling of a number, the truth of a boolean
 abbrev pub textIn : Picked → Maybe (List ℕ)
-textIn (bare tree.null) = none
-textIn (bare (tree.boolean b)) = none
-textIn (bare (tree.number s)) = none
-textIn (bare (tree.string s)) = some s
-textIn (bare (tree.array is)) = none
-textIn (bare (tree.object ms)) = none
-textIn (items is) = none
-textIn (slots ss) = none
+textIn x = single (λ b. none) (λ n. none) (λ s. some s) none x
 
 abbrev pub spellingIn : Picked → Maybe (List ℕ)
-spellingIn (bare tree.null) = none
-spellingIn (bare (tree.boolean b)) = none
-spellingIn (bare (tree.number s)) = some s
-spellingIn (bare (tree.string s)) = none
-spellingIn (bare (tree.array is)) = none
-spellingIn (bare (tree.object ms)) = none
-spellingIn (items is) = none
-spellingIn (slots ss) = none
+spellingIn x = single (λ b. none) (λ n. some n) (λ s. none) none x
 
 abbrev pub truthIn : Picked → Maybe Bool
-truthIn (bare tree.null) = none
-truthIn (bare (tree.boolean b)) = some b
-truthIn (bare (tree.number s)) = none
-truthIn (bare (tree.string s)) = none
-truthIn (bare (tree.array is)) = none
-truthIn (bare (tree.object ms)) = none
-truthIn (items is) = none
-truthIn (slots ss) = none
+truthIn x = single (λ b. some b) (λ n. none) (λ s. none) none x
 
 abbrev pub then : {A B : Type 0} → Maybe A → (A → Maybe B) → Maybe B
 then none f = none

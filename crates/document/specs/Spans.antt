@@ -1,16 +1,15 @@
 -- Where the records of a file stand in the caller's bytes: along the names that lead to them, and then item by item.
-use mathlib.Core.List.{List, [], _∷_}
+use mathlib.Core.List.{List, [], _∷_, map}
 use Prim.Native.Nat.{ℕ, zero, suc, _+_}
-use lib.Dec.{eqb}
-use Rattle.notation.specs.Ascii.{bytes}
-use Rattle.notation.specs.Choice.{_⇒_else_}
+use Rattle.notation.specs.Maybe.{none, some}
 use Rattle.lexeme.specs.Read.Read.{done, bad}
 use Rattle.lexeme.specs.Character.{paired}
 use Rattle.lexeme.specs.Tokens.{blanks}
 use Rattle.limits.specs.Ceilings.{depth}
 use Rattle.json.specs.Text.{value}
 use Rattle.walk.specs.declared.Item.{Item}
-use Rattle.walk.specs.Walk.{place, part, itemsOf}
+use Rattle.walk.specs.Walk.{offsetOf, part, itemsOf}
+use Rattle.schema.specs.Records.{wayTo}
 use Rattle.slots.specs.declared.Found.{Found}
 use Rattle.slots.specs.declared.Found.the-variants.{Missing, Once, Twice}
 use Rattle.slots.specs.Found.{foundIn}
@@ -24,31 +23,21 @@ moved at (Once from upto) = Is (at + from) (at + upto)
 moved at Twice = None
 
 -- the member of a name, in the object at a span of s
-abbrev pub memberAt : List ℕ → List ℕ → Span → Span
-memberAt s name None = None
-memberAt s name (Is from upto) = moved from (foundIn (part s from upto) name)
+abbrev pub memberSpan : List ℕ → List ℕ → Span → Span
+memberSpan s name None = None
+memberSpan s name (Is from upto) = moved from (foundIn (part s from upto) name)
 
 unfoldable pub membersAlong : List ℕ → List (List ℕ) → Span → Span
 membersAlong s [] span = span
-membersAlong s (name ∷ names) span = membersAlong s names (memberAt s name span)
+membersAlong s (name ∷ names) span = membersAlong s names (memberSpan s name span)
 
 -- the value of the whole file
 unfoldable pub topSpan : List ℕ → Span
-topSpan s = elim (value paired depth (blanks s)) [ done x r ↦ Is (place s (blanks s)) (place s r) | bad k r ↦ None ]
+topSpan s = elim (value paired depth (blanks s)) [ done x r ↦ Is (offsetOf s (blanks s)) (offsetOf s r) | bad k r ↦ None ]
 
--- the names that lead to a file's records
-unfoldable pub namesTo : ℕ → List (List ℕ)
-namesTo file =
-    eqb file 1 ⇒ bytes "data" ∷ bytes "vehicle_types" ∷ [] else
-    eqb file 2 ⇒ bytes "data" ∷ bytes "stations" ∷ [] else
-    eqb file 3 ⇒ bytes "data" ∷ bytes "stations" ∷ [] else
-    eqb file 4 ⇒ bytes "data" ∷ bytes "bikes" ∷ [] else
-    eqb file 5 ⇒ bytes "data" ∷ bytes "plans" ∷ [] else
-    bytes "data" ∷ bytes "geofencing_zones" ∷ bytes "features" ∷ []
-
--- the array of records
+-- the array of records; none in a file without records
 unfoldable pub recordsSpan : ℕ → List ℕ → Span
-recordsSpan file s = membersAlong s (namesTo file) (topSpan s)
+recordsSpan file s = elim (wayTo file) [ none ↦ None | some w ↦ membersAlong s (map (λ k. k .name) (w .keys)) (topSpan s) ]
 
 -- the n-th item, counted from 1, of a list of them
 unfoldable pub nth : ℕ → List Item → ℕ → Span

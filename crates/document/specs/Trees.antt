@@ -1,11 +1,11 @@
 -- Where the records of a file stand in its tree: document 01, "Field table". They are the items of the array under the names that lead to it.
-use mathlib.Core.List.{List, [], _∷_}
+use mathlib.Core.List.{List, [], _∷_, map}
 use Prim.Native.Nat.{ℕ, zero, suc}
 use Rattle.json.specs.Tree as tree
 use Rattle.json.specs.Tree.{Json, Items}
+use Rattle.schema.specs.Records.{wayTo}
 use Rattle.schema.specs.Pick.{find}
 use Rattle.document.specs.Document.{Maybe, none, some, onceOnly}
-use Rattle.document.specs.Spans.{namesTo}
 
 -- the value that an object has under a name, where it has just one
 abbrev pub member : List ℕ → Json → Maybe Json
@@ -37,7 +37,7 @@ itemsIn none = []
 
 -- the records of a file of this number and tree
 unfoldable pub recordTrees : ℕ → Json → List Json
-recordTrees file x = itemsIn (valueAlong (namesTo file) x)
+recordTrees file x = elim (wayTo file) [ none ↦ [] | some w ↦ itemsIn (valueAlong (map (λ k. k .name) (w .keys)) x) ]
 
 -- the n-th of a list, counted from 1
 unfoldable pub numbered : {A : Type 0} → ℕ → List A → Maybe A

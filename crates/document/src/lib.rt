@@ -137,7 +137,7 @@ fn value_from<'a>(p: &'a [u8], name: &[u8]) -> &'a [u8]
     }
 }
 
-// The rest of a file from its records on. Nothing is passed over but what stands before them.
+// The rest of a file from its records on; no bytes where the number is no file's. Nothing is passed over but what stands before them.
 // Shut out: an object's member of a name on the way that stands deeper down.
 pub fn records_from(file: u8, s: &[u8]) -> &[u8]
     ensures { λ r. ⌜ RecordsFrom file (now (s .entry)) (now r) ⌝ }
@@ -160,8 +160,11 @@ pub fn records_from(file: u8, s: &[u8]) -> &[u8]
         5 => {
             return value_from(data, b"plans");
         }
-        _ => {
+        6 => {
             return value_from(value_from(data, b"geofencing_zones"), b"features");
+        }
+        _ => {
+            return cut(s, 0, 0);
         }
     }
 }

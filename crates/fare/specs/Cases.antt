@@ -1,108 +1,145 @@
--- Document 01's worked readings (f) to (i), with (g) as document 02's W2 has it, computed.
-use mathlib.Core.Bool.{true, false}
-use mathlib.Core.List.{[], _∷_, map}
+-- Charges, sums and marks at their limits, computed. Document 01's own readings (f) to (i) stand in the table of all of them.
+use mathlib.Core.Bool.{Bool, true, false}
+use mathlib.Core.List.{List, [], _∷_}
 use mathlib.Core.Path.{_≡_, refl}
 use Prim.Native.Nat.{ℕ}
-use lib.IntN.{pos, negℤ}
+use lib.IntN.{ℤ, pos, negℤ}
 use lib.Signed.{leZ}
+use Rattle.notation.specs.Case.{Case, Answers}
 use Rattle.decimal.specs.Exact.{tenThousandths}
 use Rattle.fare.specs.declared.Segment.{Segment}
 use Rattle.fare.specs.Charges.{minutesOf, kilometresOf, charged, momentsFrom, moments, charge, charges, sum, amount, allEnded, greatestEnd, past}
 use Rattle.fare.specs.Bounds.{mostSum}
 
+-- opens every definition of this layer
 unfoldable pub charging : Unit {0}
 unfolding tenThousandths charged momentsFrom moments charge charges sum amount allEnded greatestEnd past
 charging = tt
 
--- a segment without an end, its rate in ten-thousandths; and one with an end
-abbrev open′ : ℕ → ℕ → ℕ → Segment
-open′ start rate interval =
+-- segments by start, rate in ten-thousandths and interval: one without an end, and one with an end; and a discount, due once
+abbrev endless : ℕ → ℕ → ℕ → Segment
+endless start rate interval =
     record { start = start; rate = record { negative = false; size = rate }; interval = interval; ended = false; end = 0 }
 
 abbrev ending : ℕ → ℕ → ℕ → ℕ → Segment
 ending start rate interval end =
     record { start = start; rate = record { negative = false; size = rate }; interval = interval; ended = true; end = end }
 
-f : map (λ seconds. amount (pos 20000) (open′ 1 10000 1 ∷ open′ 2 20000 1 ∷ []) [] (minutesOf seconds) (kilometresOf 0)) (59 ∷ 60 ∷ 105 ∷ 120 ∷ 180 ∷ [])
-    ≡ pos 20000 ∷ pos 30000 ∷ pos 30000 ∷ pos 60000 ∷ pos 90000 ∷ []
-unfolding charging
-f = refl
-
--- a rate below zero, due once
-abbrev rebate : ℕ → ℕ → Segment
-rebate start rate =
+abbrev discount : ℕ → ℕ → Segment
+discount start rate =
     record { start = start; rate = record { negative = true; size = rate }; interval = 0; ended = false; end = 0 }
 
-g : map (λ seconds. amount (pos 0) (rebate 10 5000 ∷ []) [] (minutesOf seconds) (kilometresOf 0)) (599 ∷ 600 ∷ 6000 ∷ [])
-    ≡ pos 0 ∷ pos 0 ∷ pos 0 ∷ []
-unfolding charging
-g = refl
+-- the moments at which a segment charges a ride
+abbrev charged-at : List (Case (Segment × ℕ) (List ℕ))
+charged-at =
+    ("no interval, short of the start", (ending 4 10000 0 9, 3), []) ∷
+    ("at the start", (ending 4 10000 0 9, 4), 4 ∷ []) ∷
+    ("at the end", (ending 4 10000 0 9, 9), 4 ∷ []) ∷
+    ("far past it", (ending 4 10000 0 9, 500), 4 ∷ []) ∷
+    ("an interval, the last moment before the end", (ending 0 2500 15 45, 44), 0 ∷ 15 ∷ 30 ∷ []) ∷
+    ("none at the end", (ending 0 2500 15 45, 45), 0 ∷ 15 ∷ 30 ∷ []) ∷
+    ("none past it", (ending 0 2500 15 45, 60), 0 ∷ 15 ∷ 30 ∷ []) ∷
+    []
 
--- the sum itself goes below zero
-g-sum : map (λ seconds. sum (pos 0) (rebate 10 5000 ∷ []) [] (minutesOf seconds) (kilometresOf 0)) (599 ∷ 600 ∷ []) ≡ pos 0 ∷ negℤ (pos 5000) ∷ []
+charged-answered : Answers (λ c. moments (c .0) (c .1)) charged-at
 unfolding charging
-g-sum = refl
+charged-answered = refl
 
--- 0, -0 and 0.0001 are rates of zero or more, and -0.0001 is not
-natural-rates : map (λ (s : Segment). leZ (pos 0) (tenThousandths (s .rate))) (open′ 0 0 0 ∷ rebate 0 0 ∷ open′ 0 1 0 ∷ rebate 0 1 ∷ []) ≡ true ∷ true ∷ true ∷ false ∷ []
-unfolding charging
-natural-rates = refl
+-- what a segment that ends before it starts charges a ride
+abbrev early : Segment
+early = ending 20 10000 5 3
 
--- discounts that leave a part of the price, then none of it; later charges are added to the sum, not to zero
-discounts : map (λ seconds. amount (pos 12000) (rebate 10 5000 ∷ rebate 20 8000 ∷ open′ 30 500 0 ∷ open′ 40 2500 0 ∷ []) [] (minutesOf seconds) (kilometresOf 0)) (599 ∷ 600 ∷ 1200 ∷ 1800 ∷ 2400 ∷ [])
-    ≡ pos 12000 ∷ pos 7000 ∷ pos 0 ∷ pos 0 ∷ pos 2000 ∷ []
-unfolding charging
-discounts = refl
+abbrev uncharged : List (Case ℕ ℤ)
+uncharged =
+    ("short of the end", 2, pos 0) ∷
+    ("at the end", 3, pos 0) ∷
+    ("at the start", 20, pos 0) ∷
+    ("far past it", 500, pos 0) ∷
+    []
 
-h : map (λ seconds. amount (pos 10000) (ending 0 2500 15 45 ∷ []) [] (minutesOf seconds) (kilometresOf 0)) (0 ∷ 2699 ∷ 2700 ∷ []) ≡ pos 12500 ∷ pos 17500 ∷ pos 17500 ∷ []
+uncharged-answered : Answers (charge early) uncharged
 unfolding charging
-h = refl
+uncharged-answered = refl
 
-h-marks : map (λ seconds. past (ending 0 2500 15 45 ∷ []) (minutesOf seconds .count)) (0 ∷ 2699 ∷ 2700 ∷ []) ≡ false ∷ false ∷ true ∷ []
-unfolding charging
-h-marks = refl
+-- whether a rate is zero or more
+abbrev rates : List (Case Segment Bool)
+rates =
+    ("0", endless 0 0 0, true) ∷
+    ("−0", discount 0 0, true) ∷
+    ("0.0001", endless 0 1 0, true) ∷
+    ("−0.0001", discount 0 1, false) ∷
+    []
 
--- an end at or before the start: nothing is charged, and the mark goes by the end
-i : map (λ ride. charge (ending 20 10000 1 20) ride) (19 ∷ 20 ∷ 21 ∷ 500 ∷ []) ≡ pos 0 ∷ pos 0 ∷ pos 0 ∷ pos 0 ∷ []
+rates-answered : Answers (λ (s : Segment). leZ (pos 0) (tenThousandths (s .rate))) rates
 unfolding charging
-i = refl
+rates-answered = refl
 
-ends-early : map (λ ride. charge (ending 20 10000 5 3) ride) (2 ∷ 3 ∷ 20 ∷ 500 ∷ []) ≡ pos 0 ∷ pos 0 ∷ pos 0 ∷ pos 0 ∷ []
-unfolding charging
-ends-early = refl
+-- the sum of a plan without a price and with a discount of 0.5 from the tenth minute on, by seconds
+abbrev sums : List (Case ℕ ℤ)
+sums =
+    ("short of the discount", 599, pos 0) ∷
+    ("below zero", 600, negℤ (pos 5_000)) ∷
+    []
 
-ends-early-marks : map (past (ending 20 10000 5 3 ∷ [])) (2 ∷ 3 ∷ 20 ∷ []) ≡ false ∷ true ∷ true ∷ []
+sums-answered : Answers (λ seconds. sum (pos 0) (discount 10 5_000 ∷ []) [] (minutesOf seconds) (kilometresOf 0)) sums
 unfolding charging
-ends-early-marks = refl
+sums-answered = refl
 
--- no interval: the start alone, from a ride of that length on
-once : map (moments (ending 4 10000 0 9)) (3 ∷ 4 ∷ 9 ∷ 500 ∷ []) ≡ [] ∷ (4 ∷ []) ∷ (4 ∷ []) ∷ (4 ∷ []) ∷ []
-unfolding charging
-once = refl
+-- the amount of a price and segments by the minute, by seconds; later charges are added to the sum, not to zero
+abbrev discounts : List Segment
+discounts = discount 10 5_000 ∷ discount 20 8_000 ∷ endless 30 500 0 ∷ endless 40 2_500 0 ∷ []
 
--- the last moment before the end, and none at it
-before-end : map (moments (ending 0 2500 15 45)) (44 ∷ 45 ∷ 60 ∷ []) ≡ (0 ∷ 15 ∷ 30 ∷ []) ∷ (0 ∷ 15 ∷ 30 ∷ []) ∷ (0 ∷ 15 ∷ 30 ∷ []) ∷ []
-unfolding charging
-before-end = refl
+abbrev amounts : List (Case (ℕ × List Segment × ℕ) ℤ)
+amounts =
+    ("a sum far below zero asks nothing", (0, discount 10 5_000 ∷ [], 6000), pos 0) ∷
+    ("short of a discount", (12_000, discounts, 599), pos 12_000) ∷
+    ("a part of the price is left", (12_000, discounts, 600), pos 7_000) ∷
+    ("none of it is", (12_000, discounts, 1200), pos 0) ∷
+    ("a charge that does not make up for the discounts", (12_000, discounts, 1800), pos 0) ∷
+    ("one that does", (12_000, discounts, 2400), pos 2_000) ∷
+    []
 
--- one segment without an end and there is no mark; of several ends the greatest counts; of no segment there is none
-open-among : map (past (ending 0 1 1 5 ∷ open′ 0 1 1 ∷ ending 0 1 1 7 ∷ [])) (4 ∷ 7 ∷ 500 ∷ []) ≡ false ∷ false ∷ false ∷ []
+amounts-answered : Answers (λ c. amount (pos (c .0)) (c .1) [] (minutesOf (c .2)) (kilometresOf 0)) amounts
 unfolding charging
-open-among = refl
+amounts-answered = refl
 
-greatest-counts : map (past (ending 0 1 1 7 ∷ ending 0 1 1 5 ∷ [])) (5 ∷ 6 ∷ 7 ∷ []) ≡ false ∷ false ∷ true ∷ []
-unfolding charging
-greatest-counts = refl
+-- that of a segment by the kilometre, by metres, whatever the minutes
+abbrev distances : List (Case ℕ ℤ)
+distances =
+    ("short of a kilometre", 999, pos 0) ∷
+    ("a kilometre", 1000, pos 10_000) ∷
+    ("short of two", 1999, pos 10_000) ∷
+    ("two", 2000, pos 20_000) ∷
+    []
 
-no-segment : past [] 500 ≡ false
+distances-answered : Answers (λ metres. amount (pos 0) [] (endless 1 10_000 1 ∷ []) (minutesOf 6000) (kilometresOf metres)) distances
 unfolding charging
-no-segment = refl
+distances-answered = refl
 
--- kilometres are charged by metres, whatever the minutes
-kilometres : map (λ metres. amount (pos 0) [] (open′ 1 10000 1 ∷ []) (minutesOf 6000) (kilometresOf metres)) (999 ∷ 1000 ∷ 1999 ∷ 2000 ∷ [])
-    ≡ pos 0 ∷ pos 10000 ∷ pos 10000 ∷ pos 20000 ∷ []
+-- whether a ride is past the ends of these segments
+abbrev oneOpen : List Segment
+oneOpen = ending 0 1 1 5 ∷ endless 0 1 1 ∷ ending 0 1 1 7 ∷ []
+
+abbrev twoEnds : List Segment
+twoEnds = ending 0 1 1 7 ∷ ending 0 1 1 5 ∷ []
+
+abbrev marks : List (Case (List Segment × ℕ) Bool)
+marks =
+    ("an end before the start, short of it", (early ∷ [], 2), false) ∷
+    ("at it", (early ∷ [], 3), true) ∷
+    ("at the start", (early ∷ [], 20), true) ∷
+    ("one segment without an end, short of the others", (oneOpen, 4), false) ∷
+    ("at the others", (oneOpen, 7), false) ∷
+    ("far past them", (oneOpen, 500), false) ∷
+    ("two ends, at the lesser", (twoEnds, 5), false) ∷
+    ("between them", (twoEnds, 6), false) ∷
+    ("at the greater", (twoEnds, 7), true) ∷
+    ("no segment", ([], 500), false) ∷
+    []
+
+marks-answered : Answers (λ c. past (c .0) (c .1)) marks
 unfolding charging
-kilometres = refl
+marks-answered = refl
 
 -- the largest sum that the ceilings allow, in ten-thousandths
 largest : mostSum ≡ 7_302_730_000_000_000

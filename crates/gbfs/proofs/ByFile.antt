@@ -16,24 +16,24 @@ use Rattle.fault.specs.Fault.{lesser, least}
 use Rattle.fault.proofs.Order.{by-test}
 use Rattle.fault.proofs.Leasts.{lesser-first, lesser-second, lesser-none}
 use Rattle.judge.proofs.Holds.{All, none, more, only, all-append}
-use Rattle.clean.specs.declared.Cleanness.{Cleanness}
-use Rattle.clean.specs.declared.Cleanness.the-variants.{Clean, Broken}
-use Rattle.clean.specs.Clean.{place, broken}
+use Rattle.clean.specs.declared.Outcome.{Outcome}
+use Rattle.clean.specs.declared.Outcome.the-variants.{Unbroken, Broken}
+use Rattle.clean.specs.Clean.{faultParts, broken}
 use Rattle.cross.specs.Cross.{crossFaults}
 use Rattle.cross.specs.inner.Stage as cross
 use Rattle.cross.specs.inner.Stage.{firstOf}
-use Rattle.gbfs.specs.Verdict.{Feeds, bytesOf, picked, syntaxRules, rulesA, faultsB, everyFile, stageA, stageB, stageC, orElse, rules, earlier, first, verdictOf}
+use Rattle.gbfs.specs.Verdict.{Feeds, bytesOf, picked, syntaxRules, rulesA, faultsB, everyFile, stageA, stageBBy, stageB, stageC, orElse, brokenRulesBy, earlier, first, verdictOf}
 use Rattle.gbfs.specs.inner.Stages.{orNext, malformed, brokenA, firstA, firstB, staged}
 use Rattle.gbfs.proofs.Every.{all-at, all-map}
 use Rattle.gbfs.proofs.Order.{same-file, higher-file}
 use Rattle.gbfs.proofs.First.{earlier-named, earlier-first, earlier-second, first-broken}
 
 -- what is found first stays, whatever is next
-orNext-clean : (x : Cleanness) → orNext x Clean ≡ x
-orNext-clean Clean = refl
+orNext-clean : (x : Outcome) → orNext x Unbroken ≡ x
+orNext-clean Unbroken = refl
 orNext-clean (Broken p) = refl
 
-named-next : (p : Parts) (x y : Cleanness) → orNext (earlier p x) y ≡ earlier p x
+named-next : (p : Parts) (x y : Outcome) → orNext (earlier p x) y ≡ earlier p x
 named-next p x y = let n = earlier-named p x in rw (n .is)
 
 -- Stages: the first of two lists of which the second counts where the first is empty.
@@ -52,8 +52,8 @@ Above file l = All (λ p. file < p .file) l
 earlier-above : (p : Parts) (m : List Parts) → Above (p .file) m → earlier p (first m) ≡ Broken p
 earlier-above p m above = go (first m) refl
   where
-    go : (x : Cleanness) → first m ≡ x → earlier p x ≡ Broken p
-    go Clean e = refl
+    go : (x : Outcome) → first m ≡ x → earlier p x ≡ Broken p
+    go Unbroken e = refl
     go (Broken q) e = earlier-first p q (higher-file q p (all-at above (first-broken m q e .among)))
 
 first-append : (file : ℕ) (l m : List Parts) → Of file l → Above file m → first (l ++ m) ≡ orNext (first l) (first m)
@@ -62,20 +62,20 @@ first-append file [] m of above = refl
 first-append file (p ∷ l) m (more h of) above =
     ap (earlier p) (first-append file l m of above) ∙ go (first l) ∙ sym (named-next p (first l) (first m))
   where
-    go : (x : Cleanness) → earlier p (orNext x (first m)) ≡ earlier p x
-    go Clean = earlier-above p m (rw h above)
+    go : (x : Outcome) → earlier p (orNext x (first m)) ≡ earlier p x
+    go Unbroken = earlier-above p m (rw h above)
     go (Broken q) = refl
 
 -- The files from one on: all their rules are above the file before, and what comes first of them is this.
-record Onward (low : ℕ) (m : List Parts) (x : Cleanness) : Type 0 where
+record Onward (low : ℕ) (m : List Parts) (x : Outcome) : Type 0 where
   above : Above low m
   is : first m ≡ x
 
 module _ (g : ℕ → List Parts) (of : (file : ℕ) → Of file (g file)) where
-  last : (low file : ℕ) → low < file → Onward low (g file) (orNext (first (g file)) Clean)
+  last : (low file : ℕ) → low < file → Onward low (g file) (orNext (first (g file)) Unbroken)
   last low file h = record { above = all-map (λ p e. omega arith) (of file); is = sym (orNext-clean (first (g file))) }
 
-  next : (low file : ℕ) → low < file → {m : List Parts} {x : Cleanness} → Onward file m x → Onward low (g file ++ m) (orNext (first (g file)) x)
+  next : (low file : ℕ) → low < file → {m : List Parts} {x : Outcome} → Onward file m x → Onward low (g file ++ m) (orNext (first (g file)) x)
   next low file h {m} o =
       record {
         above = all-append (all-map (λ p e. omega arith) (of file)) (all-map (λ p e. omega arith) (o .above));
@@ -90,33 +90,33 @@ module _ (g : ℕ → List Parts) (of : (file : ℕ) → Of file (g file)) where
       .is
 
 -- Faults of one file, in the order of faults.
-place-earlier : (file : ℕ) (a : Fault) (x : Least) → earlier (place file a) (broken file x Clean) ≡ broken file (lesser (Is a) x) Clean
-place-earlier file a None = ap (λ (x : Least). broken file x Clean) (sym (lesser-none (Is a)))
+place-earlier : (file : ℕ) (a : Fault) (x : Least) → earlier (faultParts file a) (broken file x Unbroken) ≡ broken file (lesser (Is a) x) Unbroken
+place-earlier file a None = ap (λ (x : Least). broken file x Unbroken) (sym (lesser-none (Is a)))
 place-earlier file a (Is b) =
     by-test (fault.before b a)
-    (λ t. earlier-second (place file a) (place file b) (same-file (place file b) (place file a) refl ∙ t)
-    ∙ ap (λ (x : Least). broken file x Clean) (sym (lesser-second a b t)))
-    (λ f. earlier-first (place file a) (place file b) (same-file (place file b) (place file a) refl ∙ f)
-    ∙ ap (λ (x : Least). broken file x Clean) (sym (lesser-first a b f)))
+    (λ t. earlier-second (faultParts file a) (faultParts file b) (same-file (faultParts file b) (faultParts file a) refl ∙ t)
+    ∙ ap (λ (x : Least). broken file x Unbroken) (sym (lesser-second a b t)))
+    (λ f. earlier-first (faultParts file a) (faultParts file b) (same-file (faultParts file b) (faultParts file a) refl ∙ f)
+    ∙ ap (λ (x : Least). broken file x Unbroken) (sym (lesser-first a b f)))
 
-first-least : (file : ℕ) (l : List Fault) → first (map (place file) l) ≡ broken file (least l) Clean
+first-least : (file : ℕ) (l : List Fault) → first (map (faultParts file) l) ≡ broken file (least l) Unbroken
 unfolding first least
 first-least file [] = refl
-first-least file (a ∷ l) = ap (earlier (place file a)) (first-least file l) ∙ place-earlier file a (least l)
+first-least file (a ∷ l) = ap (earlier (faultParts file a)) (first-least file l) ∙ place-earlier file a (least l)
 
-pub broken-next : (file : ℕ) (x : Least) (y : Cleanness) → orNext (broken file x Clean) y ≡ broken file x y
+pub broken-next : (file : ℕ) (x : Least) (y : Outcome) → orNext (broken file x Unbroken) y ≡ broken file x y
 broken-next file None y = refl
 broken-next file (Is a) y = refl
 
-placed-of : (file : ℕ) (l : List Fault) → Of file (map (place file) l)
+placed-of : (file : ℕ) (l : List Fault) → Of file (map (faultParts file) l)
 placed-of file [] = none
 placed-of file (a ∷ l) = more refl (placed-of file l)
 
 -- a stage of faults
 module _ (f : ℕ → List Fault) where
-  first-placed : first (everyFile (λ file. map (place file) (f file))) ≡ firstOf (λ file next. broken file (least (f file)) next)
+  first-placed : first (everyFile (λ file. map (faultParts file) (f file))) ≡ firstOf (λ file next. broken file (least (f file)) next)
   first-placed =
-      first-files (λ file. map (place file) (f file)) (λ file. placed-of file (f file))
+      first-files (λ file. map (faultParts file) (f file)) (λ file. placed-of file (f file))
       ∙ ap firstOf (λ i file next. (ap (λ x. orNext x next) (first-least file (f file)) ∙ broken-next file (least (f file)) next) i)
 
 -- Stage A: a file breaks one rule at most.
@@ -128,12 +128,12 @@ read-of : (file : ℕ) (s : List ℕ) → Of file (rulesA file s)
 read-of file [] = none
 read-of file (b ∷ s) = syntax-of file (syntaxOf (b ∷ s))
 
-first-syntax : (file : ℕ) (x : Syntax) (next : Cleanness) → orNext (first (syntaxRules file x)) next ≡ malformed file x next
+first-syntax : (file : ℕ) (x : Syntax) (next : Outcome) → orNext (first (syntaxRules file x)) next ≡ malformed file x next
 unfolding first
 first-syntax file syntax.Sound next = refl
 first-syntax file (syntax.Fault kind offset) next = refl
 
-first-read : (file : ℕ) (s : List ℕ) (next : Cleanness) → orNext (first (rulesA file s)) next ≡ brokenA file s next
+first-read : (file : ℕ) (s : List ℕ) (next : Outcome) → orNext (first (rulesA file s)) next ≡ brokenA file s next
 unfolding first
 first-read file [] next = refl
 first-read file (b ∷ s) next = first-syntax file (syntaxOf (b ∷ s)) next
@@ -147,15 +147,15 @@ module _ (s : Feeds) where
       ∙ ap firstOf (λ i file next. first-read file (bytesOf s file) next i)
 
   pub first-stageB : first (stageB s) ≡ firstB s
-  unfolding stageB firstB
+  unfolding stageBBy firstB
   first-stageB = first-placed (λ file. faultsB file (bytesOf s file))
 
-  first-stageC : first (stageC s) ≡ cross.stageC (picked s)
-  unfolding stageC cross.stageC
+  first-stageC : first (stageC s) ≡ cross.firstC (picked s)
+  unfolding stageC cross.firstC
   first-stageC = first-placed (crossFaults (picked s))
 
   pub verdict-staged : verdictOf s ≡ staged s
-  unfolding verdictOf rules staged
+  unfolding verdictOf brokenRulesBy staged
   verdict-staged =
       first-orElse (stageA s) (orElse (stageB s) (stageC s))
       ∙ ap₂ orNext first-stageA (first-orElse (stageB s) (stageC s) ∙ ap₂ orNext first-stageB first-stageC)

@@ -5,8 +5,8 @@ use mathlib.Core.Path.{_≡_, refl, sym, subst}
 use Prim.Native.Nat.{ℕ, zero, suc, _≤_}
 use native.Mathlib.Omega.{arith}
 use Rattle.judge.proofs.Holds.{All, none, more, all-append}
-use Rattle.clean.specs.declared.Cleanness.{Cleanness}
-use Rattle.clean.specs.declared.Cleanness.the-variants.{Clean}
+use Rattle.clean.specs.declared.Outcome.{Outcome}
+use Rattle.clean.specs.declared.Outcome.the-variants.{Unbroken}
 use Rattle.cross.specs.inner.Stage.{firstOf}
 use Rattle.gbfs.specs.Verdict.{everyFile}
 
@@ -57,10 +57,10 @@ module _ {A : Type 0} where
           absurd (List·Memᴰ·not-nil (subst (List·Memᴰ x) e (every-member f x file h i (subst (List·Memᴰ x) (sym k) (List·Memᴰ·head refl)))))
 
 -- what each file hands on from the next holds of what is found first
-pub files-all : (P : Cleanness → Type 0) (judge : ℕ → Cleanness → Cleanness) → P Clean
-    → ((file : ℕ) → 1 ≤ file → file ≤ 6 → (x : Cleanness) → P x → P (judge file x)) → P (firstOf judge)
+pub files-all : (P : Outcome → Type 0) (judge : ℕ → Outcome → Outcome) → P Unbroken
+    → ((file : ℕ) → 1 ≤ file → file ≤ 6 → (x : Outcome) → P x → P (judge file x)) → P (firstOf judge)
 files-all P judge c h =
     h 1 (omega arith) (omega arith) _
     (h 2 (omega arith) (omega arith) _
     (h 3 (omega arith) (omega arith) _
-    (h 4 (omega arith) (omega arith) _ (h 5 (omega arith) (omega arith) _ (h 6 (omega arith) (omega arith) Clean c)))))
+    (h 4 (omega arith) (omega arith) _ (h 5 (omega arith) (omega arith) _ (h 6 (omega arith) (omega arith) Unbroken c)))))

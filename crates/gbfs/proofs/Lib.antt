@@ -18,3 +18,4 @@ pub mod Unmoved
 pub mod Opening
 pub mod Version
 pub mod Demand3
+pub mod OneRing

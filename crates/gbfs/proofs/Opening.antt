@@ -15,12 +15,12 @@ use Rattle.text.proofs.Laws.{same-refl, same-true}
 use Rattle.schema.specs.Shape as shape
 use Rattle.schema.specs.Shape.{Shape, Rows, fileShape}
 use Rattle.schema.specs.Table23.{table23, written23}
-use Rattle.schema.specs.Pick.{Slot, once, twice, missing, again, given, put, find, Slots, pick, pickRows}
+use Rattle.schema.specs.Pick.{Slot, once, twice, missing, again, filled, put, find, Slots, pick, pickRows}
 use Rattle.fault.specs.declared.Fault.{Fault}
 use Rattle.fault.specs.Fault.{fault}
 use Rattle.fault.proofs.Order.{by-test}
-use Rattle.scalar.specs.Scalars.{kindsOf, textKinds}
-use Rattle.judge.specs.Faults.{top, faulty, faults, rowFaults, fileFaults}
+use Rattle.scalar.specs.Scalars.{kindsOf, sortKinds}
+use Rattle.judge.specs.Faults.{top, faulty, faultsBy, rowFaultsBy, rowFaults, fileFaultsBy, fileFaults}
 use Rattle.gbfs.specs.Demand3.{Holds, here, later, Outdated, outdated}
 
 -- the slot of a name under which a string is held: that string once, or twice whatever
@@ -77,21 +77,21 @@ pub record Opening (l : List Fault) : Type 0 where
 module _ (rows : Rows) (ss : Slots) where
   -- field 1, with this in its slot
   abbrev slotted : Slot Json → List Fault
-  slotted x = rowFaults (shape.row 1 shape.required (bytes "version") version rows) top (put 1 (λ y. pick version y) (given x) ss)
+  slotted x = rowFaults (shape.row 1 shape.required (bytes "version") version rows) top (put 1 (λ y. pick version y) (filled x) ss)
 
   opening-alone : (v : List ℕ) → same v (bytes "2.3") ≡ false → Opening (slotted (once (tree.string v)))
-  unfolding rowFaults pick faulty kindsOf textKinds
+  unfolding rowFaultsBy pick faulty kindsOf sortKinds
   opening-alone [] e = record { kind = _; rest = _; is = refl }
   opening-alone (b ∷ v) e = record { kind = outOfRange; rest = rowFaults rows top ss; is = rw e }
 
   opening-slot : {v : List ℕ} {x : Slot Json} → Seen v x → same v (bytes "2.3") ≡ false → Opening (slotted x)
-  unfolding rowFaults faulty
+  unfolding rowFaultsBy faulty
   opening-slot {v} alone e = opening-alone v e
   opening-slot repeated e = record { kind = _; rest = _; is = refl }
 
 opening-object : (v : List ℕ) (rows : Rows) (ms : Members) → Seen v (find (bytes "version") ms) → same v (bytes "2.3") ≡ false
     → Opening (fileFaults (headed rows) (tree.object ms))
-unfolding fileFaults faults pick
+unfolding fileFaultsBy faultsBy pick
 opening-object v rows ms s e = opening-slot rows (pickRows rows ms) s e
 
 not-same : (x y : List ℕ) → (x ≡ y → ⊥) → same x y ≡ false

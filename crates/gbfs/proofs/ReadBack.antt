@@ -18,12 +18,12 @@ use Rattle.fault.specs.declared.Fault.{Fault}
 use Rattle.fault.specs.declared.Least.{Least}
 use Rattle.fault.specs.declared.Least.the-variants.{None, Is}
 use Rattle.fault.specs.Fault.{least}
-use Rattle.clean.specs.declared.Cleanness.{Cleanness}
-use Rattle.clean.specs.declared.Cleanness.the-variants.{Clean, Broken}
-use Rattle.clean.specs.Clean.{place, broken}
+use Rattle.clean.specs.declared.Outcome.{Outcome}
+use Rattle.clean.specs.declared.Outcome.the-variants.{Unbroken, Broken}
+use Rattle.clean.specs.Clean.{faultParts, broken}
 use Rattle.clean.proofs.Judged.{offset-fits}
 use Rattle.cross.specs.Cross.{crossFaults}
-use Rattle.cross.specs.inner.Stage.{firstOf, stageC}
+use Rattle.cross.specs.inner.Stage.{firstOf, firstC}
 use Rattle.gbfs.specs.Verdict.{Feeds, bytesOf, picked, faultsB, verdictOf, said, bufferOf}
 use Rattle.gbfs.specs.inner.Stages.{orNext, malformed, brokenA, firstA, firstB, staged}
 use Rattle.gbfs.proofs.Passed.{syntax-kind}
@@ -38,7 +38,7 @@ record Said (p : Parts) : Type 0 where
   fits : Fits form1 p
   kept : keeps form1 p ≡ true
 
-said-clean : Said (said Clean)
+said-clean : Said (said Unbroken)
 unfolding keeps
 said-clean =
     record {
@@ -54,22 +54,22 @@ module _ (file : ℕ) (h : 1 ≤ file) (i : file ≤ 6) where
         kept = sym (by-offset form1 _ (λ z. omega arith) (λ z. omega arith) i (omega arith) b);
       }
 
-  said-place : (f : Fault) → InWord f → Said (place file f)
+  said-place : (f : Fault) → InWord f → Said (faultParts file f)
   said-place f w =
       record {
         fits = (omega arith, (omega arith, (omega arith, (omega arith, (omega arith, (omega arith, (omega arith, tt)))))));
-        kept = sym (by-place form1 (place file f) (λ z. omega arith) (λ z. omega arith) i (w .field) (omega arith));
+        kept = sym (by-place form1 (faultParts file f) (λ z. omega arith) (λ z. omega arith) i (w .field) (omega arith));
       }
 
 -- what is found, one after another
-abbrev Sayable : Cleanness → Type 0
+abbrev Sayable : Outcome → Type 0
 Sayable x = Said (said x)
 
-sayable-next : (x y : Cleanness) → Sayable x → (x ≡ Clean → Sayable y) → Sayable (orNext x y)
-sayable-next Clean y h k = k refl
+sayable-next : (x y : Outcome) → Sayable x → (x ≡ Unbroken → Sayable y) → Sayable (orNext x y)
+sayable-next Unbroken y h k = k refl
 sayable-next (Broken p) y h k = h
 
-module _ (file : ℕ) (h : 1 ≤ file) (i : file ≤ 6) (next : Cleanness) (n : Sayable next) where
+module _ (file : ℕ) (h : 1 ≤ file) (i : file ≤ 6) (next : Outcome) (n : Sayable next) where
   sayable-syntax : (s : List ℕ) (x : Syntax) → syntaxOf s ≡ x → Sayable (malformed file x next)
   sayable-syntax s syntax.Sound e = n
   sayable-syntax s (syntax.Fault k o) e = let b = syntax-kind s k o e in said-offset file h i k o (b .0) (b .1) (offset-fits s k o e)
@@ -96,8 +96,8 @@ module _ (s : Feeds) where
   unfolding firstB
   sayable-B = sayable-faults (λ file. faultsB file (bytesOf s file)) (λ file h i. faults-fit file (bytesOf s file))
 
-  sayable-C : firstA s ≡ Clean → firstB s ≡ Clean → Sayable (stageC (picked s))
-  unfolding stageC
+  sayable-C : firstA s ≡ Unbroken → firstB s ≡ Unbroken → Sayable (firstC (picked s))
+  unfolding firstC
   sayable-C a b = sayable-faults (crossFaults (picked s)) (cross-fits s (all-through s a b))
 
   verdict-said : Said (said (verdictOf s))

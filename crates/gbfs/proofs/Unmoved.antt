@@ -17,17 +17,18 @@ use Rattle.schema.specs.Pick.{pick, Picked}
 use Rattle.schema.proofs.PickLater.{pick-later₁}
 use Rattle.schema.proofs.Computed.{distinct}
 use Rattle.fault.specs.Fault.{least}
-use Rattle.judge.specs.Faults.{top, faults, fileFaults}
-use Rattle.clean.specs.declared.Cleanness.{Cleanness}
-use Rattle.clean.specs.declared.Cleanness.the-variants.{Clean}
-use Rattle.clean.specs.Clean.{treeOf, place, repeats, broken, judged, cleanOf}
+use Rattle.judge.specs.Faults.{top, faults, fileFaultsBy}
+use Rattle.clean.specs.declared.Outcome.{Outcome}
+use Rattle.clean.specs.declared.Outcome.the-variants.{Unbroken}
+use Rattle.clean.specs.Clean.{treeOf, faultParts, repeats, broken, judged, cleanOf}
 use Rattle.clean.proofs.Judged.{clean-there}
 use Rattle.cross.specs.Cross.{present, Files, crossFaults}
 use Rattle.cross.specs.Stage.{fileOf}
 use Rattle.quote.specs.Quote.{quoteOf}
+use Rattle.zone.specs.Zone.{rulesAt}
 use Rattle.zone.specs.Answer.{rulingOf}
 use Rattle.geometry.specs.Ring.{Point}
-use Rattle.gbfs.specs.Verdict.{Feeds, bytesOf, picked, rulesA, faultsB, everyFile, stageA, stageB, stageC, orElse, rules, first, verdictOf, said}
+use Rattle.gbfs.specs.Verdict.{Feeds, bytesOf, picked, rulesA, faultsB, everyFile, stageA, stageBBy, stageC, orElse, brokenRulesBy, brokenRules, first, verdictOf, said}
 use Rattle.gbfs.specs.Demand3 as demand
 use Rattle.gbfs.specs.Demand3.{LaterFile, LaterSet, Agree}
 use Rattle.gbfs.proofs.Answers.{told, number-room, word-room}
@@ -35,11 +36,11 @@ use Rattle.gbfs.proofs.Every.{every-same}
 use Rattle.gbfs.proofs.Passed.{there, tree-spelled, read-there, faults-there, file-there}
 
 -- whether a file past stage A is clean, by what is picked of it
-abbrev onPicked : ℕ → Picked → Cleanness
-onPicked file x = broken file (least (faults (fileShape table23 file) top 0 x)) (broken file (least (repeats file x)) Clean)
+abbrev onPicked : ℕ → Picked → Outcome
+onPicked file x = broken file (least (faults (fileShape table23 file) top 0 x)) (broken file (least (repeats file x)) Unbroken)
 
 clean-of : (file : ℕ) (s : List ℕ) → syntaxOf s ≡ Sound → cleanOf file s ≡ onPicked file (pick (fileShape table23 file) (treeOf s))
-unfolding fileFaults
+unfolding fileFaultsBy
 clean-of file s e = sym (clean-there file s (there s e)) ∙ ap (judged file s) e
 
 picked-tree : (file : ℕ) {x : Json} (s : List ℕ) → Spells depth x s → pick (fileShape table23 file) (treeOf s) ≡ pick (fileShape table23 file) x
@@ -54,7 +55,7 @@ record Same (file : ℕ) (s t : List ℕ) : Type 0 where
   cleans : cleanOf file s ≡ cleanOf file t
 
 same : (file : ℕ) {s t : List ℕ} → LaterFile file s t → Same file s t
-unfolding fileFaults
+unfolding fileFaultsBy
 same file demand.absent = record { reads = refl; faults = refl; files = refl; trees = refl; cleans = refl }
 same file (demand.present {s = s} {t = t} a b l) =
     let i = spells-sound s (a .short) (a .spells) in let j = spells-sound t (b .short) (b .spells) in
@@ -84,12 +85,12 @@ module _ (s t : Feeds) (later : LaterSet s t) where
         zones = at 6 (omega arith) (omega arith) .files i;
       }
 
-  rules-same : rules s ≡ rules t
-  unfolding rules stageA stageB stageC
+  rules-same : brokenRules s ≡ brokenRules t
+  unfolding brokenRulesBy stageA stageBBy stageC
   rules-same =
       ap₂ orElse (every-same _ _ (λ file h i. at file h i .reads))
-      (ap₂ orElse (every-same _ _ (λ file h i. ap (map (place file)) (at file h i .faults)))
-      (ap (λ (x : Files). everyFile (λ file. map (place file) (crossFaults x file))) picked-same))
+      (ap₂ orElse (every-same _ _ (λ file h i. ap (map (faultParts file)) (at file h i .faults)))
+      (ap (λ (x : Files). everyFile (λ file. map (faultParts file) (crossFaults x file))) picked-same))
 
   verdict-same : verdictOf s ≡ verdictOf t
   unfolding verdictOf
@@ -100,7 +101,7 @@ module _ (s t : Feeds) (later : LaterSet s t) where
   quote-same id seconds metres = let h = at 5 (omega arith) (omega arith) in rw (h .cleans, h .trees)
 
   ruling-same : (q : Point) (type : List ℕ) (moment : ℕ) → rulingOf (s .zones) q type moment ≡ rulingOf (t .zones) q type moment
-  unfolding bytesOf rulingOf
+  unfolding bytesOf rulingOf rulesAt
   ruling-same q type moment = let h = at 6 (omega arith) (omega arith) in rw (h .cleans, h .trees)
 
 pub unmoved : (s t : Feeds) → LaterSet s t → Agree s t
@@ -109,7 +110,7 @@ unmoved s t later =
     record {
       verdicts = λ b c h i. (
         number-room s b h ∙ ap told v ∙ sym (number-room t c i),
-        word-room s b h ∙ ap (λ (x : Cleanness). wordOf form1 (said x)) v ∙ sym (word-room t c i),
+        word-room s b h ∙ ap (λ (x : Outcome). wordOf form1 (said x)) v ∙ sym (word-room t c i),
       );
       quotes = quote-same s t later;
       zones = ruling-same s t later;

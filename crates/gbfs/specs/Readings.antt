@@ -1,157 +1,111 @@
--- Document 01's worked readings (a) to (l) as one table: what is asked of the definitions, and the paper's answer. One test runs over all of it.
--- In the texts of files ' stands for a quotation mark.
-use mathlib.Core.Bool.{Bool, true, false}
-use mathlib.Core.List.{List, [], _∷_, _++_, map}
-use mathlib.Core.Path.{_≡_, refl}
-use Prim.Native.Nat.{ℕ, _*_}
+-- Document 01's worked readings (a) to (l) as one table, (g) with document 02's W2: what is asked, and the paper's answer. One test runs over all of it.
+use mathlib.Core.Bool.{true, false}
+use mathlib.Core.List.{List, [], _∷_}
+use mathlib.Core.Path.{refl}
+use Prim.Native.Nat.{ℕ}
 use Prim.Native.String.{String}
-use lib.Dec.{eqb}
-use lib.IntN.{ℤ, pos, negsuc}
 use lib.ListN.{replicate}
-use Rattle.notation.specs.Ascii.{bytes}
-use Rattle.notation.specs.Choice.{_⇒_else_, _and_}
-use Rattle.word.specs.declared.Parts.{Parts}
-use Rattle.word.specs.Form.{form1}
-use Rattle.word.specs.Word.{wordOf}
-use Rattle.text.specs.Text.{same}
-use Rattle.geometry.specs.Ring.{Point}
-use Rattle.geometry.specs.Held.{holds}
-use Rattle.clean.specs.declared.Cleanness.{Cleanness}
-use Rattle.clean.specs.declared.Cleanness.the-variants.{Clean, Broken}
-use Rattle.quote.specs.Quote.{quoteOf}
+use Rattle.notation.specs.Case.{Case, Answers, json}
 use Rattle.radix.specs.Radix.{weight, numberFrom, digits, number}
-use Rattle.radix.specs.Fields.{packed}
-use Rattle.geometry.specs.Cases.{holding}
-use Rattle.fault.specs.Fault as fault
-use Rattle.fault.specs.Fault.{least, lesser}
-use Rattle.quote.specs.Cases.{quoting}
-use Rattle.references.specs.References.{anyWith}
-use Rattle.cross.specs.Cross.{recordsIn, repeatsIn, sumOf, availableFaults, idFaults, ruleFaults, typeFaults, statusFaults, bikeFaults, zoneFaults, each, faultsOf, absentees, fileIn, crossFaults}
-use Rattle.gbfs.specs.Verdict.{Feeds, bytesOf, stageA, stageB, stageC, rules, before, first, said, verdictOf}
+use Rattle.radix.specs.Fields.{bytesNumber, packed, unpacked}
+use Rattle.word.specs.Form.{form1}
+use Rattle.word.specs.Word as reading
+use Rattle.geometry.specs.Ring.{Point}
+use Rattle.geometry.specs.Cases.{degrees}
+use Rattle.clean.specs.declared.Outcome.{Outcome}
+use Rattle.clean.specs.declared.Outcome.the-variants.{Unbroken}
+use Rattle.quote.specs.Quote as quote
+use Rattle.quote.specs.Cases.{quoting, quoteBy, fare, endedFare}
+use Rattle.zone.specs.Answer as zone
+use Rattle.zone.specs.Cases.{ruled, ruling, bare, none, square}
+use Rattle.gbfs.specs.Verdict.{said}
+use Rattle.gbfs.specs.Cases.{judgingSets, listing, verdict, broken, threeBikes}
 
--- a reading: what the definitions answer, and what the paper says, both as numbers
-pub record Reading : Type 0 where
-  pub answered : List ℕ
-  pub expected : List ℕ
+-- what is asked: the verdict on a set of bikes alone, its word, what bytes say as a word, what a plan asks for a ride of so many seconds, and the rule of a zone of
+-- these polygons at a point
+data Question : Type 0 where
+  judge wordFor readWord : List ℕ → Question
+  ride : String → ℕ → Question
+  ruleAt : String → Point → Question
 
--- (a) to (e), (k), (l): a set by its verdict, as the eight bytes of the word or as the parts of it
-unfoldable only : List ℕ → Feeds
-only s = record { vehicleTypes = []; stations = []; statuses = []; bikes = s; plans = []; zones = [] }
+data Answer : Type 0 where
+  judged : Outcome → Answer
+  bytes : List ℕ → Answer
+  says : reading.Answer → Answer
+  asks : quote.Answer → Answer
+  rules : zone.Answer → Answer
 
-abbrev listed : Parts → List ℕ
-listed p = p .file ∷ p .kind ∷ p .field ∷ p .«record» ∷ p .sub ∷ p .offset ∷ []
+unfoldable answered : Question → Answer
+answered (judge s) = judged (verdict [] [] s)
+answered (wordFor s) = bytes (reading.wordOf form1 (said (verdict [] [] s)))
+answered (readWord s) = says (reading.readWord s)
+answered (ride plan seconds) = asks (quoteBy plan seconds 0)
+answered (ruleAt polygons q) = rules (ruling polygons q)
 
-unfoldable text : List ℕ → (kind offset : ℕ) → Reading
-text s kind offset = record { answered = listed (said (verdictOf (only s))); expected = 4 ∷ kind ∷ 0 ∷ 0 ∷ 0 ∷ offset ∷ [] }
+-- a file 4 that stage A refuses
+abbrev refused : (kind offset : ℕ) → Answer
+refused kind offset = judged (broken 4 kind 0 0 0 offset)
 
-unfoldable word : Parts → List ℕ → Reading
-word p s = record { answered = wordOf form1 p; expected = s }
+-- the plans of (f) to (i), by price and segments; (j)'s ring the other way round; the bytes of (k) and (l), and (l)'s bike
+abbrev f : String
+f = "2,'per_min_pricing':[{'start':1,'rate':1,'interval':1},{'start':2,'rate':2,'interval':1}]"
 
-abbrev mark : ℕ → ℕ
-mark b = eqb b 0x27 ⇒ 0x22 else b
+abbrev g : String
+g = "0,'per_min_pricing':[{'start':10,'rate':-0.5,'interval':0}]"
 
-abbrev file : String → List ℕ
-file s = map mark (bytes s)
+abbrev h : String
+h = "1,'per_min_pricing':[{'start':0,'rate':0.25,'interval':15,'end':45}]"
 
--- a number that may be negative, as a sign and a size
-abbrev sized : ℤ → List ℕ
-sized (pos n) = 0 ∷ n ∷ []
-sized (negsuc n) = 1 ∷ n ∷ []
+abbrev i : String
+i = "3,'per_min_pricing':[{'start':20,'rate':1,'interval':1,'end':20}]"
 
-abbrev flag : Bool → ℕ
-flag true = 1
-flag false = 0
+abbrev reversed : String
+reversed = "[[[0,0],[2,0],[2,2],[0,2],[0,0]]]"
 
--- (f) to (i): the quote of the only plan for a ride of so many seconds, as number, amount and two marks
-unfoldable priced : String → ℕ → List ℕ
-priced s seconds =
-    let r =
-    quoteOf (file "{'version':'2.3','last_updated':0,'ttl':0,'data':{'plans':[{'plan_id':'p','name':'n','currency':'EUR','is_taxable':false,'description':'d','price':" ++ file s ++ file "}]}}") (bytes "p") seconds 0
-    in
-    (r .number ∷ sized (r .amount)) ++ flag (r .pastMinutes) ∷ flag (r .pastKilometres) ∷ []
+abbrev k : List ℕ
+k = 0x14 ∷ 0x62 ∷ 0x80 ∷ 0x03 ∷ 0 ∷ 0 ∷ 0 ∷ 0 ∷ []
 
-unfoldable fare : String → (seconds amount : ℕ) → Reading
-fare s seconds amount = record { answered = priced s seconds; expected = 0 ∷ 0 ∷ amount ∷ 0 ∷ 0 ∷ [] }
+abbrev l : List ℕ
+l = 0x10 ∷ 0 ∷ 0 ∷ 0 ∷ 0 ∷ 0 ∷ 0 ∷ 0 ∷ []
 
--- (j): whether a ring in whole degrees holds a point
-abbrev degrees : ℕ → ℕ → Point
-degrees x y = record { lon = pos (x * 1_000_000); lat = pos (y * 1_000_000) }
+abbrev oneBike : List ℕ
+oneBike = listing "bikes" "{'bike_id':'a','lat':1,'lon':1,'is_reserved':false,'is_disabled':false}"
 
-unfoldable held : List Point → Point → Bool → Reading
-held ring q inside = record { answered = flag (holds ring q) ∷ []; expected = flag inside ∷ [] }
-
-abbrev square : List Point
-square = degrees 0 0 ∷ degrees 0 2 ∷ degrees 2 2 ∷ degrees 2 0 ∷ degrees 0 0 ∷ []
-
-abbrev reversed : List Point
-reversed = degrees 0 0 ∷ degrees 2 0 ∷ degrees 2 2 ∷ degrees 0 2 ∷ degrees 0 0 ∷ []
-
-abbrev two : String
-two = "2,'per_min_pricing':[{'start':1,'rate':1,'interval':1},{'start':2,'rate':2,'interval':1}]"
-
-abbrev discount : String
-discount = "0,'per_min_pricing':[{'start':10,'rate':-0.5,'interval':0}]"
-
-abbrev ended : String
-ended = "1,'per_min_pricing':[{'start':0,'rate':0.25,'interval':15,'end':45}]"
-
-abbrev empty : String
-empty = "3,'per_min_pricing':[{'start':20,'rate':1,'interval':1,'end':20}]"
-
--- the run of document 01: three bikes, of which the last has nothing
-abbrev third : Parts
-third = record { file = 4; kind = 6; field = 40; «record» = 3; sub = 0; offset = 0 }
-
-unfoldable run : Reading
-run =
-    record {
-      answered =
-          listed (said (verdictOf (only (file "{'version':'2.3','last_updated':0,'ttl':0,'data':{'bikes':[{'bike_id':'a','is_reserved':false,'is_disabled':false},{'bike_id':'b','is_reserved':false,'is_disabled':false},{}]}}"))));
-      expected = listed third;
-    }
-
-unfoldable table : List Reading
+abbrev table : List (Case Question Answer)
 table =
-    -- (a) to (e)
-    text (bytes "[1,]") 2 3 ∷
-    text (bytes "[01]") 2 2 ∷
-    text (bytes "\"\\ud800\"") 3 1 ∷
-    text (bytes " ") 2 1 ∷
-    text (replicate 17 0x5b) 4 16 ∷
-    -- (f)
-    fare two 59 20000 ∷
-    fare two 60 30000 ∷
-    fare two 105 30000 ∷
-    fare two 120 60000 ∷
-    fare two 180 90000 ∷
-    -- (g), with document 02's W2: the sum of the second is below zero
-    fare discount 599 0 ∷
-    fare discount 600 0 ∷
-    -- (h), the last with its mark
-    fare ended 0 12500 ∷
-    fare ended 2699 17500 ∷
-    record { answered = priced ended 2700; expected = 0 ∷ 0 ∷ 17500 ∷ 1 ∷ 0 ∷ [] } ∷
-    -- (i): short of the end, and at it
-    fare empty 1199 30000 ∷
-    record { answered = priced empty 1200; expected = 0 ∷ 0 ∷ 30000 ∷ 1 ∷ 0 ∷ [] } ∷
-    -- (j)
-    held square (degrees 1 1) true ∷
-    held square (degrees 2 2) true ∷
-    held square (degrees 3 1) false ∷
-    held reversed (degrees 3 1) true ∷
-    held reversed (degrees 2 1) true ∷
-    held reversed (degrees 1 1) false ∷
-    -- (k), and the run that comes to it; (l)
-    run ∷
-    word third (0x14 ∷ 0x62 ∷ 0x80 ∷ 0x03 ∷ 0 ∷ 0 ∷ 0 ∷ 0 ∷ []) ∷
-    word (said Clean) (0x10 ∷ 0 ∷ 0 ∷ 0 ∷ 0 ∷ 0 ∷ 0 ∷ 0 ∷ []) ∷
+    ("(a) a comma before the bracket", judge (json "[1,]"), refused 2 3) ∷
+    ("(b) a digit behind a zero", judge (json "[01]"), refused 2 2) ∷
+    ("(c) a surrogate alone", judge (json "'\\ud800'"), refused 3 1) ∷
+    ("(d) a blank alone", judge (json " "), refused 2 1) ∷
+    ("(e) seventeen brackets", judge (replicate 17 0x5b), refused 4 16) ∷
+    ("(f) 59 s", ride f 59, asks (fare 20_000)) ∷
+    ("(f) 60 s", ride f 60, asks (fare 30_000)) ∷
+    ("(f) 105 s", ride f 105, asks (fare 30_000)) ∷
+    ("(f) 120 s", ride f 120, asks (fare 60_000)) ∷
+    ("(f) 180 s", ride f 180, asks (fare 90_000)) ∷
+    ("(g) 599 s", ride g 599, asks (fare 0)) ∷
+    ("(g) 600 s: a sum of −5000 asks nothing", ride g 600, asks (fare 0)) ∷
+    ("(h) 0 s", ride h 0, asks (fare 12_500)) ∷
+    ("(h) 2,699 s: no mark", ride h 2_699, asks (fare 17_500)) ∷
+    ("(h) 2,700 s: past minutes", ride h 2_700, asks (endedFare 17_500)) ∷
+    ("(i) 19 minutes: the price alone", ride i 1_199, asks (fare 30_000)) ∷
+    ("(i) 20 minutes: nothing is charged", ride i 1_200, asks (endedFare 30_000)) ∷
+    ("(i) 21 minutes", ride i 1_260, asks (endedFare 30_000)) ∷
+    ("(i) 500 minutes", ride i 30_000, asks (endedFare 30_000)) ∷
+    ("(j) inside", ruleAt square (degrees 1 1), rules (bare true false)) ∷
+    ("(j) a corner", ruleAt square (degrees 2 2), rules (bare true false)) ∷
+    ("(j) outside", ruleAt square (degrees 3 1), rules none) ∷
+    ("(j) reversed, outside", ruleAt reversed (degrees 3 1), rules (bare true false)) ∷
+    ("(j) reversed, an edge", ruleAt reversed (degrees 2 1), rules (bare true false)) ∷
+    ("(j) reversed, inside", ruleAt reversed (degrees 1 1), rules none) ∷
+    ("(k) the third bike has no id", judge threeBikes, judged (broken 4 6 40 3 0 0)) ∷
+    ("(k) as a word", wordFor threeBikes, bytes k) ∷
+    ("(k) read back", readWord k, says (record { number = 0; parts = said (broken 4 6 40 3 0 0) })) ∷
+    ("(l) a sound set", judge oneBike, judged Unbroken) ∷
+    ("(l) as a word", wordFor oneBike, bytes l) ∷
+    ("(l) read back", readWord l, says (record { number = 0; parts = said Unbroken })) ∷
     []
 
--- every line of the table holds
-unfoldable agree : List Reading → Bool
-agree [] = true
-agree (r ∷ l) = same (r .answered) (r .expected) and agree l
-
-readings : agree table ≡ true
-unfolding quoting holding fault.before least lesser wordOf packed digits weight numberFrom number recordsIn repeatsIn sumOf availableFaults idFaults ruleFaults typeFaults statusFaults bikeFaults zoneFaults each faultsOf absentees fileIn crossFaults anyWith bytesOf stageA stageB stageC rules before first verdictOf only text word priced fare held run table agree
+readings : Answers answered table
+unfolding quoting ruled judgingSets weight numberFrom number digits bytesNumber packed unpacked reading.wordOf reading.keeps reading.judged reading.read reading.readWord answered
 readings = refl

@@ -1,5 +1,5 @@
 -- The verdict on a feed set: document 01, "Kinds" and the first row of the table of questions. Stage by stage, file by file, the first broken rule is
--- named; `rules` lists all that count, and `before` is their order.
+-- named; `brokenRules` lists all that count, and `before` is their order.
 use mathlib.Core.Bool.{Bool, true, false}
 use mathlib.Core.List.{List, [], _∷_, _++_, map}
 use Prim.Native.Nat.{ℕ}
@@ -14,12 +14,14 @@ use Rattle.json.specs.declared.Syntax.the-variants as syntax
 use Rattle.json.specs.Text.{syntaxOf}
 use Rattle.schema.specs.Shape.{fileShape}
 use Rattle.schema.specs.Table23.{table23}
+use Rattle.schema.specs.Pick.{PickedItems}
 use Rattle.fault.specs.declared.Fault.{Fault}
 use Rattle.fault.specs.Fault as fault
-use Rattle.judge.specs.Faults.{fileFaults}
-use Rattle.clean.specs.declared.Cleanness.{Cleanness}
-use Rattle.clean.specs.declared.Cleanness.the-variants.{Clean, Broken}
-use Rattle.clean.specs.Clean.{treeOf, place}
+use Rattle.rings.specs.Rings.{Found, coordinatesFound}
+use Rattle.judge.specs.Faults.{fileFaultsBy}
+use Rattle.clean.specs.declared.Outcome.{Outcome}
+use Rattle.clean.specs.declared.Outcome.the-variants.{Unbroken, Broken}
+use Rattle.clean.specs.Clean.{treeOf, faultParts}
 use Rattle.cross.specs.Cross.{Files, crossFaults}
 use Rattle.cross.specs.Stage.{filesOf}
 use Rattle.gbfs.specs.declared.Acceptance.{Acceptance}
@@ -53,16 +55,15 @@ picked s = filesOf (s .vehicleTypes) (s .stations) (s .statuses) (s .bikes) (s .
 -- what a file breaks in stage A, B or C; an absent file breaks nothing in A and B
 abbrev pub syntaxRules : ℕ → Syntax → List Parts
 syntaxRules file syntax.Sound = []
-syntaxRules file (syntax.Fault kind offset) =
-    record { file = file; kind = kind; field = 0; «record» = 0; sub = 0; offset = offset } ∷ []
+syntaxRules file (syntax.Fault kind offset) = record { file = file; kind = kind; field = 0; «record» = 0; sub = 0; offset = offset } ∷ []
 
 abbrev pub rulesA : ℕ → List ℕ → List Parts
 rulesA file [] = []
 rulesA file (b ∷ s) = syntaxRules file (syntaxOf (b ∷ s))
 
-abbrev pub faultsB : ℕ → List ℕ → List Fault
-faultsB file [] = []
-faultsB file (b ∷ s) = fileFaults (fileShape table23 file) (treeOf (b ∷ s))
+abbrev pub faultsBBy : (coordinates : PickedItems → List Found) → ℕ → List ℕ → List Fault
+faultsBBy coordinates file [] = []
+faultsBBy coordinates file (b ∷ s) = fileFaultsBy coordinates (fileShape table23 file) (treeOf (b ∷ s))
 
 -- all files, from 1 to 6
 abbrev pub everyFile : {A : Type 0} → (ℕ → List A) → List A
@@ -71,20 +72,29 @@ everyFile f = f 1 ++ f 2 ++ f 3 ++ f 4 ++ f 5 ++ f 6
 unfoldable pub stageA : Feeds → List Parts
 stageA s = everyFile (λ file. rulesA file (bytesOf s file))
 
-unfoldable pub stageB : Feeds → List Parts
-stageB s = everyFile (λ file. map (place file) (faultsB file (bytesOf s file)))
+unfoldable pub stageBBy : (coordinates : PickedItems → List Found) → Feeds → List Parts
+stageBBy coordinates s = everyFile (λ file. map (faultParts file) (faultsBBy coordinates file (bytesOf s file)))
 
 unfoldable pub stageC : Feeds → List Parts
-stageC s = everyFile (λ file. map (place file) (crossFaults (picked s) file))
+stageC s = everyFile (λ file. map (faultParts file) (crossFaults (picked s) file))
 
 -- the first stage that has any
 abbrev pub orElse : {A : Type 0} → List A → List A → List A
 orElse [] m = m
 orElse (x ∷ l) m = x ∷ l
 
--- the broken rules of a set
-unfoldable pub rules : Feeds → List Parts
-rules s = orElse (stageA s) (orElse (stageB s) (stageC s))
+-- the broken rules of a set; `coordinates` tells what is found in field 73
+unfoldable pub brokenRulesBy : (coordinates : PickedItems → List Found) → Feeds → List Parts
+brokenRulesBy coordinates s = orElse (stageA s) (orElse (stageBBy coordinates s) (stageC s))
+
+abbrev pub brokenRules : Feeds → List Parts
+brokenRules = brokenRulesBy coordinatesFound
+
+abbrev pub faultsB : ℕ → List ℕ → List Fault
+faultsB = faultsBBy coordinatesFound
+
+abbrev pub stageB : Feeds → List Parts
+stageB = stageBBy coordinatesFound
 
 -- their order: by file, then record, field, sub and kind
 unfoldable pub before : Parts → Parts → Bool
@@ -94,24 +104,24 @@ before p q =
     fault.before (fault.fault (p .«record») (p .field) (p .sub) (p .kind)) (fault.fault (q .«record») (q .field) (q .sub) (q .kind))
 
 -- the first of them
-abbrev pub earlier : Parts → Cleanness → Cleanness
-earlier p Clean = Broken p
+abbrev pub earlier : Parts → Outcome → Outcome
+earlier p Unbroken = Broken p
 earlier p (Broken q) = before q p ⇒ Broken q else Broken p
 
-unfoldable pub first : List Parts → Cleanness
-first [] = Clean
+unfoldable pub first : List Parts → Outcome
+first [] = Unbroken
 first (p ∷ l) = earlier p (first l)
 
-unfoldable pub verdictOf : Feeds → Cleanness
-verdictOf s = first (rules s)
+unfoldable pub verdictOf : Feeds → Outcome
+verdictOf s = first (brokenRules s)
 
 -- an accepting word says nothing else
-abbrev pub said : Cleanness → Parts
-said Clean = noParts
+abbrev pub said : Outcome → Parts
+said Unbroken = noParts
 said (Broken p) = p
 
-abbrev pub accepts : Cleanness → Bool
-accepts Clean = true
+abbrev pub accepts : Outcome → Bool
+accepts Unbroken = true
 accepts (Broken p) = false
 
 -- The first row of the table of questions: the number in its order of checking, and the buffer after the call. Without room for a word nothing is

@@ -1,6 +1,6 @@
 // The verdict on a feed set: whether it is accepted, and the word that says why not.
 use crate::stages::judge;
-use clean::Cleanness;
+use clean::Outcome;
 use word::Parts;
 use word::Word;
 ghost use mathlib.Core.List.{_++_};
@@ -21,12 +21,12 @@ pub enum Acceptance {
 }
 
 // What a word says: nothing of an accepted set.
-fn parts_in(c: Cleanness) -> Parts
+fn parts_in(c: Outcome) -> Parts
     ensures { λ r. ⌜ r ≡ said c ⌝ }
 {
     match c {
-        Cleanness::Broken(p) => p,
-        Cleanness::Clean => Parts {
+        Outcome::Broken(p) => p,
+        Outcome::Unbroken => Parts {
             file: 0,
             kind: 0,
             field: 0,
@@ -76,7 +76,7 @@ pub fn verdict<'a>(
     let c = judge(types, stations, statuses, bikes, plans, zones);
     put(parts_in(c), buffer);
     match c {
-        Cleanness::Clean => Acceptance::Accepted,
-        Cleanness::Broken(_) => Acceptance::NotAccepted,
+        Outcome::Unbroken => Acceptance::Accepted,
+        Outcome::Broken(_) => Acceptance::NotAccepted,
     }
 }

@@ -1,5 +1,5 @@
 // The stages of a set: A and B file by file, then C.
-use clean::Cleanness;
+use clean::Outcome;
 use clean::first_fault;
 use clean::parts_of;
 use cross::stage::judge_set;
@@ -12,22 +12,22 @@ ghost use lib.ListN.{length};
 ghost use Rattle.fault.specs.Fault.{least};
 ghost use Rattle.json.specs.declared.Syntax.the-variants as syntax;
 ghost use Rattle.json.specs.Text.{syntaxOf};
-ghost use Rattle.clean.specs.declared.Cleanness.the-variants as clean;
+ghost use Rattle.clean.specs.declared.Outcome.the-variants as clean;
 ghost use Rattle.clean.specs.Clean.{broken};
 ghost use Rattle.cross.specs.inner.Stage as cross;
 ghost use Rattle.gbfs.specs.Verdict.{feeds, bytesOf, picked, faultsB, verdictOf};
 ghost use Rattle.gbfs.specs.inner.Stages.{brokenA, firstA, firstB, orNext};
 
 // Stage A of a file; where nothing is there, it passes.
-fn stage_a(file: u8, s: &[u8]) -> Cleanness
-    ensures { λ r. ⌜ r ≡ brokenA file (now (s .entry)) clean.Clean ⌝ }
+fn stage_a(file: u8, s: &[u8]) -> Outcome
+    ensures { λ r. ⌜ r ≡ brokenA file (now (s .entry)) clean.Unbroken ⌝ }
 {
     if s.len() == 0 {
-        return Cleanness::Clean;
+        return Outcome::Unbroken;
     }
     match check_syntax(s) {
-        Syntax::Sound => Cleanness::Clean,
-        Syntax::Fault(kind, offset) => Cleanness::Broken(Parts {
+        Syntax::Sound => Outcome::Unbroken,
+        Syntax::Fault(kind, offset) => Outcome::Broken(Parts {
             file: file,
             kind: kind,
             field: 0,
@@ -39,16 +39,16 @@ fn stage_a(file: u8, s: &[u8]) -> Cleanness
 }
 
 // Stage B of a file that stage A passes.
-fn stage_b(file: u8, s: &[u8]) -> Cleanness
+fn stage_b(file: u8, s: &[u8]) -> Outcome
     requires { ⌜ ((length (now s) ≡ 0 → ⊥) → syntaxOf (now s) ≡ syntax.Sound) ⌝ }
-    ensures { λ r. ⌜ r ≡ broken file (least (faultsB file (now (s .entry)))) clean.Clean ⌝ }
+    ensures { λ r. ⌜ r ≡ broken file (least (faultsB file (now (s .entry)))) clean.Unbroken ⌝ }
 {
     if s.len() == 0 {
-        return Cleanness::Clean;
+        return Outcome::Unbroken;
     }
     match first_fault(file, s) {
-        Least::None => Cleanness::Clean,
-        Least::Is(f) => Cleanness::Broken(parts_of(file, f)),
+        Least::None => Outcome::Unbroken,
+        Least::Is(f) => Outcome::Broken(parts_of(file, f)),
     }
 }
 
@@ -82,7 +82,7 @@ fn first_a<'a>(
     bikes: &'a [u8],
     plans: &'a [u8],
     zones: &'a [u8],
-) -> Cleanness
+) -> Outcome
     ensures { λ r. ⌜ r ≡ firstA (feeds (now (types .entry)) (now (stations .entry)) (now (statuses .entry)) (now (bikes .entry)) (now (plans .entry)) (now (zones .entry))) ⌝ }
 {
     let mut file: u8 = 1;
@@ -91,15 +91,15 @@ fn first_a<'a>(
             file,
             bytes_of(file, types, stations, statuses, bikes, plans, zones),
         ) {
-            Cleanness::Broken(p) => {
-                return Cleanness::Broken(p);
+            Outcome::Broken(p) => {
+                return Outcome::Broken(p);
             }
-            Cleanness::Clean => {
+            Outcome::Unbroken => {
                 file += 1;
             }
         }
     }
-    Cleanness::Clean
+    Outcome::Unbroken
 }
 
 // And of stage B, where stage A passes them all.
@@ -110,8 +110,8 @@ fn first_b<'a>(
     bikes: &'a [u8],
     plans: &'a [u8],
     zones: &'a [u8],
-) -> Cleanness
-    requires { ⌜ (firstA (feeds (now types) (now stations) (now statuses) (now bikes) (now plans) (now zones)) ≡ clean.Clean) ⌝ }
+) -> Outcome
+    requires { ⌜ (firstA (feeds (now types) (now stations) (now statuses) (now bikes) (now plans) (now zones)) ≡ clean.Unbroken) ⌝ }
     ensures { λ r. ⌜ r ≡ firstB (feeds (now (types .entry)) (now (stations .entry)) (now (statuses .entry)) (now (bikes .entry)) (now (plans .entry)) (now (zones .entry))) ⌝ }
 {
     let mut file: u8 = 1;
@@ -120,15 +120,15 @@ fn first_b<'a>(
             file,
             bytes_of(file, types, stations, statuses, bikes, plans, zones),
         ) {
-            Cleanness::Broken(p) => {
-                return Cleanness::Broken(p);
+            Outcome::Broken(p) => {
+                return Outcome::Broken(p);
             }
-            Cleanness::Clean => {
+            Outcome::Unbroken => {
                 file += 1;
             }
         }
     }
-    Cleanness::Clean
+    Outcome::Unbroken
 }
 
 // Stages B and C of a set that is through stage A.
@@ -139,15 +139,15 @@ fn judge_read<'a>(
     bikes: &'a [u8],
     plans: &'a [u8],
     zones: &'a [u8],
-) -> Cleanness
-    requires { ⌜ firstA (feeds (now types) (now stations) (now statuses) (now bikes) (now plans) (now zones)) ≡ clean.Clean ⌝ }
+) -> Outcome
+    requires { ⌜ firstA (feeds (now types) (now stations) (now statuses) (now bikes) (now plans) (now zones)) ≡ clean.Unbroken ⌝ }
     ensures { λ r. ⌜ r ≡ orNext
         (firstB (feeds (now (types .entry)) (now (stations .entry)) (now (statuses .entry)) (now (bikes .entry)) (now (plans .entry)) (now (zones .entry))))
-        (cross.stageC (picked (feeds (now (types .entry)) (now (stations .entry)) (now (statuses .entry)) (now (bikes .entry)) (now (plans .entry)) (now (zones .entry))))) ⌝ }
+        (cross.firstC (picked (feeds (now (types .entry)) (now (stations .entry)) (now (statuses .entry)) (now (bikes .entry)) (now (plans .entry)) (now (zones .entry))))) ⌝ }
 {
     match first_b(types, stations, statuses, bikes, plans, zones) {
-        Cleanness::Broken(p) => Cleanness::Broken(p),
-        Cleanness::Clean => judge_set(types, stations, statuses, bikes, plans, zones),
+        Outcome::Broken(p) => Outcome::Broken(p),
+        Outcome::Unbroken => judge_set(types, stations, statuses, bikes, plans, zones),
     }
 }
 
@@ -159,11 +159,11 @@ pub fn judge<'a>(
     bikes: &'a [u8],
     plans: &'a [u8],
     zones: &'a [u8],
-) -> Cleanness
+) -> Outcome
     ensures { λ r. ⌜ r ≡ verdictOf (feeds (now (types .entry)) (now (stations .entry)) (now (statuses .entry)) (now (bikes .entry)) (now (plans .entry)) (now (zones .entry))) ⌝ }
 {
     match first_a(types, stations, statuses, bikes, plans, zones) {
-        Cleanness::Broken(p) => Cleanness::Broken(p),
-        Cleanness::Clean => judge_read(types, stations, statuses, bikes, plans, zones),
+        Outcome::Broken(p) => Outcome::Broken(p),
+        Outcome::Unbroken => judge_read(types, stations, statuses, bikes, plans, zones),
     }
 }

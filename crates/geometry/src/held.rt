@@ -9,12 +9,12 @@ ghost use mathlib.Core.Bool.{not};
 ghost use mathlib.Core.Path.{_≡_};
 ghost use Rattle.notation.specs.Choice.{_⇒_else_};
 ghost use Rattle.geometry.specs.Ring.{clockwise as clockwiseOf};
-ghost use Rattle.geometry.specs.inner.Shifted.{InRange, OnMap, points, point, place, stands};
+ghost use Rattle.geometry.specs.inner.Shifted.{InRange, OnMap, points, point, placeOf, stands};
 
 // On an edge, or inside where an odd number of edges cross east of the point.
 pub fn locate(xs: &[u64], ys: &[u64], q: Position) -> Place
     requires { ⌜ InRange (now xs) (now ys) × OnMap q ⌝ }
-    ensures { λ r. ⌜ r ≡ place (points (now (xs .entry)) (now (ys .entry))) (point q) ⌝ }
+    ensures { λ r. ⌜ r ≡ placeOf (points (now (xs .entry)) (now (ys .entry))) (point q) ⌝ }
 {
     let mut odd = false;
     let mut i: usize = 0;
@@ -45,7 +45,7 @@ fn holds_side(xs: &[u64], ys: &[u64], inside: bool) -> bool
 }
 
 // Where the point stands to a polygon's rings once this one was asked too: the first of them, or a further one, with whether the point is held so far.
-// Shut out: a hole's edge left out; a hole that cuts by the way round that it goes; a point inside two holes held again.
+// Shut out: an edge left out; a hole that does not cut; a point inside two holes held again.
 pub fn stand(xs: &[u64], ys: &[u64], q: Position, first: bool, held: bool) -> Standing
     requires { ⌜ InRange (now xs) (now ys) × OnMap q ⌝ }
     ensures { λ r. ⌜ r ≡ stands first held (points (now (xs .entry)) (now (ys .entry))) (point q) ⌝ }

@@ -7,6 +7,7 @@ use lib.Dec.{eqb}
 use Rattle.notation.specs.Ascii.{bytes}
 use Rattle.notation.specs.Case.{Case, Answers}
 use Rattle.notation.specs.Choice.{_⇒_else_}
+use Rattle.schema.specs.Records.{identified}
 use Rattle.slots.specs.Cases.{gathering}
 use Rattle.slots.specs.Found.{foundIn}
 use Rattle.slots.specs.inner.Blank.{blankText}
@@ -16,7 +17,7 @@ use Rattle.ids.specs.inner.Notes.{lastIn}
 
 -- opens every definition of ids
 unfoldable pub identifying : Unit {0}
-unfolding gathering foundIn memberOf textBy idName idValue recordBytes lastWith anyHas repeatFrom firstRepeat earlier lastIn
+unfolding gathering foundIn memberOf textBy identified idName idValue recordBytes lastWith anyHas repeatFrom firstRepeat earlier lastIn
 identifying = tt
 
 abbrev mark : ℕ → ℕ

@@ -20,9 +20,20 @@ ghost use Rattle.text.specs.Text.{textOf, same};
 ghost use Rattle.slots.specs.declared.Found.the-variants.{Twice};
 ghost use Rattle.slots.specs.Found.{foundIn};
 ghost use Rattle.fields.specs.inner.Values.{textBy, isId};
-ghost use Rattle.ids.specs.inner.Ids.{idName, idValue, IdPlace};
+ghost use Rattle.ids.specs.inner.Ids.{idField, idName, idValue, IdPlace};
 
-// Whether a name is that of a file's own ids.
+// The field of a file's own ids; 0 where its records have none.
+// Shut out: plans whose ids are not looked at.
+pub fn id_field(file: u8) -> u8
+    ensures { λ r. ⌜ r ≡ idField file ⌝ }
+{
+    if 5 < file {
+        return 0;
+    }
+    file * 10
+}
+
+// Whether a name is that of a file's own ids; no bytes are, where its records have none.
 pub fn names_id(file: u8, spelled: &[u8]) -> bool
     ensures { λ r. ⌜ r ≡ same (textOf (now (spelled .entry))) (idName file) ⌝ }
 {
@@ -31,7 +42,8 @@ pub fn names_id(file: u8, spelled: &[u8]) -> bool
         2 => text_is(spelled, b"station_id"),
         3 => text_is(spelled, b"station_id"),
         4 => text_is(spelled, b"bike_id"),
-        _ => text_is(spelled, b"plan_id"),
+        5 => text_is(spelled, b"plan_id"),
+        _ => text_is(spelled, b""),
     }
 }
 

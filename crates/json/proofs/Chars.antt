@@ -16,8 +16,9 @@ use Rattle.lexeme.specs.declared.Quad.{Quad}
 use Rattle.lexeme.specs.declared.Quad.the-variants.{Value, Short}
 use Rattle.lexeme.specs.Read.{made}
 use Rattle.lexeme.specs.Read.Read.{done}
-use Rattle.lexeme.specs.Character.{lone, byte, within, Lead, lead, char1, char2, char3, char4, utf2, utf3, utf4, encoded, hexValue, hexadecimal, quad, trail, alone, high, unit, unicode, short, escape, nextBy, next}
-use Rattle.lexeme.specs.Character.Lead.{plain, quote, backslash, wrong, two, threeE0, three, threeED, fourF0, four, fourF4}
+use Rattle.lexeme.specs.Character.{lone, byte, within, char1, char2, char3, char4, utf2, utf3, utf4, encoded, hexValue, hexadecimal, quad, trail, alone, high, unit, unicode, short, escape, next}
+use Rattle.lexeme.specs.inner.Lead.{Lead, lead, nextBy}
+use Rattle.lexeme.specs.inner.Lead.Lead.{plain, quote, backslash, wrong, two, threeE0, three, threeED, fourF0, four, fourF4}
 use Rattle.lexeme.specs.Numbers.{digit, either}
 use Rattle.lexeme.specs.Strings.{string}
 use Rattle.lexeme.proofs.Steps.{by-test, true-false, made-done, string-quote, string-skip}
@@ -26,6 +27,7 @@ use Rattle.lexeme.proofs.Lone.{bare, character-passes, encoded-passes, high-pas
 use Rattle.json.specs.Grammar as Grammar
 use Rattle.json.specs.Grammar.{tail, hexDigit, escapable, Chars}
 use Rattle.json.proofs.Leads.{between, bounds, lead-plain, lead-two, lead-three, lead-four}
+use Rattle.lexeme.proofs.Leads.{next-led}
 
 -- UTF-8 of two, three and four bytes, by its ranges
 two-next : (a b : ℕ) (q : List ℕ) → within 0x80 0xbf b ≡ true → utf2 (a ∷ b ∷ q) ≡ char2 a b 1
@@ -43,8 +45,7 @@ four-next lo hi a b c d q h k i = rw (h, k, i, utf4)
 
 -- what stands at a first byte of a lead
 at-lead : (a : ℕ) (q : List ℕ) {t : Lead} → lead a ≡ t → next lone (a ∷ q) ≡ nextBy lone (a ∷ q) t
-unfolding next
-at-lead a q e = ap (nextBy lone (a ∷ q)) e
+at-lead a q e = next-led lone (a ∷ q) e
 
 -- a character is passed over
 abbrev Passed : List ℕ → Type 0
@@ -93,7 +94,7 @@ quad-of a b c d q h i j k = rw (hex-yes a h, hex-yes b i, hex-yes c j, hex-yes d
 
 unicode-next : (a b c d : ℕ) (q : List ℕ) → hexDigit a ≡ true → hexDigit b ≡ true → hexDigit c ≡ true → hexDigit d ≡ true
     → next lone (0x5c ∷ 0x75 ∷ a ∷ b ∷ c ∷ d ∷ q) ≡ unit lone (0x5c ∷ 0x75 ∷ a ∷ b ∷ c ∷ d ∷ q) (worth a b c d)
-unfolding next nextBy lead escape unicode
+unfolding next escape unicode
 unicode-next a b c d q h i j k = rw (quad-of a b c d q h i j k)
 
 unicode-passed : (a b c d : ℕ) → hexDigit a ≡ true → hexDigit b ≡ true → hexDigit c ≡ true → hexDigit d ≡ true → Passed (0x5c ∷ 0x75 ∷ a ∷ b ∷ c ∷ d ∷ [])
@@ -132,7 +133,7 @@ each-short P p1 p2 p3 p4 p5 p6 p7 p8 b e =
     (λ n8. true-false e (simp (n1, n2, n3, n4, n5, n6, n7, n8, escapable, either))))))))))
 
 short-next : (q : List ℕ) (b : ℕ) → escapable b ≡ true → next lone (0x5c ∷ b ∷ q) ≡ char1 (short b) 1
-unfolding next nextBy lead escape short
+unfolding next escape short
 short-next q = each-short (λ b. next lone (0x5c ∷ b ∷ q) ≡ char1 (short b) 1) refl refl refl refl refl refl refl refl
 
 pub char-passed : {s : List ℕ} → Grammar.Char s → Passed s

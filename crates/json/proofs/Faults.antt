@@ -15,7 +15,8 @@ use Rattle.lexeme.specs.Character.{lone}
 use Rattle.lexeme.specs.Strings as Strings
 use Rattle.lexeme.specs.Numbers as Numbers
 use Rattle.lexeme.specs.Numbers.{either}
-use Rattle.lexeme.specs.Tokens.{blank, blanks, Start, start}
+use Rattle.lexeme.specs.Tokens.{blank, blanks}
+use Rattle.lexeme.specs.inner.Start.{Start, start}
 use Rattle.lexeme.proofs.Reading.{Eats, Any, Ok, numeric, Stops, Took, Takes, Faulted, Faults}
 use Rattle.lexeme.proofs.Reading.Ok.{alike, stops}
 use Rattle.lexeme.proofs.Steps.{by-test, blanks-stop, then-done, bad-done, done-bad, no-cons, bad-kind, bad-rest, made-reads, made-fails, made-bad, then-reads, then-fails}
@@ -24,9 +25,9 @@ use Rattle.lexeme.proofs.Starts.{blank-other}
 use Rattle.lexeme.proofs.Faults.{made-faults, cons-faulted, end-faulted, byte-faulted, string-faults, number-faults, literal-faults}
 use Rattle.json.specs.Cases.{reading}
 use Rattle.json.specs.Tree.{Json}
-use Rattle.json.specs.Text.{expect, after, contents, bracketed, member, valueAt, valueBy, value, finish, text}
+use Rattle.json.specs.Text.{expect, after, contents, bracketed, member, valueBy, value, finish, text}
 use Rattle.json.specs.Text.After.{closed, wrong}
-use Rattle.json.proofs.Steps.{expect-end, expect-here, expect-other, after-closed, after-wrong, elements-bad, elements-closed, elements-wrong, contents-end, contents-none, contents-some, named, chosen}
+use Rattle.json.proofs.Steps.{expect-end, expect-here, expect-other, after-closed, after-wrong, elements-bad, elements-closed, elements-wrong, contents-end, contents-none, contents-some, named, chosen, valueAt, value-start}
 use Rattle.json.proofs.Bound.{Follows, at-end, at-other, follows-as, all, Run, faulty, last, next, broken, run, elements-next}
 use Rattle.json.proofs.Takes.{joins, agree, ok-part, Solid, blanks-solid, blanks-frame, continues, blanks-takes, expect-takes, member-takes, member-eats, value-takes, value-eats}
 
@@ -217,11 +218,11 @@ pub record Closing (close : ℕ) : Type 0 where
   pub other : start close ≡ Start.other
 
 pub square : Closing 0x5d
-unfolding reading numeric
+unfolding reading numeric start
 square = record { solid = refl; halts = refl; parts = refl; other = refl }
 
 pub curly : Closing 0x7d
-unfolding reading numeric
+unfolding reading numeric start
 curly = record { solid = refl; halts = refl; parts = refl; other = refl }
 
 module _ {A : Type 0} (close : ℕ) (c : Closing close) (element : List ℕ → Read A) (rd : Reader element) where
@@ -354,10 +355,11 @@ module _ (arrays objects : List ℕ → Read Json) where
   value-by-starts = record { word = 0x30 ∷ []; what = Json.number (0x30 ∷ []); reads = refl }
 
   value-by-firm : Firm (valueBy lone arrays objects)
-  unfolding valueBy valueAt
+  unfolding valueAt
   value-by-firm [] r x e = tt
   value-by-firm (b ∷ l) r x e =
-      by-test (blank b) (λ h. let s = blank-other b h in bad-done (rw (s, valueBy, valueAt) at e)) (λ h. h)
+      let f = sym (value-start lone arrays objects b l) ∙ e in
+      by-test (blank b) (λ h. let s = blank-other b h in bad-done (rw (s, valueAt) at f)) (λ h. h)
 
   -- a value's faults, from its first byte on
   abbrev Failing : (List ℕ → Read Json) → Type 0

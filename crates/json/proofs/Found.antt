@@ -14,8 +14,9 @@ use Rattle.lexeme.specs.declared.Next.{Next}
 use Rattle.lexeme.specs.declared.Next.the-variants.{Quote, Character, Fault}
 use Rattle.lexeme.specs.Read.{made}
 use Rattle.lexeme.specs.Read.Read.{done}
-use Rattle.lexeme.specs.Character.{lone, within, Lead, lead, utf2, utf3, utf4, hexValue, hexadecimal, quad, unicode, short, escape, nextBy, next}
-use Rattle.lexeme.specs.Character.Lead.{plain, quote, backslash, wrong, two, threeE0, three, threeED, fourF0, four, fourF4}
+use Rattle.lexeme.specs.Character.{lone, within, utf2, utf3, utf4, hexValue, hexadecimal, quad, unicode, short, escape, next}
+use Rattle.lexeme.specs.inner.Lead.{Lead, lead, nextBy}
+use Rattle.lexeme.specs.inner.Lead.Lead.{plain, quote, backslash, wrong, two, threeE0, three, threeED, fourF0, four, fourF4}
 use Rattle.lexeme.specs.Numbers.{either}
 use Rattle.lexeme.specs.Strings.{string}
 use Rattle.lexeme.proofs.Steps.{by-test, true-false, bad-done, done-rest, made-done, made-reads, string-empty, string-quote, string-fault}
@@ -25,6 +26,7 @@ use Rattle.json.specs.Grammar as Grammar
 use Rattle.json.specs.Grammar.{tail, escapable, Chars}
 use Rattle.json.proofs.Leads.{ranged}
 use Rattle.json.proofs.Chars.{hex-back, char-passed}
+use Rattle.lexeme.proofs.Leads.{next-by}
 
 -- an answer that is no character
 never : {A : Type 0} {k n : ℕ} {x : Char} → Fault k n ≡ Character x → A
@@ -135,8 +137,8 @@ first-escape (b ∷ q) x e =
 
 -- every character
 first-char : (b : ℕ) (m : List ℕ) (x : Char) → next lone (b ∷ m) ≡ Character x → First (b ∷ m)
-unfolding next nextBy tail
-first-char b m x e = go (lead b) refl e
+unfolding nextBy tail
+first-char b m x e = go (lead b) refl (sym (next-by lone (b ∷ m)) ∙ e)
   where
     go : (t : Lead) → lead b ≡ t → nextBy lone (b ∷ m) t ≡ Character x → First (b ∷ m)
     go plain h i = record { part = b ∷ []; rest = m; splits = refl; is = Grammar.Char.utf1 (ranged b h) }

@@ -12,16 +12,17 @@ use Rattle.lexeme.specs.Read.{Read, made}
 use Rattle.lexeme.specs.Read.Read.{done, bad}
 use Rattle.lexeme.specs.Character.{Surrogates, paired, lone}
 use Rattle.lexeme.specs.Strings as Strings
-use Rattle.lexeme.specs.Tokens.{blanks, Start, start}
+use Rattle.lexeme.specs.Tokens.{blanks}
+use Rattle.lexeme.specs.inner.Start.{Start, start}
 use Rattle.lexeme.proofs.Reading.{rest, Goes}
 use Rattle.lexeme.proofs.Reading.Goes.{same, further}
 use Rattle.lexeme.proofs.Steps.{by-test, bad-done, bad-kind, bad-rest}
 use Rattle.lexeme.proofs.Shrinks.{made-shrinks}
 use Rattle.lexeme.proofs.Goes.{string-goes, made-goes, then-goes}
 use Rattle.json.specs.Tree.{Json}
-use Rattle.json.specs.Text.{expect, After, after, elements, contents, bracketed, member, valueAt, valueBy, value, finish, text}
+use Rattle.json.specs.Text.{expect, After, after, elements, contents, bracketed, member, valueBy, value, finish, text}
 use Rattle.json.specs.Text.After.{closed, more, wrong}
-use Rattle.json.proofs.Steps.{expect-here, expect-other, onward, elements-then, onward-closed, onward-more, onward-wrong, contents-none, contents-some, named, member-then}
+use Rattle.json.proofs.Steps.{expect-here, expect-other, onward, elements-then, onward-closed, onward-more, onward-wrong, contents-none, contents-some, named, member-then, valueAt, value-start}
 use Rattle.json.proofs.Shrinks.{Stays, stays-shrinks, blanks-stay, onward-stays, elements-stay, bracketed-stays, named-stays, member-stays, value-ends, finish-ends}
 
 -- two readers, the second by laxer rules
@@ -76,19 +77,19 @@ module _ (D : ℕ → Type 0) where
     From f g = (b : ℕ) (r : List ℕ) → Goes D (f (b ∷ r)) (g (b ∷ r))
 
     value-by-goes : (a o a′ o′ : List ℕ → Read Json) → From a a′ → From o o′ → Laxer D (valueBy ρ a o) (valueBy σ a′ o′)
-    unfolding valueBy valueAt
-    value-by-goes a o a′ o′ arrays objects [] = same
-    value-by-goes a o a′ o′ arrays objects (b ∷ r) = go (start b) refl
+    unfolding valueAt
+    value-by-goes a o a′ o′ arrays objects [] = unfold valueBy in same
+    value-by-goes a o a′ o′ arrays objects (b ∷ r) = rw (value-start ρ a o b r, value-start σ a′ o′ b r) (go (start b) refl)
       where
-        go : (t : Start) → start b ≡ t → Goes D (valueBy ρ a o (b ∷ r)) (valueBy σ a′ o′ (b ∷ r))
-        go Start.string h = rw (h, valueBy, valueAt) (made-goes Json.string (strings r))
-        go Start.number h = rw (h, valueBy, valueAt) same
-        go Start.array h = rw (h, valueBy, valueAt) (arrays b r)
-        go Start.object h = rw (h, valueBy, valueAt) (objects b r)
-        go Start.letterT h = rw (h, valueBy, valueAt) same
-        go Start.letterF h = rw (h, valueBy, valueAt) same
-        go Start.letterN h = rw (h, valueBy, valueAt) same
-        go Start.other h = rw (h, valueBy, valueAt) same
+        go : (t : Start) → start b ≡ t → Goes D (valueAt ρ a o b r) (valueAt σ a′ o′ b r)
+        go Start.string h = rw (h, valueAt) (made-goes Json.string (strings r))
+        go Start.number h = rw (h, valueAt) same
+        go Start.array h = rw (h, valueAt) (arrays b r)
+        go Start.object h = rw (h, valueAt) (objects b r)
+        go Start.letterT h = rw (h, valueAt) same
+        go Start.letterF h = rw (h, valueAt) same
+        go Start.letterN h = rw (h, valueAt) same
+        go Start.other h = rw (h, valueAt) same
 
     -- what opens one level too many is read by laxer rules
     past : {A : Type 0} (d : ℕ) (g : A → Json) (f : List ℕ → Read A) → D tooDeep → Stays σ d f → (b : ℕ) (r : List ℕ) → Goes D (bad tooDeep (b ∷ r)) (made g (f r))

@@ -16,7 +16,8 @@ use Rattle.lexeme.specs.Character.{paired, lone}
 use Rattle.lexeme.specs.Strings as Strings
 use Rattle.lexeme.specs.Numbers as Numbers
 use Rattle.lexeme.specs.Numbers.{either}
-use Rattle.lexeme.specs.Tokens.{blank, blanks, literal, Start, start}
+use Rattle.lexeme.specs.Tokens.{blank, blanks, literal}
+use Rattle.lexeme.specs.inner.Start.{Start, start}
 use Rattle.lexeme.proofs.Reading.{Eats, Any, Ok, Takes}
 use Rattle.lexeme.proofs.Reading.Ok.{stops}
 use Rattle.lexeme.proofs.Steps.{by-test, blanks-stop, then-done, done-bad, bad-kind, bad-rest, made-reads, made-bad, made-done, then-reads, then-fails}
@@ -24,11 +25,11 @@ use Rattle.lexeme.proofs.Takes.{string-takes, blanks-of}
 use Rattle.lexeme.proofs.Goes.{string-goes}
 use Rattle.lexeme.proofs.Starts.{string-byte, array-byte, object-byte}
 use Rattle.json.specs.Cases.{reading}
-use Rattle.json.specs.Tree.{Json, itemsOf, membersOf}
-use Rattle.json.specs.Text.{expect, after, contents, bracketed, member, valueAt, valueBy, value, finish, text}
+use Rattle.json.specs.Tree.{Json, asItems, asMembers}
+use Rattle.json.specs.Text.{expect, after, contents, bracketed, member, valueBy, value, finish, text}
 use Rattle.json.specs.Text.After.{closed, more}
 use Rattle.json.specs.Places.{Place, outside, inside, step, along}
-use Rattle.json.proofs.Steps.{expect-end, expect-here, expect-other, after-closed, elements-closed, contents-end, contents-none, contents-some, named}
+use Rattle.json.proofs.Steps.{expect-end, expect-here, expect-other, after-closed, elements-closed, contents-end, contents-none, contents-some, named, valueAt, value-start}
 use Rattle.json.proofs.Bound.{Follows, at-comma, follows-as, all, Run, faulty, last, next, broken, run, elements-next}
 use Rattle.json.proofs.FaultKinds.{Plain, number-plain, literal-plain}
 use Rattle.json.proofs.Takes.{joins, agree, ok-part, Solid, blanks-solid, blanks-frame, Continues, continues, expect-takes, member-takes, member-eats, value-takes, value-eats}
@@ -360,27 +361,30 @@ module _ (k : ℕ) (P : List ℕ → Type 0) (z : ℕ) (W : ℕ → Place) (L : 
           → ((b : ℕ) (l r : List ℕ) → start b ≡ Start.array → arrays (b ∷ l) ≡ bad k r → Held outside (valueBy paired arrays objects) d (b ∷ l) r)
           → ((b : ℕ) (l r : List ℕ) → start b ≡ Start.object → objects (b ∷ l) ≡ bad k r → Held outside (valueBy paired arrays objects) d (b ∷ l) r)
           → Holds outside (valueBy paired arrays objects) d
-      unfolding valueBy valueAt
-      value-by-holds arrays objects d array object [] r e = no-fault other e
+      unfolding valueAt
+      value-by-holds arrays objects d array object [] r e = unfold valueBy in no-fault other e
       value-by-holds arrays objects d array object (b ∷ l) r e = go (start b) refl
         where
+          f : valueAt paired arrays objects b l ≡ bad k r
+          f = sym (value-start paired arrays objects b l) ∙ e
+
           word : (c : ℕ) (w : List ℕ) (x : Json) → literal (c ∷ w) x (b ∷ l) ≡ bad k r → Held outside (valueBy paired arrays objects) d (b ∷ l) r
           word c w x i = plain-none other (literal-plain (c ∷ w) x (b ∷ l)) i
 
           go : (t : Start) → start b ≡ t → Held outside (valueBy paired arrays objects) d (b ∷ l) r
           go Start.string h =
-              cons-held 0 b (λ m. rw (h, valueBy, valueAt)) (λ n. ap (step (outside n)) (string-byte b h) ∙ quote-opens n ∙ ap inside (omega arith)) (level d)
-              (made-holds Json.string _ d (strings d) l r (rw (h, valueBy, valueAt) at e))
-          go Start.number h = plain-none other (number-plain (b ∷ l)) (made-bad Json.number (Numbers.number (b ∷ l)) k r (rw (h, valueBy, valueAt) at e))
-          go Start.array h = array b l r h (rw (h, valueBy, valueAt) at e)
-          go Start.object h = object b l r h (rw (h, valueBy, valueAt) at e)
-          go Start.letterT h = word _ _ (Json.boolean true) (rw (h, valueBy, valueAt) at e)
-          go Start.letterF h = word _ _ (Json.boolean false) (rw (h, valueBy, valueAt) at e)
-          go Start.letterN h = word _ _ Json.null (rw (h, valueBy, valueAt) at e)
-          go Start.other h = no-fault other (rw (h, valueBy, valueAt) at e)
+              cons-held 0 b (λ m. value-start paired arrays objects b m ∙ rw (h, valueAt)) (λ n. ap (step (outside n)) (string-byte b h) ∙ quote-opens n ∙ ap inside (omega arith)) (level d)
+              (made-holds Json.string _ d (strings d) l r (rw (h, valueAt) at f))
+          go Start.number h = plain-none other (number-plain (b ∷ l)) (made-bad Json.number (Numbers.number (b ∷ l)) k r (rw (h, valueAt) at f))
+          go Start.array h = array b l r h (rw (h, valueAt) at f)
+          go Start.object h = object b l r h (rw (h, valueAt) at f)
+          go Start.letterT h = word _ _ (Json.boolean true) (rw (h, valueAt) at f)
+          go Start.letterF h = word _ _ (Json.boolean false) (rw (h, valueAt) at f)
+          go Start.letterN h = word _ _ Json.null (rw (h, valueAt) at f)
+          go Start.other h = no-fault other (rw (h, valueAt) at f)
 
       value-holds : (d : ℕ) → Holds outside (value paired d) d
-      unfolding value valueBy valueAt either
+      unfolding value valueAt either
       value-holds zero =
           value-by-holds (bad tooDeep) (bad tooDeep) 0 (λ b l r h i. ground b l r (rw (array-byte b h)) i) (λ b l r h i. ground b l r (rw (object-byte b h)) i)
       value-holds (suc d) =
@@ -393,11 +397,11 @@ module _ (k : ℕ) (P : List ℕ → Type 0) (z : ℕ) (W : ℕ → Place) (L : 
           (member-clear (value paired d) (value-clear d)) d (member-holds d holds) in
           value-by-holds _ _ (suc d)
           (λ b l r h i.
-          cons-held 1 b (λ m. rw (h, valueBy, valueAt)) (λ n. ap (step (outside n)) (array-byte b h) ∙ opens-array n) (deeper d)
-          (made-holds (λ xs. Json.array (itemsOf xs)) _ d items l r i))
+          cons-held 1 b (λ m. value-start paired _ _ b m ∙ rw (h, valueAt)) (λ n. ap (step (outside n)) (array-byte b h) ∙ opens-array n) (deeper d)
+          (made-holds (λ xs. Json.array (asItems xs)) _ d items l r i))
           (λ b l r h i.
-          cons-held 1 b (λ m. rw (h, valueBy, valueAt)) (λ n. ap (step (outside n)) (object-byte b h) ∙ opens-object n) (deeper d)
-          (made-holds (λ ms. Json.object (membersOf ms)) _ d members l r i))
+          cons-held 1 b (λ m. value-start paired _ _ b m ∙ rw (h, valueAt)) (λ n. ap (step (outside n)) (object-byte b h) ∙ opens-object n) (deeper d)
+          (made-holds (λ ms. Json.object (asMembers ms)) _ d members l r i))
 
       -- a whole text
       pub text-holds : (d : ℕ) → Holds outside (text paired d) d

@@ -8,8 +8,9 @@ use native.Mathlib.Omega.{arith}
 use lib.Dec.{eqb, leb, ltb}
 use borrow.Author.Tests.{eqb-true, ne-eqb, eqb-false, lt-ltb, le-ltb, le-leb, leb-true, ltb-true, ltb-false}
 use Rattle.notation.specs.Choice.{_⇒_else_}
-use Rattle.lexeme.specs.Character.{within, Lead, lead}
-use Rattle.lexeme.specs.Character.Lead.{plain, quote, backslash, wrong, two, threeE0, three, threeED, fourF0, four, fourF4}
+use Rattle.lexeme.specs.Character.{within}
+use Rattle.lexeme.specs.inner.Lead.{Lead, lead}
+use Rattle.lexeme.specs.inner.Lead.Lead.{plain, quote, backslash, wrong, two, threeE0, three, threeED, fourF0, four, fourF4}
 use Rattle.lexeme.proofs.Steps.{by-test, true-false}
 use Rattle.json.specs.Grammar.{unescaped}
 

@@ -9,12 +9,13 @@ use Rattle.lexeme.specs.Read.{Read}
 use Rattle.lexeme.specs.Read.Read.{done}
 use Rattle.lexeme.specs.Character.{lone}
 use Rattle.lexeme.specs.Strings as Strings
-use Rattle.lexeme.specs.Tokens.{blanks, start}
+use Rattle.lexeme.specs.Tokens.{blanks}
+use Rattle.lexeme.specs.inner.Start.{start}
 use Rattle.lexeme.proofs.Reading.{Eats, Stops}
 use Rattle.lexeme.proofs.Steps.{bad-done, made-reads, made-done, then-reads, then-done, blanks-stop}
 use Rattle.json.specs.Cases.{reading}
-use Rattle.json.specs.Tree.{Json, itemsOf, membersOf}
-use Rattle.json.specs.Text.{expect, bracketed, member, valueAt, valueBy, value, finish, text}
+use Rattle.json.specs.Tree.{Json, asItems, asMembers}
+use Rattle.json.specs.Text.{expect, bracketed, member, valueBy, value, finish, text}
 use Rattle.json.specs.Spelling as Spelling
 use Rattle.json.specs.Spelling.{Padded, Listed}
 use Rattle.json.specs.Grammar.{String, Scalar, Elements, Enclosed, Member, Nested, Value, IsText}
@@ -53,7 +54,7 @@ module _ {A : Type 0} {f : List ℕ → Read A} {S : List ℕ → Type 0} (k : P
   bracketed-passed c e = let m = enclosed e in (m .0, enclosed-read c accepts (m .1))
 
 string-begun : {s : List ℕ} → String s → Begun s
-unfolding reading
+unfolding reading start
 string-begun (String.quoted k) = refl
 
 string-passed : {s : List ℕ} → String s → (y : List ℕ) × ((q : List ℕ) → expect 0x22 (Strings.string lone 0) (s ++ q) ≡ done y q)
@@ -86,7 +87,7 @@ members {f} {S} k = record { eats = member-eats lone f (k .eats); begins = first
 
 -- values
 scalar-begun : {s : List ℕ} → Scalar s → Begun s
-unfolding reading
+unfolding reading start
 scalar-begun Scalar.no = refl
 scalar-begun Scalar.null = refl
 scalar-begun Scalar.yes = refl
@@ -94,7 +95,7 @@ scalar-begun (Scalar.number {s} n) = number-begun s (number-passed n)
 scalar-begun (Scalar.string k) = string-begun k
 
 quoted-reads : (d : ℕ) {s : List ℕ} → String s → (x : Json) × Reads (value lone d) x s
-unfolding valueBy valueAt start
+unfolding valueBy
 quoted-reads d (String.quoted {s} k) =
     let r = chars-read k in (
       Json.string (r .0),
@@ -110,7 +111,7 @@ scalar-reads d (Scalar.number {s} n) = (Json.number s, number-reads lone d s (nu
 scalar-reads d (Scalar.string k) = quoted-reads d k
 
 nested-begun : {S : List ℕ → Type 0} {s : List ℕ} → Nested S s → Begun s
-unfolding reading
+unfolding reading start
 nested-begun (Nested.scalar y) = scalar-begun y
 nested-begun (Nested.array ys) = refl
 nested-begun (Nested.object ms) = refl
@@ -119,12 +120,12 @@ nested-reads : (d : ℕ) {S : List ℕ → Type 0} {s : List ℕ} → Passes (va
 nested-reads d k (Nested.scalar y) = scalar-reads (suc d) y
 nested-reads d k (Nested.array {s} ys) =
     let m = bracketed-passed k square ys in (
-      Json.array (itemsOf (m .0)),
+      Json.array (asItems (m .0)),
       λ q h. ap (λ (l : List ℕ). value lone (suc d) (0x5b ∷ l)) (append-assoc s (0x5d ∷ []) q) ∙ array-opens lone d _ ∙ made-reads _ (m .1 q),
     )
 nested-reads d k (Nested.object {s} ms) =
     let m = bracketed-passed (members k) curly ms in (
-      Json.object (membersOf (m .0)),
+      Json.object (asMembers (m .0)),
       λ q h. ap (λ (l : List ℕ). value lone (suc d) (0x7b ∷ l)) (append-assoc s (0x7d ∷ []) q) ∙ object-opens lone d _ ∙ made-reads _ (m .1 q),
     )
 
@@ -201,10 +202,10 @@ value-finds (suc d) =
     value-by-finds lone _ _ (λ x. Nested (Value d)) (λ l y r e. widened (λ s k. Nested.scalar (Scalar.string k)) (quoted-front l y r e))
     (λ n e. Nested.scalar (Scalar.number (number-found n n [] e))) (Nested.scalar Scalar.yes) (Nested.scalar Scalar.no) (Nested.scalar Scalar.null)
     (λ l r x e.
-    let m = made-done (λ xs. Json.array (itemsOf xs)) (bracketed 0x5d (value lone d) l) x r e in
+    let m = made-done (λ xs. Json.array (asItems xs)) (bracketed 0x5d (value lone d) l) x r e in
     closing 0x5b 0x5d (λ s k. Nested.array (enclosed-of k)) (bracketed-finds 0x5d eats ih l r (m .0) (m .1)))
     (λ l r x e.
-    let m = made-done (λ ms. Json.object (membersOf ms)) (bracketed 0x7d (member lone (value lone d)) l) x r e in
+    let m = made-done (λ ms. Json.object (asMembers ms)) (bracketed 0x7d (member lone (value lone d)) l) x r e in
     closing 0x7b 0x7d (λ s k. Nested.object (enclosed-of k))
     (bracketed-finds 0x7d (member-eats lone (value lone d) eats) (member-finds ih) l r (m .0) (m .1)))
 

@@ -12,18 +12,19 @@ use Rattle.lexeme.specs.Read.Read.{done}
 use Rattle.lexeme.specs.Character.{Surrogates, paired}
 use Rattle.lexeme.specs.Strings as Strings
 use Rattle.lexeme.specs.Numbers as Numbers
-use Rattle.lexeme.specs.Tokens.{blank, blanks, Start, start}
+use Rattle.lexeme.specs.Tokens.{blank, blanks}
+use Rattle.lexeme.specs.inner.Start.{Start, start}
 use Rattle.lexeme.proofs.Reading.{Eats, numeric, Stops}
 use Rattle.lexeme.proofs.Reading.Ok.{stops}
 use Rattle.lexeme.proofs.Steps.{by-test, true-false, done-what, made-reads, then-reads, blanks-pass, blanks-stop}
 use Rattle.lexeme.proofs.Takes.{number-takes, number-eats}
 use Rattle.lexeme.proofs.Starts.{blank-other, blank-stops, number-starts}
 use Rattle.json.specs.Cases.{reading}
-use Rattle.json.specs.Tree.{Json, itemsOf, membersOf}
-use Rattle.json.specs.Text.{expect, contents, bracketed, member, valueAt, valueBy, value, finish, text}
+use Rattle.json.specs.Tree.{Json, asItems, asMembers}
+use Rattle.json.specs.Text.{expect, contents, bracketed, member, valueBy, value, finish, text}
 use Rattle.json.specs.Text.After.{more}
 use Rattle.json.specs.Spelling.{Blanks, Padded, Quoted, Plain, Listed, Enclosed, Member, Nested, Value, Spells}
-use Rattle.json.proofs.Steps.{expect-here, after-closed, after-more, elements-closed, contents-none, contents-some, named, member-then}
+use Rattle.json.proofs.Steps.{expect-here, after-closed, after-more, elements-closed, contents-none, contents-some, named, member-then, valueAt, value-start}
 use Rattle.json.proofs.Bound.{all, elements-next}
 use Rattle.json.proofs.Takes.{value-eats, member-eats}
 use Rattle.json.proofs.Values.{begun}
@@ -123,7 +124,7 @@ module _ {A : Type 0} {close : ℕ} (c : Closing close) {element : List ℕ → 
 
 -- strings, and members named by them
 quoted-begun : {y s : List ℕ} → Quoted y s → Begun s
-unfolding reading
+unfolding reading start
 quoted-begun (Quoted.quoted e) = refl
 
 quoted-reads : {y s : List ℕ} → Quoted y s → (q : List ℕ) → expect 0x22 (Strings.string paired 0) (s ++ q) ≡ done y q
@@ -154,13 +155,13 @@ plain-value ρ zero l h = h _ _
 plain-value ρ (suc d) l h = h _ _
 
 pub number-reads : (ρ : Surrogates) (d : ℕ) (n : List ℕ) → Numbers.number n ≡ done n [] → Reads (value ρ d) (Json.number n) n
-unfolding valueBy valueAt
+unfolding valueAt
 number-reads ρ d [] e q h = absurd (omega (arith, number-eats [] [] [] e))
 number-reads ρ d (b ∷ l) e q h =
     let t = number-takes (b ∷ l) [] (b ∷ l) e in
     let own : b ∷ l ≡ t .part = t .splits ∙ append-nil (t .part) in
     let s = number-starts b l _ _ e in
-    plain-value ρ d (b ∷ (l ++ q)) (λ arrays objects. rw (s, valueBy, valueAt)
+    plain-value ρ d (b ∷ (l ++ q)) (λ arrays objects. value-start ρ arrays objects b (l ++ q) ∙ rw (s, valueAt)
     (made-reads Json.number (ap (λ (m : List ℕ). Numbers.number (m ++ q)) own ∙ t .frame q (stops h))))
 
 pub number-begun : (n : List ℕ) → Numbers.number n ≡ done n [] → Begun n
@@ -168,7 +169,7 @@ number-begun [] e = omega (arith, number-eats [] [] [] e)
 number-begun (b ∷ l) e = ap begun (number-starts b l _ _ e)
 
 plain-begun : {x : Json} {s : List ℕ} → Plain x s → Begun s
-unfolding reading
+unfolding reading start
 plain-begun Plain.null = refl
 plain-begun Plain.yes = refl
 plain-begun Plain.no = refl
@@ -176,7 +177,7 @@ plain-begun (Plain.number {n} e) = number-begun n e
 plain-begun (Plain.string k) = quoted-begun k
 
 string-reads : (d : ℕ) {y s : List ℕ} → Quoted y s → Reads (value paired d) (Json.string y) s
-unfolding valueBy valueAt start
+unfolding valueBy
 string-reads d (Quoted.quoted {s = s} k) q h =
     plain-value paired d _ (λ arrays objects. made-reads Json.string (ap (Strings.string paired 0) (append-assoc s (0x22 ∷ []) q) ∙ characters-read k q))
 
@@ -190,18 +191,18 @@ plain-reads d (Plain.string k) q h = string-reads d k q h
 
 -- a bracket that opens
 pub array-opens : (ρ : Surrogates) (d : ℕ) (l : List ℕ)
-    → value ρ (suc d) (0x5b ∷ l) ≡ made (λ xs. Json.array (itemsOf xs)) (bracketed 0x5d (value ρ d) l)
-unfolding value valueBy valueAt start
+    → value ρ (suc d) (0x5b ∷ l) ≡ made (λ xs. Json.array (asItems xs)) (bracketed 0x5d (value ρ d) l)
+unfolding value valueBy
 array-opens ρ d l = refl
 
 pub object-opens : (ρ : Surrogates) (d : ℕ) (l : List ℕ)
-    → value ρ (suc d) (0x7b ∷ l) ≡ made (λ ms. Json.object (membersOf ms)) (bracketed 0x7d (member ρ (value ρ d)) l)
-unfolding value valueBy valueAt start
+    → value ρ (suc d) (0x7b ∷ l) ≡ made (λ ms. Json.object (asMembers ms)) (bracketed 0x7d (member ρ (value ρ d)) l)
+unfolding value valueBy
 object-opens ρ d l = refl
 
 -- all values, level by level
 nested-begun : {S : Json → List ℕ → Type 0} {x : Json} {s : List ℕ} → Nested S x s → Begun s
-unfolding reading
+unfolding reading start
 nested-begun (Nested.plain y) = plain-begun y
 nested-begun (Nested.array ys) = refl
 nested-begun (Nested.object ms) = refl

@@ -16,7 +16,8 @@ use Rattle.lexeme.specs.Read.Read.{done, bad}
 use Rattle.lexeme.specs.Character.{Surrogates, paired}
 use Rattle.lexeme.specs.Strings as Strings
 use Rattle.lexeme.specs.Numbers as Numbers
-use Rattle.lexeme.specs.Tokens.{blank, blanks, literal, Start, start}
+use Rattle.lexeme.specs.Tokens.{blank, blanks, literal}
+use Rattle.lexeme.specs.inner.Start.{Start, start}
 use Rattle.lexeme.proofs.Reading.{Eats}
 use Rattle.lexeme.proofs.Reading.Ok.{stops}
 use Rattle.lexeme.proofs.Steps.{by-test, bad-done, done-what, done-rest, made-done, then-done, blanks-pass, blanks-stop}
@@ -24,11 +25,11 @@ use Rattle.lexeme.proofs.Takes.{number-takes}
 use Rattle.lexeme.proofs.Starts.{string-byte, array-byte, object-byte}
 use Rattle.lexeme.proofs.Spells.{number-spells, literal-spells}
 use Rattle.json.specs.declared.Syntax.the-variants.{Sound, Fault}
-use Rattle.json.specs.Tree.{Json, itemsOf, membersOf}
-use Rattle.json.specs.Text.{expect, contents, bracketed, member, valueAt, valueBy, value, finish, text, verdictOf, syntaxOf}
+use Rattle.json.specs.Tree.{Json, asItems, asMembers}
+use Rattle.json.specs.Text.{expect, contents, bracketed, member, valueBy, value, finish, text, syntaxBy, syntaxOf}
 use Rattle.json.specs.Text.After.{closed, more}
 use Rattle.json.specs.Spelling.{Blanks, Padded, Quoted, Plain, Listed, Enclosed, Member, Nested, Value, Spells}
-use Rattle.json.proofs.Steps.{expect-end, expect-here, expect-other, contents-end, contents-none, contents-some, named}
+use Rattle.json.proofs.Steps.{expect-end, expect-here, expect-other, contents-end, contents-none, contents-some, named, valueAt, value-start}
 use Rattle.json.proofs.Bound.{Follows, at-close, at-comma, follows-as, Run, faulty, last, next, broken, run}
 use Rattle.json.proofs.Takes.{value-eats, member-eats}
 use Rattle.json.proofs.Texts.{judged}
@@ -186,28 +187,28 @@ module _ (ρ : Surrogates) (arrays objects : List ℕ → Read Json) (S : Json �
       record { part = w; splits = p .0; spells = subst (λ z. S z w) (p .1) k }
 
   pub value-by-finds : Finds (valueBy ρ arrays objects) S
-  unfolding valueBy valueAt
-  value-by-finds [] r x e = bad-done e
-  value-by-finds (b ∷ l) r x e = go (start b) refl
+  unfolding valueAt
+  value-by-finds [] r x e = unfold valueBy in bad-done e
+  value-by-finds (b ∷ l) r x e = go (start b) refl (sym (value-start ρ arrays objects b l) ∙ e)
     where
-      go : (t : Start) → start b ≡ t → Front (S x) (b ∷ l) r
-      go Start.string h =
-          let m = made-done Json.string (Strings.string ρ 0 l) x r (rw (valueBy, valueAt, h) at e) in
+      go : (t : Start) → start b ≡ t → valueAt ρ arrays objects b l ≡ done x r → Front (S x) (b ∷ l) r
+      go Start.string h f =
+          let m = made-done Json.string (Strings.string ρ 0 l) x r (rw (valueAt, h) at f) in
           subst (λ z. Front (S z) (b ∷ l) r) (m .2) (rw (string-byte b h) (string l (m .0) r (m .1)))
-      go Start.number h =
-          let m = made-done Json.number (Numbers.number (b ∷ l)) x r (rw (valueBy, valueAt, h) at e) in
+      go Start.number h f =
+          let m = made-done Json.number (Numbers.number (b ∷ l)) x r (rw (valueAt, h) at f) in
           let n = number-alone (b ∷ l) (m .0) r (m .1) in
           subst (λ z. Front (S z) (b ∷ l) r) (m .2) (record { part = m .0; splits = n .0; spells = number (m .0) (n .1) })
-      go Start.array h =
-          let i : arrays (b ∷ l) ≡ done x r = rw (valueBy, valueAt, h) at e in
+      go Start.array h f =
+          let i : arrays (b ∷ l) ≡ done x r = rw (valueAt, h) at f in
           rw (array-byte b h) (array l r x (rw (array-byte b h) at i))
-      go Start.object h =
-          let i : objects (b ∷ l) ≡ done x r = rw (valueBy, valueAt, h) at e in
+      go Start.object h f =
+          let i : objects (b ∷ l) ≡ done x r = rw (valueAt, h) at f in
           rw (object-byte b h) (object l r x (rw (object-byte b h) at i))
-      go Start.letterT h = word-front (bytes "true") (Json.boolean true) (b ∷ l) r x yes (rw (valueBy, valueAt, h) at e)
-      go Start.letterF h = word-front (bytes "false") (Json.boolean false) (b ∷ l) r x no (rw (valueBy, valueAt, h) at e)
-      go Start.letterN h = word-front (bytes "null") Json.null (b ∷ l) r x null (rw (valueBy, valueAt, h) at e)
-      go Start.other h = bad-done (rw (valueBy, valueAt, h) at e)
+      go Start.letterT h f = word-front (bytes "true") (Json.boolean true) (b ∷ l) r x yes (rw (valueAt, h) at f)
+      go Start.letterF h f = word-front (bytes "false") (Json.boolean false) (b ∷ l) r x no (rw (valueAt, h) at f)
+      go Start.letterN h f = word-front (bytes "null") Json.null (b ∷ l) r x null (rw (valueAt, h) at f)
+      go Start.other h f = bad-done (rw (valueAt, h) at f)
 
 -- a string as a value
 string-front : {S : Json → List ℕ → Type 0} → ((x : Json) (s : List ℕ) → Plain x s → S x s)
@@ -216,7 +217,7 @@ string-front plain l y r e = let k = quoted-front l y r e in record { part = k .
 
 -- brackets around elements that are spelled
 array-front : {S : Json → List ℕ → Type 0} (l r : List ℕ) (xs : List Json) → (s : List ℕ) × (l ≡ s ++ (0x5d ∷ r)) × Enclosed S xs s
-    → Front (Nested S (Json.array (itemsOf xs))) (0x5b ∷ l) r
+    → Front (Nested S (Json.array (asItems xs))) (0x5b ∷ l) r
 array-front l r xs c =
     record {
       part = bytes "[" ++ c .0 ++ bytes "]";
@@ -225,7 +226,7 @@ array-front l r xs c =
     }
 
 object-front : {S : Json → List ℕ → Type 0} (l r : List ℕ) (ms : List (List ℕ × Json)) → (s : List ℕ) × (l ≡ s ++ (0x7d ∷ r)) × Enclosed (Member S) ms s
-    → Front (Nested S (Json.object (membersOf ms))) (0x7b ∷ l) r
+    → Front (Nested S (Json.object (asMembers ms))) (0x7b ∷ l) r
 object-front l r ms c =
     record {
       part = bytes "{" ++ c .0 ++ bytes "}";
@@ -245,10 +246,10 @@ value-finds (suc d) =
     value-by-finds paired _ _ (Nested (Value d)) (string-front {S = Nested (Value d)} (λ x s k. Nested.plain k)) (λ n e. Nested.plain (Plain.number e))
     (Nested.plain Plain.yes) (Nested.plain Plain.no) (Nested.plain Plain.null)
     (λ l r x e.
-    let m = made-done (λ xs. Json.array (itemsOf xs)) (bracketed 0x5d (value paired d) l) x r e in
+    let m = made-done (λ xs. Json.array (asItems xs)) (bracketed 0x5d (value paired d) l) x r e in
     subst (λ z. Front (Nested (Value d) z) (0x5b ∷ l) r) (m .2) (array-front l r (m .0) (bracketed-finds 0x5d eats ih l r (m .0) (m .1))))
     (λ l r x e.
-    let m = made-done (λ ms. Json.object (membersOf ms)) (bracketed 0x7d (member paired (value paired d)) l) x r e in
+    let m = made-done (λ ms. Json.object (asMembers ms)) (bracketed 0x7d (member paired (value paired d)) l) x r e in
     subst (λ z. Front (Nested (Value d) z) (0x7b ∷ l) r) (m .2)
     (object-front l r (m .0) (bracketed-finds 0x7d (member-eats paired (value paired d) eats) (member-finds ih) l r (m .0) (m .1))))
 
@@ -285,13 +286,13 @@ read-spells d x s e = text-finds d x s [] e .0
 
 -- Stage A passes a file exactly where it is short enough and spells some tree.
 pub sound-spells : (s : List ℕ) → syntaxOf s ≡ Sound → (x : Json) × Spells depth x s
-unfolding syntaxOf verdictOf placed
+unfolding syntaxOf syntaxBy placed
 sound-spells s e = by-test (ltb fileBytes (length s)) long read
   where
     long : ltb fileBytes (length s) ≡ true → (x : Json) × Spells depth x s
     long h = let p : Fault tooLong 0 ≡ Sound = rw (h, syntaxOf) at e in absurd (let z : _≡_ {A = ℕ} 0 1 = cc in omega arith)
 
-    go : (o : Read Json) → text paired depth s ≡ o → verdictOf (placed s o) ≡ Sound → (x : Json) × Spells depth x s
+    go : (o : Read Json) → text paired depth s ≡ o → syntaxBy (placed s o) ≡ Sound → (x : Json) × Spells depth x s
     go (done x r) h i = (x, text-finds depth x s r h .0)
     go (bad k r) h i = absurd (let z : _≡_ {A = ℕ} 0 1 = cc in omega arith)
 
@@ -299,5 +300,5 @@ sound-spells s e = by-test (ltb fileBytes (length s)) long read
     read h = go (text paired depth s) refl (rw (h, syntaxOf) at e)
 
 pub spells-sound : {x : Json} (s : List ℕ) → length s ≤ fileBytes → Spells depth x s → syntaxOf s ≡ Sound
-unfolding verdictOf placed
+unfolding syntaxBy placed
 spells-sound {x} s few h = sym (judged s (placed s (done x [])) few (ap (placed s) (sym (spelled-read h))))

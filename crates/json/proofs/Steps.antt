@@ -1,21 +1,25 @@
 -- Step equations of the definitions: one line for each way through. Every proof that follows a test of a byte cites these.
 use mathlib.Core.Bool.{true, false}
 use mathlib.Core.List.{List, [], _∷_}
-use mathlib.Core.Path.{_≡_, refl, _∙_}
+use mathlib.Core.Path.{_≡_, refl, ap, _∙_}
 use Prim.Native.Nat.{ℕ, suc}
 use lib.ListN.{length, drop}
 use lib.Dec.{eqb}
+use borrow.Author.Tests.{eqb-true}
 use Rattle.word.specs.Kinds.{notJson}
 use Rattle.notation.specs.Ascii.{bytes}
 use Rattle.lexeme.specs.Read.{Read, then, made}
 use Rattle.lexeme.specs.Read.Read.{done, bad}
-use Rattle.lexeme.specs.Character.{Surrogates}
+use Rattle.lexeme.specs.Character.{Surrogates, within}
 use Rattle.lexeme.specs.Strings as Strings
 use Rattle.lexeme.specs.Numbers as Numbers
-use Rattle.lexeme.specs.Tokens.{blanks, literal, Start, start}
-use Rattle.lexeme.proofs.Steps.{then-reads, then-fails}
+use Rattle.lexeme.specs.Numbers.{digit}
+use Rattle.lexeme.specs.Tokens.{blanks, literal}
+use Rattle.lexeme.specs.inner.Start.{Start, start}
+use Rattle.lexeme.proofs.Steps.{by-test, true-false, then-reads, then-fails, made-fails}
+use Rattle.lexeme.proofs.Starts.{number-none}
 use Rattle.json.specs.Tree.{Json}
-use Rattle.json.specs.Text.{expect, separator, after, elements, contents, member, valueAt, valueBy}
+use Rattle.json.specs.Text.{expect, separator, after, elements, contents, member, valueBy}
 use Rattle.json.specs.Text.After.{closed, more, wrong}
 
 -- a byte that must stand there
@@ -115,6 +119,47 @@ pub member-then : (ρ : Surrogates) (value : List ℕ → Read Json) (l : List �
 unfolding member
 member-then ρ value l = refl
 
+-- a value, by what its first byte says
+unfoldable pub valueAt : Surrogates → (List ℕ → Read Json) → (List ℕ → Read Json) → ℕ → List ℕ → Read Json
+valueAt ρ arrays objects b r =
+    elim (start b) [
+      | Start.string ↦ made Json.string (Strings.string ρ 0 r)
+      | Start.number ↦ made Json.number (Numbers.number (b ∷ r))
+      | Start.array ↦ arrays (b ∷ r)
+      | Start.object ↦ objects (b ∷ r)
+      | Start.letterT ↦ literal (bytes "true") (Json.boolean true) (b ∷ r)
+      | Start.letterF ↦ literal (bytes "false") (Json.boolean false) (b ∷ r)
+      | Start.letterN ↦ literal (bytes "null") Json.null (b ∷ r)
+      | Start.other ↦ bad notJson (b ∷ r)
+    ]
+
+-- a minus sign begins no word, and neither does a digit
+abbrev NoLetter : ℕ → Type 0
+NoLetter b = (eqb b 0x74 ≡ false) × (eqb b 0x66 ≡ false) × (eqb b 0x6e ≡ false)
+
+minus-apart : (b : ℕ) → eqb b 0x2d ≡ true → NoLetter b
+minus-apart b e = rw (eqb-true b 0x2d e) (refl, refl, refl)
+
+digit-other : (b c : ℕ) → digit c ≡ false → digit b ≡ true → eqb b c ≡ false
+digit-other b c k h = by-test (eqb b c) (λ e. true-false h (ap digit (eqb-true b c e) ∙ k)) (λ e. e)
+
+digit-apart : (b : ℕ) → digit b ≡ true → NoLetter b
+unfolding digit within
+digit-apart b h = (digit-other b 0x74 refl h, digit-other b 0x66 refl h, digit-other b 0x6e refl h)
+
+-- the same as the definition's tests have it; a byte that begins no value begins no number either, and is where reading one fails
+pub value-start : (ρ : Surrogates) (arrays objects : List ℕ → Read Json) (b : ℕ) (r : List ℕ) → valueBy ρ arrays objects (b ∷ r) ≡ valueAt ρ arrays objects b r
+unfolding valueBy valueAt start
+value-start ρ arrays objects b r =
+    by-test (eqb b 0x22) (λ e. rw (valueAt, start, e)) λ e. rw (valueAt, start, e)
+    (by-test (eqb b 0x5b) (λ e. rw e) λ e. rw e
+    (by-test (eqb b 0x7b) (λ e. rw e) λ e. rw e
+    (by-test (eqb b 0x2d) (λ e. let n = minus-apart b e in rw (e, n .0, n .1, n .2)) λ m. rw m
+    (by-test (digit b) (λ h. let n = digit-apart b h in rw (h, n .0, n .1, n .2)) λ d. rw d
+    (by-test (eqb b 0x74) (λ e. rw e) λ e. rw e
+    (by-test (eqb b 0x66) (λ e. rw e) λ e. rw e
+    (by-test (eqb b 0x6e) (λ e. rw e) λ e. rw e (made-fails Json.number (number-none b r m d)))))))))
+
 -- What reads a value that begins with the byte b, whatever follows b. P holds of it, if P holds of each of the readers.
 module _ (ρ : Surrogates) (arrays objects : List ℕ → Read Json) where
   pub record Chosen (P : (List ℕ → Read Json) → Type 0) (b : ℕ) : Type 0 where
@@ -131,15 +176,15 @@ module _ (ρ : Surrogates) (arrays objects : List ℕ → Read Json) where
         → P (bad notJson)
         → (b : ℕ)
         → Chosen P b
-    unfolding valueBy valueAt
+    unfolding valueAt
     chosen text number array object word none b = go (start b) refl
       where
         go : (t : Start) → start b ≡ t → Chosen P b
-        go Start.string h = record { reader = _; holds = text; reads = λ r. rw (h, valueBy, valueAt) }
-        go Start.number h = record { reader = _; holds = number; reads = λ r. rw (h, valueBy, valueAt) }
-        go Start.array h = record { reader = _; holds = array; reads = λ r. rw (h, valueBy, valueAt) }
-        go Start.object h = record { reader = _; holds = object; reads = λ r. rw (h, valueBy, valueAt) }
-        go Start.letterT h = record { reader = literal (bytes "true") (Json.boolean true); holds = word _ _ _; reads = λ r. rw (h, valueBy, valueAt) }
-        go Start.letterF h = record { reader = literal (bytes "false") (Json.boolean false); holds = word _ _ _; reads = λ r. rw (h, valueBy, valueAt) }
-        go Start.letterN h = record { reader = literal (bytes "null") Json.null; holds = word _ _ _; reads = λ r. rw (h, valueBy, valueAt) }
-        go Start.other h = record { reader = _; holds = none; reads = λ r. rw (h, valueBy, valueAt) }
+        go Start.string h = record { reader = _; holds = text; reads = λ r. rw (value-start ρ arrays objects b r, valueAt, h) }
+        go Start.number h = record { reader = _; holds = number; reads = λ r. rw (value-start ρ arrays objects b r, valueAt, h) }
+        go Start.array h = record { reader = _; holds = array; reads = λ r. rw (value-start ρ arrays objects b r, valueAt, h) }
+        go Start.object h = record { reader = _; holds = object; reads = λ r. rw (value-start ρ arrays objects b r, valueAt, h) }
+        go Start.letterT h = record { reader = literal (bytes "true") (Json.boolean true); holds = word _ _ _; reads = λ r. rw (value-start ρ arrays objects b r, valueAt, h) }
+        go Start.letterF h = record { reader = literal (bytes "false") (Json.boolean false); holds = word _ _ _; reads = λ r. rw (value-start ρ arrays objects b r, valueAt, h) }
+        go Start.letterN h = record { reader = literal (bytes "null") Json.null; holds = word _ _ _; reads = λ r. rw (value-start ρ arrays objects b r, valueAt, h) }
+        go Start.other h = record { reader = _; holds = none; reads = λ r. rw (value-start ρ arrays objects b r, valueAt, h) }

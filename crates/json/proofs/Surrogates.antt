@@ -14,8 +14,9 @@ use Rattle.lexeme.specs.declared.Next.the-variants.{Quote, Character, Fault}
 use Rattle.lexeme.specs.declared.Trail.{Trail}
 use Rattle.lexeme.specs.declared.Trail.the-variants as follow
 use Rattle.lexeme.specs.Read.Read.{done, bad}
-use Rattle.lexeme.specs.Character.{byte, within, Lead, lead, bytesOf, utf2, utf3, utf4, encoded, hexValue, hexadecimal, quad, lowOf, trail, combined, alone, high, unit, unicode, short, escape, nextBy, next, paired}
-use Rattle.lexeme.specs.Character.Lead.{plain, quote, backslash, wrong, two, threeE0, three, threeED, fourF0, four, fourF4}
+use Rattle.lexeme.specs.Character.{byte, within, bytesOf, utf2, utf3, utf4, encoded, hexValue, hexadecimal, quad, lowOf, trail, combined, alone, high, unit, unicode, short, escape, next, paired}
+use Rattle.lexeme.specs.inner.Lead.{Lead, lead, nextBy}
+use Rattle.lexeme.specs.inner.Lead.Lead.{plain, quote, backslash, wrong, two, threeE0, three, threeED, fourF0, four, fourF4}
 use Rattle.lexeme.specs.Strings.{string}
 use Rattle.lexeme.proofs.Steps.{by-test, done-bad, bad-kind, bad-rest, made-bad, made-reads, string-empty, string-inside, string-quote, string-fault, string-character}
 use Rattle.lexeme.proofs.Local.{Agree, encoded-char, character-near}
@@ -23,6 +24,7 @@ use Rattle.lexeme.proofs.Takes.{closes}
 use Rattle.json.specs.Places.{Escape, Low, Unpaired}
 use Rattle.json.proofs.Chars.{hex-back, quad-of}
 use Rattle.json.proofs.Leads.{ranged}
+use Rattle.lexeme.proofs.Leads.{next-by}
 
 -- a fault of kind 3, if it is one, stands at the front
 abbrev Lonely : List ℕ → Next → Type 0
@@ -115,9 +117,9 @@ escape-lonely (b ∷ q) =
     (λ h. by-test (eqb (short b) 0) (λ i. rw (h, i, escape) other) (λ i. rw (h, i, escape) tt))
 
 next-lonely : (l : List ℕ) → Lonely l (next paired l)
-unfolding next nextBy lead
-next-lonely [] = other
-next-lonely (b ∷ m) = go (lead b) refl
+unfolding nextBy
+next-lonely [] = unfold next in other
+next-lonely (b ∷ m) = subst (Lonely (b ∷ m)) (sym (next-by paired (b ∷ m))) (go (lead b) refl)
   where
     go : (t : Lead) → lead b ≡ t → Lonely (b ∷ m) (nextBy paired (b ∷ m) t)
     go plain e = tt

@@ -16,15 +16,16 @@ use Rattle.lexeme.specs.Character.{paired, byte, within}
 use Rattle.lexeme.specs.inner.Class.{startOf, Classed}
 use Rattle.lexeme.specs.Strings as Strings
 use Rattle.lexeme.specs.Numbers as Numbers
-use Rattle.lexeme.specs.Tokens.{blanks, literal, Start, start}
+use Rattle.lexeme.specs.Tokens.{blanks, literal}
+use Rattle.lexeme.specs.inner.Start.{Start, start}
 use Rattle.lexeme.proofs.Rests.{shows, next-drop}
 use Rattle.lexeme.proofs.Placed.{placed-made}
 use Rattle.lexeme.proofs.Spans.{Skipped}
 use Rattle.lexeme.proofs.Steps.{true-false, then-reads, then-fails}
 use Rattle.lexeme.proofs.Words.{literal-placed}
-use Rattle.json.specs.Tree.{Json, itemsOf, membersOf}
-use Rattle.json.specs.Text.{expect, bracketed, member, valueAt, valueBy, value}
-use Rattle.json.proofs.Steps.{expect-end, expect-here, expect-other}
+use Rattle.json.specs.Tree.{Json, asItems, asMembers}
+use Rattle.json.specs.Text.{expect, bracketed, member, valueBy, value}
+use Rattle.json.proofs.Steps.{expect-end, expect-here, expect-other, valueAt, value-start}
 
 -- arrays and objects from their bracket on, as `value` reads them
 nested : {A : Type 0} → (List A → Json) → ℕ → (ℕ → List ℕ → Read A) → ℕ → List ℕ → Read Json
@@ -32,10 +33,10 @@ nested f close element zero t = bad tooDeep t
 nested f close element (suc d) t = made f (bracketed close (element d) (drop 1 t))
 
 arrays : ℕ → List ℕ → Read Json
-arrays = nested (λ xs. Json.array (itemsOf xs)) 0x5d (value paired)
+arrays = nested (λ xs. Json.array (asItems xs)) 0x5d (value paired)
 
 objects : ℕ → List ℕ → Read Json
-objects = nested (λ ms. Json.object (membersOf ms)) 0x7d (λ d. member paired (value paired d))
+objects = nested (λ ms. Json.object (asMembers ms)) 0x7d (λ d. member paired (value paired d))
 
 value-by : (d : ℕ) (l : List ℕ) → value paired d l ≡ valueBy paired (arrays d) (objects d) l
 unfolding value arrays objects nested
@@ -87,8 +88,7 @@ classless c n2 n4 n6 n8 n10 n12 n14 =
 -- a value by its first byte
 module _ (s : List ℕ) (at d : ℕ) where
   value-of : (t : Start) → begun t ≡ true → start (byte (drop at s) 0) ≡ t → value paired d (drop at s) ≡ valueAt paired (arrays d) (objects d) (byte (drop at s) 0) (drop 1 (drop at s))
-  unfolding valueBy
-  value-of t h e = value-by d (drop at s) ∙ ap (valueBy paired (arrays d) (objects d)) (begins (drop at s) t e h)
+  value-of t h e = value-by d (drop at s) ∙ ap (valueBy paired (arrays d) (objects d)) (begins (drop at s) t e h) ∙ value-start paired (arrays d) (objects d) _ _
 
   pub value-string : start (byte (drop at s) 0) ≡ Start.string → placed s (value paired d (drop at s)) ≡ placed s (Strings.string paired 0 (drop (at + 1) s))
   unfolding valueAt
@@ -151,9 +151,9 @@ unfolding valueBy
 value-empty d = value-by d []
 
 pub value-none : (d : ℕ) (l : List ℕ) → start (byte l 0) ≡ Start.other → value paired d l ≡ bad notJson l
-unfolding valueBy valueAt
+unfolding valueAt
 value-none d [] e = value-empty d
-value-none d (b ∷ r) e = value-by d (b ∷ r) ∙ rw (valueBy, valueAt, e)
+value-none d (b ∷ r) e = value-by d (b ∷ r) ∙ value-start paired (arrays d) (objects d) b r ∙ rw (valueAt, e)
 
 -- a byte that must stand there
 module _ {A : Type 0} (c : ℕ) (f : List ℕ → Read A) (s : List ℕ) (at : ℕ) where

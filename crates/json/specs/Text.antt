@@ -15,10 +15,10 @@ use Rattle.lexeme.specs.Read.Read.{done, bad}
 use Rattle.lexeme.specs.Character.{Surrogates, paired}
 use Rattle.lexeme.specs.Strings as Strings
 use Rattle.lexeme.specs.Numbers as Numbers
-use Rattle.lexeme.specs.Tokens.{blanks, literal, Start, start}
+use Rattle.lexeme.specs.Tokens.{blanks, literal}
 use Rattle.json.specs.declared.Syntax.{Syntax}
 use Rattle.json.specs.declared.Syntax.the-variants as syntax
-use Rattle.json.specs.Tree.{Json, itemsOf, membersOf}
+use Rattle.json.specs.Tree.{Json, asItems, asMembers}
 
 -- the byte c, and then what f reads
 unfoldable pub expect : {A : Type 0} → ℕ → (List ℕ → Read A) → List ℕ → Read A
@@ -66,31 +66,25 @@ member ρ value l =
     then (expect 0x22 (Strings.string ρ 0) l) (λ name r.
     expect 0x3a (λ q. made (λ x. (name, x)) (value (blanks q))) (blanks r))
 
--- a value, by what its first byte says; `arrays` and `objects` read those, from their bracket on
-unfoldable pub valueAt : Surrogates → (List ℕ → Read Json) → (List ℕ → Read Json) → ℕ → List ℕ → Read Json
-valueAt ρ arrays objects b r =
-    elim (start b) [
-      | Start.string ↦ made Json.string (Strings.string ρ 0 r)
-      | Start.number ↦ made Json.number (Numbers.number (b ∷ r))
-      | Start.array ↦ arrays (b ∷ r)
-      | Start.object ↦ objects (b ∷ r)
-      | Start.letterT ↦ literal (bytes "true") (Json.boolean true) (b ∷ r)
-      | Start.letterF ↦ literal (bytes "false") (Json.boolean false) (b ∷ r)
-      | Start.letterN ↦ literal (bytes "null") Json.null (b ∷ r)
-      | Start.other ↦ bad notJson (b ∷ r)
-    ]
-
+-- a value, by its first byte; `arrays` and `objects` read those, from their bracket on, and what begins as no other value does is read as a number
 unfoldable pub valueBy : Surrogates → (List ℕ → Read Json) → (List ℕ → Read Json) → List ℕ → Read Json
 valueBy ρ arrays objects [] = bad notJson []
-valueBy ρ arrays objects (b ∷ r) = valueAt ρ arrays objects b r
+valueBy ρ arrays objects (b ∷ r) =
+    eqb b 0x22 ⇒ made Json.string (Strings.string ρ 0 r) else
+    eqb b 0x5b ⇒ arrays (b ∷ r) else
+    eqb b 0x7b ⇒ objects (b ∷ r) else
+    eqb b 0x74 ⇒ literal (bytes "true") (Json.boolean true) (b ∷ r) else
+    eqb b 0x66 ⇒ literal (bytes "false") (Json.boolean false) (b ∷ r) else
+    eqb b 0x6e ⇒ literal (bytes "null") Json.null (b ∷ r) else
+    made Json.number (Numbers.number (b ∷ r))
 
 -- a value with at most so many levels of brackets; a bracket that opens one more is kind 4
 unfoldable pub value : Surrogates → ℕ → List ℕ → Read Json
 value ρ zero l = valueBy ρ (bad tooDeep) (bad tooDeep) l
 value ρ (suc levels) l =
     valueBy ρ
-    (λ t. made (λ xs. Json.array (itemsOf xs)) (bracketed 0x5d (value ρ levels) (drop 1 t)))
-    (λ t. made (λ ms. Json.object (membersOf ms)) (bracketed 0x7d (member ρ (value ρ levels)) (drop 1 t)))
+    (λ t. made (λ xs. Json.array (asItems xs)) (bracketed 0x5d (value ρ levels) (drop 1 t)))
+    (λ t. made (λ ms. Json.object (asMembers ms)) (bracketed 0x7d (member ρ (value ρ levels)) (drop 1 t)))
     l
 
 -- nothing but blanks up to the end
@@ -102,14 +96,13 @@ finish x (b ∷ r) = bad notJson (b ∷ r)
 unfoldable pub text : Surrogates → ℕ → List ℕ → Read Json
 text ρ levels l = then (value ρ levels (blanks l)) (λ x r. finish x (blanks r))
 
--- stage A's verdict on a file
-unfoldable pub verdictOf : Scan → Syntax
-verdictOf (End n) = syntax.Sound
-verdictOf (Fault kind offset) = syntax.Fault kind offset
+-- what the end of reading says
+unfoldable pub syntaxBy : Scan → Syntax
+syntaxBy (End n) = syntax.Sound
+syntaxBy (Fault kind offset) = syntax.Fault kind offset
 
+-- stage A's verdict on a file
 unfoldable pub syntaxOf : List ℕ → Syntax
 syntaxOf s =
-    elim (ltb fileBytes (length s)) [
-      | true ↦ syntax.Fault tooLong 0
-      | false ↦ verdictOf (placed s (text paired depth s))
-    ]
+    ltb fileBytes (length s) ⇒ syntax.Fault tooLong 0 else
+    syntaxBy (placed s (text paired depth s))

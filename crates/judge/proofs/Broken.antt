@@ -15,11 +15,11 @@ use Rattle.decimal.specs.declared.Number.the-variants as number
 use Rattle.decimal.specs.declared.Price.{Price}
 use Rattle.decimal.specs.declared.Price.the-variants as price
 use Rattle.decimal.specs.Decimals.{numberOf, hasPoint, priceOf}
-use Rattle.decimal.specs.Exact.{natural, portion, within}
+use Rattle.decimal.specs.Exact.{natural, portion, inRange}
 use Rattle.text.specs.Text.{same, currency}
 use Rattle.schema.specs.Shape as sort
 use Rattle.schema.specs.Shape.{Sort}
-use Rattle.scalar.specs.Scalars.{unless, formed, anyMoney, priceMoney, pricing, anyWord, numberKinds, textKinds, booleanKinds, kindsOf}
+use Rattle.scalar.specs.Scalars.{unless, formed, anyMoney, priceMoney, pricing, anyWord, numberKinds, textKinds, booleanKinds, kindsOf, sortKinds}
 use Rattle.judge.specs.Bounds.{OfStageB}
 use Rattle.judge.proofs.Holds.{All, none, only}
 
@@ -47,14 +47,14 @@ integer-kinds true x = only (omega arith)
 integer-kinds false x = formed-kinds natural x
 
 number-kinds : (σ : Sort) (s : List ℕ) → AllStageB (numberKinds σ s)
-unfolding numberKinds
+unfolding sortKinds
 number-kinds sort.timestamp s = integer-kinds (hasPoint s) (numberOf s)
 number-kinds sort.integer s = integer-kinds (hasPoint s) (numberOf s)
 number-kinds sort.amount s = formed-kinds natural (numberOf s)
 number-kinds sort.portion s = formed-kinds portion (numberOf s)
-number-kinds sort.latitude s = formed-kinds (within 90) (numberOf s)
-number-kinds sort.longitude s = formed-kinds (within 180) (numberOf s)
-number-kinds sort.ordinate s = none
+number-kinds sort.latitude s = formed-kinds (inRange 90) (numberOf s)
+number-kinds sort.longitude s = formed-kinds (inRange 180) (numberOf s)
+number-kinds sort.coordinate s = none
 number-kinds sort.money s = formed-kinds anyMoney (numberOf s)
 number-kinds sort.price s = formed-kinds priceMoney (numberOf s)
 number-kinds sort.boolean s = only (omega arith)
@@ -65,14 +65,14 @@ number-kinds (sort.exactly t) s = only (omega arith)
 number-kinds (sort.word ws) s = only (omega arith)
 
 text-kinds : (σ : Sort) (s : List ℕ) → AllStageB (textKinds σ s)
-unfolding textKinds
+unfolding sortKinds
 text-kinds sort.timestamp s = only (omega arith)
 text-kinds sort.integer s = only (omega arith)
 text-kinds sort.amount s = only (omega arith)
 text-kinds sort.portion s = only (omega arith)
 text-kinds sort.latitude s = only (omega arith)
 text-kinds sort.longitude s = only (omega arith)
-text-kinds sort.ordinate s = only (omega arith)
+text-kinds sort.coordinate s = only (omega arith)
 text-kinds sort.money s = only (omega arith)
 text-kinds sort.price s = pricing-kinds (priceOf s)
 text-kinds sort.boolean s = only (omega arith)
@@ -83,14 +83,14 @@ text-kinds (sort.exactly t) s = unless-kinds (same s t) _ (omega arith)
 text-kinds (sort.word ws) s = unless-kinds (anyWord ws s) _ (omega arith)
 
 boolean-kinds : (σ : Sort) → AllStageB (booleanKinds σ)
-unfolding booleanKinds
+unfolding sortKinds
 boolean-kinds sort.timestamp = only (omega arith)
 boolean-kinds sort.integer = only (omega arith)
 boolean-kinds sort.amount = only (omega arith)
 boolean-kinds sort.portion = only (omega arith)
 boolean-kinds sort.latitude = only (omega arith)
 boolean-kinds sort.longitude = only (omega arith)
-boolean-kinds sort.ordinate = only (omega arith)
+boolean-kinds sort.coordinate = only (omega arith)
 boolean-kinds sort.money = only (omega arith)
 boolean-kinds sort.price = only (omega arith)
 boolean-kinds sort.boolean = none

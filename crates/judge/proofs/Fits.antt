@@ -3,7 +3,7 @@
 use mathlib.Core.Bool.{Bool, true, false}
 use mathlib.Core.List.{List, [], _∷_, _++_}
 use mathlib.Core.Path.{_≡_, refl}
-use Prim.Native.Nat.{ℕ, zero, suc, _+_, _≤_, _<_}
+use Prim.Native.Nat.{ℕ, _+_, _≤_, _<_}
 use native.Mathlib.Omega.{arith}
 use lib.Dec.{leb}
 use borrow.Author.Tests.{leb-true}
@@ -14,6 +14,7 @@ use Rattle.schema.specs.Shape.{Shape, Rows, Need, Numbering, Sort, fileShape}
 use Rattle.schema.specs.Table23.{table23, written23}
 use Rattle.schema.specs.Pick.{Picked, PickedItems, Slots, bare, items, slots, noItem, item, noSlot, absent, repeated, present, pick, listOf}
 use Rattle.schema.proofs.Tests.{and-left, and-right}
+use Rattle.schema.proofs.Computed.{every, every-file}
 use Rattle.fault.specs.declared.Fault.{Fault}
 use Rattle.fault.specs.declared.Least.{Least}
 use Rattle.fault.specs.declared.Least.the-variants.{Is}
@@ -21,7 +22,7 @@ use Rattle.fault.specs.Fault.{fault, before, least}
 use Rattle.fault.proofs.Order.{by-test, true-false, later-record}
 use Rattle.rings.specs.Rings.{count}
 use Rattle.judge.specs.declared.Place.{Place}
-use Rattle.judge.specs.Faults.{top, Judge, faulty, absence, itemPlace, eachItem, arrayFaults, coordinateFaults, scalarFaults, objectFaults, byNumbering, slotFaults, faults, rowFaults, fileFaults}
+use Rattle.judge.specs.Faults.{top, Judge, faulty, absence, itemPlace, eachItem, arrayFaults, coordinateFaults, scalarFaults, objectFaults, byNumbering, slotFaults, faultsBy, faults, rowFaults, fileFaultsBy, fileFaults}
 use Rattle.judge.specs.Bounds.{OfStageB, Fitting, greatest, fields}
 use Rattle.judge.specs.inner.Tidy.{header, inRecord, inItem}
 use Rattle.judge.specs.inner.Tidy.{Level, tidyArray, tidy, tidyRows}
@@ -207,7 +208,7 @@ array-keeps shape.positions inItem judge inner p φ known most at keeps t x = tr
 
 -- All shapes.
 mutual
-  unfolding faults tidy
+  unfolding faultsBy tidy
 
   keeps : (σ : Shape) (l : Level) (φ : ℕ) → φ ≤ fields → tidy σ l φ ≡ true → Keeps (λ q f y. faults σ q f y) l φ
   keeps shape.unlisted l φ known t p at x = holds-least none
@@ -232,19 +233,12 @@ mutual
 
 -- Files: the shape of every number is tidy from the top value on, which is field 0.
 pub shape-fits : (σ : Shape) → tidy σ header 0 ≡ true → (x : Json) (f : Fault) → least (fileFaults σ x) ≡ Is f → Fitting f
-unfolding fileFaults
+unfolding fileFaultsBy
 shape-fits σ t x f e = holds-is (keeps σ header 0 (omega arith) t top (refl, refl) (pick σ x)) e .fits (omega arith)
 
 pub file-tidy : (file : ℕ) → tidy (fileShape table23 file) header 0 ≡ true
-unfolding fileShape written23 tidy
-file-tidy zero = refl
-file-tidy (suc zero) = refl
-file-tidy (suc (suc zero)) = refl
-file-tidy (suc (suc (suc zero))) = refl
-file-tidy (suc (suc (suc (suc zero)))) = refl
-file-tidy (suc (suc (suc (suc (suc zero))))) = refl
-file-tidy (suc (suc (suc (suc (suc (suc zero)))))) = refl
-file-tidy (suc (suc (suc (suc (suc (suc (suc file))))))) = refl
+unfolding every written23 tidy
+file-tidy file = every-file (λ σ. tidy σ header 0) table23 refl refl file
 
 pub first-fits : (file : ℕ) (x : Json) (f : Fault) → least (fileFaults (fileShape table23 file) x) ≡ Is f → Fitting f
 first-fits file x f e = shape-fits (fileShape table23 file) (file-tidy file) x f e

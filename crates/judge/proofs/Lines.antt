@@ -10,7 +10,7 @@ use Rattle.word.specs.Kinds.{wrongType}
 use Rattle.json.specs.Tree as tree
 use Rattle.json.specs.Tree.{Json}
 use Rattle.lexeme.specs.Character.{byte}
-use Rattle.lexeme.specs.Tokens.{Start, start}
+use Rattle.lexeme.specs.inner.Start.{Start, start}
 use Rattle.walk.specs.Part.{Whole, kindOf, kindFrom, kindAt}
 use Rattle.walk.proofs.Fronts.{front-kind}
 use Rattle.schema.specs.declared.Line.{Line}
@@ -25,7 +25,7 @@ use Rattle.schema.proofs.Walk.{Laid, Step, step, laid-array}
 use Rattle.slots.specs.inner.Rows.{lineCount}
 use Rattle.fault.proofs.Order.{true-false}
 use Rattle.judge.specs.declared.Place.{Place}
-use Rattle.judge.specs.Faults.{Judge, absence, itemPlace, faulty, arrayFaults, faults}
+use Rattle.judge.specs.Faults.{Judge, absence, itemPlace, faulty, arrayFaults, faultsBy, faults}
 use Rattle.judge.specs.inner.Ready.{noWords, plain}
 use Rattle.judge.specs.inner.Judged.{bracketsOf, absenceOf, itemPlaceOf, Told}
 
@@ -171,7 +171,7 @@ module _ (p : List ℕ) (n : ℕ) {x : Json} (w : Whole (take n p) x) where
 
   pub no-members : (bracketsOf (kindAt p) ≡ code "{" → ⊥) → (rows : Rows) (q : Place) (φ : ℕ) →
       faults (shape.object rows) q φ (pick (shape.object rows) x) ≡ faulty q φ (wrongType ∷ [])
-  unfolding pick faults
+  unfolding pick faultsBy
   no-members other rows q φ = go x (λ e. other (whole-brackets ∙ e))
     where
       go : (y : Json) → (bracketsOf (kindOf y) ≡ code "{" → ⊥) → faults (shape.object rows) q φ (pick (shape.object rows) y) ≡ faulty q φ (wrongType ∷ [])

@@ -23,7 +23,7 @@ use Rattle.slots.specs.inner.Rows.{namesIn}
 use Rattle.fault.specs.declared.Least.{Least}
 use Rattle.fault.specs.declared.Least.the-variants.{None}
 use Rattle.fault.specs.Fault.{least}
-use Rattle.judge.specs.Faults.{top, faults, fileFaults}
+use Rattle.judge.specs.Faults.{top, faultsBy, faults, fileFaultsBy, fileFaults}
 use Rattle.judge.specs.inner.Ready.{arrays, plain, ready}
 use Rattle.judge.specs.inner.Judged.{Object}
 
@@ -48,7 +48,7 @@ file-ready (suc (suc (suc (suc (suc (suc zero)))))) n = record { rows = _; is = 
 file-ready (suc (suc (suc (suc (suc (suc (suc file))))))) n = absurd (n refl)
 
 pub file-unlisted : (file : ℕ) → fileLines table23 file .count ≡ 0 → (x : Json) → None ≡ least (fileFaults (fileShape table23 file) x)
-unfolding fileShape written23 laidOut fileFaults faults least
+unfolding fileShape written23 laidOut fileFaultsBy faultsBy least
 file-unlisted zero e x = refl
 file-unlisted (suc zero) e x = absurd (omega arith)
 file-unlisted (suc (suc zero)) e x = absurd (omega arith)
@@ -60,7 +60,7 @@ file-unlisted (suc (suc (suc (suc (suc (suc (suc file))))))) e x = refl
 
 pub file-listed : (p : List ℕ) (e : ℕ) {r : Least} {lines : Range} (file : ℕ) → lines ≡ fileLines table23 file → (lines .count ≡ 0 → ⊥) → Ends p e →
     Object (take e p) (lines .first) (lines .count) 0 top levels r → (x : Json) → Whole p x → r ≡ least (fileFaults (fileShape table23 file) x)
-unfolding fileFaults inside
+unfolding fileFaultsBy inside
 file-listed p e {r} file at n ends o x w =
     go (file-ready file (λ z. n (ap (λ (l : Range). l .count) at ∙ z))) (subst (λ (l : Range). Object (take e p) (l .first) (l .count) 0 top levels r) at o)
   where

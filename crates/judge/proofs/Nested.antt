@@ -13,19 +13,19 @@ use Rattle.schema.specs.declared.Line.{Line}
 use Rattle.schema.specs.Shape as shape
 use Rattle.schema.specs.Shape.{Shape, Numbering}
 use Rattle.schema.specs.inner.Line.{lineAt, numberingLetter}
-use Rattle.schema.specs.Pick.{Picked, PickedItems, bare, items, item, outline, inArray, each, pick}
+use Rattle.schema.specs.Pick.{Picked, PickedItems, bare, items, item, emptied, inArray, pickItems, pick}
 use Rattle.schema.specs.Table23.{table23, coordinates}
 use Rattle.fault.specs.declared.Least.{Least}
 use Rattle.fault.specs.Fault.{least}
 use Rattle.fault.proofs.Order.{true-false}
 use Rattle.judge.specs.declared.Place.{Place}
-use Rattle.judge.specs.Faults.{coordinateFaults, faults}
+use Rattle.judge.specs.Faults.{coordinateFaults, faultsBy, faults}
 use Rattle.judge.specs.inner.Ready.{arrays, ready}
 use Rattle.judge.specs.inner.Judged.{Array}
 use Rattle.judge.proofs.Lines.{line-field, line-numbering}
 
-each-same : (f g : Json → Picked) → ((x : Json) → f x ≡ g x) → (is : Items) → each f is ≡ each g is
-unfolding each
+each-same : (f g : Json → Picked) → ((x : Json) → f x ≡ g x) → (is : Items) → pickItems f is ≡ pickItems g is
+unfolding pickItems
 each-same f g h tree.noItem = refl
 each-same f g h (tree.item x is) = ap₂ item (h x) (each-same f g h is)
 
@@ -37,7 +37,7 @@ in-same f g h (tree.string s) = refl
 in-same f g h (tree.array is) = ap items (h is)
 in-same f g h (tree.object ms) = refl
 
-single-picked : (σ : Shape) → arrays σ 0 ≡ true → (x : Json) → pick σ x ≡ bare (outline x)
+single-picked : (σ : Shape) → arrays σ 0 ≡ true → (x : Json) → pick σ x ≡ bare (emptied x)
 unfolding arrays pick
 single-picked shape.unlisted e x = refl
 single-picked (shape.scalar sort) e x = refl
@@ -73,7 +73,7 @@ nested-picked (suc n) σ τ s t x =
 
 position-faults : (numbering : Numbering) → numberingLetter numbering ≡ code "p" → (most : ℕ) (σ : Shape) (level : ℕ) → ready (shape.array numbering most σ) level ≡ true →
     (q : Place) (φ : ℕ) (x : Json) → coordinateFaults q φ (pick coordinates x) ≡ faults (shape.array numbering most σ) q φ (pick (shape.array numbering most σ) x)
-unfolding ready faults arrays coordinates
+unfolding ready faultsBy arrays coordinates
 position-faults shape.records h most σ level e q φ x = absurd (omega arith)
 position-faults shape.subs h most σ level e q φ x = absurd (omega arith)
 position-faults shape.outer h most σ level e q φ x = absurd (omega arith)

@@ -49,21 +49,19 @@ Judge = Place → ℕ → Picked → List Fault
 -- items one after another, numbered from n + 1 on; an item's own faults stand on the array's field
 unfoldable pub eachItem : Judge → Numbering → Place → ℕ → ℕ → PickedItems → List Fault
 eachItem judge numbering p field n noItem = []
-eachItem judge numbering p field n (item x is) =
-    judge (itemPlace numbering (n + 1) p) field x ++ eachItem judge numbering p field (n + 1) is
+eachItem judge numbering p field n (item x is) = judge (itemPlace numbering (n + 1) p) field x ++ eachItem judge numbering p field (n + 1) is
 
 -- an array with at most so many items
 abbrev pub arrayFaults : Judge → Numbering → ℕ → Place → ℕ → Picked → List Fault
-arrayFaults judge numbering most p field (items is) =
-    faulty p field (unless (leb (count is) most) tooMany) ++ eachItem judge numbering p field 0 is
+arrayFaults judge numbering most p field (items is) = faulty p field (unless (leb (count is) most) tooMany) ++ eachItem judge numbering p field 0 is
 arrayFaults judge numbering most p field (bare x) = faulty p field (wrongType ∷ [])
 arrayFaults judge numbering most p field (slots ss) = faulty p field (wrongType ∷ [])
 
--- coordinates
-abbrev pub coordinateFaults : Place → ℕ → Picked → List Fault
-coordinateFaults p field (items is) = numbered p field (coordinatesFound is)
-coordinateFaults p field (bare x) = faulty p field (wrongType ∷ [])
-coordinateFaults p field (slots ss) = faulty p field (wrongType ∷ [])
+-- coordinates, of which `coordinates` tells what is found in them
+abbrev pub coordinateFaultsBy : (coordinates : PickedItems → List Found) → Place → ℕ → Picked → List Fault
+coordinateFaultsBy coordinates p field (items is) = numbered p field (coordinates is)
+coordinateFaultsBy coordinates p field (bare x) = faulty p field (wrongType ∷ [])
+coordinateFaultsBy coordinates p field (slots ss) = faulty p field (wrongType ∷ [])
 
 abbrev pub scalarFaults : shape.Sort → Place → ℕ → Picked → List Fault
 scalarFaults σ p field (bare x) = faulty p field (kindsOf σ x)
@@ -90,20 +88,31 @@ slotFaults judge need p field rest (present f x ss) = judge p field x ++ rest p 
 
 unfoldable mutual
   -- a value of a field against its shape
-  pub faults : Shape → Place → ℕ → Picked → List Fault
-  faults shape.unlisted p field x = []
-  faults (shape.scalar σ) p field x = scalarFaults σ p field x
-  faults (shape.array numbering most σ) p field x =
-      byNumbering numbering
-      (arrayFaults (λ q f y. faults σ q f y) numbering most p field x)
-      (coordinateFaults p field x)
-  faults (shape.object rows) p field x = objectFaults (λ q ss. rowFaults rows q ss) p field x
+  pub faultsBy : (coordinates : PickedItems → List Found) → Shape → Place → ℕ → Picked → List Fault
+  faultsBy coordinates shape.unlisted p field x = []
+  faultsBy coordinates (shape.scalar σ) p field x = scalarFaults σ p field x
+  faultsBy coordinates (shape.array numbering most σ) p field x =
+      byNumbering numbering (arrayFaults (λ q f y. faultsBy coordinates σ q f y) numbering most p field x) (coordinateFaultsBy coordinates p field x)
+  faultsBy coordinates (shape.object rows) p field x = objectFaults (λ q ss. rowFaultsBy coordinates rows q ss) p field x
 
-  pub rowFaults : Rows → Place → Slots → List Fault
-  rowFaults shape.noRow p ss = []
-  rowFaults (shape.row field need name σ rows) p ss =
-      slotFaults (λ q f y. faults σ q f y) need p field (λ q rest. rowFaults rows q rest) ss
+  pub rowFaultsBy : (coordinates : PickedItems → List Found) → Rows → Place → Slots → List Fault
+  rowFaultsBy coordinates shape.noRow p ss = []
+  rowFaultsBy coordinates (shape.row field need name σ rows) p ss =
+      slotFaults (λ q f y. faultsBy coordinates σ q f y) need p field (λ q rest. rowFaultsBy coordinates rows q rest) ss
 
 -- all of a file; its top value is field 0
-unfoldable pub fileFaults : Shape → Json → List Fault
-fileFaults σ x = faults σ top 0 (pick σ x)
+unfoldable pub fileFaultsBy : (coordinates : PickedItems → List Found) → Shape → Json → List Fault
+fileFaultsBy coordinates σ x = faultsBy coordinates σ top 0 (pick σ x)
+
+-- the same by the rules in force
+abbrev pub coordinateFaults : Place → ℕ → Picked → List Fault
+coordinateFaults = coordinateFaultsBy coordinatesFound
+
+abbrev pub faults : Shape → Place → ℕ → Picked → List Fault
+faults = faultsBy coordinatesFound
+
+abbrev pub rowFaults : Rows → Place → Slots → List Fault
+rowFaults = rowFaultsBy coordinatesFound
+
+abbrev pub fileFaults : Shape → Json → List Fault
+fileFaults = fileFaultsBy coordinatesFound

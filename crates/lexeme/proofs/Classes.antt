@@ -6,13 +6,15 @@ use mathlib.Core.Path.{_≡_, refl, sym}
 use Prim.Native.Nat.{ℕ, _<_}
 use lib.Dec.{eqb}
 use lib.ListN.{getD}
-use Rattle.lexeme.specs.Character.{Lead, lead, within}
-use Rattle.lexeme.specs.Character.Lead.{plain, quote, backslash, wrong, two, threeE0, three, threeED, fourF0, four, fourF4}
+use Rattle.lexeme.specs.Character.{within}
+use Rattle.lexeme.specs.inner.Lead.{Lead, lead}
+use Rattle.lexeme.specs.inner.Lead.Lead.{plain, quote, backslash, wrong, two, threeE0, three, threeED, fourF0, four, fourF4}
 use Rattle.notation.specs.Choice.{_⇒_else_}
 use Rattle.lexeme.specs.inner.Class.{leadOf, startOf, blankOf, Tail, from80, from90, fromA0, leastOf, mostOf, Classed, Classifies}
 use Rattle.lexeme.specs.Numbers.{digit, either}
-use Rattle.lexeme.specs.Tokens.{Start, start, blank}
-use Rattle.lexeme.specs.Tokens.Start.{string, number, array, object, letterT, letterF, letterN, other}
+use Rattle.lexeme.specs.Tokens.{blank}
+use Rattle.lexeme.specs.inner.Start.{Start, start}
+use Rattle.lexeme.specs.inner.Start.Start.{string, number, array, object, letterT, letterF, letterN, other}
 use Rattle.lexeme.proofs.Table.{table, every, at, reads}
 use Rattle.lexeme.proofs.Steps.{true-false}
 

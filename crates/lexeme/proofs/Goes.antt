@@ -16,12 +16,14 @@ use Rattle.lexeme.specs.declared.Trail.{Trail}
 use Rattle.lexeme.specs.declared.Trail.the-variants.{Low, Other}
 use Rattle.lexeme.specs.Read.{Read, then, made}
 use Rattle.lexeme.specs.Read.Read.{done, bad}
-use Rattle.lexeme.specs.Character.{byte, within, Lead, lead, quad, trail, alone, high, unit, unicode, escape, nextBy, next, bytesOf}
+use Rattle.lexeme.specs.Character.{byte, within, quad, trail, alone, high, unit, unicode, escape, next, bytesOf}
+use Rattle.lexeme.specs.inner.Lead.{Lead, lead, nextBy}
 use Rattle.lexeme.specs.Character.Surrogates.{paired, lone}
-use Rattle.lexeme.specs.Character.Lead.{plain, quote, backslash, wrong, two, threeE0, three, threeED, fourF0, four, fourF4}
+use Rattle.lexeme.specs.inner.Lead.Lead.{plain, quote, backslash, wrong, two, threeE0, three, threeED, fourF0, four, fourF4}
 use Rattle.lexeme.specs.Strings.{string}
 use Rattle.lexeme.proofs.Reading.{rest, Shrinks, Goes}
 use Rattle.lexeme.proofs.Reading.Goes.{same, further}
+use Rattle.lexeme.proofs.Leads.{next-by}
 use Rattle.lexeme.proofs.Steps.{by-test, string-empty, string-inside, string-quote, string-fault, string-character}
 use Rattle.lexeme.proofs.Shrinks.{rest-made, string-shrinks}
 use Rattle.lexeme.proofs.Local.{encoded-char}
@@ -76,8 +78,8 @@ unfolding escape
 escape-lax l = by-test (eqb (byte l 1) 0x75) (λ a. rw a (unicode-lax l (quad (drop 2 l)))) (λ a. rw a alike)
 
 next-lax : (l : List ℕ) → Lax (next paired l) (next lone l)
-unfolding next nextBy
-next-lax l = go (lead (byte l 0))
+unfolding nextBy
+next-lax l = rw (next-by paired l, next-by lone l) (go (lead (byte l 0)))
   where
     go : (t : Lead) → Lax (nextBy paired l t) (nextBy lone l t)
     go plain = alike

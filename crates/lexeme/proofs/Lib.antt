@@ -1,6 +1,7 @@
 pub mod Reading
 pub mod Steps
 pub mod Shrinks
+pub mod Leads
 pub mod Local
 pub mod Takes
 pub mod Starts

@@ -18,9 +18,11 @@ use Rattle.lexeme.specs.declared.Quad.the-variants.{Value, Short}
 use Rattle.lexeme.specs.declared.Trail.{Trail}
 use Rattle.lexeme.specs.declared.Trail.the-variants.{Low, Other}
 use Rattle.notation.specs.Choice.{_⇒_else_}
-use Rattle.lexeme.specs.Character.{Surrogates, byte, within, Lead, lead, utf2, utf3, utf4, encoded, hexValue, hexadecimal, quad, lowOf, trail, combined, alone, high, unit, unicode, short, escape, nextBy, next}
+use Rattle.lexeme.specs.Character.{Surrogates, byte, within, utf2, utf3, utf4, encoded, hexValue, hexadecimal, quad, lowOf, trail, combined, alone, high, unit, unicode, short, escape, next}
+use Rattle.lexeme.specs.inner.Lead.{Lead, lead, nextBy}
 use Rattle.lexeme.specs.Character.Surrogates.{paired, lone}
-use Rattle.lexeme.specs.Character.Lead.{plain, quote, backslash, wrong, two, threeE0, three, threeED, fourF0, four, fourF4}
+use Rattle.lexeme.specs.inner.Lead.Lead.{plain, quote, backslash, wrong, two, threeE0, three, threeED, fourF0, four, fourF4}
+use Rattle.lexeme.proofs.Leads.{next-by, next-led}
 use Rattle.lexeme.proofs.Steps.{by-test, true-false}
 
 -- l and m have the same bytes up to the one at n
@@ -250,11 +252,11 @@ module _ (ρ : Surrogates) (f : List ℕ → Next) (l : List ℕ) where
       (λ b. rw (a, b) (near (here l 1 (λ z. true-false (ap (λ c. eqb (short c) 0) z ∙ no-short) b), λ m g. h m (g 0 (omega arith)) ∙ rw (← g 1 (omega arith), a, b))))
 
 pub next-way : (ρ : Surrogates) (l : List ℕ) → 0 < length l → Way ρ (next ρ) l (next ρ l)
-unfolding next nextBy
-next-way ρ l some = go (lead (byte l 0)) refl
+unfolding nextBy
+next-way ρ l some = subst (Way ρ (next ρ) l) (sym (next-by ρ l)) (go (lead (byte l 0)) refl)
   where
     led : (t : Lead) → lead (byte l 0) ≡ t → (m : List ℕ) → byte l 0 ≡ byte m 0 → next ρ m ≡ nextBy ρ m t
-    led t e m g = rw (← g, e)
+    led t e m g = next-led ρ m (ap lead (sym g) ∙ e)
 
     go : (t : Lead) → lead (byte l 0) ≡ t → Way ρ (next ρ) l (nextBy ρ l t)
     go plain e = near (some, λ m g. led plain e m (g 0 (omega arith)) ∙ rw (← g 0 (omega arith)))

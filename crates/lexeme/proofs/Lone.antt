@@ -17,7 +17,7 @@ use Rattle.lexeme.specs.declared.Trail.{Trail}
 use Rattle.lexeme.specs.declared.Trail.the-variants.{Low, Other}
 use Rattle.lexeme.specs.Read.{Read, made}
 use Rattle.lexeme.specs.Read.Read.{done, bad}
-use Rattle.lexeme.specs.Character.{byte, within, lead, bytesOf, encoded, quad, lowOf, trail, combined, alone, high, unit, unicode, escape, nextBy, next}
+use Rattle.lexeme.specs.Character.{byte, within, bytesOf, encoded, quad, lowOf, trail, combined, alone, high, unit, unicode, escape, next}
 use Rattle.lexeme.specs.Character.Surrogates.{lone}
 use Rattle.lexeme.specs.Strings.{string}
 use Rattle.lexeme.proofs.Steps.{by-test, string-character, string-skip}
@@ -54,7 +54,7 @@ lowOf-low (Value v) w e =
     (λ a. no-low (rw a at e))
 
 low-next : (m : List ℕ) (w : ℕ) → trail m ≡ Low w → next lone m ≡ encoded w 5
-unfolding trail next nextBy lead escape unicode unit alone
+unfolding trail next escape unicode unit alone
 low-next m w e =
     by-test (eqb (byte m 0) 0x5c)
     (λ a. by-test (eqb (byte m 1) 0x75)

@@ -2,7 +2,7 @@
 -- UTF-8 is completed by the least byte that fits and continuation bytes, an escape by zeros or a quote, and the string by its quote.
 use mathlib.Core.Bool.{true}
 use mathlib.Core.List.{List, [], _∷_, _++_}
-use mathlib.Core.Path.{_≡_, refl, sym, ap, _∙_}
+use mathlib.Core.Path.{_≡_, refl, sym, ap, subst, _∙_}
 use Prim.Native.Nat.{ℕ, zero, suc, _+_, _*_, _≤_}
 use native.Mathlib.Omega.{arith}
 use lib.ListN.{length, drop, take}
@@ -14,10 +14,12 @@ use Rattle.lexeme.specs.declared.Next.the-variants.{Quote, Character, Fa
 use Rattle.lexeme.specs.declared.Trail.{Trail}
 use Rattle.lexeme.specs.declared.Trail.the-variants.{Low, Other}
 use Rattle.lexeme.specs.Read.Read.{done}
-use Rattle.lexeme.specs.Character.{byte, within, Lead, lead, char1, char2, char3, char4, bytesOf, utf2, utf3, utf4, encoded, hexValue, hexadecimal, quad, trail, combined, alone, high, unit, unicode, short, escape, nextBy, next}
+use Rattle.lexeme.specs.Character.{byte, within, char1, char2, char3, char4, bytesOf, utf2, utf3, utf4, encoded, hexValue, hexadecimal, quad, trail, combined, alone, high, unit, unicode, short, escape, next}
+use Rattle.lexeme.specs.inner.Lead.{Lead, lead, nextBy}
 use Rattle.lexeme.specs.Character.Surrogates.{lone}
-use Rattle.lexeme.specs.Character.Lead.{plain, quote, backslash, wrong, two, threeE0, three, threeED, fourF0, four, fourF4}
+use Rattle.lexeme.specs.inner.Lead.Lead.{plain, quote, backslash, wrong, two, threeE0, three, threeED, fourF0, four, fourF4}
 use Rattle.lexeme.specs.Strings.{string}
+use Rattle.lexeme.proofs.Leads.{next-by, next-led}
 use Rattle.lexeme.proofs.Steps.{by-test, made-reads, string-quote, string-character, string-skip}
 use Rattle.lexeme.proofs.Local.{Spans, encoded-spans}
 use Rattle.lexeme.proofs.Takes.{closes}
@@ -73,40 +75,40 @@ continuation = refl
 
 module _ (l : List ℕ) (t : Lead) (led : lead (byte l 0) ≡ t) where
   utf2-mends : ((m : List ℕ) → nextBy lone m t ≡ utf2 m) → Mends l (utf2 l)
-  unfolding utf2 next within
+  unfolding utf2 within
   utf2-mends is =
       by-test (within 0x80 0xbf (byte l 1)) (λ a. rw a tt)
       (λ a. rw a (mend 1 l (0x80 ∷ 0x22 ∷ [])
-      (whole (byte l 0) (0x80 ∷ []) (char2 (byte l 0) 0x80 1) (rw led (is (byte l 0 ∷ 0x80 ∷ 0x22 ∷ []))) refl)))
+      (whole (byte l 0) (0x80 ∷ []) (char2 (byte l 0) 0x80 1) (next-led lone _ led ∙ is (byte l 0 ∷ 0x80 ∷ 0x22 ∷ [])) refl)))
 
   module _ (lo hi : ℕ) (fit : within lo hi lo ≡ true) where
     utf3-mends : ((m : List ℕ) → nextBy lone m t ≡ utf3 lo hi m) → Mends l (utf3 lo hi l)
-    unfolding utf3 next
+    unfolding utf3
     utf3-mends is =
         by-test (within lo hi (byte l 1))
         (λ a. by-test (within 0x80 0xbf (byte l 2)) (λ b. rw (a, b) tt)
         (λ b. rw (a, b) (mend 2 l (0x80 ∷ 0x22 ∷ [])
         (whole (byte l 0) (byte l 1 ∷ 0x80 ∷ []) (char3 (byte l 0) (byte l 1) 0x80 2)
-        (rw led (is (byte l 0 ∷ byte l 1 ∷ 0x80 ∷ 0x22 ∷ []) ∙ rw (a, continuation))) refl))))
+        (next-led lone _ led ∙ is (byte l 0 ∷ byte l 1 ∷ 0x80 ∷ 0x22 ∷ []) ∙ rw (a, continuation)) refl))))
         (λ a. rw a (mend 1 l (lo ∷ 0x80 ∷ 0x22 ∷ [])
         (whole (byte l 0) (lo ∷ 0x80 ∷ []) (char3 (byte l 0) lo 0x80 2)
-        (rw led (is (byte l 0 ∷ lo ∷ 0x80 ∷ 0x22 ∷ []) ∙ rw (fit, continuation))) refl)))
+        (next-led lone _ led ∙ is (byte l 0 ∷ lo ∷ 0x80 ∷ 0x22 ∷ []) ∙ rw (fit, continuation)) refl)))
 
     utf4-mends : ((m : List ℕ) → nextBy lone m t ≡ utf4 lo hi m) → Mends l (utf4 lo hi l)
-    unfolding utf4 next
+    unfolding utf4
     utf4-mends is =
         by-test (within lo hi (byte l 1))
         (λ a. by-test (within 0x80 0xbf (byte l 2))
         (λ b. by-test (within 0x80 0xbf (byte l 3)) (λ c. rw (a, b, c) tt)
         (λ c. rw (a, b, c) (mend 3 l (0x80 ∷ 0x22 ∷ [])
         (whole (byte l 0) (byte l 1 ∷ byte l 2 ∷ 0x80 ∷ []) (char4 (byte l 0) (byte l 1) (byte l 2) 0x80 3)
-        (rw led (is (byte l 0 ∷ byte l 1 ∷ byte l 2 ∷ 0x80 ∷ 0x22 ∷ []) ∙ rw (a, b, continuation))) refl))))
+        (next-led lone _ led ∙ is (byte l 0 ∷ byte l 1 ∷ byte l 2 ∷ 0x80 ∷ 0x22 ∷ []) ∙ rw (a, b, continuation)) refl))))
         (λ b. rw (a, b) (mend 2 l (0x80 ∷ 0x80 ∷ 0x22 ∷ [])
         (whole (byte l 0) (byte l 1 ∷ 0x80 ∷ 0x80 ∷ []) (char4 (byte l 0) (byte l 1) 0x80 0x80 3)
-        (rw led (is (byte l 0 ∷ byte l 1 ∷ 0x80 ∷ 0x80 ∷ 0x22 ∷ []) ∙ rw (a, continuation))) refl))))
+        (next-led lone _ led ∙ is (byte l 0 ∷ byte l 1 ∷ 0x80 ∷ 0x80 ∷ 0x22 ∷ []) ∙ rw (a, continuation)) refl))))
         (λ a. rw a (mend 1 l (lo ∷ 0x80 ∷ 0x80 ∷ 0x22 ∷ [])
         (whole (byte l 0) (lo ∷ 0x80 ∷ 0x80 ∷ []) (char4 (byte l 0) lo 0x80 0x80 3)
-        (rw led (is (byte l 0 ∷ lo ∷ 0x80 ∷ 0x80 ∷ 0x22 ∷ []) ∙ rw (fit, continuation))) refl)))
+        (next-led lone _ led ∙ is (byte l 0 ∷ lo ∷ 0x80 ∷ 0x80 ∷ 0x22 ∷ []) ∙ rw (fit, continuation)) refl)))
 
 -- escapes; a lone one takes six bytes, whatever its value
 unit-alone : (m : List ℕ) (v : ℕ) → trail (drop 6 m) ≡ Other → unit lone m v ≡ encoded v 5
@@ -137,11 +139,11 @@ unit-mends l v =
 -- an escape of four digits, and the quote
 quad-whole : (b u h0 h1 h2 h3 : ℕ) → lead b ≡ backslash → eqb u 0x75 ≡ true → hexadecimal h0 ≡ true → hexadecimal h1 ≡ true
     → hexadecimal h2 ≡ true → hexadecimal h3 ≡ true → Whole (b ∷ u ∷ h0 ∷ h1 ∷ h2 ∷ h3 ∷ 0x22 ∷ [])
-unfolding next nextBy escape unicode quad
+unfolding nextBy escape unicode quad
 quad-whole b u h0 h1 h2 h3 e f a0 a1 a2 a3 =
     let v = hexValue h0 * 4096 + hexValue h1 * 256 + hexValue h2 * 16 + hexValue h3 in
     whole b (u ∷ h0 ∷ h1 ∷ h2 ∷ h3 ∷ []) (encoded v 5)
-    (rw (e, f, a0, a1, a2, a3) (unit-alone _ v (unfold trail in refl))) (encoded-spans v 5)
+    (next-led lone _ e ∙ rw (f, a0, a1, a2, a3) (unit-alone _ v (unfold trail in refl))) (encoded-spans v 5)
 
 zero-digit : hexadecimal 0x30 ≡ true
 unfolding hexadecimal hexValue within
@@ -164,16 +166,16 @@ unicode-mends l e u =
     (λ a. rw a (mend 2 l (0x30 ∷ 0x30 ∷ 0x30 ∷ 0x30 ∷ 0x22 ∷ []) (filled 0x30 0x30 0x30 0x30 e u zero-digit zero-digit zero-digit zero-digit)))
 
 escape-mends : (l : List ℕ) → lead (byte l 0) ≡ backslash → Mends l (escape lone l)
-unfolding escape next nextBy short
+unfolding escape nextBy short
 escape-mends l e =
     by-test (eqb (byte l 1) 0x75) (λ a. rw a (unicode-mends l e a)) λ a.
     by-test (eqb (short (byte l 1)) 0)
-    (λ b. rw (a, b) (mend 1 l (0x22 ∷ 0x22 ∷ []) (whole (byte l 0) (0x22 ∷ []) (char1 0x22 1) (rw e) refl)))
+    (λ b. rw (a, b) (mend 1 l (0x22 ∷ 0x22 ∷ []) (whole (byte l 0) (0x22 ∷ []) (char1 0x22 1) (next-led lone _ e) refl)))
     (λ b. rw (a, b) tt)
 
 pub next-mends : (l : List ℕ) → Mends l (next lone l)
-unfolding next nextBy within
-next-mends l = go (lead (byte l 0)) refl
+unfolding nextBy within
+next-mends l = subst (Mends l) (sym (next-by lone l)) (go (lead (byte l 0)) refl)
   where
     go : (t : Lead) → lead (byte l 0) ≡ t → Mends l (nextBy lone l t)
     go plain e = tt

@@ -6,12 +6,14 @@ use mathlib.Core.Path.{_≡_, refl, sym, ap, subst, _∙_}
 use Prim.Native.Nat.{ℕ}
 use lib.Dec.{eqb}
 use borrow.Author.Tests.{eqb-true}
-use Rattle.lexeme.specs.Read.Read.{done}
+use Rattle.word.specs.Kinds.{notJson}
+use Rattle.lexeme.specs.Read.Read.{done, bad}
 use Rattle.lexeme.specs.Character.{within}
 use Rattle.lexeme.specs.Numbers.{digit, either, nothing, integer, minus, number}
-use Rattle.lexeme.specs.Tokens.{blank, Start, start}
+use Rattle.lexeme.specs.Tokens.{blank}
+use Rattle.lexeme.specs.inner.Start.{Start, start}
 use Rattle.lexeme.proofs.Reading.{numeric}
-use Rattle.lexeme.proofs.Steps.{by-test, true-false, bad-done, done-rest, integer-digits, someDigits-none, optional-absent}
+use Rattle.lexeme.proofs.Steps.{by-test, true-false, bad-done, done-rest, made-fails, integer-digits, someDigits-none, optional-absent, both-reads, both-fails}
 use Rattle.lexeme.proofs.Local.{choice}
 use Rattle.lexeme.proofs.Takes.{both-done}
 
@@ -63,6 +65,14 @@ number-starts b l x r e =
     let q = both-done integer _ (p .1) (p .2) r (p .4) in
     let same : b ∷ l ≡ p .1 = done-rest (sym (optional-absent b _ nothing l h) ∙ p .3) in
     integer-starts b l (q .0) (q .1) (ap integer same ∙ q .3))
+
+-- any other byte begins none
+pub number-none : (b : ℕ) (l : List ℕ) → eqb b 0x2d ≡ false → digit b ≡ false → number (b ∷ l) ≡ bad notJson (b ∷ l)
+unfolding number minus digit within
+number-none b l h k =
+    let n : eqb b 0x30 ≡ false = by-test (eqb b 0x30) (λ e. true-false (ap digit (eqb-true b 0x30 e)) k) (λ e. e) in
+    both-reads minus _ (b ∷ l) (optional-absent b _ nothing l h)
+    ∙ made-fails _ (both-fails integer _ (b ∷ l) (integer-digits b l n ∙ someDigits-none b l k))
 
 -- the byte that says a string, an array or an object
 abbrev Byte : ℕ → Start → Type 0

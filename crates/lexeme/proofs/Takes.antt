@@ -12,7 +12,7 @@ use Rattle.lexeme.specs.declared.Next.{Next}
 use Rattle.lexeme.specs.declared.Next.the-variants.{Quote, Character, Fault}
 use Rattle.lexeme.specs.Read.{Read, made}
 use Rattle.lexeme.specs.Read.Read.{done}
-use Rattle.lexeme.specs.Character.{Surrogates, bytesOf, lead, nextBy, next}
+use Rattle.lexeme.specs.Character.{Surrogates, bytesOf, next}
 use Rattle.lexeme.specs.Strings.{string, decoded}
 use Rattle.lexeme.specs.Numbers.{digit, either, digits, someDigits, optional, both, nothing, integer, minus, fraction, exponent, number}
 use Rattle.lexeme.specs.Tokens.{blank, blanks, literal}
@@ -55,7 +55,7 @@ pub record Spelled (ρ : Surrogates) (k : ℕ) (l y r : List ℕ) : Type 0 where
   pub frame : (q : List ℕ) → string ρ k (part ++ (0x22 ∷ q)) ≡ done y q
 
 pub closes : (ρ : Surrogates) (q : List ℕ) → next ρ (0x22 ∷ q) ≡ Quote
-unfolding next nextBy lead
+unfolding next
 closes ρ q = refl
 
 -- texts that begin with the same bytes, up to a quote or the end

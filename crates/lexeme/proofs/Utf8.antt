@@ -14,7 +14,7 @@ use Rattle.lexeme.specs.declared.Quad.{Quad}
 use Rattle.lexeme.specs.declared.Quad.the-variants.{Value, Short}
 use Rattle.lexeme.specs.declared.Trail.{Trail}
 use Rattle.lexeme.specs.declared.Trail.the-variants.{Low, Other}
-use Rattle.lexeme.specs.Character.{Surrogates, paired, byte, within, lead, char1, bytesOf, encoded, hexValue, hexadecimal, quad, lowOf, trail, combined, alone, high, unit, unicode, short, escape, nextBy, next}
+use Rattle.lexeme.specs.Character.{Surrogates, paired, byte, within, char1, bytesOf, encoded, hexValue, hexadecimal, quad, lowOf, trail, combined, alone, high, unit, unicode, short, escape, next}
 use Rattle.lexeme.specs.Utf8.{Scalar, Unescaped, bytesIn, utf8, codePoint, Escape, Agreement}
 use Rattle.lexeme.proofs.Steps.{by-test, true-false}
 use Rattle.lexeme.proofs.Local.{encoded-char, choice}
@@ -49,7 +49,7 @@ narrower lo hi lo' hi' b h k n =
 
 module _ (ρ : Surrogates) (v : ℕ) (l : List ℕ) (e : Escape v l) where
   escape-unit : next ρ l ≡ unit ρ l v
-  unfolding next nextBy lead escape unicode
+  unfolding next escape unicode
   escape-unit = rw (e .backslash, e .letter, e .digits)
 
   value-small : v < 0x10000
@@ -159,7 +159,7 @@ escape-coded l =
     by-test (eqb (short (byte l 1)) 0) (λ b. rw (a, b) tt) λ b. rw (a, b) (short-coded (short (byte l 1)) 1 (short-small (byte l 1)))
 
 spelled : (l : List ℕ) (x : Char) → next paired l ≡ Character x → Coded (Character x)
-unfolding next nextBy lead
+unfolding next
 spelled l x e =
     by-test (eqb (byte l 0) 0x5c)
     (λ a. let i : next paired l ≡ escape paired l = rw (eqb-true (byte l 0) 0x5c a) in subst Coded (sym i ∙ e) (escape-coded l))

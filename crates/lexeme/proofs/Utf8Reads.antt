@@ -10,9 +10,11 @@ use lib.Dec.{leb, ltb}
 use borrow.Author.Tests.{ne-eqb, ltb-true, ltb-false, lt-ltb, le-ltb, leb-true, leb-false, le-leb, lt-leb}
 use Rattle.word.specs.Kinds.{notJson}
 use Rattle.lexeme.specs.declared.Next.the-variants.{Fault}
-use Rattle.lexeme.specs.Character.{Surrogates, byte, within, Lead, lead, char1, char2, char3, char4, utf2, utf3, utf4, encoded, escape, nextBy, next}
-use Rattle.lexeme.specs.Character.Lead.{plain, two, threeE0, three, threeED, fourF0, four, fourF4}
+use Rattle.lexeme.specs.Character.{Surrogates, byte, within, char1, char2, char3, char4, utf2, utf3, utf4, encoded, escape, next}
+use Rattle.lexeme.specs.inner.Lead.{Lead, lead, nextBy}
+use Rattle.lexeme.specs.inner.Lead.Lead.{plain, two, threeE0, three, threeED, fourF0, four, fourF4}
 use Rattle.lexeme.specs.Utf8.{Unescaped, bytesIn, utf8}
+use Rattle.lexeme.proofs.Leads.{next-led}
 use Rattle.lexeme.proofs.Steps.{by-test, true-false}
 
 -- a number between two bounds, and outside them
@@ -83,12 +85,12 @@ module _ (b : ℕ) where
 -- bytes that fit are read as a character, whatever follows
 module _ (ρ : Surrogates) (a b c d : ℕ) (r : List ℕ) where
   reads1 : lead a ≡ plain → next ρ (a ∷ r) ≡ char1 a 0
-  unfolding next nextBy
-  reads1 e = rw e
+  unfolding nextBy
+  reads1 e = next-led ρ (a ∷ r) e
 
   reads2 : lead a ≡ two → within 0x80 0xbf b ≡ true → next ρ (a ∷ b ∷ r) ≡ char2 a b 1
-  unfolding next nextBy utf2
-  reads2 e f = rw (e, f)
+  unfolding nextBy utf2
+  reads2 e f = next-led ρ (a ∷ b ∷ r) e ∙ rw f
 
   utf3-reads : (lo hi : ℕ) → within lo hi b ≡ true → within 0x80 0xbf c ≡ true → utf3 lo hi (a ∷ b ∷ c ∷ r) ≡ char3 a b c 2
   unfolding utf3
@@ -96,8 +98,7 @@ module _ (ρ : Surrogates) (a b c d : ℕ) (r : List ℕ) where
 
   reads3 : (t : Lead) (lo hi : ℕ) → lead a ≡ t → nextBy ρ (a ∷ b ∷ c ∷ r) t ≡ utf3 lo hi (a ∷ b ∷ c ∷ r) → lo ≤ b → b ≤ hi → within 0x80 0xbf c ≡ true
       → next ρ (a ∷ b ∷ c ∷ r) ≡ char3 a b c 2
-  unfolding next
-  reads3 t lo hi e is h k f = rw e (is ∙ utf3-reads lo hi (between lo hi b h k) f)
+  reads3 t lo hi e is h k f = next-led ρ (a ∷ b ∷ c ∷ r) e ∙ is ∙ utf3-reads lo hi (between lo hi b h k) f
 
   utf4-reads : (lo hi : ℕ) → within lo hi b ≡ true → within 0x80 0xbf c ≡ true → within 0x80 0xbf d ≡ true → utf4 lo hi (a ∷ b ∷ c ∷ d ∷ r) ≡ char4 a b c d 3
   unfolding utf4
@@ -105,8 +106,7 @@ module _ (ρ : Surrogates) (a b c d : ℕ) (r : List ℕ) where
 
   reads4 : (t : Lead) (lo hi : ℕ) → lead a ≡ t → nextBy ρ (a ∷ b ∷ c ∷ d ∷ r) t ≡ utf4 lo hi (a ∷ b ∷ c ∷ d ∷ r) → lo ≤ b → b ≤ hi
       → within 0x80 0xbf c ≡ true → within 0x80 0xbf d ≡ true → next ρ (a ∷ b ∷ c ∷ d ∷ r) ≡ char4 a b c d 3
-  unfolding next
-  reads4 t lo hi e is h k f g = rw e (is ∙ utf4-reads lo hi (between lo hi b h k) f g)
+  reads4 t lo hi e is h k f g = next-led ρ (a ∷ b ∷ c ∷ d ∷ r) e ∙ is ∙ utf4-reads lo hi (between lo hi b h k) f g
 
 -- the bytes of an encoding fit
 module _ (ρ : Surrogates) (v : ℕ) (r : List ℕ) where
@@ -164,9 +164,9 @@ unfolding utf8 bytesIn encoded
 single v h = rw (lt-ltb v 0x80 h)
 
 pub control : (ρ : Surrogates) (v : ℕ) → v < 0x20 → (r : List ℕ) → next ρ (v ∷ r) ≡ Fault notJson 0
-unfolding next nextBy lead
+unfolding next
 control ρ v h r = rw (ne-eqb v 0x22 (λ z. omega arith), ne-eqb v 0x5c (λ z. omega arith), lt-ltb v 0x20 h)
 
 pub escapes : (ρ : Surrogates) (r : List ℕ) → next ρ (0x5c ∷ r) ≡ escape ρ (0x5c ∷ r)
-unfolding next nextBy lead
+unfolding next
 escapes ρ r = refl

@@ -11,9 +11,11 @@ use borrow.Author.Tests.{eqb-true, eqb-false, ltb-true, ltb-false, lt-ltb, le-lt
 use Rattle.lexeme.specs.declared.Char.{Char}
 use Rattle.lexeme.specs.declared.Next.{Next}
 use Rattle.lexeme.specs.declared.Next.the-variants.{Quote, Character, Fault}
-use Rattle.lexeme.specs.Character.{Surrogates, byte, within, Lead, lead, char1, char2, char3, char4, bytesOf, utf2, utf3, utf4, encoded, nextBy, next}
-use Rattle.lexeme.specs.Character.Lead.{plain, quote, backslash, wrong, two, threeE0, three, threeED, fourF0, four, fourF4}
+use Rattle.lexeme.specs.Character.{Surrogates, byte, within, char1, char2, char3, char4, bytesOf, utf2, utf3, utf4, encoded, next}
+use Rattle.lexeme.specs.inner.Lead.{Lead, lead, nextBy}
+use Rattle.lexeme.specs.inner.Lead.Lead.{plain, quote, backslash, wrong, two, threeE0, three, threeED, fourF0, four, fourF4}
 use Rattle.lexeme.specs.Utf8.{Scalar, Unescaped, bytesIn, utf8, codePoint, Stands}
+use Rattle.lexeme.proofs.Leads.{next-by}
 use Rattle.lexeme.proofs.Steps.{by-test}
 use Rattle.lexeme.proofs.Local.{here}
 use Rattle.lexeme.proofs.Mends.{front, front-take}
@@ -216,5 +218,4 @@ found ρ l n fourF4 r =
     utf4-found l 0x80 0x8f (omega arith) (omega arith) (omega arith) (omega arith) (λ v b c d e t. (omega arith, omega arith))
 
 pub unescaped : (ρ : Surrogates) (l : List ℕ) (x : Char) → (byte l 0 ≡ 0x5c → ⊥) → next ρ l ≡ Character x → Stands (codePoint (bytesOf x)) x l
-unfolding next
-unescaped ρ l x n e = subst (Found l) e (found ρ l n (lead (byte l 0)) (ranged (byte l 0)))
+unescaped ρ l x n e = subst (Found l) (sym (next-by ρ l) ∙ e) (found ρ l n (lead (byte l 0)) (ranged (byte l 0)))

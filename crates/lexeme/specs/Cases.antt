@@ -8,14 +8,14 @@ use Rattle.notation.specs.Ascii.{bytes}
 use Rattle.notation.specs.Case.{Case, Answers}
 use Rattle.lexeme.specs.Read.{Read, made, then}
 use Rattle.lexeme.specs.Read.Read.{done, bad}
-use Rattle.lexeme.specs.Character.{paired, lone, within, lead, utf2, utf3, utf4, encoded, hexValue, hexadecimal, quad, lowOf, trail, combined, alone, high, unit, unicode, short, escape, nextBy, next}
+use Rattle.lexeme.specs.Character.{paired, lone, within, utf2, utf3, utf4, encoded, hexValue, hexadecimal, quad, lowOf, trail, combined, alone, high, unit, unicode, short, escape, next}
 use Rattle.lexeme.specs.Strings.{string, decoded}
 use Rattle.lexeme.specs.Numbers.{digit, either, digits, someDigits, optional, both, nothing, integer, minus, fraction, exponent, number}
-use Rattle.lexeme.specs.Tokens.{blank, blanks, literal, start}
+use Rattle.lexeme.specs.Tokens.{blank, blanks, literal}
 
 -- opens every definition of this layer
 unfoldable pub lexing : Unit {0}
-unfolding made then within lead utf2 utf3 utf4 encoded hexValue hexadecimal quad lowOf trail combined alone high unit unicode short escape nextBy next string decoded digit either digits someDigits optional both nothing integer minus fraction exponent number blank blanks literal start
+unfolding made then within utf2 utf3 utf4 encoded hexValue hexadecimal quad lowOf trail combined alone high unit unicode short escape next string decoded digit either digits someDigits optional both nothing integer minus fraction exponent number blank blanks literal
 lexing = tt
 
 -- a string by stage A's rule

@@ -26,35 +26,6 @@ byte l i = getD l i 0
 unfoldable pub within : ℕ → ℕ → ℕ → Bool
 within lo hi b = leb lo b ⇒ leb b hi else false
 
--- what a character's first byte says: RFC 3629's table of first bytes, with the quote, the backslash and the control characters of RFC 8259
-pub data Lead : Type 0 where
-  plain : Lead
-  quote : Lead
-  backslash : Lead
-  wrong : Lead
-  two : Lead
-  threeE0 : Lead
-  three : Lead
-  threeED : Lead
-  fourF0 : Lead
-  four : Lead
-  fourF4 : Lead
-
-unfoldable pub lead : ℕ → Lead
-lead b =
-    eqb b 0x22 ⇒ quote else
-    eqb b 0x5c ⇒ backslash else
-    ltb b 0x20 ⇒ wrong else
-    ltb b 0x80 ⇒ plain else
-    ltb b 0xc2 ⇒ wrong else
-    ltb b 0xe0 ⇒ two else
-    eqb b 0xe0 ⇒ threeE0 else
-    eqb b 0xed ⇒ threeED else
-    ltb b 0xf0 ⇒ three else
-    eqb b 0xf0 ⇒ fourF0 else
-    ltb b 0xf4 ⇒ four else
-    eqb b 0xf4 ⇒ fourF4 else wrong
-
 -- a character of one to four bytes, whose spelling goes on for `more` bytes after the first
 abbrev pub char1 : ℕ → ℕ → Next
 char1 a more = Character (record { b0 = a; b1 = 0; b2 = 0; b3 = 0; len = 1; more = more })
@@ -173,19 +144,19 @@ escape ρ l =
     eqb (short (byte l 1)) 0 ⇒ Fault notJson 1 else
     char1 (short (byte l 1)) 1
 
--- what stands at the front of the text inside a string, by its first byte
-unfoldable pub nextBy : Surrogates → List ℕ → Lead → Next
-nextBy ρ l plain = char1 (byte l 0) 0
-nextBy ρ l quote = Quote
-nextBy ρ l backslash = escape ρ l
-nextBy ρ l wrong = Fault notJson 0
-nextBy ρ l two = utf2 l
-nextBy ρ l threeE0 = utf3 0xa0 0xbf l
-nextBy ρ l three = utf3 0x80 0xbf l
-nextBy ρ l threeED = utf3 0x80 0x9f l
-nextBy ρ l fourF0 = utf4 0x90 0xbf l
-nextBy ρ l four = utf4 0x80 0xbf l
-nextBy ρ l fourF4 = utf4 0x80 0x8f l
-
+-- what stands at the front of the text inside a string: the quote, the backslash and the control characters of RFC 8259, then RFC 3629's table of first bytes
 unfoldable pub next : Surrogates → List ℕ → Next
-next ρ l = nextBy ρ l (lead (byte l 0))
+next ρ l =
+    let b = byte l 0 in
+    eqb b 0x22 ⇒ Quote else
+    eqb b 0x5c ⇒ escape ρ l else
+    ltb b 0x20 ⇒ Fault notJson 0 else
+    ltb b 0x80 ⇒ char1 b 0 else
+    ltb b 0xc2 ⇒ Fault notJson 0 else
+    ltb b 0xe0 ⇒ utf2 l else
+    eqb b 0xe0 ⇒ utf3 0xa0 0xbf l else
+    eqb b 0xed ⇒ utf3 0x80 0x9f l else
+    ltb b 0xf0 ⇒ utf3 0x80 0xbf l else
+    eqb b 0xf0 ⇒ utf4 0x90 0xbf l else
+    ltb b 0xf4 ⇒ utf4 0x80 0xbf l else
+    eqb b 0xf4 ⇒ utf4 0x80 0x8f l else Fault notJson 0

@@ -1,4 +1,4 @@
--- Blanks, words and what the first byte of a value says: RFC 8259, sections 2 and 3.
+-- Blanks and words: RFC 8259, sections 2 and 3.
 use mathlib.Core.Bool.{Bool, true, false}
 use mathlib.Core.List.{List, [], _∷_}
 use Prim.Native.Nat.{ℕ}
@@ -7,7 +7,7 @@ use Rattle.word.specs.Kinds.{notJson}
 use Rattle.lexeme.specs.Read.{Read}
 use Rattle.lexeme.specs.Read.Read.{done, bad}
 use Rattle.notation.specs.Choice.{_⇒_else_}
-use Rattle.lexeme.specs.Numbers.{digit, either}
+use Rattle.lexeme.specs.Numbers.{either}
 
 -- space, tab, line feed, carriage return
 unfoldable pub blank : ℕ → Bool
@@ -23,25 +23,3 @@ unfoldable pub literal : {A : Type 0} → List ℕ → A → List ℕ → Read A
 literal [] x l = done x l
 literal (c ∷ w) x [] = bad notJson []
 literal (c ∷ w) x (b ∷ r) = elim (eqb b c) [ true ↦ literal w x r | false ↦ bad notJson (b ∷ r) ]
-
--- what a value's first byte says
-pub data Start : Type 0 where
-  string : Start
-  number : Start
-  array : Start
-  object : Start
-  letterT : Start
-  letterF : Start
-  letterN : Start
-  other : Start
-
-unfoldable pub start : ℕ → Start
-start b =
-    eqb b 0x22 ⇒ string else
-    eqb b 0x5b ⇒ array else
-    eqb b 0x7b ⇒ object else
-    eqb b 0x2d ⇒ number else
-    digit b ⇒ number else
-    eqb b 0x74 ⇒ letterT else
-    eqb b 0x66 ⇒ letterF else
-    eqb b 0x6e ⇒ letterN else other

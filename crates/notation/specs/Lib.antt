@@ -1,3 +1,4 @@
 pub mod Choice
 pub mod Ascii
+pub mod Maybe
 pub mod Case

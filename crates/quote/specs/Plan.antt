@@ -15,8 +15,9 @@ use Rattle.decimal.specs.Exact.{moneyOf, tenThousandths}
 use Rattle.text.specs.Text.{same}
 use Rattle.notation.specs.Choice.{_⇒_else_}
 use Rattle.schema.specs.Pick.{Picked}
-use Rattle.document.specs.Document.{Maybe, none, some, along, elementsOf, field, fieldItems, text, spelling, given}
+use Rattle.document.specs.Document.{Maybe, none, some, field, fieldItems, text, spelling, given}
 use Rattle.fields.specs.Values.{integerIn}
+use Rattle.clean.specs.Clean.{recordsOf}
 use Rattle.fare.specs.declared.Segment.{Segment}
 use Rattle.fare.specs.Charges.{minutesOf, kilometresOf, amount, past}
 
@@ -74,7 +75,7 @@ planOf [] id = none
 planOf (x ∷ l) id = elim (text 50 x) [ none ↦ planOf l id | some t ↦ same t id ⇒ some x else planOf l id ]
 
 unfoldable pub plans : Picked → List Picked
-plans file = elementsOf (along (4 ∷ 5 ∷ []) file)
+plans file = recordsOf 5 file
 
 -- what a plan asks for a ride
 unfoldable pub tripAmount : Picked → (seconds metres : ℕ) → ℤ

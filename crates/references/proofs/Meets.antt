@@ -12,26 +12,27 @@ use Rattle.json.specs.Tree.{Json}
 use Rattle.text.specs.Text.{same}
 use Rattle.walk.specs.declared.Item.{Item}
 use Rattle.walk.specs.Walk.{itemsOf}
-use Rattle.walk.specs.Part.{Whole, treeOf}
+use Rattle.walk.specs.Part.{Whole, partTree}
 use Rattle.walk.proofs.Parts.{itemOf, items-whole}
 use Rattle.schema.specs.Table23.{vehicleType, station}
+use Rattle.schema.specs.Records.{recordShape, located}
 use Rattle.schema.specs.Pick.{Picked, pick}
 use Rattle.document.specs.Document.{Maybe, none, some, text}
-use Rattle.document.proofs.Records.{recordShape, pickedItems}
+use Rattle.document.proofs.Records.{pickedItems}
 use Rattle.fields.specs.inner.Values.{isId}
 use Rattle.fields.proofs.Fields.{rowOf, listed, field-text, field-given}
-use Rattle.ids.specs.inner.Ids.{idOf, recordBytes}
+use Rattle.ids.specs.inner.Ids.{idField, idOf, recordBytes}
 use Rattle.ids.proofs.Picked.{id-picked}
 use Rattle.references.specs.References.{anyWith, notHuman}
-use Rattle.references.specs.inner.Known.{passing, meeting, anyMeets, fieldOf, testOf, testedOf}
+use Rattle.references.specs.inner.Known.{passing, meeting, anyMeets, testOf, testedOf}
 
 -- the record of a file answers alike in bytes and picked
 record Alike (file : ℕ) (q : List ℕ) (x : Picked) : Type 0 where
-  id : idOf file q ≡ text (fieldOf file) x
+  id : idOf file q ≡ text (idField file) x
   passed : passing file q ≡ testOf file x
 
 passed-picked : (file : ℕ) → 1 ≤ file → {q : List ℕ} {x : Json} → Whole q x → passing file q ≡ testOf file (pick (recordShape file) x)
-unfolding recordShape vehicleType station rowOf
+unfolding located vehicleType station rowOf
 passed-picked zero h w = absurd (omega arith)
 passed-picked (suc zero) h w = ap notHuman (field-text (listed refl) w)
 passed-picked (suc (suc zero)) h w = field-given (listed refl) w
@@ -45,7 +46,7 @@ module _ (file : ℕ) (tested : Bool) (id : List ℕ) where
   asked true a = a .passed
   asked false a = refl
 
-  alike-meeting : {q : List ℕ} {x : Picked} → Alike file q x → meeting file tested id q ≡ (isId id (text (fieldOf file) x) and testedOf file tested x)
+  alike-meeting : {q : List ℕ} {x : Picked} → Alike file q x → meeting file tested id q ≡ (isId id (text (idField file) x) and testedOf file tested x)
   alike-meeting a = ap₂ _and_ (ap (isId id) (a .id)) (asked tested a)
 
   -- from the front
@@ -72,17 +73,17 @@ module _ (file : ℕ) (tested : Bool) (id : List ℕ) where
       swapped false false c = refl
 
   alike-all : (bytesOf : Item → List ℕ) (pickedOf : Item → Picked) (ms : List Item) → ((m : Item) → List·Memᴰ m ms → Alike file (bytesOf m) (pickedOf m))
-      → anyMeets file tested id (map bytesOf ms) (length ms) ≡ anyWith (testedOf file tested) (fieldOf file) (map pickedOf ms) id
+      → anyMeets file tested id (map bytesOf ms) (length ms) ≡ anyWith (testedOf file tested) (idField file) (map pickedOf ms) id
   unfolding anyMeets anyWith
   alike-all f g [] a = refl
   alike-all f g (m ∷ ms) a =
       any-front (f m) (map f ms) (length ms)
       ∙ ap₂ (λ (t u : Bool). t ⇒ true else u) (alike-meeting (a m (List·Memᴰ·head refl))) (alike-all f g ms (λ n i. a n (List·Memᴰ·tail i)))
-      ∙ sym (any-step (testedOf file tested) (fieldOf file) (g m) (map g ms))
+      ∙ sym (any-step (testedOf file tested) (idField file) (g m) (map g ms))
 
 -- all records of an array
 pub meets-picked : (file : ℕ) → 1 ≤ file → file ≤ 5 → (tested : Bool) (id p : List ℕ)
-    → anyMeets file tested id (recordBytes p) (length (itemsOf p)) ≡ anyWith (testedOf file tested) (fieldOf file) (pickedItems (recordShape file) p) id
+    → anyMeets file tested id (recordBytes p) (length (itemsOf p)) ≡ anyWith (testedOf file tested) (idField file) (pickedItems (recordShape file) p) id
 unfolding recordBytes
 meets-picked file h i tested id p =
-    alike-all file tested id (itemOf p) (λ m. pick (recordShape file) (treeOf (itemOf p m))) (itemsOf p) (λ m j. alike file h i (items-whole p m j))
+    alike-all file tested id (itemOf p) (λ m. pick (recordShape file) (partTree (itemOf p m))) (itemsOf p) (λ m j. alike file h i (items-whole p m j))

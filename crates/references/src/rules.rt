@@ -6,11 +6,13 @@ use fields::unquoted;
 use ids::Notes;
 use word::kind::Kind;
 ghost use mathlib.Core.Path.{_≡_};
-ghost use Rattle.document.proofs.Records.{recordShape, pickedItems};
+ghost use Rattle.schema.specs.Records.{recordShape};
+ghost use Rattle.document.proofs.Records.{pickedItems};
 ghost use Rattle.fields.specs.inner.Values.{textBy, thereBy};
+ghost use Rattle.ids.specs.inner.Ids.{idField};
 ghost use Rattle.scalar.specs.inner.Listed.{listed};
 ghost use Rattle.references.specs.References.{demanded as demandedOf, refers as refersTo, named as namedBy};
-ghost use Rattle.references.specs.inner.Known.{Searchable, fieldOf, testOf};
+ghost use Rattle.references.specs.inner.Known.{Searchable, testOf};
 
 // What a field breaks that is needed: the kind, or 0 where it is given.
 pub fn demanded(needed: bool, value: &[u8]) -> u8
@@ -28,7 +30,7 @@ pub fn demanded(needed: bool, value: &[u8]) -> u8
 // Whether a record of a file that a reference names is of the sort that is asked about there; none is where no reference is given.
 fn named(value: &[u8], file: u8, p: &[u8], notes: &[u32; Notes::SIZE]) -> bool
     requires { ⌜ Searchable file (now p) (now notes) ⌝ }
-    ensures { λ r. ⌜ r ≡ namedBy (testOf file) (fieldOf file) (pickedItems (recordShape file) (now (p .entry))) (textBy (now (value .entry))) ⌝ }
+    ensures { λ r. ⌜ r ≡ namedBy (testOf file) (idField file) (pickedItems (recordShape file) (now (p .entry))) (textBy (now (value .entry))) ⌝ }
 {
     if code_of(value) != STRING {
         return false;
@@ -46,7 +48,7 @@ pub fn demanded_by(
     notes: &[u32; Notes::SIZE],
 ) -> u8
     requires { ⌜ Searchable file (now p) (now notes) ⌝ }
-    ensures { λ r. ⌜ listed r ≡ demandedOf (namedBy (testOf file) (fieldOf file) (pickedItems (recordShape file) (now (p .entry))) (textBy (now (reference .entry)))) (thereBy (now (value .entry))) ⌝ }
+    ensures { λ r. ⌜ listed r ≡ demandedOf (namedBy (testOf file) (idField file) (pickedItems (recordShape file) (now (p .entry))) (textBy (now (reference .entry)))) (thereBy (now (value .entry))) ⌝ }
 {
     if 0 < value.len() {
         return 0;
@@ -59,7 +61,7 @@ pub fn demanded_by(
 // Shut out: a reference taken as met because digests agree; one that is spelled in another way taken as dangling.
 pub fn refers(value: &[u8], file: u8, p: &[u8], notes: &[u32; Notes::SIZE]) -> u8
     requires { ⌜ Searchable file (now p) (now notes) ⌝ }
-    ensures { λ r. ⌜ listed r ≡ refersTo (textBy (now (value .entry))) (fieldOf file) (pickedItems (recordShape file) (now (p .entry))) ⌝ }
+    ensures { λ r. ⌜ listed r ≡ refersTo (textBy (now (value .entry))) (idField file) (pickedItems (recordShape file) (now (p .entry))) ⌝ }
 {
     if code_of(value) != STRING {
         return 0;

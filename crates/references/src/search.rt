@@ -14,14 +14,16 @@ ghost use mathlib.Core.Bool.{true};
 ghost use mathlib.Core.Path.{_≡_};
 ghost use Rattle.notation.specs.Choice.{_⇒_else_};
 ghost use Rattle.text.specs.Text.{textOf};
-ghost use Rattle.walk.specs.Part.{Whole, treeOf};
-ghost use Rattle.document.proofs.Records.{recordShape, pickedItems};
+ghost use Rattle.walk.specs.Part.{Whole, partTree};
+ghost use Rattle.schema.specs.Records.{recordShape};
+ghost use Rattle.document.proofs.Records.{pickedItems};
 ghost use Rattle.fields.specs.inner.Values.{textBy};
+ghost use Rattle.ids.specs.inner.Ids.{idField};
 ghost use Rattle.references.specs.References.{anyWith, notHuman};
-ghost use Rattle.references.specs.inner.Known.{Searchable, passing, fieldOf, testedOf};
+ghost use Rattle.references.specs.inner.Known.{Searchable, passing, testedOf};
 
 // Whether no human drives, by the value of field 12.
-pub fn is_driven(value: &[u8]) -> bool
+pub fn is_motorized(value: &[u8]) -> bool
     ensures { λ r. ⌜ r ≡ notHuman (textBy (now (value .entry))) ⌝ }
 {
     if code_of(value) != STRING {
@@ -32,11 +34,11 @@ pub fn is_driven(value: &[u8]) -> bool
 
 // Whether the record `q` is of the sort that its file's references are asked about: a type that no human drives, a station with a capacity.
 fn passes(file: u8, q: &[u8]) -> bool
-    requires { ⌜ Whole (now q) (treeOf (now q)) ⌝ }
+    requires { ⌜ Whole (now q) (partTree (now q)) ⌝ }
     ensures { λ r. ⌜ r ≡ passing file (now (q .entry)) ⌝ }
 {
     match file {
-        1 => is_driven(member(q, b"propulsion_type")),
+        1 => is_motorized(member(q, b"propulsion_type")),
         2 => 0 < member(q, b"capacity").len(),
         _ => true,
     }
@@ -44,7 +46,7 @@ fn passes(file: u8, q: &[u8]) -> bool
 
 // The same where that is asked.
 fn passes_test(file: u8, q: &[u8], tested: bool) -> bool
-    requires { ⌜ Whole (now q) (treeOf (now q)) ⌝ }
+    requires { ⌜ Whole (now q) (partTree (now q)) ⌝ }
     ensures { λ r. ⌜ r ≡ (tested ⇒ passing file (now (q .entry)) else true) ⌝ }
 {
     if tested {
@@ -57,7 +59,7 @@ fn passes_test(file: u8, q: &[u8], tested: bool) -> bool
 // Shut out: a record passed over because a later one has its id.
 pub fn meets(file: u8, p: &[u8], notes: &[u32; Notes::SIZE], id: &[u8], tested: bool) -> bool
     requires { ⌜ Searchable file (now p) (now notes) ⌝ }
-    ensures { λ r. ⌜ r ≡ anyWith (testedOf file tested) (fieldOf file) (pickedItems (recordShape file) (now (p .entry))) (textOf (now (id .entry))) ⌝ }
+    ensures { λ r. ⌜ r ≡ anyWith (testedOf file tested) (idField file) (pickedItems (recordShape file) (now (p .entry))) (textOf (now (id .entry))) ⌝ }
 {
     let digest = digest_of(id);
     let mut j = search(file, p, notes, last(notes, digest), id, digest);

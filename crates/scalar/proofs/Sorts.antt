@@ -9,7 +9,7 @@ use Rattle.schema.specs.Shape.{Sort}
 use Rattle.schema.specs.inner.Line.{sortLetter, sortWords}
 use Rattle.schema.proofs.Letters.{sortFrom, sort-from}
 use Rattle.text.specs.Text.{same}
-use Rattle.scalar.specs.Scalars.{unless, anyWord, numberKinds, textKinds, booleanKinds}
+use Rattle.scalar.specs.Scalars.{unless, anyWord, numberKinds, textKinds, booleanKinds, sortKinds}
 
 sort-of : (σ : Sort) {letter : ℕ} (k : ℕ) → sortLetter σ ≡ letter → letter ≡ k → σ ≡ sortFrom k (sortWords σ)
 sort-of σ k e i = sym (sort-from σ) ∙ ap (λ (l : ℕ). sortFrom l (sortWords σ)) (e ∙ i)
@@ -22,14 +22,14 @@ by-letter f s k i g σ e = ap (λ (τ : Sort). f τ s) (sort-of σ k e i) ∙ g 
 -- the text that a sort is, and the words that it allows
 pub text-exactly : (σ : Sort) {letter : ℕ} (s w : List ℕ) {ws : List (List ℕ)} → sortLetter σ ≡ letter → letter ≡ code "=" → ws ≡ sortWords σ →
     ((x : List ℕ) → ws ≡ x ∷ [] → w ≡ x) → textKinds σ s ≡ unless (same s w) outOfRange
-unfolding sortFrom textKinds
+unfolding sortFrom sortKinds
 text-exactly σ s w e i h only =
     let q = sort-of σ (code "=") e i in
     ap (λ (τ : Sort). textKinds τ s) q ∙ ap (λ (x : List ℕ). unless (same s x) outOfRange) (sym (only _ (h ∙ ap sortWords q)))
 
 pub text-word : (σ : Sort) {letter : ℕ} (s : List ℕ) {ws : List (List ℕ)} → sortLetter σ ≡ letter → letter ≡ code "w" → ws ≡ sortWords σ →
     textKinds σ s ≡ unless (anyWord ws s) outOfRange
-unfolding sortFrom textKinds
+unfolding sortFrom sortKinds
 text-word σ s e i h =
     ap (λ (τ : Sort). textKinds τ s) (sort-of σ (code "w") e i) ∙ ap (λ (x : List (List ℕ)). unless (anyWord x s) outOfRange) (sym h)
 
@@ -38,14 +38,14 @@ module _ {letter : ℕ} where
   pub no-number : (s : List ℕ) → (letter ≡ code "T" → ⊥) → (letter ≡ code "N" → ⊥) → (letter ≡ code "F" → ⊥) → (letter ≡ code "%" → ⊥) →
       (letter ≡ code "y" → ⊥) → (letter ≡ code "x" → ⊥) → (letter ≡ code "z" → ⊥) → (letter ≡ code "m" → ⊥) → (letter ≡ code "p" → ⊥) →
       (σ : Sort) → sortLetter σ ≡ letter → numberKinds σ s ≡ wrongType ∷ []
-  unfolding numberKinds
+  unfolding sortKinds
   no-number s t n f o y x z m p sort.timestamp e = absurd (t (sym e))
   no-number s t n f o y x z m p sort.integer e = absurd (n (sym e))
   no-number s t n f o y x z m p sort.amount e = absurd (f (sym e))
   no-number s t n f o y x z m p sort.portion e = absurd (o (sym e))
   no-number s t n f o y x z m p sort.latitude e = absurd (y (sym e))
   no-number s t n f o y x z m p sort.longitude e = absurd (x (sym e))
-  no-number s t n f o y x z m p sort.ordinate e = absurd (z (sym e))
+  no-number s t n f o y x z m p sort.coordinate e = absurd (z (sym e))
   no-number s t n f o y x z m p sort.money e = absurd (m (sym e))
   no-number s t n f o y x z m p sort.price e = absurd (p (sym e))
   no-number s t n f o y x z m p sort.boolean e = refl
@@ -57,14 +57,14 @@ module _ {letter : ℕ} where
 
   pub no-text : (s : List ℕ) → (letter ≡ code "p" → ⊥) → (letter ≡ code "S" → ⊥) → (letter ≡ code "i" → ⊥) → (letter ≡ code "c" → ⊥) →
       (letter ≡ code "=" → ⊥) → (letter ≡ code "w" → ⊥) → (σ : Sort) → sortLetter σ ≡ letter → textKinds σ s ≡ wrongType ∷ []
-  unfolding textKinds
+  unfolding sortKinds
   no-text s p t i c x w sort.timestamp e = refl
   no-text s p t i c x w sort.integer e = refl
   no-text s p t i c x w sort.amount e = refl
   no-text s p t i c x w sort.portion e = refl
   no-text s p t i c x w sort.latitude e = refl
   no-text s p t i c x w sort.longitude e = refl
-  no-text s p t i c x w sort.ordinate e = refl
+  no-text s p t i c x w sort.coordinate e = refl
   no-text s p t i c x w sort.money e = refl
   no-text s p t i c x w sort.price e = absurd (p (sym e))
   no-text s p t i c x w sort.boolean e = refl
@@ -75,14 +75,14 @@ module _ {letter : ℕ} where
   no-text s p t i c x w (sort.word ws) e = absurd (w (sym e))
 
   pub no-boolean : (letter ≡ code "B" → ⊥) → (σ : Sort) → sortLetter σ ≡ letter → booleanKinds σ ≡ wrongType ∷ []
-  unfolding booleanKinds
+  unfolding sortKinds
   no-boolean b sort.timestamp e = refl
   no-boolean b sort.integer e = refl
   no-boolean b sort.amount e = refl
   no-boolean b sort.portion e = refl
   no-boolean b sort.latitude e = refl
   no-boolean b sort.longitude e = refl
-  no-boolean b sort.ordinate e = refl
+  no-boolean b sort.coordinate e = refl
   no-boolean b sort.money e = refl
   no-boolean b sort.price e = refl
   no-boolean b sort.boolean e = absurd (b (sym e))

@@ -1,12 +1,14 @@
 -- Values of every sort at and past their limits, computed.
 use mathlib.Core.Bool.{true}
 use mathlib.Core.List.{List, [], _∷_, map}
-use mathlib.Core.Path.{_≡_, refl}
+use mathlib.Core.Path.{refl}
 use Prim.Native.Nat.{ℕ, zero, suc}
 use Prim.Native.String.{String}
 use Rattle.notation.specs.Ascii.{bytes}
+use Rattle.notation.specs.Case.{Case, Answers}
 use Rattle.word.specs.Kinds.{wrongType, numberForm, outOfRange}
 use Rattle.json.specs.Tree as tree
+use Rattle.json.specs.Tree.{Json}
 use Rattle.text.specs.Text.{textOf}
 use Rattle.text.specs.Cases.{comparing}
 use Rattle.decimal.specs.Cases.{deciding}
@@ -14,11 +16,11 @@ use Rattle.schema.specs.Shape as sort
 use Rattle.schema.specs.Shape.{Sort}
 use Rattle.schema.specs.Table23.{table23, written23}
 use Rattle.schema.specs.inner.Line.{wordsAt, laidOut}
-use Rattle.scalar.specs.Scalars.{formed, anyMoney, priceMoney, pricing, anyWord, numberKinds, textKinds, booleanKinds, kindsOf}
+use Rattle.scalar.specs.Scalars.{formed, anyMoney, priceMoney, pricing, anyWord, kindsOf, sortKinds}
 
 -- opens every definition of this layer
 unfoldable pub judging : Unit {0}
-unfolding comparing deciding formed anyMoney priceMoney pricing anyWord numberKinds textKinds booleanKinds kindsOf
+unfolding comparing deciding formed anyMoney priceMoney pricing anyWord sortKinds kindsOf
 judging = tt
 
 -- what a value says against a sort: nothing is wrong, or one of three kinds
@@ -34,130 +36,157 @@ unformed = numberForm ∷ []
 abbrev astray : List ℕ
 astray = outOfRange ∷ []
 
-abbrev numbers : Sort → List String → List (List ℕ)
-numbers σ = map (λ s. kindsOf σ (tree.number (bytes s)))
+abbrev numbers : List (Case (Sort × String) (List ℕ))
+numbers =
+    -- integers: a point comes before everything else, then the form, then the range
+    ("an integer", (sort.integer, "0"), sound) ∷
+    ("−0", (sort.integer, "-0"), sound) ∷
+    ("twelve digits", (sort.integer, "123456789012"), sound) ∷
+    ("a point", (sort.integer, "1.0"), mistyped) ∷
+    ("a point below zero", (sort.integer, "-1.5"), mistyped) ∷
+    ("a point and an exponent", (sort.integer, "1.5e1"), mistyped) ∷
+    ("a point and nineteen decimals", (sort.integer, "1.0000000000000000000"), mistyped) ∷
+    ("a point behind thirteen digits", (sort.integer, "1234567890123.5"), mistyped) ∷
+    ("an exponent", (sort.integer, "1e1"), unformed) ∷
+    ("an exponent below zero", (sort.integer, "-1E0"), unformed) ∷
+    ("thirteen digits", (sort.integer, "1234567890123"), unformed) ∷
+    ("thirteen digits below zero", (sort.integer, "-1234567890123"), unformed) ∷
+    ("below zero", (sort.integer, "-1"), astray) ∷
+    ("twelve digits below zero", (sort.integer, "-123456789012"), astray) ∷
+    ("a timestamp", (sort.timestamp, "1700000000"), sound) ∷
+    ("before 1970", (sort.timestamp, "-1"), astray) ∷
+    ("a timestamp with a point", (sort.timestamp, "1.0"), mistyped) ∷
+    ("with an exponent", (sort.timestamp, "1e9"), unformed) ∷
+    -- other numbers
+    ("an amount of nothing", (sort.amount, "0"), sound) ∷
+    ("a fraction", (sort.amount, "0.5"), sound) ∷
+    ("below zero by the last digit", (sort.amount, "-0.000000000000000001"), astray) ∷
+    ("an exponent", (sort.amount, "1e1"), unformed) ∷
+    ("no portion", (sort.portion, "0"), sound) ∷
+    ("the whole", (sort.portion, "1"), sound) ∷
+    ("more by the last digit", (sort.portion, "1.000000000000000001"), astray) ∷
+    ("less than none", (sort.portion, "-0.1"), astray) ∷
+    ("nineteen decimals", (sort.portion, "0.0000000000000000001"), unformed) ∷
+    ("the greatest latitude", (sort.latitude, "90"), sound) ∷
+    ("the least", (sort.latitude, "-90.0"), sound) ∷
+    ("past the greatest by the last digit", (sort.latitude, "90.000000000000000001"), astray) ∷
+    ("below the least", (sort.latitude, "-91"), astray) ∷
+    ("an exponent", (sort.latitude, "9e1"), unformed) ∷
+    ("the greatest longitude", (sort.longitude, "180"), sound) ∷
+    ("the least", (sort.longitude, "-180"), sound) ∷
+    ("past the greatest", (sort.longitude, "180.00000001"), astray) ∷
+    ("below the least", (sort.longitude, "-181"), astray) ∷
+    ("an exponent", (sort.longitude, "18e1"), unformed) ∷
+    ("a third number of any size", (sort.coordinate, "-1e400"), sound) ∷
+    ("of any length", (sort.coordinate, "12345678901234567890"), sound) ∷
+    ("a million", (sort.money, "1000000"), sound) ∷
+    ("a million below zero", (sort.money, "-1000000"), sound) ∷
+    ("zeros behind ten-thousandths", (sort.money, "0.25000"), sound) ∷
+    ("more than a million", (sort.money, "1000000.0001"), astray) ∷
+    ("half a ten-thousandth", (sort.money, "0.00005"), astray) ∷
+    ("an exponent", (sort.money, "1e1"), unformed) ∷
+    ("a price", (sort.price, "1.5"), sound) ∷
+    ("of a million", (sort.price, "1000000"), sound) ∷
+    ("below zero", (sort.price, "-0.5"), astray) ∷
+    ("more than a million", (sort.price, "1000000.0001"), astray) ∷
+    ("thirteen digits", (sort.price, "1234567890123"), unformed) ∷
+    []
 
--- strings as spelled between their quotation marks
-abbrev strings : Sort → List String → List (List ℕ)
-strings σ = map (λ s. kindsOf σ (tree.string (textOf (bytes s))))
-
--- integers: a point comes before everything else, then the form, then the range
-integers-kept : numbers sort.integer ("0" ∷ "-0" ∷ "123456789012" ∷ []) ≡ sound ∷ sound ∷ sound ∷ []
+numbers-answered : Answers (λ c. kindsOf (c .0) (tree.number (bytes (c .1)))) numbers
 unfolding judging
-integers-kept = refl
+numbers-answered = refl
 
-integers-pointed :
-    numbers sort.integer ("1.0" ∷ "-1.5" ∷ "1.5e1" ∷ "1.0000000000000000000" ∷ "1234567890123.5" ∷ []) ≡ mistyped ∷ mistyped ∷ mistyped ∷ mistyped ∷ mistyped ∷ []
-unfolding judging
-integers-pointed = refl
+-- strings as spelled between their quotation marks; line 6 of the table is the form factor's
+abbrev feature : Sort
+feature = sort.exactly (bytes "Feature")
 
-integers-unformed : numbers sort.integer ("1e1" ∷ "-1E0" ∷ "1234567890123" ∷ "-1234567890123" ∷ []) ≡ unformed ∷ unformed ∷ unformed ∷ unformed ∷ []
-unfolding judging
-integers-unformed = refl
+abbrev formFactor : Sort
+formFactor = sort.word (wordsAt table23 6)
 
-integers-below : numbers sort.integer ("-1" ∷ "-123456789012" ∷ []) ≡ astray ∷ astray ∷ []
-unfolding judging
-integers-below = refl
+abbrev strings : List (Case (Sort × String) (List ℕ))
+strings =
+    -- prices: a number without sign and exponent
+    ("a price in quotation marks", (sort.price, "1.5"), sound) ∷
+    ("with an escape", (sort.price, "\\u0031.5"), sound) ∷
+    ("of a million", (sort.price, "1000000"), sound) ∷
+    ("an exponent", (sort.price, "1e1"), astray) ∷
+    ("a sign", (sort.price, "-0"), astray) ∷
+    ("nothing", (sort.price, ""), astray) ∷
+    ("a blank", (sort.price, " 1"), astray) ∷
+    ("thirteen digits and an exponent", (sort.price, "1234567890123e1"), astray) ∷
+    ("more than a million", (sort.price, "1000000.0001"), astray) ∷
+    ("half a ten-thousandth", (sort.price, "0.00005"), astray) ∷
+    ("thirteen digits", (sort.price, "1234567890123"), unformed) ∷
+    ("nineteen decimals", (sort.price, "1.0000000000000000000"), unformed) ∷
+    ("a currency of three capitals", (sort.currency, "EUR"), sound) ∷
+    ("one of them escaped", (sort.currency, "E\\u0055R"), sound) ∷
+    ("small letters", (sort.currency, "eur"), astray) ∷
+    ("four letters", (sort.currency, "EURO"), astray) ∷
+    ("two", (sort.currency, "EU"), astray) ∷
+    ("none", (sort.currency, ""), astray) ∷
+    ("just one text", (feature, "Feature"), sound) ∷
+    ("with an escape", (feature, "F\\u0065ature"), sound) ∷
+    ("in another case", (feature, "feature"), astray) ∷
+    ("and more", (feature, "Features"), astray) ∷
+    ("one of the words", (formFactor, "bicycle"), sound) ∷
+    ("in another case", (formFactor, "Bicycle"), sound) ∷
+    ("another word, in several cases", (formFactor, "SCOOTER_seated"), sound) ∷
+    ("and more", (formFactor, "bicycles"), astray) ∷
+    ("less", (formFactor, "bi"), astray) ∷
+    ("no word", (formFactor, ""), astray) ∷
+    ("no text", (sort.text, ""), sound) ∷
+    ("any text", (sort.text, "any\\u0000"), sound) ∷
+    []
 
-timestamps : numbers sort.timestamp ("1700000000" ∷ "-1" ∷ "1.0" ∷ "1e9" ∷ []) ≡ sound ∷ astray ∷ mistyped ∷ unformed ∷ []
-unfolding judging
-timestamps = refl
+strings-answered : Answers (λ c. kindsOf (c .0) (tree.string (textOf (bytes (c .1))))) strings
+unfolding judging laidOut written23
+strings-answered = refl
 
--- other numbers
-amounts : numbers sort.amount ("0" ∷ "0.5" ∷ "-0.000000000000000001" ∷ "1e1" ∷ []) ≡ sound ∷ sound ∷ astray ∷ unformed ∷ []
-unfolding judging
-amounts = refl
-
-portions : numbers sort.portion ("0" ∷ "1" ∷ "1.000000000000000001" ∷ "-0.1" ∷ "0.0000000000000000001" ∷ []) ≡ sound ∷ sound ∷ astray ∷ astray ∷ unformed ∷ []
-unfolding judging
-portions = refl
-
-latitudes : numbers sort.latitude ("90" ∷ "-90.0" ∷ "90.000000000000000001" ∷ "-91" ∷ "9e1" ∷ []) ≡ sound ∷ sound ∷ astray ∷ astray ∷ unformed ∷ []
-unfolding judging
-latitudes = refl
-
-longitudes : numbers sort.longitude ("180" ∷ "-180" ∷ "180.00000001" ∷ "-181" ∷ "18e1" ∷ []) ≡ sound ∷ sound ∷ astray ∷ astray ∷ unformed ∷ []
-unfolding judging
-longitudes = refl
-
--- the third number of a position has no form
-ordinates : numbers sort.ordinate ("-1e400" ∷ "12345678901234567890" ∷ []) ≡ sound ∷ sound ∷ []
-unfolding judging
-ordinates = refl
-
-moneys : numbers sort.money ("1000000" ∷ "-1000000" ∷ "0.25000" ∷ "1000000.0001" ∷ "0.00005" ∷ "1e1" ∷ []) ≡ sound ∷ sound ∷ sound ∷ astray ∷ astray ∷ unformed ∷ []
-unfolding judging
-moneys = refl
-
--- prices: a number, or a string that spells one without sign and exponent
-prices : numbers sort.price ("1.5" ∷ "1000000" ∷ "-0.5" ∷ "1000000.0001" ∷ "1234567890123" ∷ []) ≡ sound ∷ sound ∷ astray ∷ astray ∷ unformed ∷ []
-unfolding judging
-prices = refl
-
-prices-quoted : strings sort.price ("1.5" ∷ "\\u0031.5" ∷ "1000000" ∷ []) ≡ sound ∷ sound ∷ sound ∷ []
-unfolding judging
-prices-quoted = refl
-
-prices-misquoted : strings sort.price ("1e1" ∷ "-0" ∷ "" ∷ " 1" ∷ "1234567890123e1" ∷ "1000000.0001" ∷ "0.00005" ∷ []) ≡ astray ∷ astray ∷ astray ∷ astray ∷ astray ∷ astray ∷ astray ∷ []
-unfolding judging
-prices-misquoted = refl
-
-prices-unformed : strings sort.price ("1234567890123" ∷ "1.0000000000000000000" ∷ []) ≡ unformed ∷ unformed ∷ []
-unfolding judging
-prices-unformed = refl
-
--- ids, in decoded bytes
+-- ids, by how many bytes they have when they are decoded
 unfoldable letters : ℕ → List ℕ
 letters zero = []
 letters (suc n) = 0x61 ∷ letters n
 
-ids : map (λ s. kindsOf sort.id (tree.string s)) ([] ∷ letters 100 ∷ letters 101 ∷ []) ≡ sound ∷ sound ∷ astray ∷ []
+abbrev ids : List (Case ℕ (List ℕ))
+ids =
+    ("none", 0, sound) ∷
+    ("as many as may be", 100, sound) ∷
+    ("one more", 101, astray) ∷
+    []
+
+ids-answered : Answers (λ n. kindsOf sort.id (tree.string (letters n))) ids
 unfolding judging letters
-ids = refl
+ids-answered = refl
 
--- currencies: three capitals
-currencies : strings sort.currency ("EUR" ∷ "E\\u0055R" ∷ "eur" ∷ "EURO" ∷ "EU" ∷ "" ∷ []) ≡ sound ∷ sound ∷ astray ∷ astray ∷ astray ∷ astray ∷ []
+-- what each sort says of a number, a string, true, null, an array and an object
+abbrev values : List Json
+values = tree.number (bytes "1") ∷ tree.string (bytes "!") ∷ tree.boolean true ∷ tree.null ∷ tree.array tree.noItem ∷ tree.object tree.noMember ∷ []
+
+abbrev numeric : List (List ℕ)
+numeric = sound ∷ mistyped ∷ mistyped ∷ mistyped ∷ mistyped ∷ mistyped ∷ []
+
+abbrev textual : List ℕ → List (List ℕ)
+textual k = mistyped ∷ k ∷ mistyped ∷ mistyped ∷ mistyped ∷ mistyped ∷ []
+
+abbrev types : List (Case Sort (List (List ℕ)))
+types =
+    ("timestamp", sort.timestamp, numeric) ∷
+    ("integer", sort.integer, numeric) ∷
+    ("amount", sort.amount, numeric) ∷
+    ("portion", sort.portion, numeric) ∷
+    ("latitude", sort.latitude, numeric) ∷
+    ("longitude", sort.longitude, numeric) ∷
+    ("third number of a position", sort.coordinate, numeric) ∷
+    ("money", sort.money, numeric) ∷
+    ("price", sort.price, sound ∷ astray ∷ mistyped ∷ mistyped ∷ mistyped ∷ mistyped ∷ []) ∷
+    ("text", sort.text, textual sound) ∷
+    ("id", sort.id, textual sound) ∷
+    ("currency", sort.currency, textual astray) ∷
+    ("one text", sort.exactly (bytes "2.3"), textual astray) ∷
+    ("words", sort.word (bytes "human" ∷ []), textual astray) ∷
+    ("boolean", sort.boolean, mistyped ∷ mistyped ∷ sound ∷ mistyped ∷ mistyped ∷ mistyped ∷ []) ∷
+    []
+
+types-answered : Answers (λ σ. map (kindsOf σ) values) types
 unfolding judging
-currencies = refl
-
--- just one text, and one of a line's words in any case: line 6 is the form factor's
-exactly : strings (sort.exactly (bytes "Feature")) ("Feature" ∷ "F\\u0065ature" ∷ "feature" ∷ "Features" ∷ []) ≡ sound ∷ sound ∷ astray ∷ astray ∷ []
-unfolding judging
-exactly = refl
-
-words : strings (sort.word (wordsAt table23 6)) ("bicycle" ∷ "Bicycle" ∷ "SCOOTER_seated" ∷ "bicycles" ∷ "bi" ∷ "" ∷ []) ≡ sound ∷ sound ∷ sound ∷ astray ∷ astray ∷ astray ∷ []
-unfolding judging laidOut written23
-words = refl
-
-texts : strings sort.text ("" ∷ "any\\u0000" ∷ []) ≡ sound ∷ sound ∷ []
-unfolding judging
-texts = refl
-
--- values of another type: what each sort says of a number, a string, true, null, an array and an object
-abbrev numeric : List Sort
-numeric =
-    sort.timestamp ∷ sort.integer ∷ sort.amount ∷ sort.portion ∷ sort.latitude ∷ sort.longitude ∷ sort.ordinate ∷ sort.money ∷ []
-
-abbrev textual : List Sort
-textual = sort.text ∷ sort.id ∷ sort.currency ∷ sort.exactly (bytes "2.3") ∷ sort.word (bytes "human" ∷ []) ∷ []
-
-abbrev types : Sort → List (List ℕ)
-types σ =
-    map (kindsOf σ)
-    (tree.number (bytes "1") ∷ tree.string (bytes "!") ∷ tree.boolean true ∷ tree.null ∷ tree.array tree.noItem ∷ tree.object tree.noMember ∷ [])
-
-numeric-types : map types numeric ≡ map (λ σ. sound ∷ mistyped ∷ mistyped ∷ mistyped ∷ mistyped ∷ mistyped ∷ []) numeric
-unfolding judging
-numeric-types = refl
-
-price-types : types sort.price ≡ sound ∷ astray ∷ mistyped ∷ mistyped ∷ mistyped ∷ mistyped ∷ []
-unfolding judging
-price-types = refl
-
-textual-types : map types textual ≡ map (λ k. mistyped ∷ k ∷ mistyped ∷ mistyped ∷ mistyped ∷ mistyped ∷ []) (sound ∷ sound ∷ astray ∷ astray ∷ astray ∷ [])
-unfolding judging
-textual-types = refl
-
-boolean-types : types sort.boolean ≡ mistyped ∷ mistyped ∷ sound ∷ mistyped ∷ mistyped ∷ mistyped ∷ []
-unfolding judging
-boolean-types = refl
+types-answered = refl

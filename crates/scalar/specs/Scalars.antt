@@ -16,7 +16,7 @@ use Rattle.decimal.specs.declared.Price.{Price}
 use Rattle.decimal.specs.declared.Price.the-variants as price
 use Rattle.decimal.specs.declared.Money.the-variants as money
 use Rattle.decimal.specs.Decimals.{numberOf, hasPoint, priceOf}
-use Rattle.decimal.specs.Exact.{natural, portion, within, moneyOf}
+use Rattle.decimal.specs.Exact.{natural, portion, inRange, moneyOf}
 use Rattle.text.specs.Text.{same, sameWord, currency}
 use Rattle.schema.specs.Shape as sort
 use Rattle.schema.specs.Shape.{Sort}
@@ -47,59 +47,50 @@ unfoldable pub anyWord : List (List ℕ) → List ℕ → Bool
 anyWord [] s = false
 anyWord (w ∷ ws) s = sameWord s w ⇒ true else anyWord ws s
 
--- a number's spelling against a sort: integers first of all have no point
-unfoldable pub numberKinds : Sort → List ℕ → List ℕ
-numberKinds sort.timestamp s = hasPoint s ⇒ wrongType ∷ [] else formed natural (numberOf s)
-numberKinds sort.integer s = hasPoint s ⇒ wrongType ∷ [] else formed natural (numberOf s)
-numberKinds sort.amount s = formed natural (numberOf s)
-numberKinds sort.portion s = formed portion (numberOf s)
-numberKinds sort.latitude s = formed (within 90) (numberOf s)
-numberKinds sort.longitude s = formed (within 180) (numberOf s)
-numberKinds sort.ordinate s = []
-numberKinds sort.money s = formed anyMoney (numberOf s)
-numberKinds sort.price s = formed priceMoney (numberOf s)
-numberKinds sort.boolean s = wrongType ∷ []
-numberKinds sort.text s = wrongType ∷ []
-numberKinds sort.id s = wrongType ∷ []
-numberKinds sort.currency s = wrongType ∷ []
-numberKinds (sort.exactly t) s = wrongType ∷ []
-numberKinds (sort.word ws) s = wrongType ∷ []
+-- what a sort finds wrong with a number by its spelling, with a string by its text, with true and false
+pub record Kinds : Type 0 where
+  pub ofNumber : List ℕ → List ℕ
+  pub ofText : List ℕ → List ℕ
+  pub ofBoolean : List ℕ
 
--- a string's text against a sort
-unfoldable pub textKinds : Sort → List ℕ → List ℕ
-textKinds sort.timestamp s = wrongType ∷ []
-textKinds sort.integer s = wrongType ∷ []
-textKinds sort.amount s = wrongType ∷ []
-textKinds sort.portion s = wrongType ∷ []
-textKinds sort.latitude s = wrongType ∷ []
-textKinds sort.longitude s = wrongType ∷ []
-textKinds sort.ordinate s = wrongType ∷ []
-textKinds sort.money s = wrongType ∷ []
-textKinds sort.price s = pricing (priceOf s)
-textKinds sort.boolean s = wrongType ∷ []
-textKinds sort.text s = []
-textKinds sort.id s = unless (not (ltb idBytes (length s))) outOfRange
-textKinds sort.currency s = unless (currency s) outOfRange
-textKinds (sort.exactly t) s = unless (same s t) outOfRange
-textKinds (sort.word ws) s = unless (anyWord ws s) outOfRange
+-- a sort of numbers, and one of strings
+abbrev pub numbers : (List ℕ → List ℕ) → Kinds
+numbers kinds = record { ofNumber = kinds; ofText = λ s. wrongType ∷ []; ofBoolean = wrongType ∷ [] }
 
--- true or false against a sort
-unfoldable pub booleanKinds : Sort → List ℕ
-booleanKinds sort.timestamp = wrongType ∷ []
-booleanKinds sort.integer = wrongType ∷ []
-booleanKinds sort.amount = wrongType ∷ []
-booleanKinds sort.portion = wrongType ∷ []
-booleanKinds sort.latitude = wrongType ∷ []
-booleanKinds sort.longitude = wrongType ∷ []
-booleanKinds sort.ordinate = wrongType ∷ []
-booleanKinds sort.money = wrongType ∷ []
-booleanKinds sort.price = wrongType ∷ []
-booleanKinds sort.boolean = []
-booleanKinds sort.text = wrongType ∷ []
-booleanKinds sort.id = wrongType ∷ []
-booleanKinds sort.currency = wrongType ∷ []
-booleanKinds (sort.exactly t) = wrongType ∷ []
-booleanKinds (sort.word ws) = wrongType ∷ []
+abbrev pub strings : (List ℕ → List ℕ) → Kinds
+strings kinds = record { ofNumber = λ s. wrongType ∷ []; ofText = kinds; ofBoolean = wrongType ∷ [] }
+
+-- an integer first of all has no point
+abbrev pub whole : List ℕ → List ℕ
+whole s = hasPoint s ⇒ wrongType ∷ [] else formed natural (numberOf s)
+
+-- sort by sort
+unfoldable pub sortKinds : Sort → Kinds
+sortKinds sort.timestamp = numbers whole
+sortKinds sort.integer = numbers whole
+sortKinds sort.amount = numbers (λ s. formed natural (numberOf s))
+sortKinds sort.portion = numbers (λ s. formed portion (numberOf s))
+sortKinds sort.latitude = numbers (λ s. formed (inRange 90) (numberOf s))
+sortKinds sort.longitude = numbers (λ s. formed (inRange 180) (numberOf s))
+sortKinds sort.coordinate = numbers (λ s. [])
+sortKinds sort.money = numbers (λ s. formed anyMoney (numberOf s))
+sortKinds sort.price =
+    record { ofNumber = λ s. formed priceMoney (numberOf s); ofText = λ s. pricing (priceOf s); ofBoolean = wrongType ∷ [] }
+sortKinds sort.boolean = record { ofNumber = λ s. wrongType ∷ []; ofText = λ s. wrongType ∷ []; ofBoolean = [] }
+sortKinds sort.text = strings (λ s. [])
+sortKinds sort.id = strings (λ s. unless (not (ltb idBytes (length s))) outOfRange)
+sortKinds sort.currency = strings (λ s. unless (currency s) outOfRange)
+sortKinds (sort.exactly t) = strings (λ s. unless (same s t) outOfRange)
+sortKinds (sort.word ws) = strings (λ s. unless (anyWord ws s) outOfRange)
+
+abbrev pub numberKinds : Sort → List ℕ → List ℕ
+numberKinds σ s = sortKinds σ .ofNumber s
+
+abbrev pub textKinds : Sort → List ℕ → List ℕ
+textKinds σ s = sortKinds σ .ofText s
+
+abbrev pub booleanKinds : Sort → List ℕ
+booleanKinds σ = sortKinds σ .ofBoolean
 
 -- a value against a sort; null, arrays and objects are of no sort
 unfoldable pub kindsOf : Sort → Json → List ℕ

@@ -3,7 +3,7 @@
 use mathlib.Core.Bool.{Bool, true}
 use mathlib.Core.List.{List, [], _∷_, flatten}
 use mathlib.Core.Path.{_≡_, refl}
-use Prim.Native.Nat.{ℕ, zero, suc, _<_}
+use Prim.Native.Nat.{ℕ, zero, suc, _≤_, _<_}
 use native.Mathlib.Omega.{arith}
 use lib.Dec.{ltb}
 use lib.ListN.{length, getD}
@@ -18,7 +18,7 @@ use Rattle.schema.specs.inner.Line.{namesOf, wordsOf, laidOut}
 use Rattle.schema.proofs.Tests.{and-left, and-right}
 
 -- A test that every file passes, and the empty shape too, is passed by the shape of any number.
-every : (Shape → Bool) → Table → Bool
+unfoldable pub every : (Shape → Bool) → Table → Bool
 every test [] = true
 every test (σ ∷ t) = test σ and every test t
 
@@ -28,10 +28,21 @@ every-at test [] e u i = u
 every-at test (σ ∷ t) e u zero = and-left (test σ) (every test t) e
 every-at test (σ ∷ t) e u (suc i) = every-at test t (and-right (test σ) (every test t) e) u i
 
-every-file : (test : Shape → Bool) (t : Table) → every test t ≡ true → test unlisted ≡ true → (file : ℕ) → test (fileShape t file) ≡ true
+pub every-file : (test : Shape → Bool) (t : Table) → every test t ≡ true → test unlisted ≡ true → (file : ℕ) → test (fileShape t file) ≡ true
 unfolding fileShape
 every-file test t e u zero = u
 every-file test t e u (suc i) = every-at test t e u i
+
+-- a number that is no file's has the empty shape
+past-all : (t : Table) (i : ℕ) → length t ≤ i → getD t i unlisted ≡ unlisted
+past-all [] i h = refl
+past-all (σ ∷ t) zero h = absurd (omega arith)
+past-all (σ ∷ t) (suc i) h = past-all t i (omega arith)
+
+pub no-file : (t : Table) (file : ℕ) → (1 ≤ file → file ≤ length t → ⊥) → fileShape t file ≡ unlisted
+unfolding fileShape
+no-file t zero h = refl
+no-file t (suc i) h = past-all t i (omega (arith, h (omega arith)))
 
 pub distinct : (file : ℕ) → distinctNames (fileShape table23 file) ≡ true
 unfolding every written23 distinctNames listedIn same

@@ -9,38 +9,25 @@ use Rattle.notation.specs.Ascii.{bytes}
 -- what a value may be, by document 01's letters and words
 pub data Sort : Type 0 where
   -- T and N: an integer that is at least 0
-  timestamp : Sort
-  integer : Sort
+  timestamp integer : Sort
   -- F: a number that is at least 0; 0 to 1; lat and lon; any number
-  amount : Sort
-  portion : Sort
-  latitude : Sort
-  longitude : Sort
-  ordinate : Sort
+  amount portion latitude longitude coordinate : Sort
   -- money; and a price: money that is at least 0, as a number or a string
-  money : Sort
-  price : Sort
+  money price : Sort
   -- B, S, ids, currencies
-  boolean : Sort
-  text : Sort
-  id : Sort
-  currency : Sort
+  boolean text id currency : Sort
   -- just this text; one of these words, whatever the case of their letters
   exactly : List ℕ → Sort
   word : List (List ℕ) → Sort
+  deriving Discrete as Sort-discrete
 
 pub data Need : Type 0 where
-  required : Need
-  optional : Need
-  conditional : Need
+  required optional conditional : Need
 
 -- which number of a fault an item's own number is: the record, the sub, none (the fault keeps the number of what is around the array),
 -- or a position's, which counts over the whole zone
 pub data Numbering : Type 0 where
-  records : Numbering
-  subs : Numbering
-  outer : Numbering
-  positions : Numbering
+  records subs outer positions : Numbering
 
 mutual
   pub data Shape : Type 0 where
@@ -63,15 +50,11 @@ Table = List Shape
 unfoldable pub fileShape : Table → ℕ → Shape
 fileShape t file = getD (unlisted ∷ t) file unlisted
 
--- A line of a table: the field's number, R required, O optional or C conditional, the name, what the value is.
-infixr 20 _R_∶_▸_
-abbrev pub _R_∶_▸_ : ℕ → String → Shape → Rows → Rows
-_R_∶_▸_ field name shape rows = row field required (bytes name) shape rows
+-- A line of a table: the field's number, R required, O optional or C conditional, the name, and the sort of its value, or what array or object it holds.
+infixr 20 _·_·_∶_▸_
+abbrev pub _·_·_∶_▸_ : ℕ → Need → String → Sort → Rows → Rows
+_·_·_∶_▸_ field need name sort rows = row field need (bytes name) (scalar sort) rows
 
-infixr 20 _O_∶_▸_
-abbrev pub _O_∶_▸_ : ℕ → String → Shape → Rows → Rows
-_O_∶_▸_ field name shape rows = row field optional (bytes name) shape rows
-
-infixr 20 _C_∶_▸_
-abbrev pub _C_∶_▸_ : ℕ → String → Shape → Rows → Rows
-_C_∶_▸_ field name shape rows = row field conditional (bytes name) shape rows
+infixr 20 _·_·_holds_▸_
+abbrev pub _·_·_holds_▸_ : ℕ → Need → String → Shape → Rows → Rows
+_·_·_holds_▸_ field need name shape rows = row field need (bytes name) shape rows

@@ -3,6 +3,7 @@ ghost use mathlib.Core.Path.{_≡_};
 
 pub mod lines;
 pub mod names;
+mod table;
 pub mod words;
 
 // Part of a list: its first place, and how many places.
@@ -25,19 +26,16 @@ pub struct Line {
 
 // The same of all lines, column by column.
 pub struct LineTable {
-    pub fields: [u8; 92],
-    pub needs: [u8; 92],
-    pub values: [u8; 92],
-    pub items: [u8; 92],
-    pub numberings: [u8; 92],
-    pub most: [u16; 92],
-    pub insides: [u8; 92],
+    pub fields: [u8; Line::COUNT],
+    pub needs: [u8; Line::COUNT],
+    pub values: [u8; Line::COUNT],
+    pub items: [u8; Line::COUNT],
+    pub numberings: [u8; Line::COUNT],
+    pub most: [u16; Line::COUNT],
+    pub insides: [u8; Line::COUNT],
 }
 
 impl Line {
-    // How many lines there are.
-    pub const COUNT: usize = 92;
-
     // Whether a member must be there.
     pub const REQUIRED: u8 = b'R';
 

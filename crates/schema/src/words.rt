@@ -2,110 +2,16 @@
 use crate::Line;
 use crate::Range;
 use crate::from_u8;
+use crate::table::LINE_COUNTS;
+use crate::table::LINE_FIRSTS;
+use crate::table::WORD_COUNTS;
+use crate::table::WORD_FIRSTS;
+use crate::table::WORDS;
 use text::compare;
 ghost use mathlib.Core.Path.{_≡_};
 ghost use Rattle.text.specs.Text.{textOf, same, sameWord};
 ghost use Rattle.schema.specs.Table23.{table23};
 ghost use Rattle.schema.specs.inner.Line.{lineWords, wordsOf, wordAt, rangeAt};
-
-const LINE_FIRSTS: [u8; 92] = *b"\
-    \x00\x01\x01\x01\x01\x01\x01\x09\x11\x11\
-    \x11\x12\x12\x12\x12\x12\x12\x12\x12\x12\
-    \x12\x13\x13\x13\x13\x13\x13\x13\x13\x13\x13\x13\x13\x13\x13\
-    \x13\x14\x14\x14\x14\x14\x14\x14\x14\x14\x14\x14\x14\x14\x14\
-    \x14\x15\x15\x15\x15\x15\x15\x15\x15\x15\x15\x15\x15\x15\x15\x15\x15\x15\x15\x15\x15\x15\
-    \x15\x16\x16\x16\x16\x16\x17\x17\x18\x18\x19\x19\x19\x19\x19\x19\x19\x19\x19\x19";
-
-const LINE_COUNTS: [u8; 92] = *b"\
-    \x01\x00\x00\x00\x00\x00\x08\x08\x00\x00\
-    \x01\x00\x00\x00\x00\x00\x00\x00\x00\x00\
-    \x01\x00\x00\x00\x00\x00\x00\x00\x00\x00\x00\x00\x00\x00\x00\
-    \x01\x00\x00\x00\x00\x00\x00\x00\x00\x00\x00\x00\x00\x00\x00\
-    \x01\x00\x00\x00\x00\x00\x00\x00\x00\x00\x00\x00\x00\x00\x00\x00\x00\x00\x00\x00\x00\x00\
-    \x01\x00\x00\x00\x00\x01\x00\x01\x00\x01\x00\x00\x00\x00\x00\x00\x00\x00\x00\x00";
-
-const WORDS: [u8; 217] = *b"\
-    2.3\
-    bicycle\
-    cargo_bicycle\
-    car\
-    moped\
-    scooter\
-    scooter_standing\
-    scooter_seated\
-    other\
-    human\
-    electric_assist\
-    electric\
-    combustion\
-    combustion_diesel\
-    hybrid\
-    plug_in_hybrid\
-    hydrogen_fuel_cell\
-    2.3\
-    2.3\
-    2.3\
-    2.3\
-    2.3\
-    FeatureCollection\
-    Feature\
-    MultiPolygon";
-
-const FIRSTS: [u8; 25] = [
-    0,
-    3,
-    10,
-    23,
-    26,
-    31,
-    38,
-    54,
-    68,
-    73,
-    78,
-    93,
-    101,
-    111,
-    128,
-    134,
-    148,
-    166,
-    169,
-    172,
-    175,
-    178,
-    181,
-    198,
-    205,
-];
-
-const COUNTS: [u8; 25] = [
-    3,
-    7,
-    13,
-    3,
-    5,
-    7,
-    16,
-    14,
-    5,
-    5,
-    15,
-    8,
-    10,
-    17,
-    6,
-    14,
-    18,
-    3,
-    3,
-    3,
-    3,
-    3,
-    17,
-    7,
-    12,
-];
 
 // Which words are a line's.
 pub fn words_at(i: usize) -> Range
@@ -124,12 +30,12 @@ pub fn words_at(i: usize) -> Range
 fn word_at(k: usize) -> Range
     ensures { λ r. ⌜ r ≡ rangeAt (wordsOf table23) k ⌝ }
 {
-    if FIRSTS.len() <= k {
+    if WORD_FIRSTS.len() <= k {
         return Range { first: 0, count: 0 };
     }
     Range {
-        first: from_u8(FIRSTS[k]),
-        count: from_u8(COUNTS[k]),
+        first: from_u8(WORD_FIRSTS[k]),
+        count: from_u8(WORD_COUNTS[k]),
     }
 }
 

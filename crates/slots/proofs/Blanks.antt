@@ -16,15 +16,15 @@ use Rattle.lexeme.specs.Read.{made}
 use Rattle.lexeme.specs.Read.Read.{done}
 use Rattle.lexeme.specs.Character.{paired, byte, bytesOf, next}
 use Rattle.lexeme.specs.Strings.{string, decoded}
-use Rattle.lexeme.specs.Tokens.{Start, start}
+use Rattle.lexeme.specs.inner.Start.{Start, start}
 use Rattle.lexeme.proofs.Rests.{first-byte}
 use Rattle.lexeme.proofs.Steps.{by-test, true-false, bad-done, done-rest, made-done, no-cons, string-quote, string-fault, string-character, string-empty}
-use Rattle.lexeme.proofs.Starts.{string-byte}
+use Rattle.lexeme.proofs.Starts.{string-byte, string-byte}
 use Rattle.lexeme.proofs.Takes.{string-spelled}
 use Rattle.text.proofs.Whole.{next-whole}
 use Rattle.json.specs.Tree as tree
 use Rattle.json.specs.Tree.{Json}
-use Rattle.json.specs.Text.{value, valueBy, valueAt}
+use Rattle.json.specs.Text.{value, valueBy}
 use Rattle.walk.specs.declared.ValueKind.the-variants as kind
 use Rattle.walk.specs.Part.{Whole, kindOf, kindFrom, kindAt}
 use Rattle.walk.specs.inner.Skip.{skipped}
@@ -51,9 +51,9 @@ start-quote b e = rw (start, e)
 
 -- a text, read
 read-text : (d b : ℕ) (l : List ℕ) → start b ≡ Start.string → value paired d (b ∷ l) ≡ made Json.string (string paired 0 l)
-unfolding value valueBy valueAt
-read-text zero b l e = rw (valueAt, e)
-read-text (suc d) b l e = rw (valueAt, e)
+unfolding value valueBy
+read-text zero b l e = rw (string-byte b e)
+read-text (suc d) b l e = rw (string-byte b e)
 
 bytes-some : (x : Char) (y : List ℕ) → 0 < x .len → bytesOf x ++ y ≡ [] → ⊥
 bytes-some x y h e = omega (arith, ap length e, length-append (bytesOf x) y, length-take (x .len) (x .b0 ∷ x .b1 ∷ x .b2 ∷ x .b3 ∷ []))

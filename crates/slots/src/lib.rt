@@ -115,8 +115,8 @@ pub struct Row {
 // are lent.
 pub fn row_of(
     bytes: &[u8],
-    firsts: &[u16; 92],
-    counts: &[u8; 92],
+    firsts: &[u16; Line::COUNT],
+    counts: &[u8; Line::COUNT],
     insides: &[u8],
     spelled: &[u8],
     first: usize,

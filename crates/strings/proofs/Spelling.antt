@@ -14,7 +14,8 @@ use Rattle.lexeme.specs.declared.Next.{Next}
 use Rattle.lexeme.specs.declared.Next.the-variants.{Quote, Character, Fault}
 use Rattle.lexeme.specs.declared.Scan.{Scan}
 use Rattle.lexeme.specs.declared.Scan.the-variants as scan
-use Rattle.lexeme.specs.Character.{Surrogates, Lead, byte, lead, char1, escape, nextBy, next, bytesOf}
+use Rattle.lexeme.specs.Character.{Surrogates, byte, char1, escape, next, bytesOf}
+use Rattle.lexeme.specs.inner.Lead.{Lead, lead, nextBy}
 use Rattle.lexeme.specs.inner.Class.{leadOf}
 use Rattle.lexeme.specs.Read.{placed}
 use Rattle.lexeme.specs.Read.Read.{bad}
@@ -25,6 +26,7 @@ use Rattle.lexeme.proofs.Rests.{at-cons, first-byte}
 use Rattle.character.specs.inner.Length.{taken}
 use Rattle.character.proofs.Inside.{character-inside, fault-inside}
 use Rattle.character.proofs.Leads.{class-plain}
+use Rattle.lexeme.proofs.Leads.{next-led}
 
 module _ (ρ : Surrogates) where
   -- where the string that goes on at i ends in s
@@ -62,14 +64,14 @@ module _ (ρ : Surrogates) where
 
     -- the closing quote, by its class
     pub at-closing : (c : ℕ) → leadOf c ≡ lead (byte s i) → c ≡ 14 → scan.End (i + 1) ≡ end-from s i
-    unfolding next nextBy leadOf
+    unfolding nextBy leadOf
     at-closing c e p =
-        at-quote (ap (nextBy ρ (drop i s)) (ap lead (sym (first-byte s i)) ∙ sym e ∙ ap leadOf p))
+        at-quote (next-led ρ (drop i s) (ap lead (sym (first-byte s i)) ∙ sym e ∙ ap leadOf p))
 
     -- the closing quote, by itself
     pub at-mark : byte (drop i s) 0 ≡ 0x22 → scan.End (i + 1) ≡ end-from s i
-    unfolding next nextBy lead
-    at-mark e = at-quote (ap (λ b. nextBy ρ (drop i s) (lead b)) e)
+    unfolding next
+    at-mark e = at-quote (rw e)
 
     pub at-fault : (k n : ℕ) → next ρ (drop i s) ≡ Fault k n → AtFault s i k n
     at-fault k n e =
@@ -93,10 +95,10 @@ module _ (ρ : Surrogates) where
 
     -- an escape with no fault, by its length and its class
     pub at-escape : (c n : ℕ) → leadOf c ≡ lead (byte s i) → n ≡ (eqb c 16 ⇒ taken (escape ρ (drop i s)) else 0) → 0 < n → AtEscape s i n
-    unfolding next nextBy leadOf
+    unfolding nextBy leadOf
     at-escape c n e f h =
         by-test (eqb c 16)
-        (λ t. go _ (ap (nextBy ρ (drop i s)) (ap lead (sym (first-byte s i)) ∙ sym e ∙ ap leadOf (eqb-true c 16 t))) (rw t at f)) λ t. absurd (let g : n ≡ 0 = rw t at f in omega arith)
+        (λ t. go _ (next-led ρ (drop i s) (ap lead (sym (first-byte s i)) ∙ sym e ∙ ap leadOf (eqb-true c 16 t))) (rw t at f)) λ t. absurd (let g : n ≡ 0 = rw t at f in omega arith)
       where
         go : (o : Next) → next ρ (drop i s) ≡ o → n ≡ taken o → AtEscape s i n
         go Quote t u = absurd (omega arith)
@@ -107,9 +109,9 @@ module _ (ρ : Surrogates) where
             record { inside = omega (arith, a .inside); ends = ap (end-from s) v ∙ a .ends }
 
     pub at-plain : (c : ℕ) → leadOf c ≡ lead (byte s i) → c < 14 → end-from s (i + 1) ≡ end-from s i
-    unfolding next nextBy
+    unfolding nextBy
     at-plain c e p =
         let t : lead (byte (drop i s) 0) ≡ Lead.plain = ap lead (sym (first-byte s i)) ∙ sym e ∙ class-plain c p in
-        let f : next ρ (drop i s) ≡ char1 (byte (drop i s) 0) 0 = ap (nextBy ρ (drop i s)) t in
+        let f : next ρ (drop i s) ≡ char1 (byte (drop i s) 0) 0 = next-led ρ (drop i s) t in
         let g : i + 1 ≡ i + 1 + 0 = omega arith in
         ap (end-from s) g ∙ at-character _ f .ends

@@ -10,7 +10,8 @@ use lib.ListN.{length, take, drop, drop-of-length-le}
 use lib.Seq.{take-all, drop-drop}
 use Rattle.lexeme.specs.declared.Char.{Char}
 use Rattle.lexeme.specs.declared.Next.the-variants.{Quote, Character, Fault}
-use Rattle.lexeme.specs.Character.{Lead, byte, bytesOf, char1, lead, nextBy, next}
+use Rattle.lexeme.specs.Character.{byte, bytesOf, char1, next}
+use Rattle.lexeme.specs.inner.Lead.{Lead, lead, nextBy}
 use Rattle.lexeme.specs.Character.Surrogates.{paired}
 use Rattle.lexeme.specs.Strings.{decoded}
 use Rattle.lexeme.proofs.Rests.{at-cons, first-byte}
@@ -21,6 +22,7 @@ use Rattle.text.specs.declared.Step.the-variants.{End, Byte}
 use Rattle.text.specs.Text.{textOf}
 use Rattle.text.specs.inner.Walk.{cursorAt, left, told, alone}
 use Rattle.text.proofs.Whole.{next-whole}
+use Rattle.lexeme.proofs.Leads.{next-led}
 
 -- k bytes into a character
 text-past : (k : ℕ) (l : List ℕ) → decoded paired k l ≡ textOf (drop k l)
@@ -90,9 +92,9 @@ module _ (s : List ℕ) (i : ℕ) (h : i < length s) where
 
   -- a byte that stands for itself
   pub text-plain : alone (byte s i) ≡ true → textOf (drop i s) ≡ byte s i ∷ textOf (drop (i + 1) s)
-  unfolding next nextBy
+  unfolding nextBy
   text-plain e =
-      let f : next paired (drop i s) ≡ char1 (byte s i) 0 = ap (nextBy paired (drop i s)) (ap lead (sym (first-byte s i)) ∙ alone-plain (byte s i) e) ∙ ap (λ b. char1 b 0) (sym (first-byte s i)) in
+      let f : next paired (drop i s) ≡ char1 (byte s i) 0 = next-led paired (drop i s) (ap lead (sym (first-byte s i)) ∙ alone-plain (byte s i) e) ∙ ap (λ b. char1 b 0) (sym (first-byte s i)) in
       let g : i + 1 + 0 ≡ i + 1 = omega arith in
       text-character _ f ∙ ap (λ k. byte s i ∷ textOf (drop k s)) g
 

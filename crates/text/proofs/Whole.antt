@@ -1,6 +1,6 @@
 -- Every character has a byte at least, and no more than its spelling has: each of its forms has one to four.
 use mathlib.Core.List.{List}
-use mathlib.Core.Path.{_≡_, subst}
+use mathlib.Core.Path.{_≡_, sym, subst, _∙_}
 use Prim.Native.Nat.{ℕ, _+_, _≤_, _<_}
 use native.Mathlib.Omega.{arith}
 use lib.Dec.{eqb, ltb}
@@ -12,10 +12,12 @@ use Rattle.lexeme.specs.declared.Quad.{Quad}
 use Rattle.lexeme.specs.declared.Quad.the-variants.{Value, Short}
 use Rattle.lexeme.specs.declared.Trail.{Trail}
 use Rattle.lexeme.specs.declared.Trail.the-variants.{Low, Other}
-use Rattle.lexeme.specs.Character.{byte, within, Lead, lead, utf2, utf3, utf4, encoded, quad, trail, combined, alone, high, unit, unicode, short, escape, nextBy, next}
+use Rattle.lexeme.specs.Character.{byte, within, utf2, utf3, utf4, encoded, quad, trail, combined, alone, high, unit, unicode, short, escape, next}
+use Rattle.lexeme.specs.inner.Lead.{Lead, lead, nextBy}
 use Rattle.lexeme.specs.Character.Surrogates.{paired}
-use Rattle.lexeme.specs.Character.Lead.{plain, quote, backslash, wrong, two, threeE0, three, threeED, fourF0, four, fourF4}
+use Rattle.lexeme.specs.inner.Lead.Lead.{plain, quote, backslash, wrong, two, threeE0, three, threeED, fourF0, four, fourF4}
 use Rattle.lexeme.proofs.Steps.{by-test}
+use Rattle.lexeme.proofs.Leads.{next-by}
 
 abbrev Whole : Next → Type 0
 Whole Quote = Unit {0}
@@ -89,8 +91,7 @@ module _ (l : List ℕ) where
 
   module _ (x : Char) (e : next paired l ≡ Character x) where
     whole : Whole (Character x)
-    unfolding next
-    whole = subst Whole e (by-whole (lead (byte l 0)))
+    whole = subst Whole (sym (next-by paired l) ∙ e) (by-whole (lead (byte l 0)))
 
     pub next-whole : 0 < x .len
     next-whole = whole .0

@@ -16,7 +16,8 @@ use Rattle.lexeme.specs.Read.Read.{done}
 use Rattle.lexeme.specs.Character.{paired, byte, within}
 use Rattle.lexeme.specs.Strings as Strings
 use Rattle.lexeme.specs.Numbers.{either, digit}
-use Rattle.lexeme.specs.Tokens.{blanks, start}
+use Rattle.lexeme.specs.Tokens.{blanks}
+use Rattle.lexeme.specs.inner.Start.{start}
 use Rattle.lexeme.proofs.Reading.{Eats, Any, Ok, Takes}
 use Rattle.lexeme.proofs.Steps.{by-test, bad-done, done-rest, made-done}
 use Rattle.json.specs.Tree.{Json, Items, Members}

@@ -13,7 +13,7 @@ use Rattle.lexeme.specs.declared.Scan.the-variants as scan
 use Rattle.lexeme.specs.Read.{placed}
 use Rattle.lexeme.specs.Character.{byte, within}
 use Rattle.lexeme.specs.Numbers.{either, digit, number}
-use Rattle.lexeme.specs.Tokens.{Start, start}
+use Rattle.lexeme.specs.inner.Start.{Start, start}
 use Rattle.lexeme.proofs.Reading.{Ok}
 use Rattle.lexeme.proofs.Steps.{by-test, true-false}
 use Rattle.lexeme.proofs.Placed.{takes-leaves, lands}

@@ -15,7 +15,8 @@ use Rattle.lexeme.specs.Read.Read.{done}
 use Rattle.lexeme.specs.Character.{paired, byte, within}
 use Rattle.lexeme.specs.Numbers.{digit, either, digits, optional, both, nothing, integer, minus, fraction, exponent, number}
 use Rattle.lexeme.specs.Strings as Strings
-use Rattle.lexeme.specs.Tokens.{blank, blanks, Start, start}
+use Rattle.lexeme.specs.Tokens.{blank, blanks}
+use Rattle.lexeme.specs.inner.Start.{Start, start}
 use Rattle.lexeme.proofs.Reading.{numeric, stops}
 use Rattle.lexeme.proofs.Starts.{blank-stops, object-byte}
 use Rattle.lexeme.proofs.Steps.{by-test, true-false, bad-done, no-cons, done-rest, string-empty, blanks-pass, blanks-stop, someDigits-more, someDigits-none, integer-zero, integer-digits, optional-there, optional-absent, both-reads}

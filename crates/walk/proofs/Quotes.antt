@@ -2,7 +2,7 @@
 -- begin an escape its bytes are hexadecimal digits or lie above 0x7f, so that none is a quotation mark or a backslash.
 use mathlib.Core.Bool.{Bool, true, false}
 use mathlib.Core.List.{List, [], _∷_, _++_}
-use mathlib.Core.Path.{_≡_, refl, sym, ap, _∙_}
+use mathlib.Core.Path.{_≡_, refl, sym, ap, subst, _∙_}
 use Prim.Native.Nat.{ℕ, zero, suc, _+_, _≤_}
 use native.Mathlib.Omega.{arith}
 use lib.Dec.{eqb, ltb}
@@ -16,13 +16,15 @@ use Rattle.lexeme.specs.declared.Quad.the-variants.{Value, Short}
 use Rattle.lexeme.specs.declared.Trail.{Trail}
 use Rattle.lexeme.specs.declared.Trail.the-variants.{Low, Other}
 use Rattle.lexeme.specs.Read.Read.{done}
-use Rattle.lexeme.specs.Character.{paired, byte, bytesOf, within, Lead, lead, utf2, utf3, utf4, encoded, hexValue, hexadecimal, quad, lowOf, trail, combined, alone, high, unit, unicode, short, escape, nextBy, next}
-use Rattle.lexeme.specs.Character.Lead.{plain, quote, backslash, wrong, two, threeE0, three, threeED, fourF0, four, fourF4}
+use Rattle.lexeme.specs.Character.{paired, byte, bytesOf, within, utf2, utf3, utf4, encoded, hexValue, hexadecimal, quad, lowOf, trail, combined, alone, high, unit, unicode, short, escape, next}
+use Rattle.lexeme.specs.inner.Lead.{Lead, lead, nextBy}
+use Rattle.lexeme.specs.inner.Lead.Lead.{plain, quote, backslash, wrong, two, threeE0, three, threeED, fourF0, four, fourF4}
 use Rattle.lexeme.specs.Strings.{string}
 use Rattle.lexeme.proofs.Steps.{by-test, true-false, bad-done, done-rest, made-done, string-empty, string-quote, string-fault, string-character, string-skip}
 use Rattle.lexeme.proofs.Rests.{at-cons}
 use Rattle.lexeme.proofs.Local.{choice, encoded-char, quote-byte}
 use Rattle.walk.specs.inner.Skip.{quoted}
+use Rattle.lexeme.proofs.Leads.{next-by}
 
 -- a byte that a test admits is none that the test refuses
 pub apart : (test : ℕ → Bool) (c : ℕ) → test c ≡ false → (b : ℕ) → test b ≡ true → eqb b c ≡ false
@@ -202,8 +204,8 @@ module _ (l : List ℕ) where
       go (Value v) k = unit-passed (passed-more 2 4 l (escape-begins l h) k) v
 
   character-passed : CharacterPassed l (next paired l)
-  unfolding next nextBy within
-  character-passed = go (lead (byte l 0)) (tells (byte l 0))
+  unfolding nextBy within
+  character-passed = subst (CharacterPassed l) (sym (next-by paired l)) (go (lead (byte l 0)) (tells (byte l 0)))
     where
       go : (t : Lead) → Tells (byte l 0) t → CharacterPassed l (nextBy paired l t)
       go plain h = pass-itself l 0 h

@@ -14,16 +14,17 @@ use Rattle.lexeme.specs.Read.Read.{done, bad}
 use Rattle.lexeme.specs.Character.{paired, byte, within}
 use Rattle.lexeme.specs.Strings as Strings
 use Rattle.lexeme.specs.Numbers.{digit, either, digits, someDigits, optional, both, nothing, integer, minus, fraction, exponent, number}
-use Rattle.lexeme.specs.Tokens.{blank, blanks, literal, Start, start}
+use Rattle.lexeme.specs.Tokens.{blank, blanks, literal}
+use Rattle.lexeme.specs.inner.Start.{Start, start}
 use Rattle.lexeme.proofs.Reading.{Eats}
 use Rattle.lexeme.proofs.Steps.{by-test, bad-done, done-rest, made-done, then-done, blanks-pass, blanks-stop, digits-more, digits-stop, someDigits-more, someDigits-none, integer-zero, integer-digits, optional-there, optional-absent}
 use Rattle.lexeme.proofs.Takes.{both-done}
 use Rattle.lexeme.proofs.Starts.{string-byte, array-byte, object-byte}
 use Rattle.lexeme.proofs.Spells.{literal-spells}
-use Rattle.json.specs.Tree.{Json, itemsOf, membersOf}
-use Rattle.json.specs.Text.{expect, contents, bracketed, member, valueAt, valueBy, value}
+use Rattle.json.specs.Tree.{Json, asItems, asMembers}
+use Rattle.json.specs.Text.{expect, contents, bracketed, member, valueBy, value}
 use Rattle.json.specs.Text.After.{closed, more}
-use Rattle.json.proofs.Steps.{contents-end, contents-none, contents-some, member-then, named}
+use Rattle.json.proofs.Steps.{contents-end, contents-none, contents-some, member-then, named, valueAt, value-start}
 use Rattle.json.proofs.Bound.{Follows, at-close, at-comma, follows-as, Run, faulty, last, next, broken, run}
 use Rattle.json.proofs.Takes.{value-eats, member-eats}
 use Rattle.walk.specs.inner.Skip.{quoted, outside, inside, enclosed, numbered, skipped}
@@ -271,10 +272,13 @@ module _ (arrays objects : List ℕ → Read Json)
     (array : (l r : List ℕ) (x : Json) → arrays (0x5b ∷ l) ≡ done x r → (n : ℕ) → enclosed (suc n) outside l ≡ enclosed n outside r)
     (object : (l r : List ℕ) (x : Json) → objects (0x7b ∷ l) ≡ done x r → (n : ℕ) → enclosed (suc n) outside l ≡ enclosed n outside r) where
   value-by-passes : (l r : List ℕ) (x : Json) → valueBy paired arrays objects l ≡ done x r → Passes l r
-  unfolding valueBy valueAt enclosed either
-  value-by-passes [] r x e = bad-done e
+  unfolding valueAt enclosed either
+  value-by-passes [] r x e = unfold valueBy in bad-done e
   value-by-passes (b ∷ l) r x e = go (start b) refl
     where
+      f : valueAt paired arrays objects b l ≡ done x r
+      f = sym (value-start paired arrays objects b l) ∙ e
+
       word : (w : List ℕ) (y : Json) → literal w y (b ∷ l) ≡ done x r → skipped (b ∷ l) ≡ drop (length w) (b ∷ l) → drop (length w) (w ++ r) ≡ r → Across (w ++ r) r
           → Passes (b ∷ l) r
       word w y i s k a =
@@ -283,32 +287,32 @@ module _ (arrays objects : List ℕ → Read Json)
 
       go : (t : Start) → start b ≡ t → Passes (b ∷ l) r
       go Start.string h =
-          let m = made-done Json.string (Strings.string paired 0 l) x r (rw (valueBy, valueAt, h) at e) in
+          let m = made-done Json.string (Strings.string paired 0 l) x r (rw (valueAt, h) at f) in
           record {
             skips = skipped-string b l h ∙ string-quoted l (m .0) r (m .1);
             across = λ n. ap (λ (c : ℕ). enclosed (suc n) outside (c ∷ l)) (string-byte b h) ∙ string-across l (m .0) r (m .1) n;
           }
       go Start.number h =
-          let m = made-done Json.number (number (b ∷ l)) x r (rw (valueBy, valueAt, h) at e) in
+          let m = made-done Json.number (number (b ∷ l)) x r (rw (valueAt, h) at f) in
           record { skips = skipped-number b l h ∙ numbered-done (b ∷ l) (m .1); across = number-crosses (b ∷ l) r (m .0) (m .1) }
       go Start.array h =
-          let i : arrays (b ∷ l) ≡ done x r = rw (valueBy, valueAt, h) at e in
+          let i : arrays (b ∷ l) ≡ done x r = rw (valueAt, h) at f in
           let k = array l r x (rw (array-byte b h) at i) in
           record {
             skips = skipped-array b l h ∙ k 0 ∙ enclosed-all r;
             across = λ n. ap (λ (c : ℕ). enclosed (suc n) outside (c ∷ l)) (array-byte b h) ∙ enclosed-opens n 0x5b l refl refl ∙ k (suc n);
           }
       go Start.object h =
-          let i : objects (b ∷ l) ≡ done x r = rw (valueBy, valueAt, h) at e in
+          let i : objects (b ∷ l) ≡ done x r = rw (valueAt, h) at f in
           let k = object l r x (rw (object-byte b h) at i) in
           record {
             skips = skipped-object b l h ∙ k 0 ∙ enclosed-all r;
             across = λ n. ap (λ (c : ℕ). enclosed (suc n) outside (c ∷ l)) (object-byte b h) ∙ enclosed-opens n 0x7b l refl refl ∙ k (suc n);
           }
-      go Start.letterT h = word (bytes "true") (Json.boolean true) (rw (valueBy, valueAt, h) at e) (skipped-true b l h) refl (λ n. refl)
-      go Start.letterF h = word (bytes "false") (Json.boolean false) (rw (valueBy, valueAt, h) at e) (skipped-false b l h) refl (λ n. refl)
-      go Start.letterN h = word (bytes "null") Json.null (rw (valueBy, valueAt, h) at e) (skipped-null b l h) refl (λ n. refl)
-      go Start.other h = bad-done (rw (valueBy, valueAt, h) at e)
+      go Start.letterT h = word (bytes "true") (Json.boolean true) (rw (valueAt, h) at f) (skipped-true b l h) refl (λ n. refl)
+      go Start.letterF h = word (bytes "false") (Json.boolean false) (rw (valueAt, h) at f) (skipped-false b l h) refl (λ n. refl)
+      go Start.letterN h = word (bytes "null") Json.null (rw (valueAt, h) at f) (skipped-null b l h) refl (λ n. refl)
+      go Start.other h = bad-done (rw (valueAt, h) at f)
 
 value-passes : (d : ℕ) (l r : List ℕ) (x : Json) → value paired d l ≡ done x r → Passes l r
 unfolding value
@@ -318,10 +322,10 @@ value-passes (suc d) =
     let eats = value-eats paired d in
     value-by-passes _ _
     (λ l r x e.
-    let m = made-done (λ xs. Json.array (itemsOf xs)) (bracketed 0x5d (value paired d) l) x r e in
+    let m = made-done (λ xs. Json.array (asItems xs)) (bracketed 0x5d (value paired d) l) x r e in
     bracketed-closed 0x5d eats ih (λ n q. unfold enclosed either in refl) l r (m .0) (m .1))
     (λ l r x e.
-    let m = made-done (λ ms. Json.object (membersOf ms)) (bracketed 0x7d (member paired (value paired d)) l) x r e in
+    let m = made-done (λ ms. Json.object (asMembers ms)) (bracketed 0x7d (member paired (value paired d)) l) x r e in
     bracketed-closed 0x7d (member-eats paired (value paired d) eats) (member-crosses ih) (λ n q. unfold enclosed either in refl) l r (m .0) (m .1))
 
 -- The theorem: behind a value that is read stands what is left.

@@ -1,56 +1,55 @@
--- Document 01's worked words (k) and (l), and bytes at each limit of the rule: what they read as, computed as one table.
-use mathlib.Core.List.{List, [], _∷_, map}
-use mathlib.Core.Path.{_≡_, refl}
+-- Words at each limit of the rule, written and read back, and bytes that are no word, computed. Document 01's own words (k) and (l) stand in the table of
+-- its readings.
+use mathlib.Core.List.{List, [], _∷_}
+use mathlib.Core.Path.{refl}
 use Prim.Native.Nat.{ℕ}
+use Prim.Native.String.{String}
+use Rattle.notation.specs.Case.{Case, Answers}
 use Rattle.radix.specs.Radix.{weight, numberFrom, number, digits}
 use Rattle.radix.specs.Fields.{bytesNumber, packed, unpacked}
 use Rattle.word.specs.declared.Parts.{Parts}
-use Rattle.word.specs.declared.Reading.{Reading}
 use Rattle.word.specs.declared.Reading.the-variants.{NoWord, Word}
 use Rattle.word.specs.Form.{form1}
-use Rattle.word.specs.Word.{keeps, wordOf, answer, judged, read}
+use Rattle.word.specs.Word.{Answer, keeps, wordOf, answer, judged, read}
 
 abbrev parts : (file kind field rec sub offset : ℕ) → Parts
 parts file kind field rec sub offset =
     record { file = file; kind = kind; field = field; «record» = rec; sub = sub; offset = offset }
 
--- words with their parts
-abbrev words : List (List ℕ × Parts)
+-- parts with their word, from which they are read back
+abbrev Written : Type 0
+Written = List ℕ × Answer
+
+abbrev word : String → Parts → List ℕ → Case Parts Written
+word what p s = (what, p, (s, answer (Word p)))
+
+abbrev words : List (Case Parts Written)
 words =
-    -- (k) and (l)
-    (0x14 ∷ 0x62 ∷ 0x80 ∷ 0x03 ∷ 0 ∷ 0 ∷ 0 ∷ 0 ∷ [], parts 4 6 40 3 0 0) ∷
-    (0x10 ∷ 0 ∷ 0 ∷ 0 ∷ 0 ∷ 0 ∷ 0 ∷ 0 ∷ [], parts 0 0 0 0 0 0) ∷
-    -- every part at its greatest, with and without the offset
-    (0x16 ∷ 0xf5 ∷ 0x2f ∷ 0xff ∷ 0xff ∷ 0xf0 ∷ 0 ∷ 0 ∷ [], parts 6 15 82 4095 4095 0) ∷
-    (0x16 ∷ 0x40 ∷ 0 ∷ 0 ∷ 0 ∷ 0x0f ∷ 0xff ∷ 0xff ∷ [], parts 6 4 0 0 0 1048575) ∷
+    word "every part at its greatest, but for the offset" (parts 6 15 82 4095 4095 0) (0x16 ∷ 0xf5 ∷ 0x2f ∷ 0xff ∷ 0xff ∷ 0xf0 ∷ 0 ∷ 0 ∷ []) ∷
+    word "the greatest offset" (parts 6 4 0 0 0 1048575) (0x16 ∷ 0x40 ∷ 0 ∷ 0 ∷ 0 ∷ 0x0f ∷ 0xff ∷ 0xff ∷ []) ∷
     []
 
-written : map (λ w. wordOf form1 (w .1)) words ≡ map (λ w. w .0) words
-unfolding weight numberFrom number digits packed wordOf
-written = refl
+words-answered : Answers (λ p. (wordOf form1 p, read form1 (wordOf form1 p))) words
+unfolding weight numberFrom number digits bytesNumber packed unpacked keeps wordOf judged read
+words-answered = refl
 
-read-back : map (λ w. read form1 (w .0)) words ≡ map (λ (w : List ℕ × Parts). answer (Word (w .1))) words
-unfolding weight numberFrom number digits bytesNumber unpacked keeps judged read
-read-back = refl
+abbrev noWord : String → List ℕ → Case (List ℕ) Answer
+noWord what s = (what, s, answer NoWord)
 
--- bytes that are no word
-abbrev others : List (List ℕ)
+abbrev others : List (Case (List ℕ) Answer)
 others =
-    -- no bytes, one too few, one too many
-    [] ∷
-    (0x10 ∷ 0 ∷ 0 ∷ 0 ∷ 0 ∷ 0 ∷ 0 ∷ []) ∷
-    (0x10 ∷ 0 ∷ 0 ∷ 0 ∷ 0 ∷ 0 ∷ 0 ∷ 0 ∷ 0 ∷ []) ∷
-    -- form 2; kind 0 with an offset; no file; file 7; field 83
-    (0x20 ∷ 0 ∷ 0 ∷ 0 ∷ 0 ∷ 0 ∷ 0 ∷ 0 ∷ []) ∷
-    (0x10 ∷ 0 ∷ 0 ∷ 0 ∷ 0 ∷ 0 ∷ 0 ∷ 1 ∷ []) ∷
-    (0x10 ∷ 0x62 ∷ 0x80 ∷ 0x03 ∷ 0 ∷ 0 ∷ 0 ∷ 0 ∷ []) ∷
-    (0x17 ∷ 0x62 ∷ 0x80 ∷ 0x03 ∷ 0 ∷ 0 ∷ 0 ∷ 0 ∷ []) ∷
-    (0x14 ∷ 0x65 ∷ 0x30 ∷ 0x03 ∷ 0 ∷ 0 ∷ 0 ∷ 0 ∷ []) ∷
-    -- kind 4 with a record; kind 5 with an offset
-    (0x14 ∷ 0x40 ∷ 0 ∷ 0x03 ∷ 0 ∷ 0 ∷ 0 ∷ 0 ∷ []) ∷
-    (0x14 ∷ 0x52 ∷ 0x80 ∷ 0x03 ∷ 0 ∷ 0 ∷ 0 ∷ 1 ∷ []) ∷
+    noWord "no bytes" [] ∷
+    noWord "one too few" (0x10 ∷ 0 ∷ 0 ∷ 0 ∷ 0 ∷ 0 ∷ 0 ∷ []) ∷
+    noWord "one too many" (0x10 ∷ 0 ∷ 0 ∷ 0 ∷ 0 ∷ 0 ∷ 0 ∷ 0 ∷ 0 ∷ []) ∷
+    noWord "form 2" (0x20 ∷ 0 ∷ 0 ∷ 0 ∷ 0 ∷ 0 ∷ 0 ∷ 0 ∷ []) ∷
+    noWord "kind 0 with an offset" (0x10 ∷ 0 ∷ 0 ∷ 0 ∷ 0 ∷ 0 ∷ 0 ∷ 1 ∷ []) ∷
+    noWord "no file" (0x10 ∷ 0x62 ∷ 0x80 ∷ 0x03 ∷ 0 ∷ 0 ∷ 0 ∷ 0 ∷ []) ∷
+    noWord "file 7" (0x17 ∷ 0x62 ∷ 0x80 ∷ 0x03 ∷ 0 ∷ 0 ∷ 0 ∷ 0 ∷ []) ∷
+    noWord "field 83" (0x14 ∷ 0x65 ∷ 0x30 ∷ 0x03 ∷ 0 ∷ 0 ∷ 0 ∷ 0 ∷ []) ∷
+    noWord "kind 4 with a record" (0x14 ∷ 0x40 ∷ 0 ∷ 0x03 ∷ 0 ∷ 0 ∷ 0 ∷ 0 ∷ []) ∷
+    noWord "kind 5 with an offset" (0x14 ∷ 0x52 ∷ 0x80 ∷ 0x03 ∷ 0 ∷ 0 ∷ 0 ∷ 1 ∷ []) ∷
     []
 
-refused : map (read form1) others ≡ map (λ (s : List ℕ). answer NoWord) others
+others-answered : Answers (read form1) others
 unfolding weight numberFrom number digits bytesNumber unpacked keeps judged read
-refused = refl
+others-answered = refl

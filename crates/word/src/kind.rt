@@ -1,4 +1,4 @@
-// The kinds of broken rules, by their numbers. What each one means stands beside its definition.
+// The kinds of broken rules, by their numbers; written by scripts/table from specs/Kinds.antt. What each one means stands beside its definition.
 pub struct Kind {
     pub number: u8,
 }

@@ -5,13 +5,11 @@ use mathlib.Core.List.{List, [], _∷_, _++_, append-assoc}
 use mathlib.Core.Path.{_≡_, refl, sym, ap, _∙_}
 use Prim.Native.Nat.{ℕ}
 use native.Mathlib.Omega.{arith}
-use Rattle.schema.specs.Shape.{fileShape}
-use Rattle.schema.specs.Table23.{table23}
-use Rattle.schema.specs.Pick.{Picked, pick}
+use Rattle.schema.specs.Pick.{Picked}
 use Rattle.geometry.specs.Ring.{Point}
 use Rattle.document.specs.Document.{Maybe, none, some, spelling, truth, given}
-use Rattle.clean.specs.declared.Cleanness.the-variants.{Clean}
-use Rattle.clean.specs.Clean.{treeOf, cleanOf}
+use Rattle.clean.specs.declared.Outcome.the-variants.{Unbroken}
+use Rattle.clean.specs.Clean.{cleanOf}
 use Rattle.zone.specs.Zone.{rulesAt, otherwise, firstGiven}
 use Rattle.zone.specs.Answer.{ruleOf, values, found, onMap, ofRules, rulingOf}
 use Rattle.zone.specs.Combined.{own, GivesAll, Known, NothingNew, Combining}
@@ -106,8 +104,8 @@ any-order x l k n m h =
     ∙ ap values (sym (append-assoc (x ∷ l) n m))
     ∙ sym (values-out ((x ∷ l) ++ n) k m (nothing-new (x ∷ l) k n h)))
 
-answered : (s : List ℕ) (q : Point) (type : List ℕ) (moment : ℕ) → onMap q ≡ true → cleanOf 6 s ≡ Clean
-    → rulingOf s q type moment ≡ ofRules (rulesAt (pick (fileShape table23 6) (treeOf s)) q type moment)
+answered : (s : List ℕ) (q : Point) (type : List ℕ) (moment : ℕ) → onMap q ≡ true → cleanOf 6 s ≡ Unbroken
+    → rulingOf s q type moment ≡ ofRules (rulesAt s q type moment)
 unfolding rulingOf
 answered s q type moment h c = rw (h, c)
 

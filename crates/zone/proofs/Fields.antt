@@ -9,16 +9,16 @@ use Rattle.limits.specs.Ceilings as ceiling
 use Rattle.notation.specs.Ascii.{bytes}
 use Rattle.lexeme.specs.Character.{within}
 use Rattle.lexeme.specs.Numbers.{digit}
-use Rattle.lexeme.specs.Tokens.{start}
+use Rattle.lexeme.specs.inner.Start.{start}
 use Rattle.json.specs.Tree.{Json}
 use Rattle.walk.specs.Part.{Whole, kindAt}
 use Rattle.walk.proofs.Wholes.{whole-some}
 use Rattle.schema.specs.Shape as shape
 use Rattle.schema.specs.Shape.{Shape, Rows, Sort, Numbering}
 use Rattle.schema.specs.Table23 as table
-use Rattle.schema.specs.Pick.{Picked, pick}
+use Rattle.schema.specs.Pick.{Picked, pick, elements}
 use Rattle.rings.specs.inner.Parts.{Listing, partsOf}
-use Rattle.document.specs.Document.{Maybe, none, some, along, elements, elementsOf, field, fieldItems, textIn}
+use Rattle.document.specs.Document.{Maybe, none, some, along, elementsOf, field, fieldItems, textIn}
 use Rattle.document.proofs.Fields.{Lists}
 use Rattle.document.proofs.Records.{pickedItems}
 use Rattle.fields.specs.inner.Values.{memberOf, textBy, arrayBy, isId}

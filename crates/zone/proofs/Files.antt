@@ -9,12 +9,12 @@ use Rattle.json.specs.Cases.{reading}
 use Rattle.walk.proofs.Files.{passed}
 use Rattle.schema.specs.Shape.{fileShape}
 use Rattle.schema.specs.Table23.{table23, file, zones, zone}
+use Rattle.schema.specs.Records.{located}
 use Rattle.schema.specs.Pick.{pick}
 use Rattle.geometry.specs.Ring.{Point}
 use Rattle.rings.specs.inner.Parts.{partsOf}
 use Rattle.document.specs.Document.{along, field}
 use Rattle.document.specs.inner.Spans.{RecordsFrom}
-use Rattle.document.proofs.Records.{recordShape}
 use Rattle.document.proofs.Rests.{rest-along, rest-picked}
 use Rattle.clean.specs.Clean.{treeOf, recordsOf}
 use Rattle.clean.proofs.Cleans.{Sound, clean-held}
@@ -27,8 +27,8 @@ use Rattle.zone.specs.inner.Clean.{CleanZones}
 use Rattle.zone.proofs.Combining.{given-answered}
 
 module _ (q : Point) (type : List ℕ) (moment : ℕ) where
-  pub none-absent : (s : List ℕ) → length s ≡ 0 → answer NoRule ≡ ofRules (rulesAt (pick (fileShape table23 6) (treeOf s)) q type moment)
-  unfolding reading treeOf fileShape table23 zones file pick field along rulesAt rulesBy applicable
+  pub none-absent : (s : List ℕ) → length s ≡ 0 → answer NoRule ≡ ofRules (rulesAt s q type moment)
+  unfolding reading treeOf located pick field along recordsOf rulesAt rulesBy applicable
   none-absent [] e = refl
   none-absent (b ∷ s) e = absurd (omega arith)
 
@@ -38,11 +38,11 @@ module _ {s p : List ℕ} (k : Sound 6 s) (f : RecordsFrom 6 s p) where
   held = clean-held 6 (omega arith) (omega arith) s k
 
   zones-are : held .list ≡ partsOf zone p
-  unfolding recordShape partsOf
+  unfolding located partsOf
   zones-are = rest-picked f (k .reads) (held .there)
 
   pub zones-clean : CleanZones p
-  unfolding recordShape
+  unfolding located
   zones-clean =
       record {
         short = omega (arith, f .inside, passed s (k .reads) .short);
@@ -53,8 +53,8 @@ module _ {s p : List ℕ} (k : Sound 6 s) (f : RecordsFrom 6 s p) where
       }
 
   pub file-answer : (q : Point) (type : List ℕ) (moment : ℕ)
-      → answer (rulingBy (allGiven (applicable (rules (partsOf zone p) q moment) type))) ≡ ofRules (rulesAt (pick (fileShape table23 6) (treeOf s)) q type moment)
-  unfolding recordsOf rulesAt
+      → answer (rulingBy (allGiven (applicable (rules (partsOf zone p) q moment) type))) ≡ ofRules (rulesAt s q type moment)
+  unfolding rulesAt
   file-answer q type moment =
       given-answered (applicable (rules (partsOf zone p) q moment) type)
       ∙ ap (λ l. ofRules (applicable (rules l q moment) type)) (sym (held .are ∙ zones-are))

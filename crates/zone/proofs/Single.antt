@@ -1,59 +1,143 @@
--- No further ring: a polygon holds what its one ring holds, so a zone, a list of zones and a file come to what document 01 has of them, one after the other.
+-- No further ring: a polygon holds what its one ring holds, so a zone and a list of zones come to what document 01 has of them, one after the other. And the
+-- two judges of coordinates find the same in every zone's, which are all that a file has (`Alike`); the other files have none.
 use mathlib.Core.Bool.{Bool, true, false}
-use mathlib.Core.List.{List, [], _∷_, _++_, map, List·Memᴰ, List·Memᴰ·head, List·Memᴰ·tail}
-use mathlib.Core.Path.{_≡_, refl, sym, ap, ap₂, _∙_}
-use Prim.Native.Nat.{ℕ, _≤_}
+use mathlib.Core.List.{List, [], _∷_, _++_, List·Memᴰ, List·Memᴰ·head, List·Memᴰ·tail}
+use mathlib.Core.Path.{_≡_, refl, sym, ap, ap₂, subst, _∙_}
+use Prim.Native.Nat.{ℕ, zero, suc, _≤_}
 use native.Mathlib.Omega.{arith}
 use lib.ListN.{length}
+use Rattle.limits.specs.Ceilings as ceiling
 use Rattle.notation.specs.Choice.{_⇒_else_, _and_}
 use Rattle.word.specs.Word.{noParts}
-use Rattle.schema.specs.Pick.{Picked}
+use Rattle.json.specs.Tree as tree
+use Rattle.json.specs.Tree.{Json}
+use Rattle.schema.specs.Shape as shape
+use Rattle.schema.specs.Shape.{fileShape}
+use Rattle.schema.specs.Table23.{table23, written23, coordinates, zone}
+use Rattle.schema.specs.Records.{located}
+use Rattle.schema.specs.Pick.{Picked, pick, elements}
 use Rattle.geometry.specs.Ring.{Point}
 use Rattle.geometry.specs.Held.{holds, polygonHolds}
 use Rattle.geometry.proofs.Polygon.{polygons}
-use Rattle.document.specs.Document.{Maybe, none, some, elements, field, fieldItems}
-use Rattle.clean.specs.Clean.{cleanOf}
-use Rattle.zone.specs.Zone.{outline, counts, ringsHold, polygonsHold, polygonsOf, zoneHolds, zoneRulesBy, rulesBy, applicable, rulesAt}
+use Rattle.rings.specs.Rings.{count, itemCount, coordinatesFound}
+use Rattle.rings.specs.OneRing.{coordinatesOfOne, OneRingAtMost}
+use Rattle.rings.proofs.OneRing.{coordinates-one}
+use Rattle.judge.specs.Faults.{top, numbered, faultsBy, fileFaultsBy}
+use Rattle.document.specs.Document.{Maybe, none, some, elementsOf, along, field, fieldItems}
+use Rattle.clean.specs.declared.Outcome.{Outcome}
+use Rattle.clean.specs.Clean.{treeOf, recordsOf, cleanOf}
+use Rattle.clean.proofs.Alike.{plain, Way, arrived, into, here, below, Same, plain-same, way-same, records-same, clean-alike}
+use Rattle.zone.specs.Zone.{outline, counts, ringsHold, polygonsHoldBy, polygonsHold, polygonsOf, zoneHolds, zoneRulesBy, rulesBy, applicable, zonesOf, rulesAt}
 use Rattle.zone.specs.Answer.{refused, onMap, ofRules, ofClean, rulingOf}
-use Rattle.zone.specs.Single.{zonesOf, OneRingAtMost, ringsHeld, polygonsHeld, zoneHeld, rulingOfOne, Single}
+use Rattle.zone.specs.Single.{WithoutHoles, cleanOfOne, ringsHoldOfOne, polygonsHoldOfOne, zoneHoldsOfOne, rulingOfOne, Single}
+
+-- What a zone holds.
 
 either-false : (b : Bool) → b ≡ (b ⇒ true else false)
 either-false true = refl
 either-false false = refl
 
 module _ (q : Point) where
-  one-ring : (rs : List Picked) → length rs ≤ 1 → ringsHold rs q ≡ ringsHeld rs q
-  unfolding ringsHold ringsHeld polygonHolds
+  one-ring : (rs : List Picked) → length rs ≤ 1 → ringsHold rs q ≡ ringsHoldOfOne rs q
+  unfolding ringsHold ringsHoldOfOne polygonHolds
   one-ring [] e = refl
   one-ring (r ∷ []) e = polygons .alone (outline r) q ∙ either-false (holds (outline r) q)
   one-ring (r ∷ s ∷ rs) e = absurd (omega arith)
 
-  one-ring-each : (ps : List Picked) → ((p : Picked) → List·Memᴰ p ps → length (elements p) ≤ 1) → polygonsHold ps q ≡ polygonsHeld ps q
-  unfolding polygonsHold polygonsHeld
-  one-ring-each [] f = refl
-  one-ring-each (p ∷ ps) f =
-      ap₂ (λ (here : Bool) (later : Bool). here ⇒ true else later) (one-ring (elements p) (f p (List·Memᴰ·head refl)))
-      (one-ring-each ps (λ x m. f x (List·Memᴰ·tail m)))
+  one-polygon : (p : Picked) → itemCount p ≤ 1 → ringsHold (elements p) q ≡ ringsHoldOfOne (elements p) q
+  unfolding count
+  one-polygon (Picked.items is) e = one-ring _ e
+  one-polygon (Picked.bare x) e = one-ring [] (omega arith)
+  one-polygon (Picked.slots ss) e = one-ring [] (omega arith)
+
+  one-ring-each : (ps : List Picked) → OneRingAtMost ps → polygonsHold ps q ≡ polygonsHoldOfOne ps q
+  unfolding polygonsHoldBy
+  one-ring-each [] one = refl
+  one-ring-each (p ∷ ps) one =
+      ap₂ (λ (here : Bool) (later : Bool). here ⇒ true else later) (one-polygon p (one p (List·Memᴰ·head refl)))
+      (one-ring-each ps (λ x m. one x (List·Memᴰ·tail m)))
 
   -- the rules of zones that hold the point alike
   module _ (moment : ℕ) where
-    zone-same : (z : Picked) → zoneHolds z q ≡ zoneHeld z q → zoneRulesBy zoneHolds z q moment ≡ zoneRulesBy zoneHeld z q moment
+    zone-same : (z : Picked) → zoneHolds z q ≡ zoneHoldsOfOne z q → zoneRulesBy zoneHolds z q moment ≡ zoneRulesBy zoneHoldsOfOne z q moment
     unfolding zoneRulesBy
     zone-same z e =
         ap (λ (held : Bool). elim (field 74 z) [ none ↦ [] | some properties ↦ counts properties moment and held ⇒ fieldItems 77 properties else [] ]) e
 
-    zones-same : (zs : List Picked) → ((z : Picked) → List·Memᴰ z zs → OneRingAtMost z) → rulesBy zoneHolds zs q moment ≡ rulesBy zoneHeld zs q moment
+    zones-same : (zs : List Picked) → ((z : Picked) → List·Memᴰ z zs → OneRingAtMost (polygonsOf z))
+        → rulesBy zoneHolds zs q moment ≡ rulesBy zoneHoldsOfOne zs q moment
     unfolding rulesBy
-    zones-same [] f = refl
-    zones-same (z ∷ zs) f =
-        ap₂ (λ (l : List Picked) (k : List Picked). l ++ k) (zone-same z (one-ring-each (polygonsOf z) (f z (List·Memᴰ·head refl))))
-        (zones-same zs (λ x m. f x (List·Memᴰ·tail m)))
+    zones-same [] one = refl
+    zones-same (z ∷ zs) one =
+        ap₂ (λ (l : List Picked) (k : List Picked). l ++ k) (zone-same z (one-ring-each (polygonsOf z) (one z (List·Memᴰ·head refl))))
+        (zones-same zs (λ x m. one x (List·Memᴰ·tail m)))
 
-answered : (s : List ℕ) (q : Point) (type : List ℕ) (moment : ℕ) → ((z : Picked) → List·Memᴰ z (zonesOf s) → OneRingAtMost z)
-    → rulingOf s q type moment ≡ rulingOfOne s q type moment
+-- What is found in a file.
+
+abbrev Alike : shape.Shape → Picked → Type 0
+Alike = Same coordinatesFound coordinatesOfOne
+
+coordinates-same : (x : Json) → OneRingAtMost (elements (pick coordinates x)) → Alike coordinates (pick coordinates x)
+unfolding coordinates faultsBy pick
+coordinates-same (tree.array is) one p φ = ap (numbered p φ) (coordinates-one _ one)
+coordinates-same tree.null one p φ = refl
+coordinates-same (tree.boolean b) one p φ = refl
+coordinates-same (tree.number s) one p φ = refl
+coordinates-same (tree.string s) one p φ = refl
+coordinates-same (tree.object ms) one p φ = refl
+
+to-polygons : Way zone (71 ∷ 73 ∷ []) coordinates
+unfolding written23 plain
+to-polygons = into (below refl refl (here refl)) (into (below refl refl (here refl)) arrived)
+
+to-zones : Way (fileShape table23 6) (4 ∷ 5 ∷ 7 ∷ []) (shape.array shape.records ceiling.records zone)
+unfolding fileShape written23 plain
+to-zones = into (below refl refl (below refl refl (below refl refl (here refl)))) (into (here refl) (into (below refl refl (here refl)) arrived))
+
+zones-along : (s : List ℕ) → zonesOf s ≡ elementsOf (along (4 ∷ 5 ∷ 7 ∷ []) (pick (fileShape table23 6) (treeOf s)))
+unfolding located recordsOf
+zones-along s = refl
+
+zone-alike : (x : Json) → OneRingAtMost (polygonsOf (pick zone x)) → Alike zone (pick zone x)
+zone-alike x one = way-same _ _ to-polygons x (λ y e. coordinates-same y (subst OneRingAtMost (ap elementsOf e) one))
+
+zones-alike : (s : List ℕ) → WithoutHoles s → Alike (fileShape table23 6) (pick (fileShape table23 6) (treeOf s))
+zones-alike s one =
+    way-same _ _ to-zones (treeOf s)
+    (λ x e. records-same _ _ ceiling.records zone x (λ z i. zone-alike z (one _ (subst (List·Memᴰ (pick zone z)) (sym (zones-along s ∙ ap elementsOf e)) i))))
+
+-- what stage B finds in a file
+abbrev SameFile : (file : ℕ) → (s : List ℕ) → Type 0
+SameFile file s =
+    fileFaultsBy coordinatesFound (fileShape table23 file) (treeOf s) ≡ fileFaultsBy coordinatesOfOne (fileShape table23 file) (treeOf s)
+
+others-same : (file : ℕ) (s : List ℕ) → plain (fileShape table23 file) ≡ true → SameFile file s
+unfolding fileFaultsBy
+others-same file s e = plain-same _ _ (fileShape table23 file) e (pick (fileShape table23 file) (treeOf s)) top 0
+
+zones-file-same : (s : List ℕ) → WithoutHoles s → SameFile 6 s
+unfolding fileFaultsBy
+zones-file-same s one = zones-alike s one top 0
+
+pub faults-one : (file : ℕ) (s : List ℕ) → (file ≡ 6 → WithoutHoles s) → SameFile file s
+unfolding fileShape written23 plain
+faults-one zero s one = others-same 0 s refl
+faults-one (suc zero) s one = others-same 1 s refl
+faults-one (suc (suc zero)) s one = others-same 2 s refl
+faults-one (suc (suc (suc zero))) s one = others-same 3 s refl
+faults-one (suc (suc (suc (suc zero)))) s one = others-same 4 s refl
+faults-one (suc (suc (suc (suc (suc zero))))) s one = others-same 5 s refl
+faults-one (suc (suc (suc (suc (suc (suc zero)))))) s one = zones-file-same s (one refl)
+faults-one (suc (suc (suc (suc (suc (suc (suc file))))))) s one = others-same (suc (suc (suc (suc (suc (suc (suc file))))))) s refl
+
+clean-one : (file : ℕ) (s : List ℕ) → (file ≡ 6 → WithoutHoles s) → cleanOf file s ≡ cleanOfOne file s
+clean-one file s one = clean-alike _ _ file s (faults-one file s one)
+
+answered : (s : List ℕ) (q : Point) (type : List ℕ) (moment : ℕ) → WithoutHoles s → rulingOf s q type moment ≡ rulingOfOne s q type moment
 unfolding rulingOf rulesAt
-answered s q type moment f =
-    ap (λ (l : List Picked). onMap q ⇒ ofClean (cleanOf 6 s) (ofRules (applicable l type)) else refused 8 noParts) (zones-same q moment (zonesOf s) f)
+answered s q type moment one =
+    ap₂ (λ (c : Outcome) (l : List Picked). onMap q ⇒ ofClean c (ofRules (applicable l type)) else refused 8 noParts) (clean-one 6 s (λ e. one))
+    (zones-same q moment (zonesOf s) one)
 
 pub single : Single
-single = record { polygon = λ p q e. one-ring q (elements p) e; zone = λ z q f. one-ring-each q (polygonsOf z) f; answer = answered }
+single = record { polygon = λ p q e. one-polygon q p e; zone = λ z q one. one-ring-each q (polygonsOf z) one; clean = clean-one; answer = answered }

@@ -8,15 +8,13 @@ use lib.Signed.{leZ}
 use Rattle.notation.specs.Choice.{_⇒_else_, _and_}
 use Rattle.word.specs.declared.Parts.{Parts}
 use Rattle.word.specs.Word.{noParts}
-use Rattle.schema.specs.Shape.{fileShape}
-use Rattle.schema.specs.Table23.{table23}
-use Rattle.schema.specs.Pick.{Picked, pick}
+use Rattle.schema.specs.Pick.{Picked}
 use Rattle.geometry.specs.Ring.{Point}
 use Rattle.document.specs.Document.{Maybe, none, some, spelling, truth, given}
 use Rattle.fields.specs.Values.{integerIn}
-use Rattle.clean.specs.declared.Cleanness.{Cleanness}
-use Rattle.clean.specs.declared.Cleanness.the-variants.{Clean, Broken}
-use Rattle.clean.specs.Clean.{treeOf, cleanOf}
+use Rattle.clean.specs.declared.Outcome.{Outcome}
+use Rattle.clean.specs.declared.Outcome.the-variants.{Unbroken, Broken}
+use Rattle.clean.specs.Clean.{cleanOf}
 use Rattle.zone.specs.declared.Rule.{Rule}
 use Rattle.zone.specs.declared.Ruling.{Ruling}
 use Rattle.zone.specs.declared.Ruling.the-variants.{OffMap, NotClean, NoRule, Is}
@@ -78,13 +76,10 @@ abbrev pub ofRules : List Picked → Answer
 ofRules [] = refused 9 noParts
 ofRules (r ∷ rs) = found (values (r ∷ rs))
 
-abbrev pub ofClean : Cleanness → Answer → Answer
-ofClean Clean next = next
+abbrev pub ofClean : Outcome → Answer → Answer
+ofClean Unbroken next = next
 ofClean (Broken p) next = refused 5 p
 
 -- of the bytes s of file 6, a point, a type and a moment
 unfoldable pub rulingOf : (s : List ℕ) → Point → (type : List ℕ) → (moment : ℕ) → Answer
-rulingOf s q type moment =
-    onMap q ⇒
-    ofClean (cleanOf 6 s) (ofRules (rulesAt (pick (fileShape table23 6) (treeOf s)) q type moment))
-    else refused 8 noParts
+rulingOf s q type moment = onMap q ⇒ ofClean (cleanOf 6 s) (ofRules (rulesAt s q type moment)) else refused 8 noParts

@@ -4,13 +4,11 @@ use mathlib.Core.Bool.{true}
 use mathlib.Core.List.{List, [], _∷_, _++_}
 use mathlib.Core.Path.{_≡_}
 use Prim.Native.Nat.{ℕ}
-use Rattle.schema.specs.Shape.{fileShape}
-use Rattle.schema.specs.Table23.{table23}
-use Rattle.schema.specs.Pick.{Picked, pick}
+use Rattle.schema.specs.Pick.{Picked}
 use Rattle.geometry.specs.Ring.{Point}
 use Rattle.document.specs.Document.{Maybe, spelling, truth, given}
-use Rattle.clean.specs.declared.Cleanness.the-variants.{Clean}
-use Rattle.clean.specs.Clean.{treeOf, cleanOf}
+use Rattle.clean.specs.declared.Outcome.the-variants.{Unbroken}
+use Rattle.clean.specs.Clean.{cleanOf}
 use Rattle.zone.specs.declared.Rule.{Rule}
 use Rattle.zone.specs.Zone.{rulesAt, firstGiven}
 use Rattle.zone.specs.Answer.{ruleOf, found, onMap, ofRules, rulingOf}
@@ -37,8 +35,8 @@ pub record NothingNew (l k : List Picked) : Type 0 where
 
 pub record Combining : Type 0 where
   -- a clean file answers with what the rules that apply give
-  pub answered : (s : List ℕ) (q : Point) (type : List ℕ) (moment : ℕ) → onMap q ≡ true → cleanOf 6 s ≡ Clean
-      → rulingOf s q type moment ≡ ofRules (rulesAt (pick (fileShape table23 6) (treeOf s)) q type moment)
+  pub answered : (s : List ℕ) (q : Point) (type : List ℕ) (moment : ℕ) → onMap q ≡ true → cleanOf 6 s ≡ Unbroken
+      → rulingOf s q type moment ≡ ofRules (rulesAt s q type moment)
   -- of one rule alone the values are its own
   pub oneRule : (x : Picked) → ofRules (x ∷ []) ≡ found (own x)
   -- where the first rule gives all four values, the answer is document 01's, whatever follows

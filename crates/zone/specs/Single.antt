@@ -1,47 +1,48 @@
--- Zones whose polygons have one ring each, and none has further ones, are answered as document 01 alone answers them. `proofs/Single` shows it.
+-- A file of zones in which no polygon has more than one ring is answered as document 01 alone answers it: clean or not, and the rule that it breaks first;
+-- number, parts and values of the question "zone rule". `proofs/Single` shows it.
 use mathlib.Core.Bool.{Bool, true, false}
 use mathlib.Core.List.{List, [], _∷_, List·Memᴰ}
 use mathlib.Core.Path.{_≡_}
 use Prim.Native.Nat.{ℕ, _≤_}
-use lib.ListN.{length}
 use Rattle.notation.specs.Choice.{_⇒_else_}
 use Rattle.word.specs.Word.{noParts}
-use Rattle.schema.specs.Shape.{fileShape}
-use Rattle.schema.specs.Table23.{table23}
-use Rattle.schema.specs.Pick.{Picked, pick}
+use Rattle.schema.specs.Pick.{Picked, elements}
 use Rattle.geometry.specs.Ring.{Point}
 use Rattle.geometry.specs.Held.{holds}
-use Rattle.document.specs.Document.{elements, elementsOf, along}
-use Rattle.clean.specs.Clean.{treeOf, cleanOf}
-use Rattle.zone.specs.Zone.{outline, ringsHold, polygonsOf, zoneHolds, rulesBy, applicable}
+use Rattle.rings.specs.Rings.{itemCount}
+use Rattle.rings.specs.OneRing.{coordinatesOfOne, OneRingAtMost}
+use Rattle.clean.specs.declared.Outcome.{Outcome}
+use Rattle.clean.specs.Clean.{cleanBy, cleanOf}
+use Rattle.zone.specs.Zone.{outline, ringsHold, polygonsHoldBy, polygonsOf, zoneHolds, rulesBy, applicable, zonesOf}
 use Rattle.zone.specs.Answer.{Answer, refused, onMap, ofRules, ofClean, rulingOf}
 
--- the zones of a file
-abbrev pub zonesOf : List ℕ → List Picked
-zonesOf s = elementsOf (along (4 ∷ 5 ∷ 7 ∷ []) (pick (fileShape table23 6) (treeOf s)))
+-- no polygon of a file of zones has more than one ring
+abbrev pub WithoutHoles : (s : List ℕ) → Type 0
+WithoutHoles s = (zone : Picked) → List·Memᴰ zone (zonesOf s) → OneRingAtMost (polygonsOf zone)
 
--- no polygon has more than one ring
-abbrev pub OneRingAtMost : Picked → Type 0
-OneRingAtMost zone = (p : Picked) → List·Memᴰ p (polygonsOf zone) → length (elements p) ≤ 1
+-- document 01's own: a file is clean by its rules on polygons, a polygon holds what a ring of it does, a zone what a polygon of it does; and the answer by
+-- these
+abbrev pub cleanOfOne : ℕ → List ℕ → Outcome
+cleanOfOne = cleanBy coordinatesOfOne
 
--- document 01's own: a polygon holds what a ring of it does, a zone what a polygon of it does; and the answer by these
-unfoldable pub ringsHeld : List Picked → Point → Bool
-ringsHeld [] q = false
-ringsHeld (r ∷ rs) q = holds (outline r) q ⇒ true else ringsHeld rs q
+unfoldable pub ringsHoldOfOne : List Picked → Point → Bool
+ringsHoldOfOne [] q = false
+ringsHoldOfOne (r ∷ rs) q = holds (outline r) q ⇒ true else ringsHoldOfOne rs q
 
-unfoldable pub polygonsHeld : List Picked → Point → Bool
-polygonsHeld [] q = false
-polygonsHeld (p ∷ ps) q = ringsHeld (elements p) q ⇒ true else polygonsHeld ps q
+abbrev pub polygonsHoldOfOne : List Picked → Point → Bool
+polygonsHoldOfOne = polygonsHoldBy ringsHoldOfOne
 
-abbrev pub zoneHeld : Picked → Point → Bool
-zoneHeld zone q = polygonsHeld (polygonsOf zone) q
+abbrev pub zoneHoldsOfOne : Picked → Point → Bool
+zoneHoldsOfOne zone q = polygonsHoldOfOne (polygonsOf zone) q
 
 abbrev pub rulingOfOne : (s : List ℕ) → Point → (type : List ℕ) → (moment : ℕ) → Answer
 rulingOfOne s q type moment =
-    onMap q ⇒ ofClean (cleanOf 6 s) (ofRules (applicable (rulesBy zoneHeld (zonesOf s) q moment) type)) else refused 8 noParts
+    onMap q ⇒ ofClean (cleanOfOne 6 s) (ofRules (applicable (rulesBy zoneHoldsOfOne (zonesOf s) q moment) type)) else refused 8 noParts
 
 pub record Single : Type 0 where
-  pub polygon : (p : Picked) (q : Point) → length (elements p) ≤ 1 → ringsHold (elements p) q ≡ ringsHeld (elements p) q
-  pub zone : (z : Picked) (q : Point) → OneRingAtMost z → zoneHolds z q ≡ zoneHeld z q
-  pub answer : (s : List ℕ) (q : Point) (type : List ℕ) (moment : ℕ) → ((z : Picked) → List·Memᴰ z (zonesOf s) → OneRingAtMost z)
-      → rulingOf s q type moment ≡ rulingOfOne s q type moment
+  pub polygon : (p : Picked) (q : Point) → itemCount p ≤ 1 → ringsHold (elements p) q ≡ ringsHoldOfOne (elements p) q
+  pub zone : (z : Picked) (q : Point) → OneRingAtMost (polygonsOf z) → zoneHolds z q ≡ zoneHoldsOfOne z q
+  -- any file judged alone; only file 6 has polygons
+  pub clean : (file : ℕ) (s : List ℕ) → (file ≡ 6 → WithoutHoles s) → cleanOf file s ≡ cleanOfOne file s
+  -- at every point and moment and for every type, number 5 with its parts included
+  pub answer : (s : List ℕ) (q : Point) (type : List ℕ) (moment : ℕ) → WithoutHoles s → rulingOf s q type moment ≡ rulingOfOne s q type moment

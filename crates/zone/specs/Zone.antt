@@ -1,16 +1,19 @@
--- The rules that apply at a point, and what they give together: document 01, "Zones", with document 02's requests W4 and W13, on a picked file of zones.
+-- The rules that apply at a point, and what they give together: document 01, "Zones", with document 02's requests W4 and W13.
 use mathlib.Core.Bool.{Bool, true, false}
 use mathlib.Core.List.{List, [], _∷_, _++_, map}
 use Prim.Native.Nat.{ℕ}
 use lib.Dec.{leb, ltb}
 use Rattle.notation.specs.Choice.{_⇒_else_, _and_}
 use Rattle.text.specs.Text.{same}
-use Rattle.schema.specs.Pick.{Picked}
+use Rattle.schema.specs.Shape.{fileShape}
+use Rattle.schema.specs.Table23.{table23}
+use Rattle.schema.specs.Pick.{Picked, pick, elements}
 use Rattle.geometry.specs.Ring.{Point}
 use Rattle.geometry.specs.Held.{sideOf, polygonHolds}
 use Rattle.rings.specs.Rings.{position}
-use Rattle.document.specs.Document.{Maybe, none, some, along, elements, elementsOf, field, fieldItems, spelling, textIn}
+use Rattle.document.specs.Document.{Maybe, none, some, along, elementsOf, field, fieldItems, spelling, textIn}
 use Rattle.fields.specs.Values.{integerIn}
+use Rattle.clean.specs.Clean.{treeOf, recordsOf}
 
 -- an integer, where it is given
 abbrev pub integer : Maybe (List ℕ) → Maybe ℕ
@@ -33,19 +36,22 @@ counts properties moment = begun (integer (spelling 75 properties)) moment and u
 abbrev pub outline : Picked → List Point
 outline ring = map position (elements ring)
 
--- the rings of a polygon; the polygons of a zone, of which one that holds the point is enough
+-- the rings of a polygon; the polygons of a zone, of which one whose rings hold the point is enough
 unfoldable pub ringsHold : List Picked → Point → Bool
 ringsHold rs q = polygonHolds sideOf (map outline rs) q
 
-unfoldable pub polygonsHold : List Picked → Point → Bool
-polygonsHold [] q = false
-polygonsHold (p ∷ ps) q = ringsHold (elements p) q ⇒ true else polygonsHold ps q
+unfoldable pub polygonsHoldBy : (rings : List Picked → Point → Bool) → List Picked → Point → Bool
+polygonsHoldBy rings [] q = false
+polygonsHoldBy rings (p ∷ ps) q = rings (elements p) q ⇒ true else polygonsHoldBy rings ps q
 
 abbrev pub polygonsOf : Picked → List Picked
 polygonsOf zone = elementsOf (along (71 ∷ 73 ∷ []) zone)
 
 abbrev pub zoneHolds : Picked → Point → Bool
-zoneHolds zone q = polygonsHold (polygonsOf zone) q
+zoneHolds zone q = polygonsHoldBy ringsHold (polygonsOf zone) q
+
+abbrev pub polygonsHold : List Picked → Point → Bool
+polygonsHold = polygonsHoldBy ringsHold
 
 -- a rule is for this type where it names it, or has no field 78
 unfoldable pub anyText : List Picked → List ℕ → Bool
@@ -78,8 +84,12 @@ unfoldable pub applicable : List Picked → List ℕ → List Picked
 applicable [] type = []
 applicable (r ∷ rs) type = applies r type ⇒ r ∷ applicable rs type else applicable rs type
 
-unfoldable pub rulesAt : Picked → Point → List ℕ → ℕ → List Picked
-rulesAt file q type moment = applicable (rules (elementsOf (along (4 ∷ 5 ∷ 7 ∷ []) file)) q moment) type
+-- the zones of a file, by its bytes, and the rules of it that apply
+abbrev pub zonesOf : List ℕ → List Picked
+zonesOf s = recordsOf 6 (pick (fileShape table23 6) (treeOf s))
+
+unfoldable pub rulesAt : (s : List ℕ) → Point → List ℕ → ℕ → List Picked
+rulesAt s q type moment = applicable (rulesBy zoneHolds (zonesOf s) q moment) type
 
 -- a value as the first rule that gives it has it; one that is missing or "" is not given
 abbrev pub otherwise : {A : Type 0} → Maybe A → Maybe A → Maybe A

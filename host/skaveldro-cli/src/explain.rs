@@ -81,11 +81,11 @@ fn against_file(parts: Parts, path: &Path) -> Result<Known, Failure> {
     let content = read::file(path)?;
     let file = if parts.is_accepted() { path.file_name().and_then(named) } else { Some(parts.file) };
     let own = file.and_then(|file| fault::of_file(file, &content.bytes)).map(|fault| fault.parts);
-    let is_own = parts.is_accepted() && own.is_some() || parts.rule().is_some_and(|kind| kind <= Kind::IdUsed);
+    let is_own = parts.is_accepted() && own.is_some() || parts.rule().is_some_and(|kind| kind <= Kind::IdTwice);
     let name = shown(path);
     let (matches, warning) = match own {
         Some(own) if own == parts => (Some(true), None),
-        Some(own) if is_own || own.rule().is_some_and(|kind| kind < Kind::IdUsed) => {
+        Some(own) if is_own || own.rule().is_some_and(|kind| kind < Kind::IdTwice) => {
             let first = words::tell(own, Some(&content.bytes)).map_or(String::new(), |told| told.to_string());
             (Some(false), Some(format!("this is not the file that was judged: {name} first breaks another rule: {first}")))
         }

@@ -22,6 +22,8 @@ mod parts;
 mod quote;
 pub mod raw;
 mod show;
+#[rustfmt::skip]
+mod table;
 mod verdict;
 mod word;
 mod zone;

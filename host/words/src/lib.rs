@@ -8,15 +8,14 @@ mod record;
 mod ring;
 mod rule;
 mod scan;
-mod sort;
 mod text;
 mod value;
 
 pub use position::{position, Position};
 pub use record::{record, Record};
 
+use skaveldro::names::{sort_of, Sort};
 use skaveldro::{Files, Kind, Parts};
-use sort::Sort;
 use std::fmt;
 use value::Place;
 
@@ -45,7 +44,7 @@ pub fn tell(parts: Parts, bytes: Option<&[u8]>) -> Option<Told> {
     let file = parts.file_name()?;
     let kind = parts.rule()?;
     let bytes = bytes.filter(|_| kind != Kind::TooLong);
-    let is_text = matches!(kind, Kind::NotJson | Kind::Surrogate | Kind::TooDeep);
+    let is_text = matches!(kind, Kind::NotJson | Kind::Unpaired | Kind::TooDeep);
     let blamed = (parts.record > 0).then_some(parts.record);
     let place = bytes.filter(|_| kind > Kind::TooDeep).map(|bytes| value::place(parts, kind, bytes));
     let at = if is_text { Some(parts.offset as usize) } else { place.map(Place::offset) };
@@ -73,9 +72,9 @@ pub fn tell_of_set(parts: Parts, files: Files) -> Option<Told> {
 /// The value that breaks a rule on what a value must be. Of an array that is blamed for what it holds there is nothing short to show.
 fn found(parts: Parts, kind: Kind, bytes: &[u8], place: Place) -> Option<String> {
     let Place::Value(at) = place else { return None };
-    let is_about_values = matches!(kind, Kind::Type | Kind::Form | Kind::Range | Kind::Reference);
+    let is_about_values = matches!(kind, Kind::WrongType | Kind::NumberForm | Kind::OutOfRange | Kind::Dangling);
     let is_array =
-        matches!(sort::sort_of(parts.file, parts.field), Some(Sort::Ids | Sort::Coordinates)) && bytes.get(at) == Some(&b'[');
+        matches!(sort_of(parts.file, parts.field), Some(Sort::Ids(_) | Sort::Coordinates)) && bytes.get(at) == Some(&b'[');
     if is_about_values && !is_array {
         value::shown(bytes, at)
     } else {

@@ -1,7 +1,6 @@
 //! Where in a file a fault of stage B or C stands.
 
-use crate::sort::{sort_of, Sort};
-use skaveldro::names::{records_field, way, Field, TOP};
+use skaveldro::names::{way, Field, Sort, TOP};
 use skaveldro::{Kind, Parts};
 
 /// The member that is blamed, by the names on the way to it: from the record if one is blamed, else from the top.
@@ -13,7 +12,7 @@ pub fn member(parts: Parts, kind: Kind) -> String {
     if way.is_empty() {
         return format!("field {}", parts.field);
     }
-    let of_records = |field: &Field| field.number == records_field(parts.file);
+    let of_records = |field: &Field| matches!(field.sort, Sort::Records(_));
     let from = way.iter().position(of_records).filter(|_| parts.record > 0).map_or(0, |index| index + 1);
     let mut member = String::new();
     let mut separator = "";
@@ -21,9 +20,9 @@ pub fn member(parts: Parts, kind: Kind) -> String {
         member.push_str(separator);
         member.push_str(field.name);
         separator = ".";
-        let numbered = match sort_of(parts.file, field.number) {
-            Some(Sort::Items(_)) => "item",
-            Some(Sort::Coordinates) => "position",
+        let numbered = match field.sort {
+            Sort::Items(_) => "item",
+            Sort::Coordinates => "position",
             _ => continue,
         };
         if parts.sub > 0 {

@@ -1,10 +1,9 @@
 //! Which rule a fault breaks.
 
 use crate::ring;
-use crate::sort::{sort_of, Sort};
 use crate::text::not_json;
 use crate::value::{first_with_id, is_empty_string, Place};
-use skaveldro::names::{file_name, FILE_NAMES};
+use skaveldro::names::{file_name, sort_of, Sort, FILE_NAMES};
 use skaveldro::{Kind, Parts, MOST_BYTES};
 
 /// Every rule of this kind, for where the file is not at hand.
@@ -18,30 +17,30 @@ pub fn rule(parts: Parts, kind: Kind, bytes: Option<&[u8]>, place: Option<Place>
     match kind {
         Kind::TooLong => format!("longer than {MOST_BYTES} bytes, which is the most that a file may have"),
         Kind::NotJson => bytes.map_or("not valid JSON".into(), |bytes| not_json(bytes, parts.offset as usize)),
-        Kind::Surrogate => "an escaped surrogate (\\uD800 to \\uDFFF) without its other half".into(),
+        Kind::Unpaired => "an escaped surrogate (\\uD800 to \\uDFFF) without its other half".into(),
         Kind::TooDeep => "nested deeper than 16 levels".into(),
-        Kind::Twice => "given more than once in the same object".into(),
+        Kind::NameTwice => "given more than once in the same object".into(),
         Kind::Missing => match (bytes, place) {
             (Some(bytes), Some(Place::Value(at))) if is_empty_string(bytes, at) => {
                 "required, but \"\", which counts as missing".into()
             }
             _ => "required, but missing".into(),
         },
-        Kind::Type => sort.map_or("wrong type".into(), |sort| format!("must be {}", type_of(sort, parts))),
-        Kind::Form => "must have at most 12 digits before the decimal point, at most 18 after it, and no exponent".into(),
-        Kind::Range => sort.map_or("out of range".into(), |sort| match sort {
+        Kind::WrongType => sort.map_or("wrong type".into(), |sort| format!("must be {}", type_of(sort, parts))),
+        Kind::NumberForm => "must have at most 12 digits before the decimal point, at most 18 after it, and no exponent".into(),
+        Kind::OutOfRange => sort.map_or("out of range".into(), |sort| match sort {
             Sort::Coordinates => "coordinates out of range: longitude, -180 to 180, comes first, then latitude, -90 to 90".into(),
             sort => format!("must be {}", range_of(sort)),
         }),
         Kind::TooMany => sort.map_or("too many items".into(), |sort| excess_of(sort, parts, bytes)),
-        Kind::Ring => bytes.and_then(|bytes| ring::unsound(parts, bytes)).unwrap_or_else(|| SOUND_RINGS.into()),
-        Kind::IdUsed => match bytes.and_then(|bytes| first_with_id(parts, bytes)) {
+        Kind::BadRing => bytes.and_then(|bytes| ring::unsound(parts, bytes)).unwrap_or_else(|| SOUND_RINGS.into()),
+        Kind::IdTwice => match bytes.and_then(|bytes| first_with_id(parts, bytes)) {
             Some(number) => format!("record {number} has the same id"),
             None => "an earlier record has the same id".into(),
         },
-        Kind::Reference => reference(parts, sort),
+        Kind::Dangling => reference(parts, sort),
         Kind::Condition => condition(parts),
-        Kind::Sum => "its counts must add up to num_bikes_available".into(),
+        Kind::SumDiffers => "its counts must add up to num_bikes_available".into(),
     }
 }
 
@@ -49,7 +48,7 @@ pub fn rule(parts: Parts, kind: Kind, bytes: Option<&[u8]>, place: Option<Place>
 fn reference(parts: Parts, sort: Option<Sort>) -> String {
     let file = target(parts).and_then(file_name).unwrap_or("its file");
     match sort {
-        Some(Sort::Ids) => format!("each must be the id of a record of {file}"),
+        Some(Sort::Ids(_)) => format!("each must be the id of a record of {file}"),
         _ => format!("must be the id of a record of {file}"),
     }
 }
@@ -57,11 +56,11 @@ fn reference(parts: Parts, sort: Option<Sort>) -> String {
 /// What a value has to be by its type. An item that is blamed by its number has to be an object.
 fn type_of(sort: Sort, parts: Parts) -> &'static str {
     match sort {
-        Sort::Records if parts.record > 0 => "an object",
+        Sort::Records(_) if parts.record > 0 => "an object",
         Sort::Items(_) if parts.sub > 0 => "an object",
         Sort::Object => "an object",
-        Sort::Records | Sort::Items(_) => "an array",
-        Sort::Ids => "an array of strings",
+        Sort::Records(_) | Sort::Items(_) => "an array",
+        Sort::Ids(_) => "an array of strings",
         Sort::Coordinates => "arrays of polygons, rings and positions, with numbers in them",
         Sort::Id | Sort::Text | Sort::Exact(_) | Sort::Listed(_) | Sort::Currency => "a string",
         Sort::Boolean => "true or false",
@@ -78,7 +77,7 @@ fn range_of(sort: Sort) -> String {
         Sort::Listed(words) => format!("one of {}", words.join(", ")),
         Sort::Currency => "three capital letters".into(),
         Sort::Id => "at most 100 bytes long".into(),
-        Sort::Ids => "ids of at most 100 bytes each".into(),
+        Sort::Ids(_) => "ids of at most 100 bytes each".into(),
         Sort::Whole | Sort::Positive => "a number of 0 or more".into(),
         Sort::Between(least, most) => format!("a number from {least} to {most}"),
         Sort::Money => "a multiple of 0.0001 from -1000000 to 1000000".into(),
@@ -89,9 +88,8 @@ fn range_of(sort: Sort) -> String {
 
 fn excess_of(sort: Sort, parts: Parts, bytes: Option<&[u8]>) -> String {
     match sort {
-        Sort::Records => "too many records: at most 4095 are allowed".into(),
-        Sort::Items(most) => format!("too many items: at most {most} are allowed"),
-        Sort::Ids => "too many items: at most 64 are allowed".into(),
+        Sort::Records(most) => format!("too many records: at most {most} are allowed"),
+        Sort::Items(most) | Sort::Ids(most) => format!("too many items: at most {most} are allowed"),
         Sort::Coordinates if parts.sub > 0 => "too many positions in a ring: at most 256 are allowed".into(),
         Sort::Coordinates => bytes
             .and_then(|bytes| ring::excess(parts, bytes))
@@ -103,7 +101,7 @@ fn excess_of(sort: Sort, parts: Parts, bytes: Option<&[u8]>) -> String {
 /// The file that a reference goes to, if that is what is blamed.
 pub fn target(parts: Parts) -> Option<u8> {
     match parts.field {
-        _ if parts.rule() != Some(Kind::Reference) => None,
+        _ if parts.rule() != Some(Kind::Dangling) => None,
         38 | 45 | 78 => Some(1),
         30 | 47 => Some(2),
         14 | 48 => Some(5),

@@ -1,8 +1,7 @@
 //! The value that a fault of stage B or C blames, found in the file's bytes.
 
 use crate::scan::{blanks, items, member, members, skip, string};
-use crate::sort::{sort_of, Sort};
-use skaveldro::names::{records_field, way};
+use skaveldro::names::{records_field, way, Sort};
 use skaveldro::{Kind, Parts};
 
 /// A place in a file.
@@ -25,13 +24,13 @@ impl Place {
 pub fn place(parts: Parts, kind: Kind, bytes: &[u8]) -> Place {
     let mut at = blanks(bytes, 0);
     for field in way(parts.file, parts.field) {
-        let occurrence = usize::from(kind == Kind::Twice && field.number == parts.field);
+        let occurrence = usize::from(kind == Kind::NameTwice && field.number == parts.field);
         let Some(value) = members(bytes, at, field.name).nth(occurrence) else { return Place::Around(at) };
         at = value;
-        let item = match sort_of(parts.file, field.number) {
-            _ if field.number == records_field(parts.file) => nth(bytes, at, parts.record),
-            Some(Sort::Items(_)) => nth(bytes, at, parts.sub),
-            Some(Sort::Coordinates) if matches!(kind, Kind::Form | Kind::Range) => position(bytes, at, parts.sub),
+        let item = match field.sort {
+            Sort::Records(_) => nth(bytes, at, parts.record),
+            Sort::Items(_) => nth(bytes, at, parts.sub),
+            Sort::Coordinates if matches!(kind, Kind::NumberForm | Kind::OutOfRange) => position(bytes, at, parts.sub),
             _ => None,
         };
         at = item.unwrap_or(at);
@@ -95,18 +94,18 @@ mod tests {
     #[test]
     fn values_by_their_way() {
         let bikes = r#" {"version":"2.2","data":{"bikes":[{"lat":1},{"lat":470,"lat":"x","bike_id":7}]}}"#;
-        assert_eq!(found(4, Kind::Range, 1, 0, 0, bikes), (true, "\"2."));
-        assert_eq!(found(4, Kind::Range, 41, 2, 0, bikes), (true, "470"));
-        assert_eq!(found(4, Kind::Twice, 41, 2, 0, bikes), (true, "\"x\""));
+        assert_eq!(found(4, Kind::OutOfRange, 1, 0, 0, bikes), (true, "\"2."));
+        assert_eq!(found(4, Kind::OutOfRange, 41, 2, 0, bikes), (true, "470"));
+        assert_eq!(found(4, Kind::NameTwice, 41, 2, 0, bikes), (true, "\"x\""));
         assert_eq!(found(4, Kind::Missing, 40, 1, 0, bikes), (false, "{\"l"));
         assert_eq!(found(4, Kind::Missing, 2, 0, 0, bikes), (false, "{\"v"));
         let plans = r#"{"data":{"plans":[{"per_min_pricing":[{"rate":1},{"rate":[2]}]}]}}"#;
-        assert_eq!(found(5, Kind::Type, 63, 1, 2, plans), (true, "[2]"));
+        assert_eq!(found(5, Kind::WrongType, 63, 1, 2, plans), (true, "[2]"));
         assert_eq!(found(5, Kind::Missing, 62, 1, 1, plans), (false, "{\"r"));
-        assert_eq!(found(5, Kind::Type, 61, 1, 0, plans), (true, "[{\""));
+        assert_eq!(found(5, Kind::WrongType, 61, 1, 0, plans), (true, "[{\""));
         let zones = r#"{"data":{"geofencing_zones":{"features":[{"geometry":{"coordinates":[[[[1,2],[3,4]]],[[[5,600]]]]}}]}}}"#;
-        assert_eq!(found(6, Kind::Range, 73, 1, 3, zones), (true, "[5,"));
-        assert_eq!(found(6, Kind::Ring, 73, 1, 3, zones), (true, "[[["));
+        assert_eq!(found(6, Kind::OutOfRange, 73, 1, 3, zones), (true, "[5,"));
+        assert_eq!(found(6, Kind::BadRing, 73, 1, 3, zones), (true, "[[["));
     }
 
     #[test]

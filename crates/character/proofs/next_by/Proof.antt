@@ -1,7 +1,7 @@
 -- Each arm is the definition at the class of that number.
 use mathlib.Core.Path.{refl}
 use borrow.Author.Needs.{needs}
-use Rattle.lexeme.specs.Character.{nextBy}
+use Rattle.lexeme.specs.inner.Lead.{nextBy}
 use Rattle.lexeme.specs.inner.Class.{leadOf, from80, from90, fromA0, leastOf, mostOf}
 use Rattle.character.proofs.Leads.{by-plain, by-class, class-wrong}
 use Rattle.character.proofs.next_by.Statement.{statement}

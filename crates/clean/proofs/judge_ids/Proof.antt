@@ -6,33 +6,33 @@ use native.Mathlib.Omega.{arith}
 use Rattle.word.specs.Kinds.{idTwice}
 use Rattle.fault.specs.declared.Least.{Least}
 use Rattle.fault.specs.Fault.{fault}
-use Rattle.clean.specs.declared.Cleanness.the-variants.{Clean, Broken}
-use Rattle.clean.specs.Clean.{place, broken}
-use Rattle.clean.proofs.Repeated.{repeats-none, id-field}
+use Rattle.ids.specs.inner.Ids.{idField}
+use Rattle.ids.proofs.Picked.{id-field}
+use Rattle.clean.specs.declared.Outcome.the-variants.{Unbroken, Broken}
+use Rattle.clean.specs.Clean.{faultParts, broken}
+use Rattle.clean.proofs.Repeated.{repeats-none}
 use Rattle.clean.proofs.Judged.{ids-clean, ids-broken}
 use Rattle.clean.proofs.judge_ids.Statement.{statement}
 use Rattle.clean.proofs.judge_ids.Tie as tie
 
 returns : tie.Need-returns
 returns c =
-    let g = c .before .before in
-    ap (λ (z : Least). broken (g .args .file) z Clean) (sym (repeats-none (g .args .file) (g .args .s .now) (g .pre .0) (g .pre .1) (λ h i. omega arith)))
+    let f = c .before in let g = f .before .before in let e : idField (g .args .file) ≡ 0 = sym (f .id-field .ensures) ∙ c .if1 .taken in
+    ap (λ (z : Least). broken (g .args .file) z Unbroken) (sym (repeats-none (g .args .file) (λ h i. omega (arith, id-field (g .args .file) i, e)) _))
+
+repeat-of-requires : tie.Need-repeat-of-requires
+repeat-of-requires c κs =
+    let f = c .before in let x = f .before .before .pre in (λ e. c .if1 .left (f .id-field .ensures ∙ e), x .0, x .1)
 
 returns-2 : tie.Need-returns-2
 returns-2 c =
-    let g = c .before .before .before in
-    ap (λ (z : Least). broken (g .args .file) z Clean) (sym (repeats-none (g .args .file) (g .args .s .now) (g .pre .0) (g .pre .1) (λ h i. omega arith)))
+    let r = c .before in let g = r .before .before .before .before in
+    ids-clean (g .args .file) (r .repeat-of .result) _ (r .repeat-of .ensures) (c .if2 .taken)
 
 returns-3 : tie.Need-returns-3
 returns-3 c =
-    let r = c .before in let g = r .before .before .before .before in let a = g .args in
-    ids-clean (a .file) (r .repeat-of .result) _ (r .repeat-of .ensures) (c .if3 .taken)
-
-returns-4 : tie.Need-returns-4
-returns-4 c =
-    let r = c .before in let g = r .before .before .before .before in let a = g .args in let n = r .repeat-of .result in
-    ap (λ (φ : ℕ). Broken (place (a .file) (fault n φ 0 idTwice))) (id-field (a .file) (omega arith))
-    ∙ ids-broken (a .file) n _ (r .repeat-of .ensures) (c .if3 .left)
+    let r = c .before in let f = r .before .before in let file = f .before .before .args .file in let n = r .repeat-of .result in
+    ap (λ (φ : ℕ). Broken (faultParts file (fault n φ 0 idTwice))) (f .id-field .ensures) ∙ ids-broken file n _ (r .repeat-of .ensures) (c .if2 .left)
 
 pub judge-ids-spec : {M : Type 1} → statement M
-judge-ids-spec = tie.close (tie.spec returns returns-2 (λ c κs. search needs) returns-3 (λ c. search needs) returns-4)
+judge-ids-spec = tie.close (tie.spec (λ c κs. search needs) returns repeat-of-requires returns-2 returns-3)

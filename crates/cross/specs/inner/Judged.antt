@@ -8,15 +8,16 @@ use Rattle.json.specs.Tree as tree
 use Rattle.json.specs.Tree.{Members}
 use Rattle.walk.specs.declared.Item.{Item}
 use Rattle.walk.specs.Walk.{itemsOf}
-use Rattle.walk.specs.Part.{Whole, treeOf}
+use Rattle.walk.specs.Part.{Whole, partTree}
 use Rattle.walk.proofs.Parts.{itemOf}
+use Rattle.schema.specs.Records.{recordShape}
 use Rattle.schema.specs.Pick.{Picked, pick}
 use Rattle.slots.specs.declared.Slots.{Slots}
 use Rattle.slots.specs.inner.Slots.{slotAt}
 use Rattle.fault.specs.declared.Fault.{Fault}
 use Rattle.fault.specs.declared.Least.{Least}
 use Rattle.fault.specs.Fault.{least}
-use Rattle.document.proofs.Records.{recordShape, pickedItems}
+use Rattle.document.proofs.Records.{pickedItems}
 use Rattle.fields.specs.inner.Values.{Standing, foundBytes}
 use Rattle.references.specs.declared.Set.{Set}
 use Rattle.references.specs.inner.Known.{Searchable}
@@ -24,7 +25,7 @@ use Rattle.cross.specs.Cross.{faultsOf}
 
 -- every record of the array is an object
 abbrev pub Objects : List ℕ → Type 0
-Objects p = (m : Item) → List·Memᴰ m (itemsOf p) → (ms : Members) × (treeOf (itemOf p m) ≡ tree.object ms)
+Objects p = (m : Item) → List·Memᴰ m (itemsOf p) → (ms : Members) × (partTree (itemOf p m) ≡ tree.object ms)
 
 -- the bytes are an object's
 abbrev pub Object : List ℕ → Type 0

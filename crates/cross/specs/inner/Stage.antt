@@ -9,18 +9,18 @@ use Rattle.schema.specs.Shape.{fileShape}
 use Rattle.schema.specs.Table23.{table23}
 use Rattle.fault.specs.Fault.{least}
 use Rattle.judge.specs.Faults.{fileFaults}
-use Rattle.clean.specs.declared.Cleanness.{Cleanness}
-use Rattle.clean.specs.declared.Cleanness.the-variants.{Clean}
+use Rattle.clean.specs.declared.Outcome.{Outcome}
+use Rattle.clean.specs.declared.Outcome.the-variants.{Unbroken}
 use Rattle.clean.specs.Clean.{treeOf, broken}
 use Rattle.cross.specs.Cross.{Files, crossFaults}
 
 -- the first file that is not clean, of six
-abbrev pub firstOf : (ℕ → Cleanness → Cleanness) → Cleanness
-firstOf judge = judge 1 (judge 2 (judge 3 (judge 4 (judge 5 (judge 6 Clean)))))
+abbrev pub firstOf : (ℕ → Outcome → Outcome) → Outcome
+firstOf judge = judge 1 (judge 2 (judge 3 (judge 4 (judge 5 (judge 6 Unbroken)))))
 
 -- stage C
-unfoldable pub stageC : Files → Cleanness
-stageC s = firstOf (λ file next. broken file (least (crossFaults s file)) next)
+unfoldable pub firstC : Files → Outcome
+firstC s = firstOf (λ file next. broken file (least (crossFaults s file)) next)
 
 -- a file is through stages A and B
 pub record Through (n : ℕ) (s : List ℕ) : Type 0 where

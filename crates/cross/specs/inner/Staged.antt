@@ -2,7 +2,7 @@
 use mathlib.Core.Bool.{Bool, false, not}
 use mathlib.Core.List.{List}
 use mathlib.Core.Path.{_≡_}
-use Prim.Native.Nat.{ℕ, zero, suc, _+_, _*_, _≤_, _<_}
+use Prim.Native.Nat.{ℕ, zero, suc, _+_, _≤_, _<_}
 use lib.Dec.{eqb, ltb}
 use lib.ListN.{length}
 use Rattle.limits.specs.Ceilings.{fileBytes, records}
@@ -10,19 +10,20 @@ use Rattle.notation.specs.Choice.{_⇒_else_, _and_}
 use Rattle.word.specs.Kinds.{condition}
 use Rattle.walk.specs.Walk.{itemsOf}
 use Rattle.walk.specs.inner.Along.{AlongItems}
+use Rattle.schema.specs.Records.{recordShape}
 use Rattle.fault.specs.declared.Least.{Least}
 use Rattle.fault.specs.declared.Least.the-variants.{None, Is}
 use Rattle.fault.specs.Fault.{least, lesser}
 use Rattle.judge.specs.Faults.{top, faulty}
-use Rattle.document.proofs.Records.{recordShape, pickedItems}
-use Rattle.ids.specs.inner.Ids.{recordBytes, firstRepeat}
+use Rattle.document.proofs.Records.{pickedItems}
+use Rattle.ids.specs.inner.Ids.{idField, recordBytes, firstRepeat}
 use Rattle.clean.specs.inner.Blamed.{blamed}
 use Rattle.references.specs.declared.Set.{Set}
 use Rattle.cross.specs.declared.records.Findings.{Findings}
 use Rattle.cross.specs.declared.stage.Crossed.{Crossed}
 use Rattle.cross.specs.declared.stage.Crossed.the-variants.{Nothing, At}
-use Rattle.references.specs.References.{when}
-use Rattle.cross.specs.Cross.{each}
+use Rattle.references.specs.References.{kindIf}
+use Rattle.cross.specs.Cross.{eachRecord}
 use Rattle.cross.specs.inner.Judged as judged
 use Rattle.cross.specs.inner.Judged.{Objects}
 
@@ -45,19 +46,19 @@ unfoldable pub repeatOf : ℕ → List ℕ → ℕ
 repeatOf file p = ltb 5 file ⇒ 0 else firstRepeat file (recordBytes p)
 
 unfoldable pub idsLeast : ℕ → List ℕ → Least
-idsLeast file p = blamed (file * 10) (repeatOf file p)
+idsLeast file p = blamed (idField file) (repeatOf file p)
 
 module _ (set : Set) (types stations plans : List ℕ) where
   -- what is found of the records p of a file: the first that repeats an id, and the least of the rules that they break otherwise
   pub record Finds (file : ℕ) (p : List ℕ) (found : Findings) : Type 0 where
     pub repeats : found .repeat ≡ repeatOf file p
-    pub breaks : found .least ≡ least (each (judged.broken set types stations plans file) 1 (pickedItems (recordShape file) p))
+    pub breaks : found .least ≡ least (eachRecord (judged.broken set types stations plans file) 1 (pickedItems (recordShape file) p))
 
   -- the least of a file, of which p are the records
   unfoldable pub fileLeast : ℕ → List ℕ → Least
   fileLeast file p =
-      lesser (least (faulty top 0 (when (calledFor file set) condition)))
-      (lesser (idsLeast file p) (least (each (judged.broken set types stations plans file) 1 (pickedItems (recordShape file) p))))
+      lesser (least (faulty top 0 (kindIf (calledFor file set) condition)))
+      (lesser (idsLeast file p) (least (eachRecord (judged.broken set types stations plans file) 1 (pickedItems (recordShape file) p))))
 
   -- of the file with this number
   unfoldable pub numberedLeast : (statuses bikes zones : List ℕ) (file : ℕ) → Least

@@ -1,55 +1,69 @@
 -- `records_from` goes from rest to rest along the names of the file's number.
 use borrow.Author.Needs.{needs}
-use mathlib.Core.Path.{ap}
+use mathlib.Core.Path.{_≡_, refl, ap}
+use Prim.Native.Nat.{ℕ, _≤_}
+use native.Mathlib.Omega.{arith}
+use lib.ListN.{length}
 use Rattle.notation.specs.Ascii.{bytes}
-use Rattle.document.specs.Spans.{memberAt, topSpan, namesTo}
-use Rattle.document.proofs.Along.{along-two, along-three, names-else}
-use Rattle.document.proofs.Rests.{Begins, begins-top, begins-member, records-begin}
+use Rattle.schema.specs.Records.{wayTo, located}
+use Rattle.document.specs.Spans.{memberSpan, topSpan}
+use Rattle.document.proofs.Cuts.{part-length}
+use Rattle.document.proofs.Along.{along-two, along-three, along-none}
+use Rattle.document.proofs.Rests.{Begins, begins-top, begins-member, records-begin, no-records}
 use Rattle.document.proofs.records_from.Statement.{statement}
 use Rattle.document.proofs.records_from.Tie as tie
 
 -- what `data` holds
 in-data : (c : tie.After-value-from) → let s = c .before .before .before .before .before .args .s .now in
-    Begins s (memberAt s (bytes "data") (topSpan s)) (c .value-from .result .now)
+    Begins s (memberSpan s (bytes "data") (topSpan s)) (c .value-from .result .now)
 in-data c =
     let k = c .before .before .before in let s = k .before .before .args .s .now in
     begins-member s (bytes "data") (topSpan s) _ _ (begins-top s (k .skip-blanks .result) (k .skip-blanks .ensures)) (c .value-from .ensures)
 
 returns : tie.Need-returns
-unfolding namesTo
+unfolding located
 returns c =
     let m = c .before .before in
-    records-begin _ _ _ _ (along-two _ _ _ _ (ap namesTo (m .match .keys1))) (begins-member _ _ _ _ _ (in-data (m .before)) (c .value-from2 .ensures))
+    records-begin _ _ _ _ (along-two _ _ _ _ (ap wayTo (m .match .keys1)) refl) (begins-member _ _ _ _ _ (in-data (m .before)) (c .value-from2 .ensures))
 
 returns-2 : tie.Need-returns-2
-unfolding namesTo
+unfolding located
 returns-2 c =
     let m = c .before .before in
-    records-begin _ _ _ _ (along-two _ _ _ _ (ap namesTo (m .match .keys2))) (begins-member _ _ _ _ _ (in-data (m .before)) (c .value-from3 .ensures))
+    records-begin _ _ _ _ (along-two _ _ _ _ (ap wayTo (m .match .keys2)) refl) (begins-member _ _ _ _ _ (in-data (m .before)) (c .value-from3 .ensures))
 
 returns-3 : tie.Need-returns-3
-unfolding namesTo
+unfolding located
 returns-3 c =
     let m = c .before .before in
-    records-begin _ _ _ _ (along-two _ _ _ _ (ap namesTo (m .match .keys3))) (begins-member _ _ _ _ _ (in-data (m .before)) (c .value-from4 .ensures))
+    records-begin _ _ _ _ (along-two _ _ _ _ (ap wayTo (m .match .keys3)) refl) (begins-member _ _ _ _ _ (in-data (m .before)) (c .value-from4 .ensures))
 
 returns-4 : tie.Need-returns-4
-unfolding namesTo
+unfolding located
 returns-4 c =
     let m = c .before .before in
-    records-begin _ _ _ _ (along-two _ _ _ _ (ap namesTo (m .match .keys4))) (begins-member _ _ _ _ _ (in-data (m .before)) (c .value-from5 .ensures))
+    records-begin _ _ _ _ (along-two _ _ _ _ (ap wayTo (m .match .keys4)) refl) (begins-member _ _ _ _ _ (in-data (m .before)) (c .value-from5 .ensures))
 
 returns-5 : tie.Need-returns-5
-unfolding namesTo
+unfolding located
 returns-5 c =
     let m = c .before .before in
-    records-begin _ _ _ _ (along-two _ _ _ _ (ap namesTo (m .match .keys5))) (begins-member _ _ _ _ _ (in-data (m .before)) (c .value-from6 .ensures))
+    records-begin _ _ _ _ (along-two _ _ _ _ (ap wayTo (m .match .keys5)) refl) (begins-member _ _ _ _ _ (in-data (m .before)) (c .value-from6 .ensures))
 
 returns-6 : tie.Need-returns-6
+unfolding located
 returns-6 c =
-    let z = c .before .before in let m = z .before .before in let r = m .match .rest in
-    records-begin _ _ _ _ (along-three _ _ _ _ _ (names-else _ (r .0 .0 .0 .0 .1) (r .0 .0 .0 .1) (r .0 .0 .1) (r .0 .1) (r .1)))
+    let z = c .before .before in let m = z .before .before in
+    records-begin _ _ _ _ (along-three _ _ _ _ (ap wayTo (m .match .keys6)) _ refl)
     (begins-member _ (bytes "features") _ _ _ (begins-member _ (bytes "geofencing_zones") _ _ _ (in-data (m .before)) (z .value-from7 .ensures)) (c .value-from8 .ensures))
+
+no-file : (n : ℕ) → (n ≡ 1 → ⊥) → (n ≡ 2 → ⊥) → (n ≡ 3 → ⊥) → (n ≡ 4 → ⊥) → (n ≡ 5 → ⊥) → (n ≡ 6 → ⊥) → 1 ≤ n → n ≤ 6 → ⊥
+no-file n a b c d e f h i = omega arith
+
+returns-7 : tie.Need-returns-7
+returns-7 c =
+    let m = c .before in let r = m .match .rest in let s = m .before .before .before .before .before .before .args .s .now in
+    no-records _ _ _ (along-none _ _ (no-file _ (r .0 .0 .0 .0 .0 .1) (r .0 .0 .0 .0 .1) (r .0 .0 .0 .1) (r .0 .0 .1) (r .0 .1) (r .1))) (omega (arith, ap length (c .cut .ensures), part-length s 0 0))
 
 pub records-from-spec : {M : Type 1} → statement M
 records-from-spec =
@@ -57,4 +71,4 @@ records-from-spec =
     (tie.spec (λ c κs. search needs) (λ c. search needs) (λ c. search needs) (λ c. search needs) (λ c. search needs) (λ c κs. search needs) (λ c. search needs)
     (λ c κs. search needs) returns (λ c. search needs) (λ c κs. search needs) returns-2 (λ c. search needs) (λ c κs. search needs) returns-3 (λ c. search needs)
     (λ c κs. search needs) returns-4 (λ c. search needs) (λ c κs. search needs) returns-5 (λ c. search needs) (λ c κs. search needs) (λ c. search needs)
-    (λ c κs. search needs) returns-6)
+    (λ c κs. search needs) returns-6 (λ c κs. search needs) returns-7)

@@ -3,9 +3,7 @@ use mathlib.Core.Bool.{Bool, true, false}
 use mathlib.Core.List.{List, [], _∷_, map, List·Memᴰ}
 use mathlib.Core.Path.{_≡_}
 use Prim.Native.Nat.{ℕ, zero, suc, _+_, _<_}
-use lib.Dec.{eqb}
 use lib.ListN.{length, getD}
-use Rattle.notation.specs.Ascii.{bytes}
 use Rattle.notation.specs.Choice.{_⇒_else_}
 use Rattle.json.specs.Tree as tree
 use Rattle.json.specs.Tree.{Members}
@@ -14,23 +12,22 @@ use Rattle.walk.specs.declared.Item.{Item}
 use Rattle.walk.specs.declared.Member.{Member}
 use Rattle.walk.specs.declared.MemberStep.the-variants as members
 use Rattle.walk.specs.Walk.{part, memberAt, itemsOf}
-use Rattle.walk.specs.Part.{treeOf}
+use Rattle.walk.specs.Part.{partTree}
 use Rattle.walk.specs.inner.Along.{AlongMembers}
 use Rattle.walk.proofs.Folds.{Walk, memberSteps}
 use Rattle.walk.proofs.Parts.{itemOf}
+use Rattle.schema.specs.Records.{idKey}
 use Rattle.slots.specs.declared.Found.the-variants.{Missing, Twice}
 use Rattle.slots.specs.Found.{noted, foundIn}
 use Rattle.document.specs.Document.{Maybe, none, some}
 use Rattle.fields.specs.inner.Values.{memberOf, textBy, isId}
 
--- the name of the ids of a file's own records
+-- the field and the name of the ids of a file's own records; 0 and no bytes where they have none
+unfoldable pub idField : ℕ → ℕ
+idField file = elim (idKey file) [ none ↦ 0 | some k ↦ k .field ]
+
 unfoldable pub idName : ℕ → List ℕ
-idName file =
-    eqb file 1 ⇒ bytes "vehicle_type_id" else
-    eqb file 2 ⇒ bytes "station_id" else
-    eqb file 3 ⇒ bytes "station_id" else
-    eqb file 4 ⇒ bytes "bike_id" else
-    bytes "plan_id"
+idName file = elim (idKey file) [ none ↦ [] | some k ↦ k .name ]
 
 -- what a record holds as its id
 unfoldable pub idValue : ℕ → List ℕ → List ℕ
@@ -52,7 +49,7 @@ pub record IdPlace (file : ℕ) (q : List ℕ) (at : ℕ) : Type 0 where
 
 -- the record q is an object in which this name stands once at most
 pub record Single (file : ℕ) (q : List ℕ) : Type 0 where
-  pub object : (ms : Members) × (treeOf q ≡ tree.object ms)
+  pub object : (ms : Members) × (partTree q ≡ tree.object ms)
   pub once : foundIn q (idName file) ≡ Twice → ⊥
 
 -- all records of an array are such objects

@@ -31,8 +31,8 @@ startAt notes j = getD notes (records + j) 0
 abbrev pub endAt : List ℕ → ℕ → ℕ
 endAt notes j = getD notes (2 * records + j) 0
 
-abbrev pub memberAt : List ℕ → ℕ → ℕ
-memberAt notes j = getD notes (3 * records + j) 0
+abbrev pub memberStart : List ℕ → ℕ → ℕ
+memberStart notes j = getD notes (3 * records + j) 0
 
 abbrev pub linkAt : List ℕ → ℕ → ℕ
 linkAt notes j = getD notes (4 * records + j) 0
@@ -59,7 +59,7 @@ kept file q = elim (idOf file q) [ none ↦ [] | some id ↦ q ]
 -- the entry j tells where the j-th record of p is, where the member of its id is looked for, and the digest of its id
 pub record Entry (file : ℕ) (p notes : List ℕ) (j : ℕ) : Type 0 where
   pub there : part p (startAt notes j) (endAt notes j) ≡ kept file (getD (recordBytes p) j [])
-  pub unmet : Unmet file (part p (startAt notes j) (endAt notes j)) (memberAt notes j)
+  pub unmet : Unmet file (part p (startAt notes j) (endAt notes j)) (memberStart notes j)
   pub digested : (id : List ℕ) → idOf file (getD (recordBytes p) j []) ≡ some id → digestAt notes j ≡ text.digest id
 
 -- the first n records of p are noted, and in chains

@@ -6,10 +6,12 @@ use Prim.Native.Nat.{ℕ, _%_, _<_}
 use lib.Dec.{eqb, ltb}
 use lib.ListN.{getD}
 use Rattle.notation.specs.Choice.{_⇒_else_}
-use Rattle.lexeme.specs.Character.{Lead, lead, within}
-use Rattle.lexeme.specs.Character.Lead.{plain, quote, backslash, wrong, two, threeE0, three, threeED, fourF0, four, fourF4}
-use Rattle.lexeme.specs.Tokens.{Start, start, blank}
-use Rattle.lexeme.specs.Tokens.Start.{string, number, array, object, letterT, letterF, letterN, other}
+use Rattle.lexeme.specs.Character.{within}
+use Rattle.lexeme.specs.inner.Lead.{Lead, lead}
+use Rattle.lexeme.specs.inner.Lead.Lead.{plain, quote, backslash, wrong, two, threeE0, three, threeED, fourF0, four, fourF4}
+use Rattle.lexeme.specs.Tokens.{blank}
+use Rattle.lexeme.specs.inner.Start.{Start, start}
+use Rattle.lexeme.specs.inner.Start.Start.{string, number, array, object, letterT, letterF, letterN, other}
 
 -- inside a string: below 14 a byte stands for itself
 unfoldable pub leadOf : ℕ → Lead

@@ -2,7 +2,7 @@
 -- whose records have ids.
 use mathlib.Core.Bool.{Bool, true, false}
 use mathlib.Core.List.{List, []}
-use Prim.Native.Nat.{ℕ, zero, suc, _*_, _≤_}
+use Prim.Native.Nat.{ℕ, zero, suc, _≤_}
 use lib.Dec.{eqb, ltb}
 use lib.ListN.{length, getD}
 use Rattle.notation.specs.Ascii.{bytes}
@@ -13,7 +13,7 @@ use Rattle.fields.specs.inner.Values.{memberOf, textBy, thereBy}
 use Rattle.ids.specs.inner.Ids.{hasId}
 use Rattle.ids.specs.inner.Notes.{Noted}
 use Rattle.references.specs.declared.Set.{Set}
-use Rattle.references.specs.References.{any, roomy, driven, notHuman}
+use Rattle.references.specs.References.{any, hasCapacity, motorized, notHuman}
 
 -- a record is of the sort that is asked about in its file
 abbrev pub passing : ℕ → List ℕ → Bool
@@ -30,12 +30,9 @@ unfoldable pub anyMeets : ℕ → Bool → List ℕ → List (List ℕ) → ℕ 
 anyMeets file tested id rs zero = false
 anyMeets file tested id rs (suc n) = meeting file tested id (getD rs n []) ⇒ true else anyMeets file tested id rs n
 
--- the same by what is picked: the field of the id, the sort that is asked about
-abbrev pub fieldOf : ℕ → ℕ
-fieldOf file = file * 10
-
+-- the same by what is picked
 abbrev pub testOf : ℕ → Picked → Bool
-testOf file = eqb file 1 ⇒ driven else eqb file 2 ⇒ roomy else any
+testOf file = eqb file 1 ⇒ motorized else eqb file 2 ⇒ hasCapacity else any
 
 abbrev pub testedOf : ℕ → Bool → Picked → Bool
 testedOf file tested = tested ⇒ testOf file else any

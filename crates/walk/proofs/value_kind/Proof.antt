@@ -3,7 +3,7 @@ use borrow.Author.Needs.{needs}
 use mathlib.Core.Path.{sym, _∙_}
 use Rattle.lexeme.specs.Character.{within}
 use Rattle.lexeme.specs.Numbers.{digit}
-use Rattle.lexeme.specs.Tokens.{start}
+use Rattle.lexeme.specs.inner.Start.{start}
 use Rattle.walk.proofs.FirstByte.{kind-is, kind-digit, kind-truth, kind-null}
 use Rattle.walk.proofs.value_kind.Statement.{statement}
 use Rattle.walk.proofs.value_kind.Tie as tie

@@ -6,7 +6,7 @@ use lib.ListN.{length, drop}
 use Rattle.limits.specs.Ceilings.{depth}
 use Rattle.lexeme.specs.Read.Read.{done}
 use Rattle.lexeme.specs.Character.{paired, byte}
-use Rattle.lexeme.specs.Tokens.{Start, start}
+use Rattle.lexeme.specs.inner.Start.{Start, start}
 use Rattle.json.specs.Tree.{Json}
 use Rattle.json.specs.Text.{value}
 

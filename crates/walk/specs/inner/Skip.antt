@@ -6,7 +6,7 @@ use lib.Dec.{eqb}
 use lib.ListN.{drop}
 use Rattle.lexeme.specs.Read.Read.{done, bad}
 use Rattle.lexeme.specs.Numbers.{either, number}
-use Rattle.lexeme.specs.Tokens.{Start, start}
+use Rattle.lexeme.specs.inner.Start.{Start, start}
 
 -- the rest behind a string's closing quotation mark; the test says that the byte at the front is escaped
 unfoldable pub quoted : Bool → List ℕ → List ℕ

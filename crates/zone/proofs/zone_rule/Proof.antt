@@ -8,11 +8,7 @@ use mir.Syntax.{w64}
 use mir.Val.{ofZ, toZ}
 use mir.ValLaws.{toZ-ofZ}
 use Rattle.signed.specs.inner.Difference.{difference}
-use Rattle.schema.specs.Shape.{fileShape}
-use Rattle.schema.specs.Table23.{table23}
-use Rattle.schema.specs.Pick.{pick}
 use Rattle.geometry.specs.inner.Shifted.{halfLon, halfLat}
-use Rattle.clean.specs.Clean.{treeOf}
 use Rattle.zone.specs.Zone.{rulesAt}
 use Rattle.zone.specs.Answer.{onMap, ofRules, rulingOf}
 use Rattle.zone.proofs.Raising.{Ranged, ranged, raised-map, raised-point}
@@ -66,7 +62,7 @@ returns-2 c =
     let t = c .before .before .before in let k = t .before .before in let a = k .before .before .before .before .before .args in
     let point = raised-point (placed (k .before)) _ _ (east (c .before .before)) (north (c .before)) in
     rw (on-it (k .before), sym (k .check-clean .ensures) ∙ t .enum-told .given .1)
-    (c .rule-in .ensures ∙ ap (λ q. ofRules (rulesAt (pick (fileShape table23 6) (treeOf (a .s .now))) q (a .type-id .now) (a .moment))) point)
+    (c .rule-in .ensures ∙ ap (λ q. ofRules (rulesAt (a .s .now) q (a .type-id .now) (a .moment))) point)
 
 returns-3 : tie.Need-returns-3
 unfolding rulingOf

@@ -8,12 +8,12 @@ use lib.ListN.{length}
 use Rattle.limits.specs.Ceilings.{records, fileBytes}
 use Rattle.json.specs.Tree as tree
 use Rattle.json.specs.Tree.{Members}
-use Rattle.walk.specs.Part.{Whole, treeOf}
+use Rattle.walk.specs.Part.{Whole, partTree}
 use Rattle.walk.specs.inner.Along.{ItemPlaced}
 use Rattle.walk.proofs.Parts.{itemOf}
+use Rattle.schema.specs.Records.{recordShape}
 use Rattle.schema.specs.Pick.{pick}
 use Rattle.fault.specs.Fault.{least as leastOf}
-use Rattle.document.proofs.Records.{recordShape}
 use Rattle.fields.proofs.Sizes.{part-short}
 use Rattle.ids.proofs.Passing.{Noting, noting-start, noting-end, noting-room, noting-record, noting-more}
 use Rattle.cross.specs.inner.Judged.{broken}
@@ -58,7 +58,7 @@ room : (c : Met) → c .before .before .before .loop .n < records
 room c = let t = c .before .before in noting-room (t .before .loop .inv .0) (t .pass-item .ensures) _ (c .item .given .1) (start c .pre .1 .few)
 
 -- an object
-object : (c : Met) → (ms : Members) × (treeOf (itemOf (start c .args .p .now) (c .item .given .0 .0)) ≡ tree.object ms)
+object : (c : Met) → (ms : Members) × (partTree (itemOf (start c .args .p .now) (c .item .given .0 .0)) ≡ tree.object ms)
 object c =
     let t = c .before .before in let s = start c in let m = c .item .given .0 .0 in
     s .pre .1 .objects m (left-among (recordShape (s .args .file)) (s .args .p .now) _ (t .before .loop .inv .1) (t .pass-item .ensures) m (c .item .given .1))

@@ -8,7 +8,7 @@ returns : tie.Need-returns
 returns c = rw (eq-eqb (c .before .args .repeat) 0 (c .if1 .taken))
 
 returns-2 : tie.Need-returns-2
-returns-2 c = rw (ne-eqb (c .before .args .repeat) 0 (c .if1 .left))
+returns-2 c = let i = c .before in rw (c .id-field .ensures, ne-eqb (i .before .args .repeat) 0 (i .if1 .left))
 
 pub judge-ids-spec : {M : Type 1} → statement M
-judge-ids-spec = tie.close (tie.spec returns (λ c. search needs) returns-2)
+judge-ids-spec = tie.close (tie.spec returns (λ c κs. search needs) returns-2)

@@ -2,7 +2,7 @@
 use borrow.Author.Needs.{needs}
 use mathlib.Core.Path.{_≡_, sym, ap, _∙_}
 use native.Mathlib.Omega.{arith}
-use Rattle.clean.specs.declared.Cleanness.the-variants.{Broken}
+use Rattle.clean.specs.declared.Outcome.the-variants.{Broken}
 use Rattle.cross.specs.inner.Staged.{numberedLeast, firstFrom}
 use Rattle.cross.proofs.Files.{file-bytes}
 use Rattle.cross.proofs.Sets.{AllInBytes, leasts, cleanness, stage-is, first-small}

@@ -8,12 +8,14 @@ use native.Mathlib.Omega.{arith}
 use lib.ListN.{length}
 use Rattle.walk.specs.inner.Along.{ItemPlaced}
 use Rattle.schema.specs.Table23.{available}
+use Rattle.schema.specs.Records.{recordShape, identified}
 use Rattle.fault.specs.Fault.{least as leastOf}
-use Rattle.document.proofs.Records.{recordShape, pickedItems}
+use Rattle.document.proofs.Records.{pickedItems}
 use Rattle.fields.specs.Values.{integerIn}
 use Rattle.fields.specs.inner.Values.{textBy, spelledBy}
+use Rattle.ids.specs.inner.Ids.{idField}
 use Rattle.references.specs.References.{refers as refersTo}
-use Rattle.cross.specs.Cross.{at as placeAt}
+use Rattle.cross.specs.Cross.{recordPlace as placeAt}
 use Rattle.cross.proofs.Joined.{breaks}
 use Rattle.cross.proofs.Walked.{Goes, goes-start, goes-end, goes-more, Sums, sums-start, sums-end, sums-more, left-whole}
 use Rattle.cross.proofs.Fielded.{availableItem, available-each, available-text, available-count, count-small}
@@ -57,6 +59,7 @@ loop-less : tie.Need-loop-less Inv-loop μ-loop
 loop-less c = let m = placed (met c) in omega arith
 
 loop-again : tie.Need-loop-again Inv-loop μ-loop
+unfolding identified idField
 loop-again c =
     let q₂ = c .before in let l = q₂ .before .before in let b = l .before in let r = b .before in let q = r .before in
     let d = met c .before in let t = d .before .before in let k = t .before in let a = k .before .before .before .args in

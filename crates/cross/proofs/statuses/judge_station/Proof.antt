@@ -1,10 +1,13 @@
 -- `judge_station` joins what field 30 breaks, and what field 32 breaks by the station that 30 names.
 use borrow.Author.Needs.{needs}
+use Rattle.schema.specs.Records.{identified}
+use Rattle.ids.specs.inner.Ids.{idField}
 use Rattle.cross.proofs.Joined.{both, breaks}
 use Rattle.cross.proofs.statuses.judge_station.Statement.{statement}
 use Rattle.cross.proofs.statuses.judge_station.Tie as tie
 
 returns : tie.Need-returns
+unfolding identified idField
 returns c =
     let b = c .before in let n = b .before in let a = n .before in let f = a .before in
     let place = f .before .before .before .before .args .place in

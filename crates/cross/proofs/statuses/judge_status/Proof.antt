@@ -2,8 +2,9 @@
 use borrow.Author.Needs.{needs}
 use mathlib.Core.Path.{ap, _∙_}
 use native.Mathlib.Omega.{arith}
+use Rattle.schema.specs.Records.{recordShape, located}
 use Rattle.fault.specs.Fault.{least}
-use Rattle.document.proofs.Records.{recordShape, pickedItems}
+use Rattle.document.proofs.Records.{pickedItems}
 use Rattle.cross.proofs.Joined.{both}
 use Rattle.cross.proofs.Gathering.{status-is, counts-along}
 use Rattle.cross.proofs.statuses.judge_status.Statement.{statement}
@@ -15,7 +16,7 @@ judge-counts-requires c κs =
     (x .1, omega (arith, x .3, v .value-in3 .ensures .1), counts-along (x .0) (v .value-in3 .ensures .0) (x .4 .1))
 
 returns : tie.Need-returns
-unfolding recordShape
+unfolding located
 returns c ms w =
     let j = c .before in let v₄ = j .before in let v₃ = v₄ .before in let i = v₃ .before in let v₂ = i .before in let v = v₂ .before in
     let s = v .before .before .before .before in let a = s .args in

@@ -1,25 +1,27 @@
 -- `judge_type` joins what fields 13 and 14 break by the record's slots.
 use borrow.Author.Needs.{needs}
 use mathlib.Core.Path.{ap, _∙_}
+use Rattle.schema.specs.Records.{recordShape, identified}
 use Rattle.fault.specs.Fault.{least}
-use Rattle.document.proofs.Records.{recordShape, pickedItems}
+use Rattle.document.proofs.Records.{pickedItems}
 use Rattle.fields.specs.inner.Values.{thereBy}
+use Rattle.ids.specs.inner.Ids.{idField}
 use Rattle.references.specs.References.{demanded as demandedOf}
-use Rattle.cross.specs.Cross.{at}
+use Rattle.cross.specs.Cross.{recordPlace}
 use Rattle.cross.proofs.Joined.{both, breaks, joined}
 use Rattle.cross.proofs.Gathering.{type-is}
 use Rattle.cross.proofs.types.judge_type.Statement.{statement}
 use Rattle.cross.proofs.types.judge_type.Tie as tie
 
 returns : tie.Need-returns
-unfolding recordShape
+unfolding identified idField
 returns c ms w =
     let l = c .before in let b₃ = l .before in let f = b₃ .before in let b₂ = f .before in let d₂ = b₂ .before in let b = d₂ .before in let d = b .before in
     let v₃ = d .before in let v₂ = v₃ .before in let i = v₂ .before in let v = i .before in
-    let s = v .before .before .before in let a = s .args in let place = at (a .n) 0 in
+    let s = v .before .before .before in let a = s .args in let place = recordPlace (a .n) 0 in
     both _ _ (c .lesser2 .ensures)
     (breaks place 13 (d .demanded .result) (b .broken .ensures)
-    (d .demanded .ensures ∙ ap (λ t. demandedOf t (thereBy (v₃ .value-in3 .result .now))) (i .is-driven .ensures)))
+    (d .demanded .ensures ∙ ap (λ t. demandedOf t (thereBy (v₃ .value-in3 .result .now))) (i .is-motorized .ensures)))
     (joined place 14 _ _ (l .lesser .ensures) (breaks place 14 (d₂ .demanded2 .result) (b₂ .broken2 .ensures) (d₂ .demanded2 .ensures))
     (breaks place 14 (f .refers .result) (b₃ .broken3 .ensures) (f .refers .ensures)))
     ∙ ap least

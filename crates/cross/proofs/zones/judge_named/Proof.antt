@@ -7,8 +7,10 @@ use native.Mathlib.Omega.{arith}
 use lib.ListN.{length}
 use Rattle.walk.specs.inner.Along.{ItemPlaced}
 use Rattle.schema.specs.Shape.{Sort, scalar}
+use Rattle.schema.specs.Records.{recordShape, identified}
 use Rattle.fault.specs.Fault.{least as leastOf}
-use Rattle.document.proofs.Records.{recordShape, pickedItems}
+use Rattle.document.proofs.Records.{pickedItems}
+use Rattle.ids.specs.inner.Ids.{idField}
 use Rattle.references.specs.References.{refers as refersTo}
 use Rattle.cross.proofs.Joined.{breaks}
 use Rattle.cross.proofs.Walked.{Goes, goes-start, goes-end, goes-more, left-whole}
@@ -44,6 +46,7 @@ loop-less : tie.Need-loop-less Inv-loop μ-loop
 loop-less c = let m = placed (c .before .before .before .before) in omega arith
 
 loop-again : tie.Need-loop-again Inv-loop μ-loop
+unfolding identified idField
 loop-again c =
     let b = c .before in let r = b .before in let d = r .before .before .before in let t = d .before .before in let k = t .before in
     let a = k .before .before .before .args in let m = d .item .given .0 .0 in let e = d .item .given .1 in

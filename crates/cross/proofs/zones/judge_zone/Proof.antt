@@ -9,9 +9,10 @@ use Rattle.notation.specs.Ascii.{bytes}
 use Rattle.walk.specs.Part.{Whole}
 use Rattle.walk.specs.inner.Along.{AlongItems}
 use Rattle.schema.specs.Table23.{rule}
+use Rattle.schema.specs.Records.{recordShape, located}
 use Rattle.fault.specs.Fault.{least}
 use Rattle.fault.proofs.Leasts.{none-least}
-use Rattle.document.proofs.Records.{recordShape, pickedItems}
+use Rattle.document.proofs.Records.{pickedItems}
 use Rattle.fields.specs.inner.Values.{memberOf, arrayBy}
 use Rattle.cross.specs.Cross.{ruleFaults}
 use Rattle.fields.proofs.Arrays.{member-along}
@@ -54,12 +55,12 @@ judge-rules-requires c κs =
     )
 
 returns : tie.Need-returns
-unfolding recordShape
+unfolding located
 returns c ms w =
     let k = c .before in sym (none-least _ (zone-bare _ _ w (sym (properties-are k) ∙ no-bytes _ (c .if1 .taken))))
 
 returns-2 : tie.Need-returns-2
-unfolding recordShape
+unfolding located
 returns-2 c ms w =
     let r = c .before in let a = start (looked r) .args in let types = pickedItems (recordShape 1) (a .types .now) in
     c .judge-rules .ensures ∙ ap (λ q. least (ruleFaults types (a .n) 1 (pickedItems rule q))) (rules-are r) ∙ ap least (zone-rules types (a .n) w)

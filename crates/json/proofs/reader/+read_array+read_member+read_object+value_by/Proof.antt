@@ -12,7 +12,7 @@ use Rattle.lexeme.specs.inner.Class.{startOf}
 use Rattle.lexeme.specs.Character.{paired}
 use Rattle.lexeme.specs.Read.{placed}
 use Rattle.lexeme.specs.Strings.{string}
-use Rattle.lexeme.specs.Tokens.{Start}
+use Rattle.lexeme.specs.inner.Start.{Start}
 use Rattle.lexeme.proofs.Placed.{ends-at, faults, faults-at, passes, Leaves, lands, takes-leaves}
 use Rattle.lexeme.proofs.Reading.{Any}
 use Rattle.lexeme.proofs.Spans.{skipped}

@@ -6,10 +6,12 @@ use mathlib.Core.Path.{_≡_, refl, sym, ap, _∙_}
 use Prim.Native.Nat.{ℕ, _<_}
 use lib.ListN.{length}
 use borrow.Author.Tests.{lt-ltb}
+use Rattle.schema.specs.Records.{recordShape}
 use Rattle.fields.specs.inner.Values.{textBy, thereBy}
-use Rattle.document.proofs.Records.{recordShape, pickedItems}
+use Rattle.document.proofs.Records.{pickedItems}
+use Rattle.ids.specs.inner.Ids.{idField}
 use Rattle.references.specs.References.{named, demanded}
-use Rattle.references.specs.inner.Known.{fieldOf, testOf}
+use Rattle.references.specs.inner.Known.{testOf}
 use Rattle.references.proofs.rules.demanded_by.Statement.{statement}
 use Rattle.references.proofs.rules.demanded_by.Tie as tie
 
@@ -21,7 +23,7 @@ returns : tie.Need-returns
 returns c =
     let a = c .before .before .before .before .args in
     demanded-given
-    (named (testOf (a .file)) (fieldOf (a .file)) (pickedItems (recordShape (a .file)) (a .p .now)) (textBy (a .reference .now)))
+    (named (testOf (a .file)) (idField (a .file)) (pickedItems (recordShape (a .file)) (a .p .now)) (textBy (a .reference .now)))
     (a .value .now) (c .if1 .taken)
 
 returns-2 : tie.Need-returns-2

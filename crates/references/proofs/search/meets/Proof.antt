@@ -8,12 +8,13 @@ use lib.ListN.{length}
 use Rattle.limits.specs.Ceilings.{records}
 use Rattle.text.specs.Text.{textOf}
 use Rattle.walk.specs.Walk.{itemsOf}
-use Rattle.document.proofs.Records.{recordShape, pickedItems}
-use Rattle.ids.specs.inner.Ids.{recordBytes, lastWith}
+use Rattle.schema.specs.Records.{recordShape}
+use Rattle.document.proofs.Records.{pickedItems}
+use Rattle.ids.specs.inner.Ids.{idField, recordBytes, lastWith}
 use Rattle.ids.specs.inner.Notes.{linkAt, Searched}
 use Rattle.ids.proofs.Chains.{from-head, head-all, chain-room, chain-next}
 use Rattle.references.specs.References.{anyWith}
-use Rattle.references.specs.inner.Known.{anyMeets, fieldOf, testedOf}
+use Rattle.references.specs.inner.Known.{anyMeets, testedOf}
 use Rattle.references.proofs.Meets.{meets-picked}
 use Rattle.references.proofs.Searches.{Comes, comes-start, comes-end, comes-on, comes-whole, comes-met, comes-past, comes-less}
 use Rattle.references.proofs.search.meets.Statement.{statement}
@@ -28,7 +29,7 @@ abbrev μ-loop : tie.MeasureT-loop
 -- some record is met in bytes just where one is among what is picked
 picked : (s : tie.Start Inv-loop μ-loop) → let a = s .args in
     anyMeets (a .file) (a .tested) (textOf (a .id .now)) (recordBytes (a .p .now)) (length (itemsOf (a .p .now)))
-    ≡ anyWith (testedOf (a .file) (a .tested)) (fieldOf (a .file)) (pickedItems (recordShape (a .file)) (a .p .now)) (textOf (a .id .now))
+    ≡ anyWith (testedOf (a .file) (a .tested)) (idField (a .file)) (pickedItems (recordShape (a .file)) (a .p .now)) (textOf (a .id .now))
 picked s = let a = s .args in meets-picked (a .file) (s .pre .least) (s .pre .most) (a .tested) (textOf (a .id .now)) (a .p .now)
 
 search-requires : tie.Need-search-requires Inv-loop μ-loop

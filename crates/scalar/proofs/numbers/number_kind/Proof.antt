@@ -2,46 +2,46 @@
 use mathlib.Core.Path.{refl}
 use borrow.Author.Needs.{needs}
 use Rattle.schema.proofs.Letters.{sortFrom}
-use Rattle.scalar.specs.Scalars.{numberKinds}
+use Rattle.scalar.specs.Scalars.{numberKinds, sortKinds}
 use Rattle.scalar.specs.inner.Listed.{inBounds}
 use Rattle.scalar.proofs.Sorts.{by-letter, no-number}
 use Rattle.scalar.proofs.numbers.number_kind.Statement.{statement}
 use Rattle.scalar.proofs.numbers.number_kind.Tie as tie
 
 returns : tie.Need-returns
-unfolding numberKinds sortFrom
+unfolding sortKinds sortFrom
 returns c = by-letter numberKinds _ _ (c .before .match .keys1) (λ ws. c .integer-kind .ensures)
 
 returns-2 : tie.Need-returns-2
-unfolding numberKinds sortFrom
+unfolding sortKinds sortFrom
 returns-2 c = by-letter numberKinds _ _ (c .before .match .keys2) (λ ws. c .integer-kind2 .ensures)
 
 returns-3 : tie.Need-returns-3
-unfolding numberKinds sortFrom inBounds
+unfolding sortKinds sortFrom inBounds
 returns-3 c = by-letter numberKinds _ _ (c .before .match .keys3) (λ ws. c .formed-kind .ensures)
 
 returns-4 : tie.Need-returns-4
-unfolding numberKinds sortFrom inBounds
+unfolding sortKinds sortFrom inBounds
 returns-4 c = by-letter numberKinds _ _ (c .before .match .keys4) (λ ws. c .formed-kind2 .ensures)
 
 returns-5 : tie.Need-returns-5
-unfolding numberKinds sortFrom inBounds
+unfolding sortKinds sortFrom inBounds
 returns-5 c = by-letter numberKinds _ _ (c .before .match .keys5) (λ ws. c .formed-kind3 .ensures)
 
 returns-6 : tie.Need-returns-6
-unfolding numberKinds sortFrom inBounds
+unfolding sortKinds sortFrom inBounds
 returns-6 c = by-letter numberKinds _ _ (c .before .match .keys6) (λ ws. c .formed-kind4 .ensures)
 
 returns-7 : tie.Need-returns-7
-unfolding numberKinds sortFrom
+unfolding sortKinds sortFrom
 returns-7 c = by-letter numberKinds _ _ (c .match .keys7) (λ ws. refl)
 
 returns-8 : tie.Need-returns-8
-unfolding numberKinds sortFrom inBounds
+unfolding sortKinds sortFrom inBounds
 returns-8 c = by-letter numberKinds _ _ (c .before .match .keys8) (λ ws. c .formed-kind5 .ensures)
 
 returns-9 : tie.Need-returns-9
-unfolding numberKinds sortFrom inBounds
+unfolding sortKinds sortFrom inBounds
 returns-9 c = by-letter numberKinds _ _ (c .before .match .keys9) (λ ws. c .formed-kind6 .ensures)
 
 returns-10 : tie.Need-returns-10

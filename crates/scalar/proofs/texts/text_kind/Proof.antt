@@ -6,7 +6,7 @@ use borrow.Author.Needs.{needs}
 use Rattle.word.specs.Kinds.{outOfRange}
 use Rattle.schema.specs.Table23.{table23}
 use Rattle.schema.proofs.Letters.{sortFrom}
-use Rattle.scalar.specs.Scalars.{unless, textKinds}
+use Rattle.scalar.specs.Scalars.{unless, textKinds, sortKinds}
 use Rattle.scalar.proofs.Sorts.{by-letter, text-exactly, text-word, no-text}
 use Rattle.scalar.proofs.Words.{only-word}
 use Rattle.scalar.proofs.texts.text_kind.Statement.{statement}
@@ -17,20 +17,20 @@ tested : {t u : Bool} → u ≡ t → unless t outOfRange ≡ unless u outOfRang
 tested e = ap (λ (b : Bool). unless b outOfRange) (sym e)
 
 returns : tie.Need-returns
-unfolding textKinds sortFrom
+unfolding sortKinds sortFrom
 returns c σ e h = by-letter textKinds _ _ (c .before .match .keys1) (λ ws. c .price-kind .ensures) σ e
 
 returns-2 : tie.Need-returns-2
-unfolding textKinds sortFrom
+unfolding sortKinds sortFrom
 returns-2 c σ e h = by-letter textKinds _ _ (c .match .keys2) (λ ws. refl) σ e
 
 returns-3 : tie.Need-returns-3
-unfolding textKinds sortFrom
+unfolding sortKinds sortFrom
 returns-3 c σ e h =
     by-letter textKinds _ _ (c .before .before .match .keys3) (λ ws. tested (ap not (c .before .longer-than .ensures)) ∙ c .range-kind .ensures) σ e
 
 returns-4 : tie.Need-returns-4
-unfolding textKinds sortFrom
+unfolding sortKinds sortFrom
 returns-4 c σ e h =
     by-letter textKinds _ _ (c .before .before .match .keys4) (λ ws. tested (c .before .is-currency .ensures) ∙ c .range-kind2 .ensures) σ e
 
