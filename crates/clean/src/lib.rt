@@ -29,7 +29,7 @@ ghost use Rattle.clean.specs.Show.{answer, shownOf};
 
 pub mod repeats;
 
-// A file that is clean, or the first rule that it breaks, as a word's parts.
+// No rule is broken, or the first that is, as a word's parts.
 pub enum Outcome {
     Unbroken,
     Broken(Parts),

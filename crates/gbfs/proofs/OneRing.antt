@@ -1,4 +1,4 @@
--- Stage B finds the same in each file by document 01's own rules on polygons (`zone/proofs/Single`), and the other stages do not ask them; so the lists of broken
+-- Stage B finds the same in each file by the rules on polygons before W13 (`zone/proofs/Single`), and the other stages do not ask them; so the lists of broken
 -- rules are equal, and with them all that is told of their first.
 use mathlib.Core.Bool.{Bool}
 use mathlib.Core.List.{List, [], _∷_, _++_, map}

@@ -202,7 +202,7 @@ pub record Demand2 : Type 0 where
   pub together : (s : List ℕ) (q : Point) (type : List ℕ) (moment : ℕ) (r : ZoneRule) → List·Memᴰ r (rulesIn s) → Applies q type moment r
       → Together (Applies q type moment) (rulesIn s)
   -- At a point in range where rules apply, a clean file answers with the values that they give together, and with 9 where none applies; and only there.
-  -- Shut out: a zone's value outside of it, or in a hole that does not cut; a later rule's value, or none where a later rule gives one; 9 for everything.
+  -- Shut out: a zone's value outside of it, or inside one of its holes; a later rule's value, or none where a later rule gives one; 9 for everything.
   pub rule : (s : List ℕ) (q : Point) (type : List ℕ) (moment : ℕ) → onMap q ≡ true → cleanOf 6 s ≡ Unbroken
       → (g : Together (Applies q type moment) (rulesIn s))
       → rulingOf s q type moment ≡ zone.found (ruleOf (g .ride) (g .through) (g .speed) (g .parking))

@@ -1,4 +1,4 @@
--- What document 02's request W13 leaves as it was: where no polygon has more than one ring, the answers are document 01's. `proofs/OneRing` shows it. A quote
+-- What document 02's request W13 leaves as it was: where no polygon has more than one ring, the answers are those of before. `proofs/OneRing` shows it. A quote
 -- is of file 5, which has no polygons.
 use mathlib.Core.List.{List, _++_}
 use mathlib.Core.Path.{_≡_}
@@ -17,7 +17,7 @@ use Rattle.zone.specs.Answer.{rulingOf}
 use Rattle.zone.specs.Single.{WithoutHoles, cleanOfOne, rulingOfOne}
 use Rattle.gbfs.specs.Verdict.{Feeds, brokenRulesBy, first, verdictOf, said, accepts, numberOf, bufferOf}
 
--- document 01's own verdict: the first broken rule of a set, by its rules on polygons
+-- the verdict before W13: the first broken rule of a set, where polygons of one ring are asked for
 abbrev pub verdictOfOne : Feeds → Outcome
 verdictOfOne s = first (brokenRulesBy coordinatesOfOne s)
 

@@ -1,5 +1,5 @@
 -- What document 02's request W13 lets a reader count on, beyond the definition of a zone's faults: the word can say every position's number, and without
--- further rings the faults are document 01's. `proofs/Coordinates` shows it.
+-- further rings the faults are those of before. `proofs/Coordinates` shows it.
 use mathlib.Core.Bool.{true}
 use mathlib.Core.List.{List, [], _∷_, List·Memᴰ}
 use mathlib.Core.Path.{_≡_}
@@ -37,5 +37,5 @@ pub record Coordinates : Type 0 where
   -- whatever a zone holds, its first fault fits the word
   pub firstFits : (p : Place) (field : ℕ) (is : PickedItems) (f : Fault) → p .«record» ≤ greatest → field ≤ fields
       → least (coordinateFaults p field (items is)) ≡ Is f → Fitting f
-  -- where no polygon has more than one ring, document 01's faults are found and no other
+  -- where no polygon has more than one ring, the faults of before are found and no other
   pub oneRing : (p : Place) (field : ℕ) (is : PickedItems) → OneRingAtMost (listOf is) → coordinateFaults p field (items is) ≡ numbered p field (coordinatesOfOne is)

@@ -1,4 +1,4 @@
--- The ceilings of document 01, "The feed set", and those of rings, document 02's request W13, one name each. Contracts cite these names and no number.
+-- The ceilings of document 01, "The feed set", and those of rings, document 02's request W13, one name each.
 use Prim.Native.Nat.{ℕ}
 use Rattle.limits.specs.declared.Limits.{Limits}
 

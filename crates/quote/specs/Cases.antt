@@ -106,7 +106,7 @@ longer =
     ("fourteen cost what nine did", (forAWhile, 840, 0), fare 10_000) ∷
     ("and fifteen more", (forAWhile, 900, 0), fare 11_000) ∷
     ("short of the first end", (allEnd, 240, 0), fare 10_000) ∷
-    ("slotOf it less, without a mark", (allEnd, 300, 0), fare 7_500) ∷
+    ("at it less, without a mark", (allEnd, 300, 0), fare 7_500) ∷
     ("past the last end", (allEnd, 360, 0), endedFare 7_500) ∷
     ("the longest ride stays there", (allEnd, 2_678_400, 0), endedFare 7_500) ∷
     ("short of nineteen minutes", (capped, 1139, 0), fare 19_000) ∷

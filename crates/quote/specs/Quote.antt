@@ -44,7 +44,7 @@ unclean p = record { number = 5; parts = p; amount = pos 0; pastMinutes = false;
 abbrev pub priced : ℤ → Bool → Bool → Answer
 priced z m k = record { number = 0; parts = noParts; amount = z; pastMinutes = m; pastKilometres = k }
 
--- what each case of the code's answer says
+-- the number and the values of each answer
 abbrev pub answer : Quote → Answer
 answer TooLong = refused 4
 answer (NotClean p) = unclean p

@@ -20,7 +20,7 @@ anyWith test f [] id = false
 anyWith test f (x ∷ l) id =
     elim (text f x) [ none ↦ anyWith test f l id | some t ↦ same t id and test x ⇒ true else anyWith test f l id ]
 
--- what is asked of a record that is referred to: that it is there; that it has a capacity; that no human drives it
+-- what is asked of a record that is referred to: that it is there; that it has a capacity; that its propulsion is not human
 abbrev pub any : Picked → Bool
 any x = true
 

@@ -63,7 +63,7 @@ rings =
     ("open by a millionth", "[[[[0,0],[0,2],[2,2],[0.000001,0]]]]", (1, 11) ∷ []) ∷
     ("closed by rounding", "[[[[0,0],[0,2],[2,2],[0.0000004,-0.0000004]]]]", []) ∷
     ("closed by rounding up", "[[[[0.000001,0],[0,2],[2,2],[0.0000005,0]]]]", []) ∷
-    ("closed foundAt the end of the map", "[[[[179.9999995,0],[179,2],[178,2],[180,0]]]]", []) ∷
+    ("closed at the end of the map", "[[[[179.9999995,0],[179,2],[178,2],[180,0]]]]", []) ∷
     ("opened by rounding", "[[[[0,0],[0,2],[2,2],[0.0000001,-0.0000009]]]]", (1, 11) ∷ []) ∷
     ("opened by half a millionth", "[[[[0,0],[0,2],[2,2],[0.0000005,0]]]]", (1, 11) ∷ []) ∷
     ("an area by rounding alone", "[[[[0,0],[0,0.0000005],[0.0000005,0.0000005],[0,0]]]]", []) ∷
@@ -142,9 +142,9 @@ abbrev many : List (Case (List Picked) LeastFound)
 many =
     ("256 positions", polygon (triangle 253 "[0,0]" "[0,0]" ∷ []) ∷ [], None) ∷
     ("257", polygon (triangle 254 "[0,0]" "[0,0]" ∷ []) ∷ [], At 1 10) ∷
-    ("and open, which comes later foundAt the same number", polygon (triangle 254 "[0,0]" "[0,1]" ∷ []) ∷ [], At 1 10) ∷
+    ("and open, which comes later at the same number", polygon (triangle 254 "[0,0]" "[0,1]" ∷ []) ∷ [], At 1 10) ∷
     ("and a fault of the first position, which comes before", polygon (triangle 254 "[181,0]" "[0,0]" ∷ []) ∷ [], At 1 9) ∷
-    ("256 positions in pickItems of two rings", polygon (triangle 253 "[0,0]" "[0,0]" ∷ triangle 253 "[0,0]" "[0,0]" ∷ []) ∷ [], None) ∷
+    ("256 positions in each of two rings", polygon (triangle 253 "[0,0]" "[0,0]" ∷ triangle 253 "[0,0]" "[0,0]" ∷ []) ∷ [], None) ∷
     ("257 in the second", polygon (triangle 253 "[0,0]" "[0,0]" ∷ triangle 254 "[0,0]" "[0,0]" ∷ []) ∷ [], At 257 10) ∷
     ("fifteen polygons", repeated 14 (ringed 0 sound) (ringed 0 sound ∷ []), None) ∷
     ("with a fault in the last", repeated 14 (ringed 0 sound) (ringed 0 noArray ∷ []), At 57 7) ∷
@@ -163,7 +163,7 @@ many =
     ("sixteen", fourteen (ringed 1 sound ∷ []), At 0 10) ∷
     ("the last no array", fourteen (ringed 1 noArray ∷ []), At 0 10) ∷
     ("behind what is no polygon", noArray ∷ fourteen (ringed 1 noArray ∷ []), At 0 10) ∷
-    ("fifteen behind what is noKinds", noArray ∷ fourteen (ringed 0 noArray ∷ []), At 1 7) ∷
+    ("fifteen behind what is none", noArray ∷ fourteen (ringed 0 noArray ∷ []), At 1 7) ∷
     []
 
 many-answered : Answers (λ l. leastFound (coordinatesFound (itemsOf l))) many

@@ -1,4 +1,4 @@
--- Coordinates as document 01 alone judges them, where a polygon has one ring; and those that have no further rings.
+-- Coordinates as they were judged before document 02's request W13, where a polygon has one ring; and those that have no further rings.
 use mathlib.Core.List.{List, [], _∷_, _++_, List·Memᴰ}
 use Prim.Native.Nat.{ℕ, _+_, _≤_}
 use lib.Dec.{eqb, leb}

@@ -1,4 +1,4 @@
--- Where the records of a file stand, and which field is their id: both are read off the file's shape, and nothing else says them.
+-- Where the records of a file stand, and which field is their own id: both are read off the file's shape.
 use mathlib.Core.List.{List, [], _∷_, List-discrete}
 use Prim.Native.Nat.{ℕ}
 use native.Mathlib.Decide.{ℕ-discrete}
@@ -36,7 +36,7 @@ unfoldable mutual
         | some w ↦ some (record { keys = record { field = field; name = name } ∷ w .keys; item = w .item })
       ]
 
--- the id of a record: its first field, where that is of the sort `id`
+-- the id of a record, for "No id twice in 10, 20, 30, 40, 50": its first field, where that is of the sort `id`; `Cases` computes the five
 unfoldable pub idIn : Rows → Maybe Key
 idIn noRow = none
 idIn (row field need name unlisted rows) = none

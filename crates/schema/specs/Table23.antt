@@ -96,7 +96,7 @@ rule = object (
     81 · O · "maximum_speed_kph" ∶ N ▸
     82 · O · "station_parking" ∶ B ▸ noRow)
 
--- Polygons of rings of positions of numbers, as they are picked. How many there may be and what each must be is said in `rings/specs/Rings.antt`, not here.
+-- Polygons of rings of positions of numbers. The ceilings and the sort in it are not read: `rings/specs/Rings.antt` judges field 73.
 unfoldable pub coordinates : Shape
 coordinates = array positions ceiling.polygons (array positions ceiling.rings (array positions ceiling.positions (array positions 3 (scalar coordinate))))
 

@@ -1,4 +1,4 @@
--- No further ring: a polygon holds what its one ring holds, so a zone and a list of zones come to what document 01 has of them, one after the other. And the
+-- No further ring: a polygon holds what its one ring holds, so a zone and a list of zones come to what they were before, one after the other. And the
 -- two judges of coordinates find the same in every zone's, which are all that a file has (`Alike`); the other files have none.
 use mathlib.Core.Bool.{Bool, true, false}
 use mathlib.Core.List.{List, [], _∷_, _++_, List·Memᴰ, List·Memᴰ·head, List·Memᴰ·tail}

@@ -24,7 +24,7 @@ unfoldable pub ruled : Unit {0}
 unfolding judging identified pick.slotOf document.field document.fieldItems document.along document.text document.spelling document.truth clean.treeOf clean.recordsOf clean.usedBefore clean.repeatedId clean.repeatsFrom clean.repeats clean.cleanBy counts ringsHold polygonsHoldBy anyText applies zoneRulesBy rulesBy applicable rulesAt firstGiven values onMap rulingOf
 ruled = tt
 
--- a file of these zones; a zone of these polygons, and of this one ring, with these other properties and these rules
+-- a file of these zones; a zone of these polygons, with these other properties and these rules
 abbrev file : List ℕ → List ℕ
 file zones = inData (json "{'geofencing_zones':{'type':'FeatureCollection','features':[" ++ zones ++ json "]}}")
 
@@ -151,7 +151,7 @@ ruling polygons q = rulingOf (file (zoneOf polygons "" forAll)) q (bytes "t") 0
 abbrev held : String → Point → Bool
 held polygons q = eqb (ruling polygons q .number) 0
 
--- Positions are rounded before anything is asked of them: a border half a millionth past two degrees, and a nearer one; and a triangle that winds clockwise when
+-- Positions are rounded before closure, area and point are asked: a border half a millionth past two degrees, and a nearer one; and a triangle that winds clockwise when
 -- its corners are rounded, and the other way when they are cut.
 abbrev farther : String
 farther = "[[[0,0],[0,2],[2.0000005,2],[2.0000005,0],[0,0]]]"

@@ -1,4 +1,4 @@
--- A file of zones in which no polygon has more than one ring is answered as document 01 alone answers it: clean or not, and the rule that it breaks first;
+-- A file of zones in which no polygon has more than one ring is answered as it was before document 02's request W13: clean or not, and the rule that it breaks first;
 -- number, parts and values of the question "zone rule". `proofs/Single` shows it.
 use mathlib.Core.Bool.{Bool, true, false}
 use mathlib.Core.List.{List, [], _∷_, List·Memᴰ}
@@ -20,8 +20,8 @@ use Rattle.zone.specs.Answer.{Answer, refused, onMap, ofRules, ofClean, 
 abbrev pub WithoutHoles : (s : List ℕ) → Type 0
 WithoutHoles s = (zone : Picked) → List·Memᴰ zone (zonesOf s) → OneRingAtMost (polygonsOf zone)
 
--- document 01's own: a file is clean by its rules on polygons, a polygon holds what a ring of it does, a zone what a polygon of it does; and the answer by
--- these
+-- the rules before W13: a file is clean where polygons of one ring are asked for, a polygon holds what a ring of it does, a zone what a polygon of it does; and
+-- the answer by these
 abbrev pub cleanOfOne : ℕ → List ℕ → Outcome
 cleanOfOne = cleanBy coordinatesOfOne
 
