@@ -43,6 +43,33 @@ pub enum Shown {
     Record(usize, usize),
 }
 
+impl Shown {
+    // The number of the answer.
+    // Shut out: a record told of a file that is not clean.
+    pub fn number(self) -> u8
+        ensures { λ n. ⌜ n ≡ answer self .number ⌝ }
+    {
+        match self {
+            Shown::NoFile => 10,
+            Shown::NotClean(_) => 5,
+            Shown::NoRecord => 10,
+            Shown::Record(_, _) => 0,
+        }
+    }
+
+    // The parts of its word, none but where the file is not clean.
+    pub fn word_parts(self) -> Parts
+        ensures { λ p. ⌜ p ≡ answer self .parts ⌝ }
+    {
+        match self {
+            Shown::NoFile => Parts::NONE,
+            Shown::NotClean(p) => p,
+            Shown::NoRecord => Parts::NONE,
+            Shown::Record(_, _) => Parts::NONE,
+        }
+    }
+}
+
 // The parts of a word for a fault of a file.
 pub fn parts_of(file: u8, f: Fault) -> Parts
     requires { ⌜ (f .«record» < 65_536) × (f .sub < 65_536) ⌝ }

@@ -20,20 +20,27 @@ pub enum Acceptance {
     NotAccepted,
 }
 
+impl Acceptance {
+    // The number of the answer.
+    // Shut out: the number of an accepted set answered for one that is not.
+    pub fn number(self) -> u8
+        ensures { λ n. ⌜ n ≡ number self ⌝ }
+    {
+        match self {
+            Acceptance::NoRoom => 2,
+            Acceptance::Accepted => 0,
+            Acceptance::NotAccepted => 1,
+        }
+    }
+}
+
 // What a word says: nothing of an accepted set.
 fn parts_in(c: Outcome) -> Parts
     ensures { λ r. ⌜ r ≡ said c ⌝ }
 {
     match c {
         Outcome::Broken(p) => p,
-        Outcome::Unbroken => Parts {
-            file: 0,
-            kind: 0,
-            field: 0,
-            record: 0,
-            sub: 0,
-            offset: 0,
-        },
+        Outcome::Unbroken => Parts::NONE,
     }
 }
 
