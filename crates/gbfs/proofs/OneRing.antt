@@ -11,12 +11,17 @@ use Rattle.notation.specs.Choice.{_⇒_else_, _and_}
 use Rattle.word.specs.declared.Parts.{Parts}
 use Rattle.word.specs.Form.{form1}
 use Rattle.word.specs.Word.{noParts, wordOf}
+use Rattle.schema.specs.Shape.{fileShape}
+use Rattle.schema.specs.Table23.{table23}
+use Rattle.schema.specs.Pick.{pick}
 use Rattle.rings.specs.Rings.{coordinatesFound}
 use Rattle.rings.specs.OneRing.{coordinatesOfOne}
 use Rattle.document.specs.Spans.{recordSpan}
 use Rattle.clean.specs.declared.Outcome.{Outcome}
-use Rattle.clean.specs.Clean.{faultParts}
+use Rattle.clean.specs.Clean.{treeOf, faultParts}
 use Rattle.clean.specs.Show.{ofSpan, ofClean, refused, shownOf}
+use Rattle.quote.specs.Quote as quote
+use Rattle.quote.specs.Quote.{short, cleanQuote, quoteOf}
 use Rattle.zone.specs.Single.{WithoutHoles, cleanOfOne}
 use Rattle.zone.proofs.Single.{faults-one, single}
 use Rattle.gbfs.specs.Verdict.{Feeds, bytesOf, faultsBBy, stageA, stageBBy, stageC, orElse, brokenRulesBy, first, verdictOf, said, accepts, numberOf, bufferOf}
@@ -55,6 +60,14 @@ unfolding shownOf
 shown-same file n s one =
     ap (λ (c : Outcome). leb 1 file and leb file 6 ⇒ ofClean c (ofSpan (recordSpan file s n)) else refused 10 noParts) (single .clean file s one)
 
+quoted-same : (s id : List ℕ) (seconds metres : ℕ)
+    → quoteOf s id seconds metres
+    ≡ (short seconds metres ⇒ quote.ofClean (cleanOfOne 5 s) (cleanQuote (pick (fileShape table23 5) (treeOf s)) id seconds metres) else quote.refused 4)
+unfolding quoteOf
+quoted-same s id seconds metres =
+    ap (λ (c : Outcome). short seconds metres ⇒ quote.ofClean c (cleanQuote (pick (fileShape table23 5) (treeOf s)) id seconds metres) else quote.refused 4)
+    (single .clean 5 s (λ e. absurd (omega arith)))
+
 pub one-ring : OneRing
 one-ring =
     record {
@@ -63,4 +76,5 @@ one-ring =
       buffer = λ s b one. buffer-same s one b;
       ruling = single .answer;
       shown = shown-same;
+      quoted = quoted-same;
     }

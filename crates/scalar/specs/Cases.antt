@@ -14,8 +14,7 @@ use Rattle.text.specs.Cases.{comparing}
 use Rattle.decimal.specs.Cases.{deciding}
 use Rattle.schema.specs.Shape as sort
 use Rattle.schema.specs.Shape.{Sort}
-use Rattle.schema.specs.Table23.{table23, written23}
-use Rattle.schema.specs.inner.Line.{wordsAt, laidOut}
+use Rattle.schema.specs.Words.{formFactors}
 use Rattle.scalar.specs.Scalars.{formed, anyMoney, priceMoney, pricing, anyWord, kindsOf, sortKinds}
 
 -- opens every definition of this layer
@@ -96,12 +95,12 @@ numbers-answered : Answers (λ c. kindsOf (c .0) (tree.number (bytes (c .1)))) n
 unfolding judging
 numbers-answered = refl
 
--- strings as spelled between their quotation marks; line 6 of the table is the form factor's
+-- strings as spelled between their quotation marks
 abbrev feature : Sort
 feature = sort.exactly (bytes "Feature")
 
 abbrev formFactor : Sort
-formFactor = sort.word (wordsAt table23 6)
+formFactor = sort.word formFactors
 
 abbrev strings : List (Case (Sort × String) (List ℕ))
 strings =
@@ -139,7 +138,7 @@ strings =
     []
 
 strings-answered : Answers (λ c. kindsOf (c .0) (tree.string (textOf (bytes (c .1))))) strings
-unfolding judging laidOut written23
+unfolding judging formFactors
 strings-answered = refl
 
 -- ids, by how many bytes they have when they are decoded
