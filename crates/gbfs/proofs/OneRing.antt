@@ -24,7 +24,7 @@ use Rattle.quote.specs.Quote as quote
 use Rattle.quote.specs.Quote.{short, cleanQuote, quoteOf}
 use Rattle.zone.specs.Single.{WithoutHoles, cleanOfOne}
 use Rattle.zone.proofs.Single.{faults-one, single}
-use Rattle.gbfs.specs.Verdict.{Feeds, bytesOf, faultsBBy, stageA, stageBBy, stageC, orElse, brokenRulesBy, first, verdictOf, said, accepts, numberOf, bufferOf}
+use Rattle.gbfs.specs.Verdict.{Feeds, bytesOf, faultsBBy, stageA, stageBBy, stageC, orElse, brokenRulesBy, first, verdictOf, said, accepts, verdictNumber, bufferOf}
 use Rattle.gbfs.specs.OneRing.{verdictOfOne, OneRing}
 use Rattle.gbfs.proofs.Every.{every-same}
 
@@ -46,8 +46,8 @@ module _ (s : Feeds) (one : WithoutHoles (s .zones)) where
   verdict-same = ap (λ (l : List Parts). first (orElse (stageA s) (orElse l (stageC s)))) stage-same
 
   module _ (b : List ℕ) where
-    number-same : numberOf s b ≡ (ltb (length b) 8 ⇒ 2 else accepts (verdictOfOne s) ⇒ 0 else 1)
-    unfolding numberOf
+    number-same : verdictNumber s b ≡ (ltb (length b) 8 ⇒ 2 else accepts (verdictOfOne s) ⇒ 0 else 1)
+    unfolding verdictNumber
     number-same = ap (λ (v : Outcome). ltb (length b) 8 ⇒ 2 else accepts v ⇒ 0 else 1) verdict-same
 
     buffer-same : bufferOf s b ≡ (ltb (length b) 8 ⇒ b else wordOf form1 (said (verdictOfOne s)) ++ drop 8 b)

@@ -15,7 +15,7 @@ use Rattle.text.proofs.Laws.{same-refl, same-true}
 use Rattle.schema.specs.Shape as shape
 use Rattle.schema.specs.Shape.{Shape, Rows, fileShape}
 use Rattle.schema.specs.Table23.{table23, written23}
-use Rattle.schema.specs.Pick.{Slot, once, twice, missing, again, filled, put, find, Slots, pick, pickRows}
+use Rattle.schema.specs.Pick.{Slot, once, twice, missing, again, unlessBlank, put, find, Slots, pick, pickRows}
 use Rattle.fault.specs.declared.Fault.{Fault}
 use Rattle.fault.specs.Fault.{fault}
 use Rattle.fault.proofs.Order.{by-test}
@@ -77,7 +77,7 @@ pub record Opening (l : List Fault) : Type 0 where
 module _ (rows : Rows) (ss : Slots) where
   -- field 1, with this in its slot
   abbrev slotted : Slot Json → List Fault
-  slotted x = rowFaults (shape.row 1 shape.required (bytes "version") version rows) top (put 1 (λ y. pick version y) (filled x) ss)
+  slotted x = rowFaults (shape.row 1 shape.required (bytes "version") version rows) top (put 1 (λ y. pick version y) (unlessBlank x) ss)
 
   opening-alone : (v : List ℕ) → same v (bytes "2.3") ≡ false → Opening (slotted (once (tree.string v)))
   unfolding rowFaultsBy pick faulty kindsOf sortKinds

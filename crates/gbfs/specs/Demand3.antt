@@ -19,7 +19,7 @@ use Rattle.judge.specs.Bounds.{OfStageB}
 use Rattle.geometry.specs.Ring.{Point}
 use Rattle.quote.specs.Quote.{quoteOf}
 use Rattle.zone.specs.Answer.{rulingOf}
-use Rattle.gbfs.specs.Verdict.{Feeds, bytesOf, numberOf, bufferOf}
+use Rattle.gbfs.specs.Verdict.{Feeds, bytesOf, verdictNumber, bufferOf}
 use Rattle.gbfs.specs.Demand2.{Says}
 
 -- a well-formed file within length and depth, every surrogate escape paired, and the tree that it spells
@@ -38,7 +38,7 @@ LaterSet s t = (file : ℕ) → 1 ≤ file → file ≤ 6 → LaterFile file (by
 
 -- the answers of two sets agree: number and word of the verdict wherever there is room for a word, and all that quotes and zone rules return
 pub record Agree (s t : Feeds) : Type 0 where
-  pub verdicts : (b c : List ℕ) → 8 ≤ length b → 8 ≤ length c → (numberOf s b ≡ numberOf t c) × (take 8 (bufferOf s b) ≡ take 8 (bufferOf t c))
+  pub verdicts : (b c : List ℕ) → 8 ≤ length b → 8 ≤ length c → (verdictNumber s b ≡ verdictNumber t c) × (take 8 (bufferOf s b) ≡ take 8 (bufferOf t c))
   pub quotes : (id : List ℕ) (seconds metres : ℕ) → quoteOf (s .plans) id seconds metres ≡ quoteOf (t .plans) id seconds metres
   pub zones : (q : Point) (type : List ℕ) (moment : ℕ) → rulingOf (s .zones) q type moment ≡ rulingOf (t .zones) q type moment
 

@@ -20,7 +20,7 @@ use Rattle.quote.specs.Quote as quote
 use Rattle.quote.specs.Quote.{short, cleanQuote, quoteOf}
 use Rattle.zone.specs.Answer.{rulingOf}
 use Rattle.zone.specs.Single.{WithoutHoles, cleanOfOne, rulingOfOne}
-use Rattle.gbfs.specs.Verdict.{Feeds, brokenRulesBy, first, verdictOf, said, accepts, numberOf, bufferOf}
+use Rattle.gbfs.specs.Verdict.{Feeds, brokenRulesBy, first, verdictOf, said, accepts, verdictNumber, bufferOf}
 
 -- the verdict before W13: the first broken rule of a set, where polygons of one ring are asked for
 abbrev pub verdictOfOne : Feeds → Outcome
@@ -30,7 +30,7 @@ pub record OneRing : Type 0 where
   -- the verdict, and so the number and the buffer of its question
   pub verdict : (s : Feeds) → WithoutHoles (s .zones) → verdictOf s ≡ verdictOfOne s
   pub number : (s : Feeds) (buffer : List ℕ) → WithoutHoles (s .zones)
-      → numberOf s buffer ≡ (ltb (length buffer) 8 ⇒ 2 else accepts (verdictOfOne s) ⇒ 0 else 1)
+      → verdictNumber s buffer ≡ (ltb (length buffer) 8 ⇒ 2 else accepts (verdictOfOne s) ⇒ 0 else 1)
   pub buffer : (s : Feeds) (buffer : List ℕ) → WithoutHoles (s .zones)
       → bufferOf s buffer ≡ (ltb (length buffer) 8 ⇒ buffer else wordOf form1 (said (verdictOfOne s)) ++ drop 8 buffer)
   -- the zone rule, number 5 included

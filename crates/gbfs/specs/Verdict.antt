@@ -126,8 +126,8 @@ accepts (Broken p) = false
 
 -- The first row of the table of questions: the number in its order of checking, and the buffer after the call. Without room for a word nothing is
 -- written; otherwise the word stands in the first eight bytes, and the rest stays.
-unfoldable pub numberOf : Feeds → (buffer : List ℕ) → ℕ
-numberOf s buffer = ltb (length buffer) 8 ⇒ 2 else accepts (verdictOf s) ⇒ 0 else 1
+unfoldable pub verdictNumber : Feeds → (buffer : List ℕ) → ℕ
+verdictNumber s buffer = ltb (length buffer) 8 ⇒ 2 else accepts (verdictOf s) ⇒ 0 else 1
 
 unfoldable pub bufferOf : Feeds → (buffer : List ℕ) → List ℕ
 bufferOf s buffer = ltb (length buffer) 8 ⇒ buffer else wordOf form1 (said (verdictOf s)) ++ drop 8 buffer

@@ -9,7 +9,7 @@ ghost use Prim.Native.Nat.{_≤_};
 ghost use lib.ListN.{length, drop};
 ghost use Rattle.word.specs.Form.{form1};
 ghost use Rattle.word.specs.Word.{Fits, wordOf};
-ghost use Rattle.gbfs.specs.Verdict.{feeds, said, number, numberOf, bufferOf};
+ghost use Rattle.gbfs.specs.Verdict.{feeds, said, number, verdictNumber, bufferOf};
 
 mod stages;
 
@@ -70,7 +70,7 @@ pub fn verdict<'a>(
     zones: &'a [u8],
     buffer: &mut [u8],
 ) -> Acceptance
-    ensures { λ r. ⌜ (number r ≡ numberOf
+    ensures { λ r. ⌜ (number r ≡ verdictNumber
         (feeds (now (types .entry)) (now (stations .entry)) (now (statuses .entry)) (now (bikes .entry)) (now (plans .entry)) (now (zones .entry)))
         (now (buffer .entry)))
         × (now (buffer .exit) ≡ bufferOf

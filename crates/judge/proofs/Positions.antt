@@ -21,7 +21,7 @@ use Rattle.fault.proofs.Order.{by-test}
 use Rattle.fault.proofs.Leasts.{least-one, least-append}
 use Rattle.scalar.specs.Scalars.{unless}
 use Rattle.geometry.specs.Ring.{sound}
-use Rattle.rings.specs.Rings.{Found, foundAt, count, coordinateKinds, coordinatesKinds, positionKinds, position, allSound, positionsFound, ringFound, ring, itemCount, ringsFound, itemTotal, polygon, polygonPositions, isRingCount, areZoneCounts, polygonsFound, coordinatesFound}
+use Rattle.rings.specs.Rings.{Found, foundAt, count, coordinateKinds, numberKindsIn, positionKinds, position, allSound, positionsFound, ringFound, ring, itemCount, ringsFound, itemTotal, polygon, polygonPositions, isRingCount, areZoneCounts, polygonsFound, coordinatesFound}
 use Rattle.judge.specs.declared.Place.{Place}
 use Rattle.judge.specs.Faults.{numbered}
 use Rattle.judge.specs.Bounds.{OfStageB, Fitting, greatest, fields}
@@ -36,13 +36,13 @@ ordinate-kinds σ (bare x) = value-kinds σ x
 ordinate-kinds σ (items is) = only (omega arith)
 ordinate-kinds σ (slots ss) = only (omega arith)
 
-number-kinds : (l : List Picked) → AllStageB (coordinatesKinds l)
-unfolding coordinatesKinds
+number-kinds : (l : List Picked) → AllStageB (numberKindsIn l)
+unfolding numberKindsIn
 number-kinds [] = none
 number-kinds (x ∷ []) = ordinate-kinds sort.longitude x
 number-kinds (x ∷ y ∷ []) = all-append (ordinate-kinds sort.longitude x) (ordinate-kinds sort.latitude y)
 number-kinds (x ∷ y ∷ z ∷ l) =
-    all-append (all-append (ordinate-kinds sort.longitude x) (ordinate-kinds sort.latitude y)) (ordinate-kinds sort.coordinate z)
+    all-append (all-append (ordinate-kinds sort.longitude x) (ordinate-kinds sort.latitude y)) (ordinate-kinds sort.anyNumber z)
 
 position-kinds : (x : Picked) → AllStageB (positionKinds x)
 unfolding positionKinds

@@ -21,7 +21,7 @@ use Rattle.decimal.proofs.Millionths.{millionths-within}
 use Rattle.schema.specs.Shape as shape
 use Rattle.schema.specs.Pick.{Picked, bare, items, slots, pick}
 use Rattle.scalar.specs.Scalars as scalar
-use Rattle.scalar.specs.Scalars.{unless, formed, kindsOf}
+use Rattle.scalar.specs.Scalars.{unless, formedKinds, kindsOf}
 use Rattle.rings.specs.Rings.{foundAt, inMillionths, coordinateKinds}
 use Rattle.rings.specs.inner.Least.{leastFound}
 use Rattle.rings.specs.inner.Parts.{numberShape, isNumber, rangeKinds, FindsCoordinate}
@@ -52,7 +52,7 @@ latitude-kinds (bare (tree.object ms)) = refl
 latitude-kinds (items is) = refl
 latitude-kinds (slots ss) = refl
 
-third-tree : (x : Json) → unless (isNumber (kindOf x)) wrongType ≡ coordinateKinds shape.coordinate (pick numberShape x)
+third-tree : (x : Json) → unless (isNumber (kindOf x)) wrongType ≡ coordinateKinds shape.anyNumber (pick numberShape x)
 unfolding coordinateKinds kindsOf scalar.sortKinds pick
 third-tree tree.null = refl
 third-tree (tree.boolean b) = refl
@@ -62,7 +62,7 @@ third-tree (tree.array is) = refl
 third-tree (tree.object ms) = refl
 
 -- the third number
-pub third-kinds : {p : List ℕ} {x : Json} → Whole p x → unless (isNumber (kindAt p)) wrongType ≡ coordinateKinds shape.coordinate (pick numberShape x)
+pub third-kinds : {p : List ℕ} {x : Json} → Whole p x → unless (isNumber (kindAt p)) wrongType ≡ coordinateKinds shape.anyNumber (pick numberShape x)
 third-kinds {p} {x} w = ap (λ k. unless (isNumber k) wrongType) (whole-kind w) ∙ third-tree x
 
 -- one fault
@@ -129,21 +129,21 @@ inside-upto most v d f g =
 
 module _ (most : ℕ) {p : List ℕ} {x : Json} (w : Whole p x) (e : isNumber (kindAt p) ≡ true) where
   pub unformed-kinds : numberOf p ≡ number.Unformed → rangeKinds most (pick numberShape x) ≡ numberForm ∷ []
-  unfolding formed
-  unformed-kinds h = ap (rangeKinds most) (number-picked w e) ∙ ap (formed (inRange most)) h
+  unfolding formedKinds
+  unformed-kinds h = ap (rangeKinds most) (number-picked w e) ∙ ap (formedKinds (inRange most)) h
 
   module _ (d : Decimal) (h : numberOf p ≡ number.Value d) where
     pub outside-kinds : inRange most d ≡ false → rangeKinds most (pick numberShape x) ≡ outOfRange ∷ []
-    unfolding formed
-    outside-kinds f = ap (rangeKinds most) (number-picked w e) ∙ ap (formed (inRange most)) h ∙ ap (λ t. unless t outOfRange) f
+    unfolding formedKinds
+    outside-kinds f = ap (rangeKinds most) (number-picked w e) ∙ ap (formedKinds (inRange most)) h ∙ ap (λ t. unless t outOfRange) f
 
     pub measured-inside : (n v : ℕ) → inRange most d ≡ true → difference v (most * 1_000_000) ≡ millionths d
         → FindsCoordinate most n (pick numberShape x) (record { least = None; value = v })
-    unfolding formed
+    unfolding formedKinds
     measured-inside n v f g =
         subst (λ (y : Picked). FindsCoordinate most n y (record { least = None; value = v })) (sym (number-picked w e)) (
         record {
-          least = sym (ap (λ ks. leastFound (foundAt n ks)) (ap (formed (inRange most)) h ∙ ap (λ t. unless t outOfRange) f) ∙ least-empty n);
+          least = sym (ap (λ ks. leastFound (foundAt n ks)) (ap (formedKinds (inRange most)) h ∙ ap (λ t. unless t outOfRange) f) ∙ least-empty n);
           value = λ z. g ∙ sym (ap inMillionths h);
         }
         )

@@ -23,7 +23,7 @@ use Rattle.geometry.specs.declared.Position.{Position}
 use Rattle.schema.specs.Shape as shape
 use Rattle.schema.specs.Pick.{Picked, pick}
 use Rattle.scalar.specs.Scalars.{unless}
-use Rattle.rings.specs.Rings.{foundAt, count, coordinateKinds, coordinatesKinds, positionKinds, pointOf, position}
+use Rattle.rings.specs.Rings.{foundAt, count, coordinateKinds, numberKindsIn, positionKinds, pointOf, position}
 use Rattle.rings.specs.inner.Least.{lesser, leastFound}
 use Rattle.rings.specs.inner.Parts.{numberShape, positionShape, Listing, picked, partsOf, Left, isArray, isNumber, rangeKinds, FindsCoordinate, listKinds, restKinds, FindsPosition}
 use Rattle.rings.specs.declared.LeastFound.{LeastFound}
@@ -45,7 +45,7 @@ module _ (p : List ℕ) (at₀ n : ℕ) (l : List Picked) (h : Left numberShape 
 
   module _ (m : Item) (e : o ≡ step.Found m) (t : Bool) (told : t ≡ isNumber (kindAt (part p (m .value) (m .«value_end»))))
       {u : ItemStep} (g : ItemPassed p (m .next) u) where
-    third : unless t wrongType ≡ coordinateKinds shape.coordinate (picked numberShape p m)
+    third : unless t wrongType ≡ coordinateKinds shape.anyNumber (picked numberShape p m)
     third = ap (λ s. unless s wrongType) told ∙ third-kinds (left-more numberShape p at₀ l h f m e .whole)
 
     pub rest-one : u ≡ step.End → first n (unless t wrongType) ≡ first n (restKinds l)
@@ -62,16 +62,16 @@ module _ (p : List ℕ) (at₀ n : ℕ) (l : List Picked) (h : Left numberShape 
         let v = left-more numberShape p (m .next) (o .rest) (o .left) g w i in
         let z : l ≡ picked numberShape p m ∷ picked numberShape p w ∷ v .rest = o .is ∙ ap (λ k. picked numberShape p m ∷ k) (v .is) in
         ap (lesser (At n badRing)) (ap (first n) third)
-        ∙ ap (λ k. lesser k (first n (coordinateKinds shape.coordinate (picked numberShape p m)))) (sym (least-one n badRing))
+        ∙ ap (λ k. lesser k (first n (coordinateKinds shape.anyNumber (picked numberShape p m)))) (sym (least-one n badRing))
         ∙ sym (ap (λ k. first n (restKinds k)) z ∙ least-at n (badRing ∷ []) _)
 
 -- all items
 none-kinds : listKinds [] ≡ badRing ∷ []
-unfolding listKinds coordinatesKinds
+unfolding listKinds numberKindsIn
 none-kinds = refl
 
 one-kinds : (x : Picked) → listKinds (x ∷ []) ≡ badRing ∷ rangeKinds 180 x
-unfolding listKinds coordinatesKinds
+unfolding listKinds numberKindsIn
 one-kinds x = ap (λ ks. badRing ∷ ks) (longitude-kinds x)
 
 -- a fault in the third place comes to the front
@@ -90,12 +90,12 @@ module _ (n : ℕ) (x y : Picked) where
       ∙ ap (λ cs. lesser (first n (rangeKinds 180 x)) (lesser (first n cs) (first n ks))) (latitude-kinds y))
 
   more-kinds : (l : List Picked) → three (restKinds l) ≡ first n (listKinds (x ∷ y ∷ l))
-  unfolding listKinds coordinatesKinds restKinds
+  unfolding listKinds numberKindsIn restKinds
   more-kinds [] =
       three-kinds [] ∙ ap (first n) (append-nil (coordinateKinds shape.longitude x ++ coordinateKinds shape.latitude y))
-  more-kinds (z ∷ []) = three-kinds (coordinateKinds shape.coordinate z)
+  more-kinds (z ∷ []) = three-kinds (coordinateKinds shape.anyNumber z)
   more-kinds (z ∷ w ∷ l) =
-      let cs = coordinateKinds shape.coordinate z in
+      let cs = coordinateKinds shape.anyNumber z in
       let m = length (x ∷ y ∷ z ∷ w ∷ l) in
       let a : 2 ≤ m = omega arith in let b : 3 < m = omega arith in
       let bad = first n (badRing ∷ []) in

@@ -12,7 +12,7 @@ use Rattle.geometry.specs.Cases.{holding}
 use Rattle.schema.specs.Table23.{coordinates, written23}
 use Rattle.schema.specs.Pick.{Picked, PickedItems, bare, items, slots, noItem, item, pickItems, pick, listOf}
 use Rattle.scalar.specs.Scalars as scalar
-use Rattle.rings.specs.Rings.{Found, foundAt, count, coordinateKinds, coordinatesKinds, positionKinds, pointOf, position, noKinds, allSound, positionsFound, ringFound, ringsFound, itemTotal, polygonsFound, coordinatesFound}
+use Rattle.rings.specs.Rings.{Found, foundAt, count, coordinateKinds, numberKindsIn, positionKinds, pointOf, position, noKinds, allSound, positionsFound, ringFound, ringsFound, itemTotal, polygonsFound, coordinatesFound}
 use Rattle.rings.specs.inner.Least.{earlier, lesser, leastFound}
 use Rattle.rings.specs.inner.Parts.{ringShape, positionShape}
 use Rattle.rings.specs.declared.LeastFound.{LeastFound}
@@ -20,7 +20,7 @@ use Rattle.rings.specs.declared.LeastFound.the-variants.{None, At}
 
 -- opens every definition of this layer
 unfoldable pub ringing : Unit {0}
-unfolding reading partTree deciding holding written23 pickItems pick scalar.formed scalar.sortKinds scalar.kindsOf foundAt listOf count coordinateKinds coordinatesKinds positionKinds pointOf position noKinds allSound positionsFound ringFound ringsFound itemTotal polygonsFound coordinatesFound earlier lesser leastFound
+unfolding reading partTree deciding holding written23 pickItems pick scalar.formedKinds scalar.sortKinds scalar.kindsOf foundAt listOf count coordinateKinds numberKindsIn positionKinds pointOf position noKinds allSound positionsFound ringFound ringsFound itemTotal polygonsFound coordinatesFound earlier lesser leastFound
 ringing = tt
 
 -- what is found in the coordinates that a text spells: positions' numbers and kinds

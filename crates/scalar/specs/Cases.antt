@@ -15,11 +15,11 @@ use Rattle.decimal.specs.Cases.{deciding}
 use Rattle.schema.specs.Shape as sort
 use Rattle.schema.specs.Shape.{Sort}
 use Rattle.schema.specs.Words.{formFactors}
-use Rattle.scalar.specs.Scalars.{formed, anyMoney, priceMoney, pricing, anyWord, kindsOf, sortKinds}
+use Rattle.scalar.specs.Scalars.{formedKinds, anyMoney, priceMoney, pricing, anyWord, kindsOf, sortKinds}
 
 -- opens every definition of this layer
 unfoldable pub judging : Unit {0}
-unfolding comparing deciding formed anyMoney priceMoney pricing anyWord sortKinds kindsOf
+unfolding comparing deciding formedKinds anyMoney priceMoney pricing anyWord sortKinds kindsOf
 judging = tt
 
 -- what a value says against a sort: nothing is wrong, or one of three kinds
@@ -76,8 +76,8 @@ numbers =
     ("past the greatest", (sort.longitude, "180.00000001"), astray) ∷
     ("below the least", (sort.longitude, "-181"), astray) ∷
     ("an exponent", (sort.longitude, "18e1"), unformed) ∷
-    ("a third number of any size", (sort.coordinate, "-1e400"), sound) ∷
-    ("of any length", (sort.coordinate, "12345678901234567890"), sound) ∷
+    ("a third number of any size", (sort.anyNumber, "-1e400"), sound) ∷
+    ("of any length", (sort.anyNumber, "12345678901234567890"), sound) ∷
     ("a million", (sort.money, "1000000"), sound) ∷
     ("a million below zero", (sort.money, "-1000000"), sound) ∷
     ("zeros behind ten-thousandths", (sort.money, "0.25000"), sound) ∷
@@ -175,7 +175,7 @@ types =
     ("portion", sort.portion, numeric) ∷
     ("latitude", sort.latitude, numeric) ∷
     ("longitude", sort.longitude, numeric) ∷
-    ("third number of a position", sort.coordinate, numeric) ∷
+    ("third number of a position", sort.anyNumber, numeric) ∷
     ("money", sort.money, numeric) ∷
     ("price", sort.price, sound ∷ astray ∷ mistyped ∷ mistyped ∷ mistyped ∷ mistyped ∷ []) ∷
     ("text", sort.text, textual sound) ∷

@@ -4,7 +4,7 @@
 use crate::encode::give;
 use word::Word;
 ghost use mathlib.Core.Path.{_≡_};
-ghost use Rattle.gbfs.specs.Verdict.{feeds, numberOf, bufferOf};
+ghost use Rattle.gbfs.specs.Verdict.{feeds, verdictNumber, bufferOf};
 ghost use Rattle.skaveldro.specs.Encoding.{filled};
 ghost use Rattle.skaveldro.specs.Answers.{wordAnswer, quoteAnswer, zoneAnswer, shownAnswer, told};
 
@@ -25,7 +25,7 @@ pub extern "C" fn skaveldro_verdict<'a>(
     zones: &'a [u8],
     buffer: &mut [u8],
 ) -> u8
-    ensures { λ r. ⌜ r ≡ numberOf
+    ensures { λ r. ⌜ r ≡ verdictNumber
         (feeds (now (types .entry)) (now (stations .entry)) (now (statuses .entry)) (now (bikes .entry)) (now (plans .entry)) (now (zones .entry)))
         (now (buffer .entry)) ⌝ }
     ensures { λ _. ⌜ now (buffer .exit) ≡ bufferOf

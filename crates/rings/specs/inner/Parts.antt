@@ -23,8 +23,8 @@ use Rattle.geometry.specs.inner.Shifted.{OnMap, InRange, point, points}
 use Rattle.schema.specs.Shape as shape
 use Rattle.schema.specs.Shape.{Shape}
 use Rattle.schema.specs.Pick.{Picked, bare, items, slots, pick}
-use Rattle.scalar.specs.Scalars.{unless, formed}
-use Rattle.rings.specs.Rings.{Found, foundAt, coordinate, coordinateKinds, coordinatesKinds, position, allSound, positionsFound, ringsFound, itemTotal, polygon, polygonPositions, itemCount, polygonsFound}
+use Rattle.scalar.specs.Scalars.{unless, formedKinds}
+use Rattle.rings.specs.Rings.{Found, foundAt, coordinate, coordinateKinds, numberKindsIn, position, allSound, positionsFound, ringsFound, itemTotal, polygon, polygonPositions, itemCount, polygonsFound}
 use Rattle.rings.specs.inner.Least.{leastFound}
 use Rattle.rings.specs.declared.LeastFound.{LeastFound}
 use Rattle.rings.specs.declared.LeastFound.the-variants.{None, At}
@@ -37,7 +37,7 @@ use Rattle.rings.specs.declared.ZoneTally.{ZoneTally}
 
 -- the shapes inside field 73
 abbrev pub numberShape : Shape
-numberShape = shape.scalar shape.coordinate
+numberShape = shape.scalar shape.anyNumber
 
 abbrev pub positionShape : Shape
 positionShape = shape.array shape.positions 3 numberShape
@@ -86,7 +86,7 @@ isNumber kind.Object = false
 abbrev pub rangeKinds : ℕ → Picked → List ℕ
 rangeKinds k (bare tree.null) = wrongType ∷ []
 rangeKinds k (bare (tree.boolean b)) = wrongType ∷ []
-rangeKinds k (bare (tree.number s)) = formed (inRange k) (numberOf s)
+rangeKinds k (bare (tree.number s)) = formedKinds (inRange k) (numberOf s)
 rangeKinds k (bare (tree.string s)) = wrongType ∷ []
 rangeKinds k (bare (tree.array is)) = wrongType ∷ []
 rangeKinds k (bare (tree.object ms)) = wrongType ∷ []
@@ -100,12 +100,12 @@ pub record FindsCoordinate (k n : ℕ) (x : Picked) (o : CoordinateFound) : Type
 
 -- the items of a position; and those behind lon and lat
 unfoldable pub listKinds : List Picked → List ℕ
-listKinds l = unless (leb 2 (length l) and leb (length l) 3) badRing ++ coordinatesKinds l
+listKinds l = unless (leb 2 (length l) and leb (length l) 3) badRing ++ numberKindsIn l
 
 unfoldable pub restKinds : List Picked → List ℕ
 restKinds [] = []
-restKinds (z ∷ []) = coordinateKinds shape.coordinate z
-restKinds (z ∷ w ∷ l) = badRing ∷ coordinateKinds shape.coordinate z
+restKinds (z ∷ []) = coordinateKinds shape.anyNumber z
+restKinds (z ∷ w ∷ l) = badRing ∷ coordinateKinds shape.anyNumber z
 
 -- a position at the number n: its kinds, and where it is sound its point
 pub record FindsPosition (n : ℕ) (kinds : List ℕ) (q : Point) (s : PositionFound) : Type 0 where
