@@ -58,9 +58,9 @@ lists (here p) = fields.here
 lists (below e p o) = fields.below e (lists o)
 
 -- such rows that lead on
-pub data Through : Shape → List ℕ → Shape → Type 0 where
-  arrived : {σ : Shape} → Through σ [] σ
-  into : {f : ℕ} {name : List ℕ} {σ τ : Shape} {rows : Rows} {fs : List ℕ} → Only f name σ rows → Through σ fs τ → Through (shape.object rows) (f ∷ fs) τ
+pub data Route : Shape → List ℕ → Shape → Type 0 where
+  arrived : {σ : Shape} → Route σ [] σ
+  into : {f : ℕ} {name : List ℕ} {σ τ : Shape} {rows : Rows} {fs : List ℕ} → Only f name σ rows → Route σ fs τ → Route (shape.object rows) (f ∷ fs) τ
 
 module _ (f g : PickedItems → List Found) where
   -- the same is found in a value
@@ -116,7 +116,7 @@ module _ (f g : PickedItems → List Found) where
   object-same o (tree.string s) k p φ = refl
   object-same o (tree.array is) k p φ = refl
 
-  pub way-same : {σ τ : Shape} {fs : List ℕ} → Through σ fs τ → (x : Json) → ((z : Json) → along fs (pick σ x) ≡ some (pick τ z) → Same τ (pick τ z)) → Same σ (pick σ x)
+  pub way-same : {σ τ : Shape} {fs : List ℕ} → Route σ fs τ → (x : Json) → ((z : Json) → along fs (pick σ x) ≡ some (pick τ z) → Same τ (pick τ z)) → Same σ (pick σ x)
   unfolding along
   way-same arrived x k = k x refl
   way-same (into o w) x k = object-same o x (λ z e. way-same w z (λ y h. k y (rw (along, e) h)))

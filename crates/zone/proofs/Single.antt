@@ -26,7 +26,7 @@ use Rattle.judge.specs.Faults.{top, numbered, faultsBy, fileFaultsBy}
 use Rattle.document.specs.Document.{Maybe, none, some, elementsOf, along, field, fieldItems}
 use Rattle.clean.specs.declared.Outcome.{Outcome}
 use Rattle.clean.specs.Clean.{treeOf, recordsOf, cleanOf}
-use Rattle.clean.proofs.Alike.{plain, Through, arrived, into, here, below, Same, plain-same, way-same, records-same, clean-alike}
+use Rattle.clean.proofs.Alike.{plain, Route, arrived, into, here, below, Same, plain-same, way-same, records-same, clean-alike}
 use Rattle.zone.specs.Zone.{outline, counts, ringsHold, polygonsHoldBy, polygonsHold, polygonsOf, zoneHolds, zoneRulesBy, rulesBy, applicable, zonesOf, rulesAt}
 use Rattle.zone.specs.Answer.{refused, onMap, ofRules, ofClean, rulingOf}
 use Rattle.zone.specs.Single.{WithoutHoles, cleanOfOne, ringsHoldOfOne, polygonsHoldOfOne, zoneHoldsOfOne, rulingOfOne, Single}
@@ -86,11 +86,11 @@ coordinates-same (tree.number s) one p φ = refl
 coordinates-same (tree.string s) one p φ = refl
 coordinates-same (tree.object ms) one p φ = refl
 
-to-polygons : Through zone (71 ∷ 73 ∷ []) coordinates
+to-polygons : Route zone (71 ∷ 73 ∷ []) coordinates
 unfolding written23 plain
 to-polygons = into (below refl refl (here refl)) (into (below refl refl (here refl)) arrived)
 
-to-zones : Through (fileShape table23 6) (4 ∷ 5 ∷ 7 ∷ []) (shape.array shape.records ceiling.records zone)
+to-zones : Route (fileShape table23 6) (4 ∷ 5 ∷ 7 ∷ []) (shape.array shape.records ceiling.records zone)
 unfolding fileShape written23 plain
 to-zones = into (below refl refl (below refl refl (below refl refl (here refl)))) (into (here refl) (into (below refl refl (here refl)) arrived))
 
