@@ -1,6 +1,5 @@
 // Whether one file is clean, judged alone; and the record that a question asks to see.
 use document::Span;
-use document::cut;
 use document::record_span;
 use document::top_span;
 use fault::Fault;
@@ -10,6 +9,7 @@ use json::Syntax;
 use json::check_syntax;
 use judge::judge_file;
 use repeats::repeat_of;
+use walk::cut;
 use word::Parts;
 use word::kind::Kind;
 ghost use mathlib.Core.Path.{_≡_};

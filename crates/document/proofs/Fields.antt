@@ -22,7 +22,7 @@ use Rattle.slots.proofs.Finds.{find-found, found-value}
 use Rattle.document.specs.declared.Span.the-variants.{Is}
 use Rattle.document.specs.Document.{Maybe, none, some, onceOnly, field}
 use Rattle.document.specs.Spans.{moved, memberSpan}
-use Rattle.document.proofs.Cuts.{part-part, part-inside}
+use Rattle.walk.proofs.Cuts.{part-part, part-inside}
 
 -- the first row of the field f has this name and shape
 pub data Lists (f : ℕ) (name : List ℕ) (σ : Shape) : Rows → Type 0 where

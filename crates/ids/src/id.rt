@@ -1,5 +1,4 @@
 // The id of a record.
-use document::cut;
 use fields::STRING;
 use fields::code_of;
 use fields::unquoted;
@@ -8,6 +7,7 @@ use slots::Found;
 use text::compare::same_text;
 use text::compare::text_is;
 use walk::MemberStep;
+use walk::cut;
 use walk::pass_member;
 ghost use mathlib.Core.Path.{_≡_};
 ghost use Prim.Native.Nat.{ℕ, _≤_};

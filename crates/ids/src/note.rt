@@ -5,12 +5,12 @@ use crate::columns::last;
 use crate::id::id_place;
 use crate::id::id_value;
 use crate::search::search;
-use document::cut;
 use fields::STRING;
 use fields::code_of;
 use fields::unquoted;
 use text::digest::digest_of;
 use walk::ItemStep;
+use walk::item_bytes;
 use walk::pass_item;
 ghost use mathlib.Core.Path.{_≡_};
 ghost use mathlib.Core.List.{[]};
@@ -79,7 +79,7 @@ pub fn note(file: u8, p: &[u8], notes: &mut [u32; Notes::SIZE]) -> u16
                 return first;
             }
             ItemStep::Found(m) => {
-                let q = cut(p, m.value, m.value_end);
+                let q = item_bytes(p, m);
                 let member = id_place(file, q);
                 let value = id_value(q, member);
                 let repeats = note_record(file, p, m.value, m.value_end, member, value, n, notes);

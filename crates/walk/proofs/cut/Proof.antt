@@ -1,8 +1,8 @@
 -- `cut` brings the places inside: a part that begins past the end is the empty one at the end.
 use borrow.Author.Needs.{needs}
-use Rattle.document.proofs.Cuts.{cut-reversed, cut-past, cut-rest}
-use Rattle.document.proofs.cut.Statement.{statement}
-use Rattle.document.proofs.cut.Tie as tie
+use Rattle.walk.proofs.Cuts.{cut-reversed, cut-past, cut-rest}
+use Rattle.walk.proofs.cut.Statement.{statement}
+use Rattle.walk.proofs.cut.Tie as tie
 
 returns : tie.Need-returns
 returns c = cut-reversed _ _ _ (c .before .if1 .taken)
