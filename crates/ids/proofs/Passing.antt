@@ -93,7 +93,7 @@ module _ {file : ℕ} {p notes : List ℕ} {first n at : ℕ} (w : Noting file p
       let none = left-end (w .left) f e in let all : n ≡ length (itemsOf p) = omega (arith, w .count, ap length none) in
       (come-end file (recordBytes p) n first (w .rest ∙ ap (map (itemOf p)) none) ∙ w .come, subst (λ (k : ℕ). Noted file p k notes) all (w .noted))
 
-  module _ {m : Item} (e : s ≡ step.Found m) where
+  module _ (m : Item) (e : s ≡ step.Found m) where
     onward : Onward p m (w .items)
     onward = left-more (w .left) f e
 

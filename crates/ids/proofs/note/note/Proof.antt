@@ -43,7 +43,7 @@ placed : (c : Met) → ItemPlaced (start c .args .p .now) (c .before .before .be
 placed c = c .before .before .pass-item .ensures .placed _ (c .m .given .1)
 
 room : (c : Met) → c .before .before .before .loop .n < records
-room c = let t = c .before .before in noting-room (t .before .loop .inv) (t .pass-item .ensures) (c .m .given .1) (start c .pre .1)
+room c = let t = c .before .before in noting-room (t .before .loop .inv) (t .pass-item .ensures) _ (c .m .given .1) (start c .pre .1)
 
 -- it is one object, and has its id once
 single : (c : Met) → Single (start c .args .file) (itemOf (start c .args .p .now) (c .m .given .0 .0))
@@ -82,7 +82,7 @@ note-record-requires c κs =
       i .id-place .ensures .0,
       room d,
       place i .unmet,
-      noting-record (l .loop .inv) (t .pass-item .ensures) (d .m .given .1),
+      noting-record (l .loop .inv) (t .pass-item .ensures) _ (d .m .given .1),
       l .loop .inv .noted,
       value-is v,
     )
@@ -90,7 +90,7 @@ note-record-requires c κs =
 loop-again : tie.Need-loop-again Inv-loop μ-loop
 loop-again c =
     let k = c .before in let d = k .before .before .before .before .before .before in let t = d .before .before in
-    noting-more (t .before .loop .inv) (t .pass-item .ensures) (d .m .given .1) (k .note-record .ensures .0) (k .note-record .ensures .1) (c .first-of .ensures)
+    noting-more (t .before .loop .inv) (t .pass-item .ensures) _ (d .m .given .1) (k .note-record .ensures .0) (k .note-record .ensures .1) (c .first-of .ensures)
 
 pub note-spec : {M : Type 1} → statement M
 note-spec =
