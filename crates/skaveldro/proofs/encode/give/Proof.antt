@@ -15,30 +15,33 @@ use Rattle.skaveldro.proofs.encode.give.Tie as tie
 abbrev values : tie.Start → List ℕ
 values s = partValues (s .args .parts) ++ s .args .rest .now
 
+abbrev count : tie.Start → ℕ
+count s = 6 + length (s .args .rest .now)
+
 returns : tie.Need-returns
 unfolding answered
 returns c =
     let g = c .before in let s = g .before .before .before in
-    short (s .args .buffer .now) (values s) (s .args .number) _ (omega arith) (gives (s .args .number)) (rw (g .given .ensures) at (c .if1 .taken))
+    short (s .args .buffer .now) (values s) (s .args .number) (count s) (omega arith) (gives (s .args .number)) (omega (arith, g .given .ensures, c .if1 .taken))
 
 returns-2 : tie.Need-returns-2
 unfolding answered
 returns-2 c =
     let g = c .before .before in let s = g .before .before .before in
-    bare (s .args .buffer .now) (values s) (s .args .number) _ (omega arith) (gives (s .args .number)) (omega arith) (rw (g .given .ensures) at (c .if2 .taken))
+    bare (s .args .buffer .now) (values s) (s .args .number) (count s) (omega arith) (gives (s .args .number)) (omega arith) (omega (arith, g .given .ensures, c .if2 .taken))
 
 -- all values have room
-room : (c : tie.Else2) → let a = c .before .before .before .before .before .args in 8 * (6 + length (a .rest .now)) ≤ length (a .buffer .now)
+room : (c : tie.Else2) → let s = c .before .before .before .before .before in 8 * count s ≤ length (s .args .buffer .now)
 room c =
-    let g = c .before .before in let a = g .before .before .before .args in
-    let given = g .given .ensures ∙ all (gives (a .number)) (6 + length (a .rest .now)) (rw (g .given .ensures) at (c .if2 .left)) in
+    let g = c .before .before in let s = g .before .before .before in
+    let given = g .given .ensures ∙ all (gives (s .args .number)) (count s) (rw (g .given .ensures) at (c .if2 .left)) in
     omega (arith, given, c .before .if1 .left)
 
 put-requires : tie.Need-put-requires
 put-requires c κs = let v = c .before .before in rw (v .part-values .ensures) (omega (arith, room (v .before)))
 
 -- and still have it after the first `put`
-room-left : (p : tie.After-put) → let a = p .before .before .before .before .before .before .before .before .before .args in 8 * (6 + length (a .rest .now)) ≤ length (p .put .last .1 .0)
+room-left : (p : tie.After-put) → 8 * count (p .before .before .before .before .before .before .before .before .before) ≤ length (p .put .last .1 .0)
 room-left p = omega (arith, room (p .before .before .before .before), p .put .kept .1 .0)
 
 put-requires-2 : tie.Need-put-requires-2
@@ -52,7 +55,7 @@ returns-3 c =
     let q = c .before .before in let p = q .before .before .before .before in let v = p .before .before .before in let e = v .before in
     let g = e .before .before in let s = g .before .before .before in
     let given = g .given .ensures in let first = rw (v .part-values .ensures) at (p .put .ensures) in
-    let w = whole (s .args .buffer .now) (values s) (s .args .number) _ (omega arith) (gives (s .args .number)) (rw given at (e .if2 .left)) (rw given at (e .before .if1 .left)) in
+    let w = whole (s .args .buffer .now) (values s) (s .args .number) (count s) (omega arith) (gives (s .args .number)) (rw given at (e .if2 .left)) (omega (arith, given, e .before .if1 .left)) in
     (w .0, rw (q .put2 .ensures, first) (behind (s .args .buffer .now) (partValues (s .args .parts)) (s .args .rest .now)) ∙ w .1)
 
 pub give-spec : {M : Type 1} → statement M
