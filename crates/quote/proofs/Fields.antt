@@ -23,7 +23,7 @@ use Rattle.fields.specs.Values.{integerIn}
 use Rattle.fields.specs.inner.Values.{memberOf, textBy, arrayBy}
 use Rattle.fields.proofs.Arrays.{member-along}
 use Rattle.fields.proofs.Fields.{field-spelled, field-text, field-given, field-items, rowOf, listed}
-use Rattle.quote.specs.Plan.{moneyIn, priceIn, priceAt, segmentOf}
+use Rattle.quote.specs.Plan.{moneyIn, priceIn, priceAt, planSegment}
 use Rattle.quote.specs.inner.Values.{priceBy, segmentBy}
 use Rattle.quote.specs.inner.Clear.{Clear, ClearValue, ClearPlan, ClearSegments}
 use Rattle.quote.proofs.Cleared.{member-clear, required-clear, items-most, items-clear}
@@ -78,8 +78,8 @@ module _ (f : ℕ) where
   off-first i h = ne-eqb (f + i) f (λ e. omega arith)
 
   module _ {p : List ℕ} {x : Json} (w : Whole p x) where
-    pub segment-is : segmentBy p ≡ segmentOf f (pick (table.segment f) x)
-    unfolding table.segment segmentOf segmentBy
+    pub segment-is : segmentBy p ≡ planSegment f (pick (table.segment f) x)
+    unfolding table.segment planSegment segmentBy
     segment-is =
         let a = off-first 1 (omega arith) in
         let b = off-first 2 (omega arith) in

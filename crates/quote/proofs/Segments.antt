@@ -37,7 +37,7 @@ use Rattle.fare.specs.declared.Segment.{Segment}
 use Rattle.fare.specs.inner.Folds.{Fills}
 use Rattle.fare.specs.Bounds.{mostMoney}
 use Rattle.fare.specs.inner.Room.{Modest}
-use Rattle.quote.specs.Plan.{amountIn, numberAmount, priceAmount, moneyIn, priceIn, segmentOf}
+use Rattle.quote.specs.Plan.{amountIn, numberAmount, priceAmount, moneyIn, priceIn, planSegment}
 use Rattle.fields.specs.inner.Values.{spelledBy, textBy, memberOf}
 use Rattle.quote.specs.inner.Values.{priceBy, segmentBy, segmentsBy}
 use Rattle.quote.specs.inner.Clear.{ClearSegment, ClearSegments}
@@ -138,14 +138,14 @@ module _ (p : List ℕ) where
 
 -- the segments of the bytes are the picked ones
 same-segments : (f : ℕ) (p : List ℕ) (ms : List Item) → ((m : Item) → List·Memᴰ m ms → Whole (itemOf p m) (partTree (itemOf p m)))
-    → map (segmentOf p) ms ≡ map (segmentOf f) (map (λ m. pick (table.segment f) (partTree (itemOf p m))) ms)
+    → map (segmentOf p) ms ≡ map (planSegment f) (map (λ m. pick (table.segment f) (partTree (itemOf p m))) ms)
 same-segments f p [] h = refl
 same-segments f p (m ∷ ms) h =
     ap₂ (λ (s : Segment) (l : List Segment). s ∷ l) (segment-is f (h m (List·Memᴰ·head refl))) (same-segments f p ms (λ t i. h t (List·Memᴰ·tail i)))
 
-pub segments-picked : (f : ℕ) (p : List ℕ) (l : List Picked) → pickedItems (table.segment f) p ≡ l → segmentsBy p ≡ map (segmentOf f) l
+pub segments-picked : (f : ℕ) (p : List ℕ) (l : List Picked) → pickedItems (table.segment f) p ≡ l → segmentsBy p ≡ map (planSegment f) l
 unfolding segmentsBy
-segments-picked f p l e = same-segments f p (itemsOf p) (items-whole p) ∙ ap (map (segmentOf f)) e
+segments-picked f p l e = same-segments f p (itemsOf p) (items-whole p) ∙ ap (map (planSegment f)) e
 
 pub segments-few : (p : List ℕ) → ClearSegments p → length (segmentsBy p) ≤ segments
 unfolding segmentsBy
