@@ -16,7 +16,7 @@ use Rattle.json.specs.Tree.{Json, Items, Members}
 use Rattle.schema.specs.Shape as shape
 use Rattle.schema.specs.Shape.{Shape, Rows, Need, Numbering, fileShape}
 use Rattle.schema.specs.Table23.{table23}
-use Rattle.schema.specs.Pick.{Picked, PickedItems, Slots, Slot, missing, once, twice, given, put, each, pick, pickRows, find, listOf}
+use Rattle.schema.specs.Pick.{Picked, PickedItems, Slots, Slot, missing, once, twice, filled, put, pickItems, pick, pickRows, find, listOf, elements}
 use Rattle.schema.proofs.Tests.{and-left, and-right}
 use Rattle.fault.specs.declared.Fault.{Fault}
 use Rattle.fault.specs.Fault.{least}
@@ -24,10 +24,10 @@ use Rattle.scalar.specs.Scalars.{unless}
 use Rattle.rings.specs.Rings.{Found, count}
 use Rattle.judge.specs.declared.Place.{Place}
 use Rattle.judge.specs.Faults.{Judge, faulty, itemPlace, absence, eachItem, arrayFaults, objectFaults, slotFaults, faultsBy, rowFaultsBy, fileFaultsBy}
-use Rattle.document.specs.Document.{none, some, onceOnly, elements, field, along}
+use Rattle.document.specs.Document.{none, some, onceOnly, field, along}
 use Rattle.document.proofs.Fields as fields
 use Rattle.document.proofs.Fields.{Lists, over, at-row}
-use Rattle.clean.specs.declared.Cleanness.the-variants.{Clean}
+use Rattle.clean.specs.declared.Outcome.the-variants.{Unbroken}
 use Rattle.clean.specs.Clean.{treeOf, repeats, broken, judgedBy, cleanBy}
 
 -- no coordinates anywhere in it
@@ -98,12 +98,12 @@ module _ (f g : PickedItems → List Found) where
   slot-same h need name σ rows twice ss k r p = ap (λ (l : List Fault). faulty p h (nameTwice ∷ []) ++ l) (r p)
 
   rows-same : {h : ℕ} {name : List ℕ} {σ : Shape} {rows : Rows} → Only h name σ rows → (ms : Members)
-      → ((z : Json) → given (find name ms) ≡ once z → Same σ (pick σ z)) → SameRows rows (pickRows rows ms)
+      → ((z : Json) → filled (find name ms) ≡ once z → Same σ (pick σ z)) → SameRows rows (pickRows rows ms)
   unfolding pickRows
   rows-same {h} {name} {σ} (here {need = need} {rows = rows} e) ms k =
-      slot-same h need name σ rows (given (find name ms)) (pickRows rows ms) k (plain-rows-same rows e (pickRows rows ms))
+      slot-same h need name σ rows (filled (find name ms)) (pickRows rows ms) k (plain-rows-same rows e (pickRows rows ms))
   rows-same (below {g = j} {need = need} {n = n} {τ = τ} {rows = rows} d e o) ms k =
-      slot-same j need n τ rows (given (find n ms)) (pickRows rows ms) (λ z i. plain-same τ e (pick τ z)) (rows-same o ms k)
+      slot-same j need n τ rows (filled (find n ms)) (pickRows rows ms) (λ z i. plain-same τ e (pick τ z)) (rows-same o ms k)
 
   object-same : {h : ℕ} {name : List ℕ} {σ : Shape} {rows : Rows} → Only h name σ rows → (x : Json)
       → ((z : Json) → field h (pick (shape.object rows) x) ≡ some (pick σ z) → Same σ (pick σ z)) → Same (shape.object rows) (pick (shape.object rows) x)
@@ -122,10 +122,10 @@ module _ (f g : PickedItems → List Found) where
   way-same (into o w) x k = object-same o x (λ z e. way-same w z (λ y h. k y (rw (along, e) h)))
 
   -- an array of records, item by item
-  items-same : (σ : Shape) (is : Items) (n : ℕ) → ((z : Json) → List·Memᴰ (pick σ z) (listOf (each (λ y. pick σ y) is)) → Same σ (pick σ z)) → (p : Place) (φ : ℕ)
-      → eachItem (λ q ψ y. faultsBy f σ q ψ y) shape.records p φ n (each (λ y. pick σ y) is)
-      ≡ eachItem (λ q ψ y. faultsBy g σ q ψ y) shape.records p φ n (each (λ y. pick σ y) is)
-  unfolding eachItem each listOf
+  items-same : (σ : Shape) (is : Items) (n : ℕ) → ((z : Json) → List·Memᴰ (pick σ z) (listOf (pickItems (λ y. pick σ y) is)) → Same σ (pick σ z)) → (p : Place) (φ : ℕ)
+      → eachItem (λ q ψ y. faultsBy f σ q ψ y) shape.records p φ n (pickItems (λ y. pick σ y) is)
+      ≡ eachItem (λ q ψ y. faultsBy g σ q ψ y) shape.records p φ n (pickItems (λ y. pick σ y) is)
+  unfolding eachItem pickItems listOf
   items-same σ tree.noItem n k p φ = refl
   items-same σ (tree.item x is) n k p φ =
       ap₂ (λ (l m : List Fault). l ++ m) (k x (List·Memᴰ·head refl) (itemPlace shape.records (n + 1) p) φ)
@@ -136,7 +136,7 @@ module _ (f g : PickedItems → List Found) where
       → Same (shape.array shape.records most σ) (pick (shape.array shape.records most σ) x)
   unfolding faultsBy pick
   records-same most σ (tree.array is) k p φ =
-      ap (λ (l : List Fault). faulty p φ (unless (leb (count (each (λ y. pick σ y) is)) most) tooMany) ++ l) (items-same σ is 0 k p φ)
+      ap (λ (l : List Fault). faulty p φ (unless (leb (count (pickItems (λ y. pick σ y) is)) most) tooMany) ++ l) (items-same σ is 0 k p φ)
   records-same most σ tree.null k p φ = refl
   records-same most σ (tree.boolean b) k p φ = refl
   records-same most σ (tree.number s) k p φ = refl
@@ -152,4 +152,4 @@ module _ (f g : PickedItems → List Found) where
     where
       go : (x : Syntax) → judgedBy f file (b ∷ s) x ≡ judgedBy g file (b ∷ s) x
       go (syntax.Fault kind offset) = refl
-      go syntax.Sound = ap (λ (l : List Fault). broken file (least l) (broken file (least (repeats file (pick (fileShape table23 file) (treeOf (b ∷ s))))) Clean)) e
+      go syntax.Sound = ap (λ (l : List Fault). broken file (least l) (broken file (least (repeats file (pick (fileShape table23 file) (treeOf (b ∷ s))))) Unbroken)) e

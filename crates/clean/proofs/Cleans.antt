@@ -17,14 +17,14 @@ use Rattle.fault.specs.declared.Least.the-variants.{None, Is}
 use Rattle.fault.specs.Fault.{least}
 use Rattle.fault.proofs.Leasts.{least-none}
 use Rattle.judge.specs.Faults.{fileFaults}
-use Rattle.clean.specs.declared.Cleanness.{Cleanness}
-use Rattle.clean.specs.declared.Cleanness.the-variants.{Clean}
+use Rattle.clean.specs.declared.Outcome.{Outcome}
+use Rattle.clean.specs.declared.Outcome.the-variants.{Unbroken}
 use Rattle.clean.specs.Clean.{treeOf, repeats, broken, judged, cleanOf}
 use Rattle.clean.proofs.Judged.{clean-there}
 use Rattle.clean.proofs.Repeated.{Held, held, tree-is}
 
 -- nothing is broken where the answer is that the file is clean
-none-broken : (file : ℕ) (x : Least) (next : Cleanness) → broken file x next ≡ Clean → (x ≡ None) × (next ≡ Clean)
+none-broken : (file : ℕ) (x : Least) (next : Outcome) → broken file x next ≡ Unbroken → (x ≡ None) × (next ≡ Unbroken)
 none-broken file None next e = (refl, e)
 none-broken file (Is f) next e = let z : _≡_ {A = ℕ} 0 1 = cc in absurd (omega arith)
 
@@ -33,14 +33,14 @@ pub record Sound (n : ℕ) (s : List ℕ) : Type 0 where
   pub faultless : fileFaults (fileShape table23 n) (treeOf s) ≡ []
   pub single : repeats n (pick (fileShape table23 n) (treeOf s)) ≡ []
 
-sound-judged : (n : ℕ) (s : List ℕ) (x : Syntax) → syntaxOf s ≡ x → judged n s x ≡ Clean → Sound n s
+sound-judged : (n : ℕ) (s : List ℕ) (x : Syntax) → syntaxOf s ≡ x → judged n s x ≡ Unbroken → Sound n s
 sound-judged n s (syntax.Fault k o) i e = let z : _≡_ {A = ℕ} 0 1 = cc in absurd (omega arith)
 sound-judged n s syntax.Sound i e =
     let b = none-broken n (least (fileFaults (fileShape table23 n) (treeOf s))) _ e in
-    let c = none-broken n (least (repeats n (pick (fileShape table23 n) (treeOf s)))) Clean (b .1) in
+    let c = none-broken n (least (repeats n (pick (fileShape table23 n) (treeOf s)))) Unbroken (b .1) in
     record { reads = i; faultless = least-none _ (b .0); single = least-none _ (c .0) }
 
-pub clean-sound : (n : ℕ) (s : List ℕ) → (length s ≡ 0 → ⊥) → cleanOf n s ≡ Clean → Sound n s
+pub clean-sound : (n : ℕ) (s : List ℕ) → (length s ≡ 0 → ⊥) → cleanOf n s ≡ Unbroken → Sound n s
 clean-sound n s h e = sound-judged n s (syntaxOf s) refl (clean-there n s h ∙ e)
 
 -- its records

@@ -17,7 +17,7 @@ use Rattle.word.specs.Kinds.{idTwice}
 use Rattle.json.specs.declared.Syntax.{Syntax}
 use Rattle.json.specs.declared.Syntax.the-variants as syntax
 use Rattle.json.specs.Tree.{Json}
-use Rattle.json.specs.Text.{text, verdictOf, syntaxOf}
+use Rattle.json.specs.Text.{text, syntaxBy, syntaxOf}
 use Rattle.walk.specs.Walk.{part}
 use Rattle.walk.specs.Part.{Whole}
 use Rattle.walk.proofs.Files.{Passed, passed, valueStart}
@@ -34,16 +34,16 @@ use Rattle.document.specs.declared.Span.the-variants as span
 use Rattle.document.specs.Spans.{topSpan, recordSpan}
 use Rattle.document.proofs.Records.{top-is}
 use Rattle.ids.specs.inner.Ids.{idField}
-use Rattle.clean.specs.declared.Cleanness.{Cleanness}
-use Rattle.clean.specs.declared.Cleanness.the-variants.{Clean, Broken}
+use Rattle.clean.specs.declared.Outcome.{Outcome}
+use Rattle.clean.specs.declared.Outcome.the-variants.{Unbroken, Broken}
 use Rattle.clean.specs.declared.Shown.the-variants.{NoFile}
-use Rattle.clean.specs.Clean.{treeOf, repeats, place, broken, judged, cleanBy, cleanOf}
+use Rattle.clean.specs.Clean.{treeOf, repeats, faultParts, broken, judged, cleanBy, cleanOf}
 use Rattle.clean.specs.inner.Blamed.{blamed}
 use Rattle.clean.specs.Show.{answer, ofClean, ofSpan, shownOf}
 use Rattle.clean.proofs.Repeated.{tree-is}
 
 -- a file that is not there, and one that is
-pub clean-absent : (file : ℕ) (s : List ℕ) → length s ≡ 0 → Clean ≡ cleanOf file s
+pub clean-absent : (file : ℕ) (s : List ℕ) → length s ≡ 0 → Unbroken ≡ cleanOf file s
 unfolding cleanBy
 clean-absent file [] e = refl
 clean-absent file (b ∷ s) e = absurd (omega arith)
@@ -55,13 +55,13 @@ clean-there file (b ∷ s) h = refl
 
 -- stage A's offset fits the word
 pub offset-fits : (s : List ℕ) (k o : ℕ) → syntaxOf s ≡ syntax.Fault k o → o ≤ fileBytes
-unfolding syntaxOf verdictOf placed
+unfolding syntaxOf syntaxBy placed
 offset-fits s k o e = by-test (ltb fileBytes (length s)) long read
   where
     long : ltb fileBytes (length s) ≡ true → o ≤ fileBytes
     long h = let p : _≡_ {A = Syntax} (syntax.Fault _ 0) (syntax.Fault k o) = rw (h, syntaxOf) at e in let z : 0 ≡ o = cc in omega arith
 
-    go : (x : Read Json) → verdictOf (placed s x) ≡ syntax.Fault k o → length s ≤ fileBytes → o ≤ fileBytes
+    go : (x : Read Json) → syntaxBy (placed s x) ≡ syntax.Fault k o → length s ≤ fileBytes → o ≤ fileBytes
     go (done y r) i n = let z : _≡_ {A = ℕ} 0 1 = cc in absurd (omega arith)
     go (bad j r) i n = let z : length s - length r ≡ o = cc in omega arith
 
@@ -86,19 +86,19 @@ module _ (s : List ℕ) (e : syntaxOf s ≡ syntax.Sound) where
 
 -- stage B's first fault, and where there is none the first of kind 12
 module _ (file : ℕ) (s : List ℕ) where
-  pub judged-on : (r : Cleanness) → None ≡ least (fileFaults (fileShape table23 file) (treeOf s))
-      → r ≡ broken file (least (repeats file (pick (fileShape table23 file) (treeOf s)))) Clean → r ≡ judged file s syntax.Sound
-  judged-on r e h = h ∙ ap (λ (z : Least). broken file z (broken file (least (repeats file (pick (fileShape table23 file) (treeOf s)))) Clean)) e
+  pub judged-on : (r : Outcome) → None ≡ least (fileFaults (fileShape table23 file) (treeOf s))
+      → r ≡ broken file (least (repeats file (pick (fileShape table23 file) (treeOf s)))) Unbroken → r ≡ judged file s syntax.Sound
+  judged-on r e h = h ∙ ap (λ (z : Least). broken file z (broken file (least (repeats file (pick (fileShape table23 file) (treeOf s)))) Unbroken)) e
 
-  pub judged-broken : (f : Fault) → Is f ≡ least (fileFaults (fileShape table23 file) (treeOf s)) → Broken (place file f) ≡ judged file s syntax.Sound
-  judged-broken f e = ap (λ (z : Least). broken file z (broken file (least (repeats file (pick (fileShape table23 file) (treeOf s)))) Clean)) e
+  pub judged-broken : (f : Fault) → Is f ≡ least (fileFaults (fileShape table23 file) (treeOf s)) → Broken (faultParts file f) ≡ judged file s syntax.Sound
+  judged-broken f e = ap (λ (z : Least). broken file z (broken file (least (repeats file (pick (fileShape table23 file) (treeOf s)))) Unbroken)) e
 
 module _ (file n : ℕ) (x : Least) (e : x ≡ blamed (idField file) n) where
-  pub ids-clean : n ≡ 0 → Clean ≡ broken file x Clean
-  ids-clean z = sym (ap (λ (y : Least). broken file y Clean) (e ∙ ap (blamed (idField file)) z))
+  pub ids-clean : n ≡ 0 → Unbroken ≡ broken file x Unbroken
+  ids-clean z = sym (ap (λ (y : Least). broken file y Unbroken) (e ∙ ap (blamed (idField file)) z))
 
-  pub ids-broken : (n ≡ 0 → ⊥) → Broken (place file (fault n (idField file) 0 idTwice)) ≡ broken file x Clean
-  ids-broken z = sym (ap (λ (y : Least). broken file y Clean) (e ∙ ap (λ (t : Bool). t ⇒ None else Is (fault n (idField file) 0 idTwice)) (ne-eqb n 0 z)))
+  pub ids-broken : (n ≡ 0 → ⊥) → Broken (faultParts file (fault n (idField file) 0 idTwice)) ≡ broken file x Unbroken
+  ids-broken z = sym (ap (λ (y : Least). broken file y Unbroken) (e ∙ ap (λ (t : Bool). t ⇒ None else Is (fault n (idField file) 0 idTwice)) (ne-eqb n 0 z)))
 
 -- what is shown
 module _ (f n : ℕ) (s : List ℕ) where
@@ -109,6 +109,6 @@ module _ (f n : ℕ) (s : List ℕ) where
       (λ t. by-test (leb f 6) (λ u. absurd (h (leb-true 1 f t) (leb-true f 6 u))) (λ u. rw (shownOf, t, u)))
       (λ t. rw (shownOf, t))
 
-  pub shown-of : 1 ≤ f → f ≤ 6 → (x : Cleanness) → x ≡ cleanOf f s → ofClean x (ofSpan (recordSpan f s n)) ≡ shownOf f n s
+  pub shown-of : 1 ≤ f → f ≤ 6 → (x : Outcome) → x ≡ cleanOf f s → ofClean x (ofSpan (recordSpan f s n)) ≡ shownOf f n s
   unfolding shownOf
   shown-of h i x e = rw (shownOf, le-leb 1 f h, le-leb f 6 i, e)

@@ -20,7 +20,7 @@ use Rattle.text.specs.Text.{same}
 use Rattle.walk.specs.declared.Item.{Item}
 use Rattle.walk.specs.Walk.{part, itemsOf}
 use Rattle.walk.specs.inner.Along.{AlongItems}
-use Rattle.walk.specs.Part.{treeOf}
+use Rattle.walk.specs.Part.{partTree}
 use Rattle.walk.proofs.Parts.{itemOf, items-whole}
 use Rattle.walk.proofs.Files.{Passed, passed}
 use Rattle.schema.specs.Shape as shape
@@ -128,7 +128,7 @@ least-first : (file : ℕ) → 1 ≤ file → file ≤ 5 → (p : List ℕ)
 unfolding firstRepeat recordBytes
 least-first file h i p =
     least-repeat (idField file) file noName
-    (named-each (idField file) file (λ m. pick (recordShape file) (treeOf (itemOf p m))) (itemOf p) (itemsOf p) (λ m j. id-picked file h i (items-whole p m j)))
+    (named-each (idField file) file (λ m. pick (recordShape file) (partTree (itemOf p m))) (itemOf p) (itemsOf p) (λ m j. id-picked file h i (items-whole p m j)))
     1 (omega arith)
 
 -- Files.
@@ -193,10 +193,10 @@ module _ (n : ℕ) (s : List ℕ) (reads : syntaxOf s ≡ Sound) (faultless : le
         let l : r .list ≡ pickedItems (recordShape n) p = rest-picked f reads (r .there) in
         record {
           short = omega (arith, t .short, f .inside);
-          few = omega (arith, r .few, ap length l ∙ length-map (itemsOf p) (λ m. pick (recordShape n) (treeOf (itemOf p m))));
+          few = omega (arith, r .few, ap length l ∙ length-map (itemsOf p) (λ m. pick (recordShape n) (partTree (itemOf p m))));
           along = rest-along f reads (r .there);
           singles = λ m j.
-              let g : Item → Picked = λ k. pick (recordShape n) (treeOf (itemOf p k)) in
+              let g : Item → Picked = λ k. pick (recordShape n) (partTree (itemOf p k)) in
               let y = r .sound (g m) (subst (List·Memᴰ (g m)) (sym l) (Memᴰ·map g j)) in
               single-id n h i (items-whole p m j) (y .0) (r .field) (y .1);
           names =

@@ -39,8 +39,8 @@ use Rattle.document.proofs.Rests.{records-listed, no-record}
 use Rattle.document.proofs.Ways.{records-of}
 use Rattle.document.proofs.Records.{itemTrees, array, as-many, RecordAt, record-at, record-past, record-none}
 use Rattle.document.proofs.Trees.{object-braces, records-trees}
-use Rattle.clean.specs.declared.Cleanness.{Cleanness}
-use Rattle.clean.specs.declared.Cleanness.the-variants.{Clean, Broken}
+use Rattle.clean.specs.declared.Outcome.{Outcome}
+use Rattle.clean.specs.declared.Outcome.the-variants.{Unbroken, Broken}
 use Rattle.clean.specs.Clean.{treeOf, broken, judged, cleanBy, cleanOf}
 use Rattle.clean.specs.Show.{Answer, shown, ofSpan, shownOf}
 use Rattle.clean.specs.ShowTree.{Has, IsRecord, ShowsRecords}
@@ -48,19 +48,19 @@ use Rattle.clean.proofs.Faultless.{object-there}
 use Rattle.clean.proofs.Repeated.{Held, held, tree-is}
 use Rattle.clean.proofs.Judged.{clean-there, shown-none, shown-of}
 
-never-broken : {A : Type 0} {p : _} → Broken p ≡ Clean → A
+never-broken : {A : Type 0} {p : _} → Broken p ≡ Unbroken → A
 never-broken e = let z : _≡_ {A = ℕ} 0 1 = cc in absurd (omega arith)
 
 -- a clean file passes stages A and B
-module _ (file : ℕ) (s : List ℕ) (some : length s ≡ 0 → ⊥) (e : cleanOf file s ≡ Clean) where
+module _ (file : ℕ) (s : List ℕ) (some : length s ≡ 0 → ⊥) (e : cleanOf file s ≡ Unbroken) where
   sound : syntaxOf s ≡ syntax.Sound
   sound = go (syntaxOf s) refl (clean-there file s some ∙ e)
     where
-      go : (x : Syntax) → syntaxOf s ≡ x → judged file s (syntaxOf s) ≡ Clean → syntaxOf s ≡ syntax.Sound
+      go : (x : Syntax) → syntaxOf s ≡ x → judged file s (syntaxOf s) ≡ Unbroken → syntaxOf s ≡ syntax.Sound
       go syntax.Sound h k = h
       go (syntax.Fault j o) h k = never-broken (ap (judged file s) (sym h) ∙ k)
 
-  unbroken : (x : Least) (next : Cleanness) → broken file x next ≡ Clean → x ≡ None
+  unbroken : (x : Least) (next : Outcome) → broken file x next ≡ Unbroken → x ≡ None
   unbroken None next h = refl
   unbroken (Is f) next h = never-broken h
 
@@ -72,7 +72,7 @@ module _ (file : ℕ) (s : List ℕ) (some : length s ≡ 0 → ⊥) (e : cleanO
 
   module _ (h : 1 ≤ file) (i : file ≤ 6) where
     by-span : (n : ℕ) → shownOf file n s ≡ ofSpan (recordSpan file s n)
-    by-span n = sym (shown-of file n s h i Clean (sym e))
+    by-span n = sym (shown-of file n s h i Unbroken (sym e))
 
     trees : recordTrees file (treeOf s) ≡ itemTrees (array (records h i .there))
     trees = ap (recordTrees file) (tree-is s (passed s sound)) ∙ records-trees file (passed s sound) (records h i .there)
@@ -80,7 +80,7 @@ module _ (file : ℕ) (s : List ℕ) (some : length s ≡ 0 → ⊥) (e : cleanO
     many : length (recordTrees file (treeOf s)) ≡ length (records h i .list)
     many =
         let p = array (records h i .there) in
-        ap length trees ∙ length-map (itemsOf p) (λ m. walk.treeOf (itemOf p m)) ∙ sym (as-many (records h i .there))
+        ap length trees ∙ length-map (itemsOf p) (λ m. walk.partTree (itemOf p m)) ∙ sym (as-many (records h i .there))
 
     -- the record of number k + 1 is an object
     object : (k : ℕ) (r : RecordAt (records h i .there) (suc k)) → (ms : tree.Members) × (r .tree ≡ tree.object ms)
@@ -121,7 +121,7 @@ module _ (file : ℕ) (s : List ℕ) (some : length s ≡ 0 → ⊥) (e : cleanO
     shown-zero = ap (λ (a : Answer). a .number) (by-span 0 ∙ ap ofSpan (record-none (records h i .there)))
 
 -- a clean file has its records in an array, or is not there
-pub listed : (file : ℕ) (s : List ℕ) → 1 ≤ file → file ≤ 6 → cleanOf file s ≡ Clean → Listed file s
+pub listed : (file : ℕ) (s : List ℕ) → 1 ≤ file → file ≤ 6 → cleanOf file s ≡ Unbroken → Listed file s
 listed file [] h i e = Listed.absent refl
 listed file (b ∷ s) h i e =
     let some : length (b ∷ s) ≡ 0 → ⊥ = λ z. omega arith in
@@ -147,7 +147,7 @@ absent-none file = ap (recordTrees file) absent-null ∙ go (wayTo file)
 
 absent-shown : (file n : ℕ) → 1 ≤ file → file ≤ 6 → shownOf file n [] .number ≡ 10
 unfolding cleanBy
-absent-shown file n h i = ap (λ (a : Answer). a .number) (sym (shown-of file n [] h i Clean refl) ∙ ap ofSpan (no-record file n))
+absent-shown file n h i = ap (λ (a : Answer). a .number) (sym (shown-of file n [] h i Unbroken refl) ∙ ap ofSpan (no-record file n))
 
 -- The law.
 never : {A : Type 0} {k : ℕ} → k ≡ 0 → 1 ≤ k → A
@@ -162,7 +162,7 @@ answers file (suc k) [] h = absurd (omega (arith, h .last, ap length (absent-non
 answers file (suc k) (b ∷ s) h = shown-at file (b ∷ s) (λ z. omega arith) (h .clean) (h .least) (h .most) k (omega (arith, h .last))
 
 module _ (file : ℕ) (h : 1 ≤ file) (i : file ≤ 6) where
-  has-clean : (n : ℕ) (s : List ℕ) → cleanOf file s ≡ Clean → shownOf file n s .number ≡ 0 → Has file n s
+  has-clean : (n : ℕ) (s : List ℕ) → cleanOf file s ≡ Unbroken → shownOf file n s .number ≡ 0 → Has file n s
   has-clean n [] c e = never (sym (absent-shown file n h i) ∙ e) (omega arith)
   has-clean zero (b ∷ s) c e = never (sym (shown-zero file (b ∷ s) (λ z. omega arith) c h i) ∙ e) (omega arith)
   has-clean (suc k) (b ∷ s) c e =
@@ -171,8 +171,8 @@ module _ (file : ℕ) (h : 1 ≤ file) (i : file ≤ 6) where
       record { least = h; most = i; clean = c; first = omega arith; last = omega arith })
       (λ t. never (sym (shown-past file (b ∷ s) (λ z. omega arith) c h i k (ltb-false k (length (recordTrees file (treeOf (b ∷ s)))) t)) ∙ e) (omega arith))
 
-  has : (n : ℕ) (s : List ℕ) (x : Cleanness) → cleanOf file s ≡ x → shownOf file n s .number ≡ 0 → Has file n s
-  has n s Clean c e = has-clean n s c e
+  has : (n : ℕ) (s : List ℕ) (x : Outcome) → cleanOf file s ≡ x → shownOf file n s .number ≡ 0 → Has file n s
+  has n s Unbroken c e = has-clean n s c e
   has n s (Broken p) c e = never (ap (λ (a : Answer). a .number) (shown-of file n s h i (Broken p) (sym c)) ∙ e) (omega arith)
 
 only : (file n : ℕ) (s : List ℕ) → shownOf file n s .number ≡ 0 → Has file n s

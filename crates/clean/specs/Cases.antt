@@ -1,6 +1,6 @@
 -- The question "show record" on files, computed: the order of checking, and where records stand.
 use mathlib.Core.List.{List, [], _∷_}
-use mathlib.Core.Path.{_≡_, refl}
+use mathlib.Core.Path.{refl}
 use Prim.Native.Nat.{ℕ}
 use Rattle.notation.specs.Case.{Case, Answers, json}
 use Rattle.word.specs.Word.{noParts}
@@ -21,7 +21,7 @@ use Rattle.clean.specs.Show.{Answer, refused, shown, shownOf}
 
 -- opens every definition of this layer
 unfoldable pub showing : Unit {0}
-unfolding judging identified gathering foundIn pick.at document.field document.along document.text membersAlong topSpan recordsSpan nth recordSpan valueAlong listed recordTrees numbered treeOf recordsOf usedBefore repeatedId repeatsFrom repeats cleanBy shownOf
+unfolding judging identified gathering foundIn pick.slotOf document.field document.along document.text membersAlong topSpan recordsSpan nth recordSpan valueAlong listed recordTrees numbered treeOf recordsOf usedBefore repeatedId repeatsFrom repeats cleanBy shownOf
 showing = tt
 
 -- a file of two vehicle types, with blanks around them and a brace in a name
@@ -51,8 +51,8 @@ questions-answered = refl
 abbrev trees : List (Case ℕ (Maybe Json))
 trees =
     ("records are counted from 1", 0, none) ∷
-    ("the first", 1, some (walk.treeOf (part types 68 141))) ∷
-    ("the second", 2, some (walk.treeOf (part types 144 222))) ∷
+    ("the first", 1, some (walk.partTree (part types 68 141))) ∷
+    ("the second", 2, some (walk.partTree (part types 144 222))) ∷
     ("none past the last", 3, none) ∷
     []
 

@@ -24,8 +24,8 @@ use Rattle.document.specs.Document as document
 use Rattle.document.specs.Document.{none, some, elementsOf, along}
 use Rattle.rings.specs.Rings.{Found, coordinatesFound}
 use Rattle.judge.specs.Faults.{fileFaultsBy}
-use Rattle.clean.specs.declared.Cleanness.{Cleanness}
-use Rattle.clean.specs.declared.Cleanness.the-variants.{Clean, Broken}
+use Rattle.clean.specs.declared.Outcome.{Outcome}
+use Rattle.clean.specs.declared.Outcome.the-variants.{Unbroken, Broken}
 
 -- the tree of a file that stage A passes
 unfoldable pub treeOf : List ℕ → Json
@@ -61,28 +61,28 @@ unfoldable pub repeats : ℕ → Picked → List Fault
 repeats file x = repeatsIn file (recordsOf file x)
 
 -- the parts of a word for a fault of a file
-abbrev pub place : ℕ → Fault → Parts
-place file f = record { file = file; kind = f .kind; field = f .field; «record» = f .«record»; sub = f .sub; offset = 0 }
+abbrev pub faultParts : ℕ → Fault → Parts
+faultParts file f = record { file = file; kind = f .kind; field = f .field; «record» = f .«record»; sub = f .sub; offset = 0 }
 
-abbrev pub broken : ℕ → Least → Cleanness → Cleanness
+abbrev pub broken : ℕ → Least → Outcome → Outcome
 broken file None next = next
-broken file (Is f) next = Broken (place file f)
+broken file (Is f) next = Broken (faultParts file f)
 
 -- a file of which stage A finds this; `coordinates` tells what is found in field 73
-abbrev pub judgedBy : (coordinates : PickedItems → List Found) → ℕ → List ℕ → Syntax → Cleanness
+abbrev pub judgedBy : (coordinates : PickedItems → List Found) → ℕ → List ℕ → Syntax → Outcome
 judgedBy coordinates file s (syntax.Fault kind offset) =
     Broken (record { file = file; kind = kind; field = 0; «record» = 0; sub = 0; offset = offset })
 judgedBy coordinates file s syntax.Sound =
     broken file (least (fileFaultsBy coordinates (fileShape table23 file) (treeOf s)))
-    (broken file (least (repeats file (pick (fileShape table23 file) (treeOf s)))) Clean)
+    (broken file (least (repeats file (pick (fileShape table23 file) (treeOf s)))) Unbroken)
 
 -- an absent file is clean
-unfoldable pub cleanBy : (coordinates : PickedItems → List Found) → ℕ → List ℕ → Cleanness
-cleanBy coordinates file [] = Clean
+unfoldable pub cleanBy : (coordinates : PickedItems → List Found) → ℕ → List ℕ → Outcome
+cleanBy coordinates file [] = Unbroken
 cleanBy coordinates file (b ∷ s) = judgedBy coordinates file (b ∷ s) (syntaxOf (b ∷ s))
 
-abbrev pub cleanOf : ℕ → List ℕ → Cleanness
+abbrev pub cleanOf : ℕ → List ℕ → Outcome
 cleanOf = cleanBy coordinatesFound
 
-abbrev pub judged : ℕ → List ℕ → Syntax → Cleanness
+abbrev pub judged : ℕ → List ℕ → Syntax → Outcome
 judged = judgedBy coordinatesFound

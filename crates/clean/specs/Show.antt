@@ -8,8 +8,8 @@ use Rattle.word.specs.Word.{noParts}
 use Rattle.document.specs.declared.Span.{Span}
 use Rattle.document.specs.declared.Span.the-variants.{None, Is}
 use Rattle.document.specs.Spans.{recordSpan}
-use Rattle.clean.specs.declared.Cleanness.{Cleanness}
-use Rattle.clean.specs.declared.Cleanness.the-variants.{Clean, Broken}
+use Rattle.clean.specs.declared.Outcome.{Outcome}
+use Rattle.clean.specs.declared.Outcome.the-variants.{Unbroken, Broken}
 use Rattle.clean.specs.declared.Shown.{Shown}
 use Rattle.clean.specs.declared.Shown.the-variants.{NoFile, NotClean, NoRecord, Record}
 use Rattle.clean.specs.Clean.{cleanOf}
@@ -40,8 +40,8 @@ abbrev pub ofSpan : Span → Answer
 ofSpan None = refused 10 noParts
 ofSpan (Is from upto) = shown from upto
 
-abbrev pub ofClean : Cleanness → Answer → Answer
-ofClean Clean next = next
+abbrev pub ofClean : Outcome → Answer → Answer
+ofClean Unbroken next = next
 ofClean (Broken p) next = refused 5 p
 
 -- record n of a file, of its bytes s

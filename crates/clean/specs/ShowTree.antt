@@ -10,7 +10,7 @@ use Rattle.walk.specs.Walk.{part}
 use Rattle.walk.specs.Part.{Whole}
 use Rattle.document.specs.Document.{some}
 use Rattle.document.specs.Trees.{recordTrees, numbered}
-use Rattle.clean.specs.declared.Cleanness.the-variants.{Clean}
+use Rattle.clean.specs.declared.Outcome.the-variants.{Unbroken}
 use Rattle.clean.specs.Clean.{treeOf, cleanOf}
 use Rattle.clean.specs.Show.{shownOf}
 
@@ -18,7 +18,7 @@ use Rattle.clean.specs.Show.{shownOf}
 pub record Has (file n : ℕ) (s : List ℕ) : Type 0 where
   pub least : 1 ≤ file
   pub most : file ≤ 6
-  pub clean : cleanOf file s ≡ Clean
+  pub clean : cleanOf file s ≡ Unbroken
   pub first : 1 ≤ n
   pub last : n ≤ length (recordTrees file (treeOf s))
 

@@ -23,15 +23,15 @@ ghost use Rattle.schema.specs.Pick.{pick};
 ghost use Rattle.fault.specs.declared.Least.the-variants.{None};
 ghost use Rattle.fault.specs.Fault.{least};
 ghost use Rattle.judge.specs.Faults.{fileFaults};
-ghost use Rattle.clean.specs.declared.Cleanness.the-variants.{Clean};
-ghost use Rattle.clean.specs.Clean.{treeOf, repeats, place, broken, judged, cleanOf};
+ghost use Rattle.clean.specs.declared.Outcome.the-variants.{Unbroken};
+ghost use Rattle.clean.specs.Clean.{treeOf, repeats, faultParts, broken, judged, cleanOf};
 ghost use Rattle.clean.specs.Show.{answer, shownOf};
 
 pub mod repeats;
 
 // A file that is clean, or the first rule that it breaks, as a word's parts.
-pub enum Cleanness {
-    Clean,
+pub enum Outcome {
+    Unbroken,
     Broken(Parts),
 }
 
@@ -46,7 +46,7 @@ pub enum Shown {
 // The parts of a word for a fault of a file.
 pub fn parts_of(file: u8, f: Fault) -> Parts
     requires { ⌜ (f .«record» < 65_536) × (f .sub < 65_536) ⌝ }
-    ensures { λ r. ⌜ r ≡ place file f ⌝ }
+    ensures { λ r. ⌜ r ≡ faultParts file f ⌝ }
 {
     Parts {
         file: file,
@@ -74,19 +74,19 @@ pub fn first_fault(file: u8, s: &[u8]) -> Least
 }
 
 // Kind 12 of a file that stages A and B pass; there is none where its records have no ids.
-fn judge_ids(file: u8, s: &[u8]) -> Cleanness
+fn judge_ids(file: u8, s: &[u8]) -> Outcome
     requires { ⌜ (syntaxOf (now s) ≡ Sound) × (least (fileFaults (fileShape table23 file) (treeOf (now s))) ≡ None) ⌝ }
-    ensures { λ r. ⌜ r ≡ broken file (least (repeats file (pick (fileShape table23 file) (treeOf (now (s .entry)))))) Clean ⌝ }
+    ensures { λ r. ⌜ r ≡ broken file (least (repeats file (pick (fileShape table23 file) (treeOf (now (s .entry)))))) Unbroken ⌝ }
 {
     let field = id_field(file);
     if field == 0 {
-        return Cleanness::Clean;
+        return Outcome::Unbroken;
     }
     let n = repeat_of(file, s);
     if n == 0 {
-        return Cleanness::Clean;
+        return Outcome::Unbroken;
     }
-    Cleanness::Broken(Parts {
+    Outcome::Broken(Parts {
         file: file,
         kind: Kind::ID_TWICE,
         field: field,
@@ -97,7 +97,7 @@ fn judge_ids(file: u8, s: &[u8]) -> Cleanness
 }
 
 // A file that stage A passes.
-fn judge_passed(file: u8, s: &[u8]) -> Cleanness
+fn judge_passed(file: u8, s: &[u8]) -> Outcome
     requires { ⌜ syntaxOf (now s) ≡ Sound ⌝ }
     ensures { λ r. ⌜ r ≡ judged file (now (s .entry)) Sound ⌝ }
 {
@@ -106,25 +106,25 @@ fn judge_passed(file: u8, s: &[u8]) -> Cleanness
             return judge_ids(file, s);
         }
         Least::Is(f) => {
-            return Cleanness::Broken(parts_of(file, f));
+            return Outcome::Broken(parts_of(file, f));
         }
     }
 }
 
 // Whether a file is clean, by its number, from 1 to 6, and its bytes; where nothing is there it is. Under any other number stage A alone counts.
 // Shut out: a repeated id named where stage B finds a fault; an absent file refused as no JSON text.
-pub fn check_clean(file: u8, s: &[u8]) -> Cleanness
+pub fn check_clean(file: u8, s: &[u8]) -> Outcome
     ensures { λ r. ⌜ r ≡ cleanOf file (now (s .entry)) ⌝ }
 {
     if s.len() == 0 {
-        return Cleanness::Clean;
+        return Outcome::Unbroken;
     }
     match check_syntax(s) {
         Syntax::Sound => {
             return judge_passed(file, s);
         }
         Syntax::Fault(kind, offset) => {
-            return Cleanness::Broken(Parts {
+            return Outcome::Broken(Parts {
                 file: file,
                 kind: kind,
                 field: 0,
@@ -149,10 +149,10 @@ pub fn show_record(file: u64, record: u64, s: &[u8]) -> Shown
     }
     let f = file as u8;
     match check_clean(f, s) {
-        Cleanness::Broken(p) => {
+        Outcome::Broken(p) => {
             return Shown::NotClean(p);
         }
-        Cleanness::Clean => match record_span(f, s, record as usize) {
+        Outcome::Unbroken => match record_span(f, s, record as usize) {
             Span::None => {
                 return Shown::NoRecord;
             }

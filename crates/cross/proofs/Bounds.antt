@@ -14,7 +14,7 @@ use Rattle.word.specs.Kinds.{idTwice, dangling, condition, sumDiffers}
 use Rattle.json.specs.Tree.{Json}
 use Rattle.walk.specs.declared.Item.{Item}
 use Rattle.walk.specs.Walk.{itemsOf}
-use Rattle.walk.specs.Part.{treeOf}
+use Rattle.walk.specs.Part.{partTree}
 use Rattle.walk.proofs.Parts.{itemOf}
 use Rattle.schema.specs.Table23.{status, zone}
 use Rattle.schema.specs.Records.{recordShape, located}
@@ -34,8 +34,8 @@ use Rattle.ids.specs.inner.Ids.{recordBytes, repeated, repeatFrom, firstRepeat}
 use Rattle.ids.proofs.Picked.{id-field}
 use Rattle.clean.specs.inner.Blamed.{blamed}
 use Rattle.clean.proofs.Faultless.{field-sound, items-few}
-use Rattle.references.specs.References.{when, anyWith, any, roomy, driven, named, refers, demanded}
-use Rattle.cross.specs.Cross.{Files, at, absentees, sumOf, availableFaults, idFaults, ruleFaults, typeFaults, statusFaults, bikeFaults, zoneFaults, each, faultsOf, crossFaults}
+use Rattle.references.specs.References.{kindIf, anyWith, any, hasCapacity, motorized, named, refers, demanded}
+use Rattle.cross.specs.Cross.{Files, recordPlace, absentees, sumOf, availableFaults, idFaults, ruleFaults, typeFaults, statusFaults, bikeFaults, zoneFaults, eachRecord, faultsOf, crossFaults}
 use Rattle.cross.specs.Stage.{fileCount, fileOf}
 use Rattle.cross.specs.inner.Staged.{repeatOf, idsLeast}
 use Rattle.cross.proofs.Numbers.{by-number}
@@ -55,7 +55,7 @@ pub record Fitting (f : Fault) : Type 0 where
 
 -- Kinds.
 
-when-kinds : (t : Bool) (k : ℕ) → OfStageC k → All OfStageC (when t k)
+when-kinds : (t : Bool) (k : ℕ) → OfStageC k → All OfStageC (kindIf t k)
 when-kinds true k h = only h
 when-kinds false k h = none
 
@@ -68,12 +68,12 @@ refers-kinds (document.some id) f l = when-kinds (not (anyWith any f l id)) dang
 
 -- The n-th record.
 module _ (n : ℕ) (h : n ≤ greatest) where
-  field-fits : (sub φ : ℕ) → sub ≤ greatest → φ ≤ fields → {ks : List ℕ} → All OfStageC ks → All Fitting (faulty (at n sub) φ ks)
+  field-fits : (sub φ : ℕ) → sub ≤ greatest → φ ≤ fields → {ks : List ℕ} → All OfStageC ks → All Fitting (faulty (recordPlace n sub) φ ks)
   unfolding faulty
   field-fits sub φ i j none = none
   field-fits sub φ i j (more k ks) = more (record { rec = h; field = j; sub = i; kind = k }) (field-fits sub φ i j ks)
 
-  own-fits : (φ : ℕ) → φ ≤ fields → {ks : List ℕ} → All OfStageC ks → All Fitting (faulty (at n 0) φ ks)
+  own-fits : (φ : ℕ) → φ ≤ fields → {ks : List ℕ} → All OfStageC ks → All Fitting (faulty (recordPlace n 0) φ ks)
   own-fits φ j ks = field-fits 0 φ (omega arith) j ks
 
   available-fit : (types : List Picked) (sub : ℕ) (l : List Picked) → sub + length l ≤ greatest + 1 → All Fitting (availableFaults types n sub l)
@@ -95,7 +95,7 @@ module _ (n : ℕ) (h : n ≤ greatest) where
   type-fits : (s : Files) (x : Picked) → All Fitting (typeFaults s n x)
   unfolding typeFaults
   type-fits s x =
-      all-append (own-fits 13 (omega arith) (demanded-kinds (driven x) (given (field 13 x))))
+      all-append (own-fits 13 (omega arith) (demanded-kinds (motorized x) (given (field 13 x))))
       (own-fits 14 (omega arith) (all-append (demanded-kinds (s 5 .here) (given (field 14 x))) (refers-kinds (text 14 x) 50 (s 5 .records))))
 
   status-fits : (s : Files) (x : Picked) → length (fieldItems 37 x) ≤ greatest → All Fitting (statusFaults s n x)
@@ -105,7 +105,7 @@ module _ (n : ℕ) (h : n ≤ greatest) where
       all-append
       (all-append
       (all-append (own-fits 30 (omega arith) (refers-kinds (text 30 x) 20 (s 2 .records)))
-      (own-fits 32 (omega arith) (demanded-kinds (named roomy 20 (s 2 .records) (text 30 x)) (given (field 32 x)))))
+      (own-fits 32 (omega arith) (demanded-kinds (named hasCapacity 20 (s 2 .records) (text 30 x)) (given (field 32 x)))))
       (own-fits 37 (omega arith)
       (all-append (demanded-kinds (s 1 .here) (given (field 37 x))) (when-kinds differs sumDiffers (record { least = omega arith; most = omega arith })))))
       (available-fit (s 1 .records) 1 (fieldItems 37 x) (omega arith))
@@ -120,7 +120,7 @@ module _ (n : ℕ) (h : n ≤ greatest) where
       (all-append
       (all-append (own-fits 41 (omega arith) (demanded-kinds free (given (field 41 x)))) (own-fits 42 (omega arith) (demanded-kinds free (given (field 42 x)))))
       (own-fits 45 (omega arith) (all-append (demanded-kinds (s 1 .here) (given (field 45 x))) (refers-kinds (text 45 x) 10 (s 1 .records)))))
-      (own-fits 46 (omega arith) (demanded-kinds (named driven 10 (s 1 .records) (text 45 x)) (given (field 46 x)))))
+      (own-fits 46 (omega arith) (demanded-kinds (named motorized 10 (s 1 .records) (text 45 x)) (given (field 46 x)))))
       (own-fits 47 (omega arith) (refers-kinds (text 47 x) 20 (s 2 .records))))
       (own-fits 48 (omega arith) (refers-kinds (text 48 x) 50 (s 5 .records)))
 
@@ -154,8 +154,8 @@ module _ (n : ℕ) (h : n ≤ greatest) where
 
 -- Records one after another.
 each-fits : (faults′ : ℕ → Picked → List Fault) (g : Item → Picked) (n : ℕ) (ms : List Item) → n + length ms ≤ greatest + 1
-    → ((m : Item) → List·Memᴰ m ms → (k : ℕ) → k ≤ greatest → All Fitting (faults′ k (g m))) → All Fitting (each faults′ n (map g ms))
-unfolding each
+    → ((m : Item) → List·Memᴰ m ms → (k : ℕ) → k ≤ greatest → All Fitting (faults′ k (g m))) → All Fitting (eachRecord faults′ n (map g ms))
+unfolding eachRecord
 each-fits faults′ g n [] h k = none
 each-fits faults′ g n (m ∷ ms) h k =
     all-append (k m (List·Memᴰ·head refl) n (omega arith)) (each-fits faults′ g (n + 1) ms (omega arith) (λ l i. k l (List·Memᴰ·tail i)))
@@ -191,7 +191,7 @@ module _ (files : Files) (file : ℕ) (h : 1 ≤ file) (i : file ≤ fileCount) 
       let few = b .recorded .few in
       rw (crossFaults, e, b .is)
       (holds-append _ _ (holds-append _ _ (holds-least presence) (rw (b .repeated) (ids-least-fits file p few)))
-      (holds-least (each-fits _ (λ m. pick (recordShape file) (treeOf (itemOf p m))) 1 (itemsOf p) (omega arith) (λ m j k l.
+      (holds-least (each-fits _ (λ m. pick (recordShape file) (partTree (itemOf p m))) 1 (itemsOf p) (omega arith) (λ m j k l.
       let y = b .sound m j in record-fits k l files _ (y .0) (y .1) file h i (y .2)))))
 
   pub cross-fits : (f : Fault) → least (crossFaults files file) ≡ Is f → Fitting f

@@ -32,8 +32,8 @@ use Rattle.fields.specs.Values.{wholeOf, integerIn}
 use Rattle.fields.specs.inner.Values.{memberOf, spelledBy, textBy, arrayBy}
 use Rattle.fields.proofs.Values.{Holds, member-holds, holds-text, holds-items}
 use Rattle.fields.proofs.Fields.{field-spelled, field-text, field-items, rowOf, listed}
-use Rattle.references.specs.References.{when, refers}
-use Rattle.cross.specs.Cross.{Files, at, each, availableFaults, idFaults, ruleFaults, zoneFaults, faultsOf}
+use Rattle.references.specs.References.{kindIf, refers}
+use Rattle.cross.specs.Cross.{Files, recordPlace, eachRecord, availableFaults, idFaults, ruleFaults, zoneFaults, faultsOf}
 
 -- no bytes, no value
 pub none-there : (n : ℕ) → eqb n 0 ≡ not (ltb 0 n)
@@ -57,14 +57,14 @@ pub count-small : (q : List ℕ) → integerIn (spelledBy q) < 10 ^ 12
 count-small q = spelled-small (spelledBy q)
 
 -- a sum that is there and differs
-pub sum-none : (n : ℕ) → n ≡ 0 → (differs : Bool) (kind : ℕ) → [] ≡ when (ltb 0 n and differs) kind
+pub sum-none : (n : ℕ) → n ≡ 0 → (differs : Bool) (kind : ℕ) → [] ≡ kindIf (ltb 0 n and differs) kind
 sum-none n e differs kind = rw e
 
-pub sum-same : (there : Bool) (a b kind : ℕ) → a ≡ b → [] ≡ when (there and not (eqb a b)) kind
+pub sum-same : (there : Bool) (a b kind : ℕ) → a ≡ b → [] ≡ kindIf (there and not (eqb a b)) kind
 sum-same true a b kind e = rw (eq-eqb a b e)
 sum-same false a b kind e = refl
 
-pub sum-apart : (n a b kind : ℕ) → (n ≡ 0 → ⊥) → (a ≡ b → ⊥) → kind ∷ [] ≡ when (ltb 0 n and not (eqb a b)) kind
+pub sum-apart : (n a b kind : ℕ) → (n ≡ 0 → ⊥) → (a ≡ b → ⊥) → kind ∷ [] ≡ kindIf (ltb 0 n and not (eqb a b)) kind
 sum-apart n a b kind h e = rw (lt-ltb 0 n (omega arith), ne-eqb a b e)
 
 -- items of field 37, rules, and items of field 78
@@ -101,26 +101,26 @@ properties-whole {p} {x} w = holds-whole _ _ (field 74 (pick zone x)) (member-ho
 -- what an item breaks, and so the items one after another
 module _ (types : List Picked) (n : ℕ) where
   abbrev pub availableItem : ℕ → Picked → List Fault
-  availableItem sub x = faulty (at n sub) 38 (refers (text 38 x) 10 types)
+  availableItem sub x = faulty (recordPlace n sub) 38 (refers (text 38 x) 10 types)
 
-  pub available-each : (sub : ℕ) (l : List Picked) → each availableItem sub l ≡ availableFaults types n sub l
-  unfolding each availableFaults
+  pub available-each : (sub : ℕ) (l : List Picked) → eachRecord availableItem sub l ≡ availableFaults types n sub l
+  unfolding eachRecord availableFaults
   available-each sub [] = refl
   available-each sub (x ∷ l) = ap (λ (z : List Fault). availableItem sub x ++ z) (available-each (sub + 1) l)
 
   abbrev pub idItem : ℕ → ℕ → Picked → List Fault
-  idItem sub k x = faulty (at n sub) 78 (refers (textIn x) 10 types)
+  idItem sub k x = faulty (recordPlace n sub) 78 (refers (textIn x) 10 types)
 
-  pub id-each : (sub k : ℕ) (l : List Picked) → each (idItem sub) k l ≡ idFaults types n sub l
-  unfolding each idFaults
+  pub id-each : (sub k : ℕ) (l : List Picked) → eachRecord (idItem sub) k l ≡ idFaults types n sub l
+  unfolding eachRecord idFaults
   id-each sub k [] = refl
   id-each sub k (x ∷ l) = ap (λ (z : List Fault). idItem sub k x ++ z) (id-each sub (k + 1) l)
 
   abbrev pub ruleItem : ℕ → Picked → List Fault
   ruleItem sub x = idFaults types n sub (fieldItems 78 x)
 
-  pub rule-each : (sub : ℕ) (l : List Picked) → each ruleItem sub l ≡ ruleFaults types n sub l
-  unfolding each ruleFaults
+  pub rule-each : (sub : ℕ) (l : List Picked) → eachRecord ruleItem sub l ≡ ruleFaults types n sub l
+  unfolding eachRecord ruleFaults
   rule-each sub [] = refl
   rule-each sub (x ∷ l) = ap (λ (z : List Fault). ruleItem sub x ++ z) (rule-each (sub + 1) l)
 

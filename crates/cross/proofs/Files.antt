@@ -15,7 +15,7 @@ use Rattle.json.specs.Tree as tree
 use Rattle.json.specs.Tree.{Json, Members}
 use Rattle.walk.specs.declared.Item.{Item}
 use Rattle.walk.specs.Walk.{itemsFrom, itemsOf}
-use Rattle.walk.specs.Part.{treeOf}
+use Rattle.walk.specs.Part.{partTree}
 use Rattle.walk.proofs.Parts.{itemOf}
 use Rattle.walk.proofs.Wholes.{whole-some}
 use Rattle.walk.proofs.Files.{passed}
@@ -51,7 +51,7 @@ pub record InBytes (n : ℕ) (s p : List ℕ) : Type 0 where
   pub repeated : least (repeatsIn n (pickedItems (recordShape n) p)) ≡ idsLeast n p
   pub singles : n ≤ 5 → Singles n p
   pub sound : (m : Item) → List·Memᴰ m (itemsOf p)
-      → (q : Place) × (φ : ℕ) × (faults (recordShape n) q φ (pick (recordShape n) (treeOf (itemOf p m))) ≡ [])
+      → (q : Place) × (φ : ℕ) × (faults (recordShape n) q φ (pick (recordShape n) (partTree (itemOf p m))) ≡ [])
 
 no-repeats : (n : ℕ) → least (repeatsIn n []) ≡ None
 unfolding repeatsFrom
@@ -106,7 +106,7 @@ module _ (n : ℕ) (h : 1 ≤ n) (i : n ≤ fileCount) (b : ℕ) (r : List ℕ) 
       (λ e. let o = object-there q φ (d .rows) x e in (o .0, o .1))
 
   abbrev pickedItem : Item → Picked
-  pickedItem m = pick (recordShape n) (treeOf (itemOf p m))
+  pickedItem m = pick (recordShape n) (partTree (itemOf p m))
 
   sound-item : (m : Item) → List·Memᴰ m (itemsOf p) → (q : Place) × (φ : ℕ) × (faults (recordShape n) q φ (pickedItem m) ≡ [])
   sound-item m j =

@@ -29,8 +29,8 @@ use Rattle.fields.specs.inner.Values.{textBy, thereBy, arrayBy, spelledBy}
 use Rattle.fields.proofs.Arrays.{member-along}
 use Rattle.fields.proofs.Values.{member-holds, holds-there}
 use Rattle.fields.proofs.Fields.{field-text, field-given, field-spelled, field-items, rowOf, listed}
-use Rattle.references.specs.References.{when, roomy, driven, notHuman, named, refers, demanded}
-use Rattle.cross.specs.Cross.{Files, at, sumOf, availableFaults, typeFaults, statusFaults, bikeFaults}
+use Rattle.references.specs.References.{kindIf, hasCapacity, motorized, notHuman, named, refers, demanded}
+use Rattle.cross.specs.Cross.{Files, recordPlace, sumOf, availableFaults, typeFaults, statusFaults, bikeFaults}
 use Rattle.cross.specs.inner.Judged.{Reads}
 use Rattle.cross.proofs.Layouts.{slot-member, type-layout, status-layout, bike-layout}
 
@@ -38,7 +38,7 @@ use Rattle.cross.proofs.Layouts.{slot-member, type-layout, status-layou
 module _ (f : Files) (n : ℕ) where
   abbrev typeOf : (motor : Maybe (List ℕ)) (range : Bool) (plan : Maybe (List ℕ)) (priced : Bool) → List Fault
   typeOf motor range plan priced =
-      faulty (at n 0) 13 (demanded (notHuman motor) range) ++ faulty (at n 0) 14 (demanded (f 5 .here) priced ++ refers plan 50 (f 5 .records))
+      faulty (recordPlace n 0) 13 (demanded (notHuman motor) range) ++ faulty (recordPlace n 0) 14 (demanded (f 5 .here) priced ++ refers plan 50 (f 5 .records))
 
   same-type : {a b e o : Maybe (List ℕ)} {c d g h : Bool} → a ≡ b → c ≡ d → e ≡ o → g ≡ h → typeOf a c e g ≡ typeOf b d o h
   same-type i j k l = rw (i, j, k, l)
@@ -59,8 +59,8 @@ module _ (f : Files) (n : ℕ) where
 module _ (f : Files) (n : ℕ) where
   abbrev statusOf : (station : Maybe (List ℕ)) (docks there : Bool) (counts : List Picked) (bikes : Maybe (List ℕ)) → List Fault
   statusOf station docks there counts bikes =
-      (faulty (at n 0) 30 (refers station 20 (f 2 .records)) ++ faulty (at n 0) 32 (demanded (named roomy 20 (f 2 .records) station) docks)) ++
-      (faulty (at n 0) 37 (demanded (f 1 .here) there ++ when (there and not (eqb (sumOf counts) (integerIn bikes))) sumDiffers) ++
+      (faulty (recordPlace n 0) 30 (refers station 20 (f 2 .records)) ++ faulty (recordPlace n 0) 32 (demanded (named hasCapacity 20 (f 2 .records) station) docks)) ++
+      (faulty (recordPlace n 0) 37 (demanded (f 1 .here) there ++ kindIf (there and not (eqb (sumOf counts) (integerIn bikes))) sumDiffers) ++
       availableFaults (f 1 .records) n 1 counts)
 
   same-status : {a b i j : Maybe (List ℕ)} {c d e r : Bool} {g h : List Picked}
@@ -96,10 +96,10 @@ module _ (f : Files) (n : ℕ) where
   abbrev bikeOf : (lat lon : Bool) (type : Maybe (List ℕ)) (typeGiven range : Bool) (station : Maybe (List ℕ)) (docked : Bool) (plan : Maybe (List ℕ))
       → List Fault
   bikeOf lat lon type typeGiven range station docked plan =
-      ((faulty (at n 0) 41 (demanded (not docked) lat) ++ faulty (at n 0) 42 (demanded (not docked) lon)) ++
-      (faulty (at n 0) 45 (demanded (f 1 .here) typeGiven ++ refers type 10 (f 1 .records)) ++
-      faulty (at n 0) 46 (demanded (named driven 10 (f 1 .records) type) range))) ++
-      (faulty (at n 0) 47 (refers station 20 (f 2 .records)) ++ faulty (at n 0) 48 (refers plan 50 (f 5 .records)))
+      ((faulty (recordPlace n 0) 41 (demanded (not docked) lat) ++ faulty (recordPlace n 0) 42 (demanded (not docked) lon)) ++
+      (faulty (recordPlace n 0) 45 (demanded (f 1 .here) typeGiven ++ refers type 10 (f 1 .records)) ++
+      faulty (recordPlace n 0) 46 (demanded (named motorized 10 (f 1 .records) type) range))) ++
+      (faulty (recordPlace n 0) 47 (refers station 20 (f 2 .records)) ++ faulty (recordPlace n 0) 48 (refers plan 50 (f 5 .records)))
 
   same-bike : {a b c d i j k l o q : Bool} {e m g h u v : Maybe (List ℕ)} → a ≡ b → c ≡ d → e ≡ m → i ≡ j → k ≡ l → g ≡ h → o ≡ q → u ≡ v
       → bikeOf a c e i k g o u ≡ bikeOf b d m j l h q v

@@ -21,7 +21,7 @@ use Rattle.schema.proofs.Walk.{Laid, linesIn}
 use Rattle.slots.specs.declared.Slots.{Slots}
 use Rattle.slots.specs.inner.Rows.{mostRows, namesIn}
 use Rattle.slots.specs.inner.Slots.{slotAt, Gathered}
-use Rattle.fields.specs.inner.Values.{code, memberOf}
+use Rattle.fields.specs.inner.Values.{kindCode, memberOf}
 use Rattle.fields.proofs.Ways.{found-standing, member-found}
 use Rattle.ids.specs.inner.Ids.{idName, idValue}
 use Rattle.cross.specs.inner.Judged.{Referring, firstLine, lineCount, Reads}
@@ -75,7 +75,7 @@ module _ {p : List ℕ} {first count : ℕ} {s : Slots} (g : Gathered p first co
   pub slot-member : {ms : Members} → Whole p (tree.object ms) → q ≡ memberOf p (getD (namesIn rows) j [])
   slot-member w =
       let name = getD (namesIn rows) j [] in let e = g .slot w rows (l .laid) (l .lines) (l .distinct) (l .few) j h in
-      r (found-standing p name (slotAt s j) e) ∙ member-found p name 5 (sym (ap code (whole-kind w))) refl (slotAt s j) e
+      r (found-standing p name (slotAt s j) e) ∙ member-found p name 5 (sym (ap kindCode (whole-kind w))) refl (slotAt s j) e
 
 -- the first row of each file's records is their id
 module _ {p : List ℕ} {ms : Members} (w : Whole p (tree.object ms)) {q : List ℕ} where

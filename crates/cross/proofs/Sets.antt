@@ -12,16 +12,16 @@ use Rattle.fault.specs.declared.Least.the-variants.{None, Is}
 use Rattle.fault.specs.Fault.{least, lesser}
 use Rattle.fault.proofs.Leasts.{lesser-assoc, least-append}
 use Rattle.judge.specs.Faults.{top, faulty}
-use Rattle.clean.specs.declared.Cleanness.{Cleanness}
-use Rattle.clean.specs.declared.Cleanness.the-variants.{Clean, Broken}
-use Rattle.clean.specs.Clean.{place, broken, repeatsIn}
-use Rattle.references.specs.References.{when}
+use Rattle.clean.specs.declared.Outcome.{Outcome}
+use Rattle.clean.specs.declared.Outcome.the-variants.{Unbroken, Broken}
+use Rattle.clean.specs.Clean.{faultParts, broken, repeatsIn}
+use Rattle.references.specs.References.{kindIf}
 use Rattle.cross.specs.declared.stage.Crossed.{Crossed}
 use Rattle.cross.specs.declared.stage.Crossed.the-variants.{Nothing, At}
-use Rattle.cross.specs.Cross.{File, Files, typeFaults, statusFaults, bikeFaults, each, faultsOf, absentees, crossFaults}
+use Rattle.cross.specs.Cross.{File, Files, typeFaults, statusFaults, bikeFaults, eachRecord, faultsOf, absentees, crossFaults}
 use Rattle.cross.specs.Stage.{Feeds, fileCount, bytesOf, picked}
 use Rattle.cross.specs.inner.Judged.{filesBy}
-use Rattle.cross.specs.inner.Stage.{stageC}
+use Rattle.cross.specs.inner.Stage.{firstC}
 use Rattle.cross.specs.inner.Staged.{fileLeast, crossing, crossed}
 use Rattle.cross.proofs.Onward.{onward-same}
 use Rattle.cross.proofs.Files.{InBytes}
@@ -50,14 +50,14 @@ module _ (s t : Files) (e : (file : ℕ) → 1 ≤ file → file ≤ fileCount �
   pub cross-same : (file : ℕ) → 1 ≤ file → file ≤ fileCount → crossFaults s file ≡ crossFaults t file
   unfolding crossFaults
   cross-same file h i j =
-      faulty top 0 (when (absent-same file j) condition) ++
+      faulty top 0 (kindIf (absent-same file j) condition) ++
       repeatsIn file (e file h i j .records) ++
-      each (λ n x. record-same file n x j) 1 (e file h i j .records)
+      eachRecord (λ n x. record-same file n x j) 1 (e file h i j .records)
 
 -- a file's rule as a word's parts
-abbrev pub cleanness : Crossed → Cleanness
-cleanness Nothing = Clean
-cleanness (At file f) = Broken (place file f)
+abbrev pub cleanness : Crossed → Outcome
+cleanness Nothing = Unbroken
+cleanness (At file f) = Broken (faultParts file f)
 
 crossing-broken : (file : ℕ) (x : Least) (rest : Crossed) → cleanness (crossing file x rest) ≡ broken file x (cleanness rest)
 crossing-broken file None rest = refl
@@ -78,8 +78,8 @@ module _ (s rs : Feeds) (all : AllInBytes s rs) where
       rw (fileLeast, ← all file h i .repeated) (least-three _ _ _)
       ∙ ap least (cross-same (filesBy rs) (picked s) (λ k a b. sym (all k a b .is)) file h i)
 
-  pub stage-is : cleanness (crossed rs) ≡ stageC (picked s)
-  unfolding stageC
+  pub stage-is : cleanness (crossed rs) ≡ firstC (picked s)
+  unfolding firstC
   stage-is =
       onward-same cleanness (λ file next. crossing file (fileLeast rs file) next) (λ file next. broken file (least (crossFaults (picked s) file)) next) Nothing
       (λ k h i x. crossing-broken k (fileLeast rs k) x ∙ ap (λ (u : Least). broken k u (cleanness x)) (file-least k h i))

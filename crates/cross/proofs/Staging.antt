@@ -15,11 +15,11 @@ use Rattle.fault.proofs.Leasts.{none-least}
 use Rattle.judge.specs.Faults.{top, faulty}
 use Rattle.ids.specs.inner.Ids.{idField, recordBytes, firstRepeat}
 use Rattle.clean.specs.inner.Blamed.{blamed}
-use Rattle.references.specs.References.{when}
+use Rattle.references.specs.References.{kindIf}
 use Rattle.cross.specs.declared.records.Findings.{Findings}
 use Rattle.cross.specs.declared.stage.Crossed.{Crossed}
 use Rattle.cross.specs.declared.stage.Crossed.the-variants.{Nothing, At}
-use Rattle.cross.specs.Cross.{Files, each, faultsOf, absentees}
+use Rattle.cross.specs.Cross.{Files, eachRecord, faultsOf, absentees}
 use Rattle.cross.specs.Stage.{Feeds, fileCount, bytesOf}
 use Rattle.cross.specs.inner.Judged.{filesBy}
 use Rattle.cross.specs.inner.Stage.{onward}
@@ -45,7 +45,7 @@ repeat-is file h p = rw (repeatOf, le-ltb 5 file h)
 
 -- a file by what is found of its records
 pub file-is : (rs : Feeds) (file : ℕ) {found : Findings} → Found rs file found
-    → {a b : Least} → a ≡ least (faulty top 0 (when (absentees (filesBy rs) file) condition)) → b ≡ blamed (idField file) (found .repeat)
+    → {a b : Least} → a ≡ least (faulty top 0 (kindIf (absentees (filesBy rs) file) condition)) → b ≡ blamed (idField file) (found .repeat)
     → lesser a (lesser b (found .least)) ≡ fileLeast rs file
 unfolding fileLeast idsLeast
 file-is rs file f e h = lesser-both e (lesser-both (h ∙ ap (blamed (idField file)) (f .repeats)) (f .breaks))
@@ -59,12 +59,12 @@ found-in {rs} {file} {found = found} e f = subst (λ (q : List ℕ). Finds rs fi
 
 -- records of other files than 1, 3, 4 and 6 break nothing
 module _ (s : Files) (file : ℕ) (a : file ≡ 1 → ⊥) (b : file ≡ 3 → ⊥) (c : file ≡ 4 → ⊥) (d : file ≡ 6 → ⊥) where
-  each-nothing : (n : ℕ) (l : List Picked) → each (faultsOf s file) n l ≡ []
-  unfolding each
+  each-nothing : (n : ℕ) (l : List Picked) → eachRecord (faultsOf s file) n l ≡ []
+  unfolding eachRecord
   each-nothing n [] = refl
-  each-nothing n (x ∷ l) = rw (each, breaks-nothing s file n a b c d x) (each-nothing (n + 1) l)
+  each-nothing n (x ∷ l) = rw (eachRecord, breaks-nothing s file n a b c d x) (each-nothing (n + 1) l)
 
-  pub records-none : (l : List Picked) → None ≡ least (each (faultsOf s file) 1 l)
+  pub records-none : (l : List Picked) → None ≡ least (eachRecord (faultsOf s file) 1 l)
   records-none l = sym (none-least _ (each-nothing 1 l))
 
 -- The first of the files.

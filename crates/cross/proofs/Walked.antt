@@ -9,7 +9,7 @@ use Rattle.walk.specs.declared.Item.{Item}
 use Rattle.walk.specs.declared.ItemStep.{ItemStep}
 use Rattle.walk.specs.declared.ItemStep.the-variants as step
 use Rattle.walk.specs.Walk.{itemAt, itemsFrom, itemsOf}
-use Rattle.walk.specs.Part.{Whole, treeOf}
+use Rattle.walk.specs.Part.{Whole, partTree}
 use Rattle.walk.specs.inner.Along.{AlongItems, ItemPassed}
 use Rattle.walk.proofs.Folds.{itemSteps, one-more}
 use Rattle.walk.proofs.Parts.{itemOf, item-whole}
@@ -26,11 +26,11 @@ use Rattle.document.specs.Document.{spelling}
 use Rattle.document.proofs.Records.{pickedItems}
 use Rattle.fields.specs.Values.{integerIn}
 use Rattle.fields.proofs.Arrays.{passed-read}
-use Rattle.cross.specs.Cross.{sumOf, each}
+use Rattle.cross.specs.Cross.{sumOf, eachRecord}
 
 -- what is picked of an item
 abbrev pub pickedItem : Shape → List ℕ → Item → Picked
-pickedItem σ p m = pick σ (treeOf (itemOf p m))
+pickedItem σ p m = pick σ (partTree (itemOf p m))
 
 -- of the items from `at` on `comes` makes r
 pub record Left {A : Type 0} (σ : Shape) (p : List ℕ) (comes : List Picked → A) (at : ℕ) (r : A) : Type 0 where
@@ -62,7 +62,7 @@ module _ {A : Type 0} (σ : Shape) (p : List ℕ) (comes : List Picked → A) wh
       pub left-among : List·Memᴰ m (itemsOf p)
       left-among = w .among m (subst (List·Memᴰ m) (sym (after .2)) (List·Memᴰ·head refl))
 
-      pub left-whole : Whole (itemOf p m) (treeOf (itemOf p m))
+      pub left-whole : Whole (itemOf p m) (partTree (itemOf p m))
       left-whole = item-whole p at m left-found
 
       pub left-more : (next : List Picked → A) → ((l : List Picked) → next l ≡ comes (pickedItem σ p m ∷ l)) → Left σ p next (m .next) r
@@ -79,26 +79,26 @@ module _ {A : Type 0} (σ : Shape) (p : List ℕ) (comes : List Picked → A) wh
 -- n items are passed, and `acc` is the least of what they break
 module _ (faults : ℕ → Picked → List Fault) where
   abbrev going : ℕ → Least → List Picked → Least
-  going n acc l = lesser acc (least (each faults (n + 1) l))
+  going n acc l = lesser acc (least (eachRecord faults (n + 1) l))
 
   going-none : (n : ℕ) (acc : Least) → going n acc [] ≡ acc
-  unfolding each least
+  unfolding eachRecord least
   going-none n acc = lesser-none acc
 
   going-more : (n : ℕ) (acc : Least) (x : Picked) (l : List Picked)
-      → lesser (lesser acc (least (faults (n + 1) x))) (least (each faults (n + 1 + 1) l)) ≡ going n acc (x ∷ l)
-  unfolding each
-  going-more n acc x l = passed acc (least (faults (n + 1) x)) (least (each faults (n + 1 + 1) l)) (least-append (faults (n + 1) x) (each faults (n + 1 + 1) l)) refl
+      → lesser (lesser acc (least (faults (n + 1) x))) (least (eachRecord faults (n + 1 + 1) l)) ≡ going n acc (x ∷ l)
+  unfolding eachRecord
+  going-more n acc x l = passed acc (least (faults (n + 1) x)) (least (eachRecord faults (n + 1 + 1) l)) (least-append (faults (n + 1) x) (eachRecord faults (n + 1 + 1) l)) refl
 
   module _ (σ : Shape) (p : List ℕ) where
     abbrev pub Goes : (n at : ℕ) → Least → Type 0
-    Goes n at acc = Left σ p (going n acc) at (least (each faults 1 (pickedItems σ p)))
+    Goes n at acc = Left σ p (going n acc) at (least (eachRecord faults 1 (pickedItems σ p)))
 
     pub goes-start : (0 < length p → AlongItems p 1) → Goes 0 1 None
-    goes-start a = subst (Left σ p (going 0 None) 1) (none-lesser (least (each faults 1 (pickedItems σ p)))) (left-start σ p (going 0 None) a)
+    goes-start a = subst (Left σ p (going 0 None) 1) (none-lesser (least (eachRecord faults 1 (pickedItems σ p)))) (left-start σ p (going 0 None) a)
 
     module _ (n at : ℕ) (acc : Least) (w : Goes n at acc) {s : ItemStep} (passes-over : ItemPassed p at s) where
-      pub goes-end : s ≡ step.End → acc ≡ least (each faults 1 (pickedItems σ p))
+      pub goes-end : s ≡ step.End → acc ≡ least (eachRecord faults 1 (pickedItems σ p))
       goes-end e = sym (going-none n acc) ∙ left-end σ p (going n acc) w passes-over e
 
       pub goes-more : (m : Item) → s ≡ step.Found m → {this : Least} → this ≡ least (faults (n + 1) (pickedItem σ p m))

@@ -13,7 +13,7 @@ use Rattle.judge.specs.Faults.{top, faulty}
 use Rattle.document.specs.Document.{none, some, fieldItems, field, text, textIn, spelling, given}
 use Rattle.fields.specs.Values.{integerIn}
 use Rattle.clean.specs.Clean.{repeatsIn}
-use Rattle.references.specs.References.{when, roomy, driven, named, refers, demanded}
+use Rattle.references.specs.References.{kindIf, hasCapacity, motorized, named, refers, demanded}
 
 -- what a set has of a file: whether it is there, and its records
 pub record File : Type 0 where
@@ -25,8 +25,8 @@ abbrev pub Files : Type 0
 Files = ℕ → File
 
 -- the place of a record, and of an item or a rule in it
-abbrev pub at : ℕ → ℕ → Place
-at n sub = record { «record» = n; sub = sub }
+abbrev pub recordPlace : ℕ → ℕ → Place
+recordPlace n sub = record { «record» = n; sub = sub }
 
 -- the counts of the types that are available, summed
 unfoldable pub sumOf : List Picked → ℕ
@@ -37,12 +37,12 @@ sumOf (x ∷ l) = integerIn (spelling 39 x) + sumOf l
 unfoldable pub availableFaults : List Picked → ℕ → ℕ → List Picked → List Fault
 availableFaults types n sub [] = []
 availableFaults types n sub (x ∷ l) =
-    faulty (at n sub) 38 (refers (text 38 x) 10 types) ++ availableFaults types n (sub + 1) l
+    faulty (recordPlace n sub) 38 (refers (text 38 x) 10 types) ++ availableFaults types n (sub + 1) l
 
 -- the types that a rule names, and rule by rule
 unfoldable pub idFaults : List Picked → ℕ → ℕ → List Picked → List Fault
 idFaults types n sub [] = []
-idFaults types n sub (x ∷ l) = faulty (at n sub) 78 (refers (textIn x) 10 types) ++ idFaults types n sub l
+idFaults types n sub (x ∷ l) = faulty (recordPlace n sub) 78 (refers (textIn x) 10 types) ++ idFaults types n sub l
 
 unfoldable pub ruleFaults : List Picked → ℕ → ℕ → List Picked → List Fault
 ruleFaults types n sub [] = []
@@ -51,34 +51,34 @@ ruleFaults types n sub (x ∷ l) = idFaults types n sub (fieldItems 78 x) ++ rul
 -- the n-th record of a file
 unfoldable pub typeFaults : Files → ℕ → Picked → List Fault
 typeFaults s n x =
-    faulty (at n 0) 13 (demanded (driven x) (given (field 13 x))) ++
-    faulty (at n 0) 14 (demanded (s 5 .here) (given (field 14 x)) ++ refers (text 14 x) 50 (s 5 .records))
+    faulty (recordPlace n 0) 13 (demanded (motorized x) (given (field 13 x))) ++
+    faulty (recordPlace n 0) 14 (demanded (s 5 .here) (given (field 14 x)) ++ refers (text 14 x) 50 (s 5 .records))
 
 unfoldable pub statusFaults : Files → ℕ → Picked → List Fault
 statusFaults s n x =
-    faulty (at n 0) 30 (refers (text 30 x) 20 (s 2 .records)) ++
-    faulty (at n 0) 32 (demanded (named roomy 20 (s 2 .records) (text 30 x)) (given (field 32 x))) ++
-    faulty (at n 0) 37
+    faulty (recordPlace n 0) 30 (refers (text 30 x) 20 (s 2 .records)) ++
+    faulty (recordPlace n 0) 32 (demanded (named hasCapacity 20 (s 2 .records) (text 30 x)) (given (field 32 x))) ++
+    faulty (recordPlace n 0) 37
     (demanded (s 1 .here) (given (field 37 x)) ++
-    when (given (field 37 x) and not (eqb (sumOf (fieldItems 37 x)) (integerIn (spelling 31 x)))) sumDiffers) ++
+    kindIf (given (field 37 x) and not (eqb (sumOf (fieldItems 37 x)) (integerIn (spelling 31 x)))) sumDiffers) ++
     availableFaults (s 1 .records) n 1 (fieldItems 37 x)
 
 unfoldable pub bikeFaults : Files → ℕ → Picked → List Fault
 bikeFaults s n x =
-    faulty (at n 0) 41 (demanded (not (given (field 47 x))) (given (field 41 x))) ++
-    faulty (at n 0) 42 (demanded (not (given (field 47 x))) (given (field 42 x))) ++
-    faulty (at n 0) 45 (demanded (s 1 .here) (given (field 45 x)) ++ refers (text 45 x) 10 (s 1 .records)) ++
-    faulty (at n 0) 46 (demanded (named driven 10 (s 1 .records) (text 45 x)) (given (field 46 x))) ++
-    faulty (at n 0) 47 (refers (text 47 x) 20 (s 2 .records)) ++
-    faulty (at n 0) 48 (refers (text 48 x) 50 (s 5 .records))
+    faulty (recordPlace n 0) 41 (demanded (not (given (field 47 x))) (given (field 41 x))) ++
+    faulty (recordPlace n 0) 42 (demanded (not (given (field 47 x))) (given (field 42 x))) ++
+    faulty (recordPlace n 0) 45 (demanded (s 1 .here) (given (field 45 x)) ++ refers (text 45 x) 10 (s 1 .records)) ++
+    faulty (recordPlace n 0) 46 (demanded (named motorized 10 (s 1 .records) (text 45 x)) (given (field 46 x))) ++
+    faulty (recordPlace n 0) 47 (refers (text 47 x) 20 (s 2 .records)) ++
+    faulty (recordPlace n 0) 48 (refers (text 48 x) 50 (s 5 .records))
 
 unfoldable pub zoneFaults : List Picked → ℕ → Picked → List Fault
 zoneFaults types n x = elim (field 74 x) [ none ↦ [] | some p ↦ ruleFaults types n 1 (fieldItems 77 p) ]
 
 -- record after record, the first with the number n
-unfoldable pub each : (ℕ → Picked → List Fault) → ℕ → List Picked → List Fault
-each faults n [] = []
-each faults n (x ∷ l) = faults n x ++ each faults (n + 1) l
+unfoldable pub eachRecord : (ℕ → Picked → List Fault) → ℕ → List Picked → List Fault
+eachRecord faults n [] = []
+eachRecord faults n (x ∷ l) = faults n x ++ eachRecord faults (n + 1) l
 
 -- conditions, references and sums of the n-th record of a file
 unfoldable pub faultsOf : Files → (file n : ℕ) → Picked → List Fault
@@ -98,6 +98,6 @@ absentees s file =
 -- all of one file
 unfoldable pub crossFaults : Files → ℕ → List Fault
 crossFaults s file =
-    faulty top 0 (when (absentees s file) condition) ++
+    faulty top 0 (kindIf (absentees s file) condition) ++
     repeatsIn file (s file .records) ++
-    each (faultsOf s file) 1 (s file .records)
+    eachRecord (faultsOf s file) 1 (s file .records)

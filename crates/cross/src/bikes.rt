@@ -80,9 +80,6 @@ pub fn judge_bike<'a, 'n, 's>(
         refers(station, 2, file_in(records, 2), notes_in(notes, 1)),
     );
     let plan = value_in(p, state, from, upto, 8);
-    let d = place.broken(
-        48,
-        refers(plan, 5, file_in(records, 5), notes_in(notes, 2)),
-    );
+    let d = place.broken(48, refers(plan, 5, file_in(records, 5), notes_in(notes, 2)));
     lesser(lesser(a, b), lesser(c, d))
 }

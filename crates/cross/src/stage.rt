@@ -1,13 +1,13 @@
 // Stage C of a set: file by file whether it is called for, which id repeats, and what its records demand.
+use crate::records::Findings;
+use crate::records::judge_records;
 use crate::set::FILES;
 use crate::set::NAMED;
 use crate::set::file_in;
 use crate::set::is_here;
 use crate::set::notes_in;
-use crate::records::Findings;
-use crate::records::judge_records;
 use crate::zones::judge_zones;
-use clean::Cleanness;
+use clean::Outcome;
 use clean::parts_of;
 use document::records_from;
 use fault::Fault;
@@ -33,12 +33,12 @@ ghost use Rattle.document.specs.inner.Spans.{RecordsFrom};
 ghost use Rattle.ids.specs.inner.Ids.{idField, Singles};
 ghost use Rattle.ids.specs.inner.Notes.{Noted, Blank};
 ghost use Rattle.clean.specs.inner.Blamed.{blamed};
-ghost use Rattle.references.specs.References.{when};
+ghost use Rattle.references.specs.References.{kindIf};
 ghost use Rattle.references.specs.inner.Known.{Searchable};
 ghost use Rattle.cross.specs.Cross.{absentees};
 ghost use Rattle.cross.specs.Stage.{fileCount, bytesOf, picked};
 ghost use Rattle.cross.specs.inner.Judged.{filesBy, Known, Referring};
-ghost use Rattle.cross.specs.inner.Stage.{AllThrough, stageC};
+ghost use Rattle.cross.specs.inner.Stage.{AllThrough, firstC};
 ghost use Rattle.cross.specs.inner.Staged.{Recorded, AllRecorded, Others, Found, Ready, repeatOf, fileLeast, crossed};
 
 // The first broken rule of stage C, with its file; or none.
@@ -78,7 +78,7 @@ fn is_called_for<'a>(file: u8, records: [&'a [u8]; FILES]) -> bool
 
 // The rule that a file breaks which is called for and not there; it stands in the header.
 fn judge_presence<'a>(file: u8, records: [&'a [u8]; FILES]) -> Least
-    ensures { λ r. ⌜ r ≡ least (faulty top 0 (when (absentees (filesBy (map now (records .entry))) file) condition)) ⌝ }
+    ensures { λ r. ⌜ r ≡ least (faulty top 0 (kindIf (absentees (filesBy (map now (records .entry))) file) condition)) ⌝ }
 {
     let header = Place { record: 0, sub: 0 };
     if is_called_for(file, records) {
@@ -242,9 +242,9 @@ fn records_in<'a>(files: [&'a [u8]; FILES], file: u8) -> &'a [u8]
 
 // Stage C of a set of files that are through stages A and B.
 // Shut out: a file passed over because a later one breaks a rule too; a rule of one file named in another.
-pub fn judge_set<'a>(files: [&'a [u8]; FILES]) -> Cleanness
+pub fn judge_set<'a>(files: [&'a [u8]; FILES]) -> Outcome
     requires { ⌜ AllThrough (map now files) ⌝ }
-    ensures { λ r. ⌜ r ≡ stageC (picked (map now (files .entry))) ⌝ }
+    ensures { λ r. ⌜ r ≡ firstC (picked (map now (files .entry))) ⌝ }
 {
     let records = [
         records_in(files, 1),
@@ -255,7 +255,7 @@ pub fn judge_set<'a>(files: [&'a [u8]; FILES]) -> Cleanness
         records_in(files, 6),
     ];
     match judge_parts(records) {
-        Crossed::Nothing => Cleanness::Clean,
-        Crossed::At(file, f) => Cleanness::Broken(parts_of(file, f)),
+        Crossed::Nothing => Outcome::Unbroken,
+        Crossed::At(file, f) => Outcome::Broken(parts_of(file, f)),
     }
 }

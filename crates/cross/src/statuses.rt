@@ -36,7 +36,7 @@ ghost use Rattle.slots.specs.inner.Slots.{slotsOf, Gathered};
 ghost use Rattle.document.proofs.Records.{pickedItems};
 ghost use Rattle.fields.specs.Values.{integerIn};
 ghost use Rattle.fields.specs.inner.Values.{thereBy, arrayBy, spelledBy};
-ghost use Rattle.references.specs.References.{when};
+ghost use Rattle.references.specs.References.{kindIf};
 ghost use Rattle.cross.specs.Cross.{statusFaults};
 ghost use Rattle.references.specs.inner.Known.{Searchable};
 ghost use Rattle.cross.specs.inner.Judged.{Object, fileBy, filesBy, Known, stationBy, countsBy, Judges};
@@ -81,7 +81,7 @@ fn judge_available(p: &[u8], n: u32, types: &[u8], type_notes: &[u32; Notes::SIZ
 
 // What field 37 breaks whose counts do not sum to field 31: the kind, or 0.
 fn sum_kind(available: &[u8], sum: u64, bikes: &[u8]) -> u8
-    ensures { λ r. ⌜ listed r ≡ when (thereBy (now (available .entry)) and not (eqb sum (integerIn (spelledBy (now (bikes .entry)))))) sumDiffers ⌝ }
+    ensures { λ r. ⌜ listed r ≡ kindIf (thereBy (now (available .entry)) and not (eqb sum (integerIn (spelledBy (now (bikes .entry)))))) sumDiffers ⌝ }
 {
     if available.len() == 0 {
         return 0;

@@ -10,7 +10,7 @@ use ids::Notes;
 use judge::Place;
 use references::rules::demanded;
 use references::rules::refers;
-use references::search::is_driven;
+use references::search::is_motorized;
 use slots::Slots;
 ghost use mathlib.Core.List.{map};
 ghost use Rattle.slots.specs.inner.Slots.{slotsOf, Gathered};
@@ -32,9 +32,9 @@ pub fn judge_type<'a, 'n, 's>(
 {
     let place = Place { record: n, sub: 0 };
     let plans = file_in(records, 5);
-    let driven = is_driven(value_in(p, state, from, upto, 2));
+    let motorized = is_motorized(value_in(p, state, from, upto, 2));
     let reference = value_in(p, state, from, upto, 4);
-    let a = place.broken(13, demanded(driven, value_in(p, state, from, upto, 3)));
+    let a = place.broken(13, demanded(motorized, value_in(p, state, from, upto, 3)));
     let b = place.broken(14, demanded(0 < plans.len(), reference));
     let c = place.broken(14, refers(reference, 5, plans, notes_in(notes, 2)));
     lesser(a, lesser(b, c))

@@ -12,14 +12,14 @@ ghost use mathlib.Core.Path.{_≡_};
 ghost use Prim.Native.Nat.{_≤_, _<_};
 ghost use lib.ListN.{length};
 ghost use Rattle.limits.specs.Ceilings.{fileBytes};
-ghost use Rattle.walk.specs.Part.{Whole, treeOf};
+ghost use Rattle.walk.specs.Part.{Whole, partTree};
 ghost use Rattle.walk.specs.inner.Along.{AlongItems};
 ghost use Rattle.schema.specs.Shape.{Sort, scalar};
 ghost use Rattle.schema.specs.Table23.{rule as ruleShape};
 ghost use Rattle.schema.specs.Records.{recordShape};
 ghost use Rattle.fault.specs.Fault.{least};
 ghost use Rattle.document.proofs.Records.{pickedItems};
-ghost use Rattle.cross.specs.Cross.{each, idFaults, ruleFaults, zoneFaults};
+ghost use Rattle.cross.specs.Cross.{eachRecord, idFaults, ruleFaults, zoneFaults};
 ghost use Rattle.references.specs.inner.Known.{Searchable};
 ghost use Rattle.cross.specs.inner.Judged.{Judges};
 ghost use Rattle.cross.specs.inner.Staged.{Recorded};
@@ -72,7 +72,7 @@ fn judge_rules(p: &[u8], n: u32, types: &[u8], type_notes: &[u32; Notes::SIZE]) 
 
 // The n-th record `p`.
 fn judge_zone(p: &[u8], n: u32, types: &[u8], type_notes: &[u32; Notes::SIZE]) -> Least
-    requires { ⌜ Searchable 1 (now types) (now «type_notes») × (length (now p) ≤ fileBytes) × Whole (now p) (treeOf (now p)) ⌝ }
+    requires { ⌜ Searchable 1 (now types) (now «type_notes») × (length (now p) ≤ fileBytes) × Whole (now p) (partTree (now p)) ⌝ }
     ensures { λ r. ⌜ Judges 6 (zoneFaults (pickedItems (recordShape 1) (now (types .entry))) n) (now (p .entry)) r ⌝ }
 {
     let properties = member(p, b"properties");
@@ -87,7 +87,7 @@ fn judge_zone(p: &[u8], n: u32, types: &[u8], type_notes: &[u32; Notes::SIZE]) -
 // Shut out: the first broken rule in the order of the bytes; one that stops at a zone which breaks nothing.
 pub fn judge_zones(p: &[u8], types: &[u8], type_notes: &[u32; Notes::SIZE]) -> Least
     requires { ⌜ Searchable 1 (now types) (now «type_notes») × Recorded (now p) ⌝ }
-    ensures { λ r. ⌜ r ≡ least (each (zoneFaults (pickedItems (recordShape 1) (now (types .entry)))) 1 (pickedItems (recordShape 6) (now (p .entry)))) ⌝ }
+    ensures { λ r. ⌜ r ≡ least (eachRecord (zoneFaults (pickedItems (recordShape 1) (now (types .entry)))) 1 (pickedItems (recordShape 6) (now (p .entry)))) ⌝ }
 {
     let mut least = Least::None;
     let mut n: u32 = 0;

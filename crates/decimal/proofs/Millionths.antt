@@ -11,7 +11,7 @@ use Rattle.signed.specs.Signed.{signed}
 use Rattle.signed.proofs.Gap.{gap-pos, gap-neg, gap-back, gap-same, gap-mul, gap-minus, gap-size, gap-le, signed-size, signed-negated, signed-le, signed-across}
 use Rattle.signed.proofs.Sums.{parts, up-size, down-size}
 use Rattle.decimal.specs.declared.Decimal.{Decimal}
-use Rattle.decimal.specs.Exact.{unit, size, exact, within, millionth, nearest, millionths}
+use Rattle.decimal.specs.Exact.{unit, size, exact, inRange, millionth, nearest, millionths}
 use Rattle.decimal.specs.Rounding.{opposite, Rounding}
 use Rattle.decimal.proofs.Tests.{within-is}
 
@@ -23,7 +23,7 @@ millionths-split d =
     rw q
 
 -- a number within k of 0 is within k when it is rounded: k is a whole number of millionths
-pub millionths-within : (k : ℕ) (d : Decimal) → within k d ≡ true → natAbs (millionths d) ≤ k * 1_000_000
+pub millionths-within : (k : ℕ) (d : Decimal) → inRange k d ≡ true → natAbs (millionths d) ≤ k * 1_000_000
 unfolding millionths
 millionths-within k d e =
     let h : size d ≤ k * unit = leb-true (size d) (k * unit) (within-is k d ∙ e) in

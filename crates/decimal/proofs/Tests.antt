@@ -15,7 +15,7 @@ use Rattle.signed.proofs.Gap.{gap-neg, gap-natural, signed-le, signed-across}
 use Rattle.decimal.specs.declared.Decimal.{Decimal}
 use Rattle.decimal.specs.declared.Amount.{Amount}
 use Rattle.decimal.specs.declared.Money.the-variants.{Is, Outside}
-use Rattle.decimal.specs.Exact.{unit, size, exact, natural, portion, within, amountOf, moneyOf}
+use Rattle.decimal.specs.Exact.{unit, size, exact, natural, portion, inRange, amountOf, moneyOf}
 use Rattle.decimal.specs.inner.Formed.{Formed}
 
 and-true : (t : Bool) → (t and true) ≡ t
@@ -34,19 +34,19 @@ within-signed : (s : Bool) (n m : ℕ) → leb n m ≡ (leZ (negℤ (pos m)) (si
 within-signed true n m = rw (signed-le true m n, signed-across n m) (sym (and-true (leb n m)))
 within-signed false n m = rw (signed-across m n)
 
-pub within-is : (k : ℕ) (d : Decimal) → leb (size d) (k * unit) ≡ within k d
-unfolding within exact
+pub within-is : (k : ℕ) (d : Decimal) → leb (size d) (k * unit) ≡ inRange k d
+unfolding inRange exact
 within-is k d = within-signed (d .negative) (size d) (k * unit)
 
 -- by the whole part, and where that is k itself by the rest
 module _ (k : ℕ) (d : Decimal) (f : Formed d) where
-  pub within-less : d .whole < k → true ≡ within k d
+  pub within-less : d .whole < k → true ≡ inRange k d
   within-less h = let j : size d ≤ k * unit = omega (arith, f .part) in sym (le-leb (size d) (k * unit) j) ∙ within-is k d
 
-  pub within-more : k < d .whole → false ≡ within k d
+  pub within-more : k < d .whole → false ≡ inRange k d
   within-more h = let j : k * unit < size d = omega arith in sym (lt-leb (size d) (k * unit) j) ∙ within-is k d
 
-  pub within-even : k ≤ d .whole → d .whole ≤ k → ltb (d .part) 1 ≡ within k d
+  pub within-even : k ≤ d .whole → d .whole ≤ k → ltb (d .part) 1 ≡ inRange k d
   within-even a b = go (ℕ-discrete (d .part) 0) ∙ within-is k d
     where
       go : Dec (d .part ≡ 0) → ltb (d .part) 1 ≡ leb (size d) (k * unit)
@@ -65,7 +65,7 @@ module _ (d : Decimal) (f : Formed d) where
   unfolding portion exact
   portion-below e = below-signed (d .negative) (size d) (f .sign) e
 
-  pub portion-within : d .negative ≡ false → within 1 d ≡ portion d
+  pub portion-within : d .negative ≡ false → inRange 1 d ≡ portion d
   unfolding portion exact
   portion-within e = sym (within-is 1 d) ∙ within-portion (d .negative) (size d) e
 
@@ -73,11 +73,11 @@ module _ (d : Decimal) (f : Formed d) where
   rest-is : size d % 100_000_000_000_000 ≡ d .part % 100_000_000_000_000
   rest-is = omega arith
 
-  pub money-much : within 1_000_000 d ≡ false → Outside ≡ moneyOf d
+  pub money-much : inRange 1_000_000 d ≡ false → Outside ≡ moneyOf d
   unfolding moneyOf
   money-much e = rw e
 
-  module _ (e : within 1_000_000 d ≡ true) where
+  module _ (e : inRange 1_000_000 d ≡ true) where
     pub money-fine : (d .part % 100_000_000_000_000 ≡ 0 → ⊥) → Outside ≡ moneyOf d
     unfolding moneyOf
     money-fine n = rw (e, rest-is, ne-eqb (d .part % 100_000_000_000_000) 0 n)
@@ -94,7 +94,7 @@ amount-parts d =
 
 pub money-amount : (d : Decimal) (a : Amount) → moneyOf d ≡ Is a → amountOf d ≡ a
 unfolding moneyOf
-money-amount d a e = go (within 1_000_000 d and eqb (size d % 100_000_000_000_000) 0) e
+money-amount d a e = go (inRange 1_000_000 d and eqb (size d % 100_000_000_000_000) 0) e
   where
     go : (t : Bool) → (t ⇒ Is (amountOf d) else Outside) ≡ Is a → amountOf d ≡ a
     go true e = cc

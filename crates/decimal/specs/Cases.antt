@@ -2,7 +2,7 @@
 use mathlib.Core.Bool.{Bool, true, false}
 use mathlib.Core.List.{List, [], _∷_}
 use mathlib.Core.Option.{Option, none, some}
-use mathlib.Core.Path.{_≡_, refl}
+use mathlib.Core.Path.{refl}
 use Prim.Native.Nat.{ℕ}
 use Prim.Native.String.{String}
 use lib.IntN.{ℤ, pos, negℤ}
@@ -19,11 +19,11 @@ use Rattle.decimal.specs.declared.Price.{Price}
 use Rattle.decimal.specs.declared.Number.the-variants as number
 use Rattle.decimal.specs.declared.Price.the-variants as price
 use Rattle.decimal.specs.Decimals.{valueOf, decimalOf, formed, behindPoint, behindWhole, numberOf, hasPoint, unsigned, priceOf}
-use Rattle.decimal.specs.Exact.{exact, natural, portion, within, millionths, moneyOf}
+use Rattle.decimal.specs.Exact.{exact, natural, portion, inRange, millionths, moneyOf}
 
 -- opens every definition of this layer
 unfoldable pub deciding : Unit {0}
-unfolding lexing number numberFrom valueOf decimalOf formed behindPoint behindWhole numberOf hasPoint unsigned priceOf exact natural portion within millionths moneyOf
+unfolding lexing number numberFrom valueOf decimalOf formed behindPoint behindWhole numberOf hasPoint unsigned priceOf exact natural portion inRange millionths moneyOf
 deciding = tt
 
 abbrev decimal : Bool → ℕ → ℕ → Decimal
@@ -92,7 +92,7 @@ latitudes =
     ("far past it", "91", outside) ∷
     []
 
-latitudes-answered : Answers (spelled (within 90)) latitudes
+latitudes-answered : Answers (spelled (inRange 90)) latitudes
 unfolding deciding
 latitudes-answered = refl
 
@@ -104,7 +104,7 @@ longitudes =
     ("past the greatest by the last digit", "180.000000000000000001", outside) ∷
     []
 
-longitudes-answered : Answers (spelled (within 180)) longitudes
+longitudes-answered : Answers (spelled (inRange 180)) longitudes
 unfolding deciding
 longitudes-answered = refl
 

@@ -31,8 +31,8 @@ natural d = leZ (pos 0) (exact d)
 unfoldable pub portion : Decimal → Bool
 portion d = leZ (pos 0) (exact d) and leZ (exact d) (pos unit)
 
-unfoldable pub within : ℕ → Decimal → Bool
-within k d = leZ (negℤ (pos (k * unit))) (exact d) and leZ (exact d) (pos (k * unit))
+unfoldable pub inRange : ℕ → Decimal → Bool
+inRange k d = leZ (negℤ (pos (k * unit))) (exact d) and leZ (exact d) (pos (k * unit))
 
 -- a millionth, in parts
 abbrev pub millionth : ℕ
@@ -51,7 +51,7 @@ abbrev pub amountOf : Decimal → Amount
 amountOf d = record { negative = d .negative; size = size d / 100_000_000_000_000 }
 
 unfoldable pub moneyOf : Decimal → Money
-moneyOf d = within 1_000_000 d and eqb (size d % 100_000_000_000_000) 0 ⇒ Is (amountOf d) else Outside
+moneyOf d = inRange 1_000_000 d and eqb (size d % 100_000_000_000_000) 0 ⇒ Is (amountOf d) else Outside
 
 -- an amount in ten-thousandths
 unfoldable pub tenThousandths : Amount → ℤ

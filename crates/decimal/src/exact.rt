@@ -7,7 +7,7 @@ ghost use mathlib.Core.Path.{_≡_};
 ghost use Prim.Native.Nat.{_*_, _≤_};
 ghost use Rattle.signed.specs.Signed.{signed};
 ghost use Rattle.signed.specs.inner.Difference.{difference};
-ghost use Rattle.decimal.specs.Exact.{natural as naturalOf, portion as portionOf, within as withinOf, amountOf, moneyOf, millionths};
+ghost use Rattle.decimal.specs.Exact.{natural as naturalOf, portion as portionOf, inRange, amountOf, moneyOf, millionths};
 ghost use Rattle.decimal.specs.inner.Formed.{Formed};
 
 impl Decimal {
@@ -32,7 +32,7 @@ impl Decimal {
     // Shut out: a test on the rounded value, which lets 90.00000001 pass for 90.
     pub fn within(self, k: u64) -> bool
         requires { ⌜ Formed self ⌝ }
-        ensures { λ r. ⌜ r ≡ withinOf k self ⌝ }
+        ensures { λ r. ⌜ r ≡ inRange k self ⌝ }
     {
         if self.whole < k {
             return true;
@@ -90,7 +90,7 @@ impl Decimal {
 
     // A coordinate in millionths, k degrees up: so it is never below 0.
     pub fn coordinate(self, k: u64) -> u64
-        requires { ⌜ Formed self × (withinOf k self ≡ true) × (k ≤ 180) ⌝ }
+        requires { ⌜ Formed self × (inRange k self ≡ true) × (k ≤ 180) ⌝ }
         ensures { λ r. ⌜ difference r (k * 1_000_000) ≡ millionths self ⌝ }
     {
         let up = k * 1_000_000;

@@ -16,7 +16,7 @@ use Rattle.json.specs.Tree.{Json}
 use Rattle.json.specs.Text.{value, valueBy}
 use Rattle.walk.specs.declared.Item.{Item}
 use Rattle.walk.specs.declared.ItemStep.the-variants as items
-use Rattle.walk.specs.Walk.{place, itemAt, itemsFrom, itemsOf}
+use Rattle.walk.specs.Walk.{offsetOf, itemAt, itemsFrom, itemsOf}
 use Rattle.walk.specs.inner.Along.{AlongItems, ItemPassed}
 use Rattle.walk.proofs.Rests.{rest-drop, rest-blanks, rest-there}
 use Rattle.walk.proofs.Folds.{itemSteps, one-more}
@@ -27,46 +27,46 @@ use Rattle.schema.specs.Records.{Way, wayIn, wayTo}
 use Rattle.schema.proofs.Computed.{no-file}
 use Rattle.document.specs.declared.Span.{Span}
 use Rattle.document.specs.declared.Span.the-variants.{None, Is}
-use Rattle.document.specs.Spans.{memberAt, membersAlong, topSpan, recordsSpan, nth}
+use Rattle.document.specs.Spans.{memberSpan, membersAlong, topSpan, recordsSpan, nth}
 use Rattle.document.specs.inner.Spans.{Readable}
 
 -- the top value, where it was read
 module _ (s : List ℕ) where
-  pub top-found : (upto : ℕ) → scan.End upto ≡ placed s (value paired depth (drop (place s (blanks s)) s)) → topSpan s ≡ Is (place s (blanks s)) upto
+  pub top-found : (upto : ℕ) → scan.End upto ≡ placed s (value paired depth (drop (offsetOf s (blanks s)) s)) → topSpan s ≡ Is (offsetOf s (blanks s)) upto
   unfolding topSpan placed
   top-found upto h = go (value paired depth (blanks s)) refl
     where
-      begins : value paired depth (drop (place s (blanks s)) s) ≡ value paired depth (blanks s)
+      begins : value paired depth (drop (offsetOf s (blanks s)) s) ≡ value paired depth (blanks s)
       begins = ap (value paired depth) (rest-there (rest-blanks s (rest-drop 0)))
 
-      go : (o : Read Json) → value paired depth (blanks s) ≡ o → topSpan s ≡ Is (place s (blanks s)) upto
-      go (done x r) i = let w : scan.End upto ≡ scan.End (place s r) = rw (begins, i) at h in rw (topSpan, i) (cc)
-      go (bad k r) i = let w : scan.End upto ≡ scan.Fault k (place s r) = rw (begins, i) at h in let z : _≡_ {A = ℕ} 0 1 = cc in absurd (omega arith)
+      go : (o : Read Json) → value paired depth (blanks s) ≡ o → topSpan s ≡ Is (offsetOf s (blanks s)) upto
+      go (done x r) i = let w : scan.End upto ≡ scan.End (offsetOf s r) = rw (begins, i) at h in rw (topSpan, i) (cc)
+      go (bad k r) i = let w : scan.End upto ≡ scan.Fault k (offsetOf s r) = rw (begins, i) at h in let z : _≡_ {A = ℕ} 0 1 = cc in absurd (omega arith)
 
 -- where it begins, and ends with nothing but blanks behind it
-module _ (s : List ℕ) (from : ℕ) (e : from ≡ place s (blanks s)) where
+module _ (s : List ℕ) (from : ℕ) (e : from ≡ offsetOf s (blanks s)) where
   pub top-absent : Readable s → length s ≤ from → None ≡ topSpan s
   unfolding topSpan value valueBy blanks
   top-absent (Readable.absent i) h = rw i
   top-absent (Readable.sound i) h = let t = passed s i in absurd (omega (arith, t .some, t .inside))
 
   pub top-there : (upto : ℕ) → Readable s → from < length s
-      → ((x : Json) (r : List ℕ) → value paired depth (drop from s) ≡ done x r → blanks r ≡ [] → upto ≡ place s r) → Is from upto ≡ topSpan s
+      → ((x : Json) (r : List ℕ) → value paired depth (drop from s) ≡ done x r → blanks r ≡ [] → upto ≡ offsetOf s r) → Is from upto ≡ topSpan s
   top-there upto (Readable.absent i) h v = absurd (omega (arith, ap length i))
   top-there upto (Readable.sound i) h v =
       let t = passed s i in
-      let l = valued-at s (place s (blanks s)) (t .end) (t .found) in
+      let l = valued-at s (offsetOf s (blanks s)) (t .end) (t .found) in
       let u : upto ≡ t .end =
       v (l .what) (drop (t .end) s) (ap (λ (n : ℕ). value paired depth (drop n s)) e ∙ l .reads) (t .after) ∙ sym (place-at s (t .end) (l .upto)) in
       rw (e, u) (sym (top-found s (t .end) (t .found)))
 
 -- two names, or three; no number of a file has none
 module _ (file : ℕ) (s a b : List ℕ) {w : Way} (e : wayTo file ≡ some w) where
-  pub along-two : map (λ k. k .name) (w .keys) ≡ a ∷ b ∷ [] → memberAt s b (memberAt s a (topSpan s)) ≡ recordsSpan file s
+  pub along-two : map (λ k. k .name) (w .keys) ≡ a ∷ b ∷ [] → memberSpan s b (memberSpan s a (topSpan s)) ≡ recordsSpan file s
   unfolding recordsSpan membersAlong
   along-two i = rw (recordsSpan, e, i)
 
-  pub along-three : (d : List ℕ) → map (λ k. k .name) (w .keys) ≡ a ∷ b ∷ d ∷ [] → memberAt s d (memberAt s b (memberAt s a (topSpan s))) ≡ recordsSpan file s
+  pub along-three : (d : List ℕ) → map (λ k. k .name) (w .keys) ≡ a ∷ b ∷ d ∷ [] → memberSpan s d (memberSpan s b (memberSpan s a (topSpan s))) ≡ recordsSpan file s
   unfolding recordsSpan membersAlong
   along-three d i = rw (recordsSpan, e, i)
 

@@ -10,10 +10,10 @@ use borrow.Author.Tests.{eq-eqb}
 use Rattle.json.specs.Tree as tree
 use Rattle.json.specs.Tree.{Json, Members}
 use Rattle.walk.specs.Walk.{part}
-use Rattle.walk.specs.Part.{Whole, treeOf}
+use Rattle.walk.specs.Part.{Whole, partTree}
 use Rattle.schema.specs.Shape as shape
 use Rattle.schema.specs.Shape.{Shape, Rows, Need}
-use Rattle.schema.specs.Pick.{Picked, Slots, Slot, missing, once, twice, given, put, pick, pickRows, find, at}
+use Rattle.schema.specs.Pick.{Picked, Slots, Slot, missing, once, twice, filled, put, pick, pickRows, find, slotOf}
 use Rattle.slots.specs.declared.Found.{Found}
 use Rattle.slots.specs.declared.Found.the-variants.{Missing, Once, Twice}
 use Rattle.slots.specs.Found.{foundIn}
@@ -21,7 +21,7 @@ use Rattle.slots.specs.inner.Found.{treeIn}
 use Rattle.slots.proofs.Finds.{find-found, found-value}
 use Rattle.document.specs.declared.Span.the-variants.{Is}
 use Rattle.document.specs.Document.{Maybe, none, some, onceOnly, field}
-use Rattle.document.specs.Spans.{moved, memberAt}
+use Rattle.document.specs.Spans.{moved, memberSpan}
 use Rattle.document.proofs.Cuts.{part-part, part-inside}
 
 -- the first row of the field f has this name and shape
@@ -35,35 +35,35 @@ over g (once x) = once (g x)
 over g twice = twice
 
 module _ (f : ℕ) (g : Json → Picked) where
-  at-here : (o : Slot Json) (rest : Slots) → at f (put f g o rest) ≡ over g o
-  unfolding at
-  at-here missing rest = rw (at, eq-eqb f f refl)
-  at-here (once x) rest = rw (at, eq-eqb f f refl)
-  at-here twice rest = rw (at, eq-eqb f f refl)
+  at-here : (o : Slot Json) (rest : Slots) → slotOf f (put f g o rest) ≡ over g o
+  unfolding slotOf
+  at-here missing rest = rw (slotOf, eq-eqb f f refl)
+  at-here (once x) rest = rw (slotOf, eq-eqb f f refl)
+  at-here twice rest = rw (slotOf, eq-eqb f f refl)
 
-  at-below : (h : ℕ) → eqb f h ≡ false → (o : Slot Json) (rest : Slots) → at f (put h g o rest) ≡ at f rest
-  unfolding at
-  at-below h e missing rest = rw (at, e)
-  at-below h e (once x) rest = rw (at, e)
-  at-below h e twice rest = rw (at, e)
+  at-below : (h : ℕ) → eqb f h ≡ false → (o : Slot Json) (rest : Slots) → slotOf f (put h g o rest) ≡ slotOf f rest
+  unfolding slotOf
+  at-below h e missing rest = rw (slotOf, e)
+  at-below h e (once x) rest = rw (slotOf, e)
+  at-below h e twice rest = rw (slotOf, e)
 
 pub at-row : {f : ℕ} {name : List ℕ} {σ : Shape} {rows : Rows} → Lists f name σ rows → (ms : Members)
-    → at f (pickRows rows ms) ≡ over (pick σ) (given (find name ms))
+    → slotOf f (pickRows rows ms) ≡ over (pick σ) (filled (find name ms))
 unfolding pickRows
-at-row {f} {name} {σ} (here {rows = rows}) ms = at-here f (λ y. pick σ y) (given (find name ms)) (pickRows rows ms)
+at-row {f} {name} {σ} (here {rows = rows}) ms = at-here f (λ y. pick σ y) (filled (find name ms)) (pickRows rows ms)
 at-row {f} (below {g = g} {n = n} {τ = τ} {rows = rows} e l) ms =
-    at-below f (λ y. pick τ y) g e (given (find n ms)) (pickRows rows ms) ∙ at-row l ms
+    at-below f (λ y. pick τ y) g e (filled (find n ms)) (pickRows rows ms) ∙ at-row l ms
 
 -- no row of the field f
 pub data Lacks (f : ℕ) : Rows → Type 0 where
   noRow : Lacks f shape.noRow
   past : {g : ℕ} {need : Need} {n : List ℕ} {τ : Shape} {rows : Rows} → eqb f g ≡ false → Lacks f rows → Lacks f (shape.row g need n τ rows)
 
-at-lacks : {f : ℕ} {rows : Rows} → Lacks f rows → (ms : Members) → at f (pickRows rows ms) ≡ missing
-unfolding pickRows at
+at-lacks : {f : ℕ} {rows : Rows} → Lacks f rows → (ms : Members) → slotOf f (pickRows rows ms) ≡ missing
+unfolding pickRows slotOf
 at-lacks noRow ms = refl
 at-lacks {f} (past {g = g} {n = n} {τ = τ} {rows = rows} e l) ms =
-    at-below f (λ y. pick τ y) g e (given (find n ms)) (pickRows rows ms) ∙ at-lacks l ms
+    at-below f (λ y. pick τ y) g e (filled (find n ms)) (pickRows rows ms) ∙ at-lacks l ms
 
 pub field-lacks : {f : ℕ} {rows : Rows} → Lacks f rows → (x : Json) → field f (pick (shape.object rows) x) ≡ none
 unfolding field pick
@@ -89,7 +89,7 @@ pub record Held (name : List ℕ) (σ : Shape) (x : Json) (y : Picked) : Type 0 
   pub picked : pick σ value ≡ y
 
 module _ (σ : Shape) {y : Picked} where
-  from-given : (o : Slot Json) → onceOnly (over (pick σ) (given o)) ≡ some y → (z : Json) × (o ≡ once z) × (pick σ z ≡ y)
+  from-given : (o : Slot Json) → onceOnly (over (pick σ) (filled o)) ≡ some y → (z : Json) × (o ≡ once z) × (pick σ z ≡ y)
   from-given missing e = none-some e
   from-given twice e = none-some e
   from-given (once tree.null) e = (tree.null, refl, some-some e)
@@ -122,16 +122,16 @@ pub record Stands (s : List ℕ) (from upto : ℕ) (x : Json) : Type 0 where
 pub record Reached (s name : List ℕ) (from upto : ℕ) (z : Json) : Type 0 where
   pub start : ℕ
   pub end : ℕ
-  pub is : memberAt s name (Is from upto) ≡ Is start end
+  pub is : memberSpan s name (Is from upto) ≡ Is start end
   pub there : Stands s start end z
 
-tree-once : (p : List ℕ) (o : Found) (z : Json) → treeIn p o ≡ once z → (a : ℕ) × (e : ℕ) × (o ≡ Once a e) × (treeOf (part p a e) ≡ z)
+tree-once : (p : List ℕ) (o : Found) (z : Json) → treeIn p o ≡ once z → (a : ℕ) × (e : ℕ) × (o ≡ Once a e) × (partTree (part p a e) ≡ z)
 tree-once p Missing z h = let k : _≡_ {A = ℕ} 0 1 = cc in absurd (omega arith)
 tree-once p (Once a e) z h = (a, e, refl, cc)
 tree-once p Twice z h = let k : _≡_ {A = ℕ} 0 1 = cc in absurd (omega arith)
 
 pub stands-found : (s name : List ℕ) (from upto : ℕ) {x : Json} → Stands s from upto x → (a e : ℕ) → foundIn (part s from upto) name ≡ Once a e
-    → Stands s (from + a) (from + e) (treeOf (part (part s from upto) a e))
+    → Stands s (from + a) (from + e) (partTree (part (part s from upto) a e))
 stands-found s name from upto w a e f =
     let p = part s from upto in
     let v = found-value p name a e f in
@@ -139,7 +139,7 @@ stands-found s name from upto w a e f =
     let i : e ≤ upto - from = omega (arith, v .inside) in
     let less = v .some in let outer = w .inside in
     record {
-      whole = subst (λ (q : List ℕ). Whole q (treeOf (part p a e))) (part-part s from upto a e i) (v .whole);
+      whole = subst (λ (q : List ℕ). Whole q (partTree (part p a e))) (part-part s from upto a e i) (v .whole);
       some = omega arith;
       inside = omega arith;
     }

@@ -9,7 +9,7 @@ use Rattle.json.specs.Tree as tree
 use Rattle.json.specs.Tree.{Json, Items}
 use Rattle.walk.specs.declared.Item.{Item}
 use Rattle.walk.specs.Walk.{part, itemsOf}
-use Rattle.walk.specs.Part.{Whole, treeOf}
+use Rattle.walk.specs.Part.{Whole, partTree}
 use Rattle.walk.proofs.Places.{item-placed}
 use Rattle.walk.proofs.Folds as iterated
 use Rattle.walk.proofs.Folds.{itemSteps}
@@ -21,7 +21,7 @@ use Rattle.schema.specs.Shape as shape
 use Rattle.schema.specs.Shape.{Shape, Rows, fileShape}
 use Rattle.schema.specs.Table23.{table23}
 use Rattle.schema.specs.Records.{Key, recordShape}
-use Rattle.schema.specs.Pick.{Picked, PickedItems, items, pick, each, listOf}
+use Rattle.schema.specs.Pick.{Picked, PickedItems, items, pick, pickItems, listOf}
 use Rattle.document.specs.declared.Span.{Span}
 use Rattle.document.specs.declared.Span.the-variants.{None, Is}
 use Rattle.document.specs.Document.{Maybe, none, some, field, along}
@@ -73,16 +73,16 @@ leads-on (into {f = f} {name = name} {rows = rows} {ks = ks} l r) s from upto x 
 
 -- the items of the array p, picked
 abbrev pub pickedItems : Shape → List ℕ → List Picked
-pickedItems σ p = map (λ m. pick σ (treeOf (itemOf p m))) (itemsOf p)
+pickedItems σ p = map (λ m. pick σ (partTree (itemOf p m))) (itemsOf p)
 
 -- their trees
 abbrev pub itemTrees : List ℕ → List Json
-itemTrees p = map (λ m. treeOf (itemOf p m)) (itemsOf p)
+itemTrees p = map (λ m. partTree (itemOf p m)) (itemsOf p)
 
 -- they are the same where more follows the array
 pub open-items : {is : Items} (σ : Shape) (s : List ℕ) (from upto : ℕ) → Whole (part s from upto) (tree.array is)
     → pickedItems σ (drop from s) ≡ pickedItems σ (part s from upto)
-open-items σ s from upto w = front-map (drop from s) (upto - from) (λ m q. pick σ (treeOf q)) w
+open-items σ s from upto w = front-map (drop from s) (upto - from) (λ m q. pick σ (partTree q)) w
 
 -- an array at a span, whose items l is picked from
 pub record Records (s : List ℕ) (span : Span) (σ : Shape) (l : List Picked) : Type 0 where
@@ -93,13 +93,13 @@ pub record Records (s : List ℕ) (span : Span) (σ : Shape) (l : List Picked) :
   pub there : Stands s start end (tree.array trees)
   pub picked : l ≡ pickedItems σ (part s start end)
 
-pub list-each : (f : Json → Picked) (ms : List Item) (g : Item → Json) → listOf (each f (tree.itemsOf (map g ms))) ≡ map (λ m. f (g m)) ms
-unfolding listOf each tree.itemsOf
+pub list-each : (f : Json → Picked) (ms : List Item) (g : Item → Json) → listOf (pickItems f (tree.asItems (map g ms))) ≡ map (λ m. f (g m)) ms
+unfolding listOf pickItems tree.asItems
 list-each f [] g = refl
 list-each f (m ∷ ms) g = ap (λ (l : List Picked). f (g m) ∷ l) (list-each f ms g)
 
 module _ (numbering : shape.Numbering) (most : ℕ) (σ : Shape) (is : PickedItems) where
-  array-of : (x : Json) → pick (shape.array numbering most σ) x ≡ items is → (js : Items) × (x ≡ tree.array js) × (is ≡ each (λ y. pick σ y) js)
+  array-of : (x : Json) → pick (shape.array numbering most σ) x ≡ items is → (js : Items) × (x ≡ tree.array js) × (is ≡ pickItems (λ y. pick σ y) js)
   unfolding pick
   array-of (tree.array js) e = (js, refl, cc)
   array-of tree.null e = let z : _≡_ {A = ℕ} 0 1 = cc in absurd (omega arith)
@@ -120,8 +120,8 @@ module _ (numbering : shape.Numbering) (most : ℕ) (σ : Shape) (is : PickedIte
         is = p .is;
         there = w;
         picked =
-            ap listOf (a .2) ∙ ap (λ js. listOf (each (λ y. pick σ y) js)) (array-parts q (w .whole))
-            ∙ list-each (λ y. pick σ y) (itemsOf q) (λ m. treeOf (itemOf q m));
+            ap listOf (a .2) ∙ ap (λ js. listOf (pickItems (λ y. pick σ y) js)) (array-parts q (w .whole))
+            ∙ list-each (λ y. pick σ y) (itemsOf q) (λ m. partTree (itemOf q m));
       }
 
 -- of a file that passes, where the way to its records is there
@@ -159,7 +159,7 @@ module _ {s : List ℕ} {span : Span} {σ : Shape} {l : List Picked} (r : Record
   array = part s (r .start) (r .end)
 
   pub as-many : length l ≡ length (itemsOf array)
-  as-many = ap length (r .picked) ∙ length-map (itemsOf array) (λ m. pick σ (treeOf (itemOf array m)))
+  as-many = ap length (r .picked) ∙ length-map (itemsOf array) (λ m. pick σ (partTree (itemOf array m)))
 
   -- the record of a number, counted from 1, with its tree
   pub record RecordAt (n : ℕ) : Type 0 where
@@ -174,7 +174,7 @@ module _ {s : List ℕ} {span : Span} {σ : Shape} {l : List Picked} (r : Record
   pub record-at : (k : ℕ) → k < length l → RecordAt (suc k)
   record-at k h =
       let a = r .start in
-      let t = nth-of a (λ m. treeOf (itemOf array m)) (itemsOf array) k (omega (arith, as-many)) in
+      let t = nth-of a (λ m. partTree (itemOf array m)) (itemsOf array) k (omega (arith, as-many)) in
       let m = t .0 in
       let i = item-inside array m (t .1) in
       let n : length array ≡ r .end - a = part-inside s a (r .end) (r .there .inside) in
@@ -184,16 +184,16 @@ module _ {s : List ℕ} {span : Span} {σ : Shape} {l : List Picked} (r : Record
       record {
         start = a + m .value;
         end = a + m .«value_end»;
-        tree = treeOf (itemOf array m);
+        tree = partTree (itemOf array m);
         is = ap (λ (z : Span). nthIn s z (suc k)) (r .is) ∙ t .2;
         numbered = t .3;
         there =
             record {
-              whole = subst (λ (q : List ℕ). Whole q (treeOf (itemOf array m))) same (items-whole array m (t .1));
+              whole = subst (λ (q : List ℕ). Whole q (partTree (itemOf array m))) same (items-whole array m (t .1));
               some = omega arith;
               inside = omega arith;
             };
-        picked = subst (List·Memᴰ (pick σ (treeOf (itemOf array m)))) (sym (r .picked)) (Memᴰ·map (λ j. pick σ (treeOf (itemOf array j))) (t .1));
+        picked = subst (List·Memᴰ (pick σ (partTree (itemOf array m)))) (sym (r .picked)) (Memᴰ·map (λ j. pick σ (partTree (itemOf array j))) (t .1));
       }
 
   pub record-past : (k : ℕ) → length l ≤ k → nthIn s span (suc k) ≡ None

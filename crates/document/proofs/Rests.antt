@@ -13,8 +13,8 @@ use Rattle.json.specs.Text.{syntaxOf}
 use Rattle.json.proofs.Values.{value-empty}
 use Rattle.lexeme.specs.Tokens.{blanks}
 use Rattle.walk.specs.declared.Item.{Item}
-use Rattle.walk.specs.Walk.{place, part, itemsOf}
-use Rattle.walk.specs.Part.{Whole, treeOf}
+use Rattle.walk.specs.Walk.{offsetOf, part, itemsOf}
+use Rattle.walk.specs.Part.{Whole, partTree}
 use Rattle.walk.specs.inner.Along.{AlongItems}
 use Rattle.walk.proofs.Files.{passed}
 use Rattle.walk.proofs.Wholes.{whole-some}
@@ -28,7 +28,7 @@ use Rattle.slots.specs.declared.Found.the-variants.{Missing, Once, Twice}
 use Rattle.slots.specs.Found.{foundIn}
 use Rattle.document.specs.declared.Span.{Span}
 use Rattle.document.specs.declared.Span.the-variants.{None, Is}
-use Rattle.document.specs.Spans.{moved, memberAt, membersAlong, topSpan, recordsSpan, nth, nthIn, recordSpan}
+use Rattle.document.specs.Spans.{moved, memberSpan, membersAlong, topSpan, recordsSpan, nth, nthIn, recordSpan}
 use Rattle.document.specs.inner.Spans.{Listed, ValueFrom, RecordsFrom}
 use Rattle.document.proofs.Cuts.{part-rest}
 use Rattle.document.proofs.Fields.{Stands, stands-found}
@@ -38,17 +38,17 @@ pub record Begins (s : List ℕ) (span : Span) (p : List ℕ) : Type 0 where
   pub inside : length p ≤ length s
   pub starts : syntaxOf s ≡ Sound → (from upto : ℕ) → span ≡ Is from upto → (x : Json) × Stands s from upto x × (p ≡ drop from s)
 
-pub begins-top : (s : List ℕ) (at : ℕ) → at ≡ place s (blanks s) → Begins s (topSpan s) (part s at (length s))
+pub begins-top : (s : List ℕ) (at : ℕ) → at ≡ offsetOf s (blanks s) → Begins s (topSpan s) (part s at (length s))
 begins-top s at e =
     record {
       inside = omega (arith, ap length (part-rest s at), length-drop at s);
       starts = λ h from upto i.
           let t = passed s h in
-          let k : Is (place s (blanks s)) (t .end) ≡ Is from upto = sym (top-is s t) ∙ i in
-          let a : place s (blanks s) ≡ from = cc in
+          let k : Is (offsetOf s (blanks s)) (t .end) ≡ Is from upto = sym (top-is s t) ∙ i in
+          let a : offsetOf s (blanks s) ≡ from = cc in
           let b : t .end ≡ upto = cc in (
             t .tree,
-            subst (λ (z : ℕ). Stands s z upto (t .tree)) a (subst (λ (z : ℕ). Stands s (place s (blanks s)) z (t .tree)) b (top-stands s t)),
+            subst (λ (z : ℕ). Stands s z upto (t .tree)) a (subst (λ (z : ℕ). Stands s (offsetOf s (blanks s)) z (t .tree)) b (top-stands s t)),
             part-rest s at ∙ ap (λ (z : ℕ). drop z s) (e ∙ a),
           );
     }
@@ -59,18 +59,18 @@ moved-is at Missing from upto h = let z : _≡_ {A = ℕ} 0 1 = cc in absurd (om
 moved-is at (Once a e) from upto h = (a, e, refl, cc, cc)
 moved-is at Twice from upto h = let z : _≡_ {A = ℕ} 0 1 = cc in absurd (omega arith)
 
-pub begins-member : (s name : List ℕ) (span : Span) (p r : List ℕ) → Begins s span p → ValueFrom p name r → Begins s (memberAt s name span) r
+pub begins-member : (s name : List ℕ) (span : Span) (p r : List ℕ) → Begins s span p → ValueFrom p name r → Begins s (memberSpan s name span) r
 begins-member s name span p r b v =
     record { inside = let i = b .inside in let j = v .inside in omega arith; starts = λ h. go span (b .starts h) }
   where
     go : (span : Span) → ((from upto : ℕ) → span ≡ Is from upto → (x : Json) × Stands s from upto x × (p ≡ drop from s))
-        → (from upto : ℕ) → memberAt s name span ≡ Is from upto → (x : Json) × Stands s from upto x × (r ≡ drop from s)
+        → (from upto : ℕ) → memberSpan s name span ≡ Is from upto → (x : Json) × Stands s from upto x × (r ≡ drop from s)
     go None k from upto i = let z : _≡_ {A = ℕ} 0 1 = cc in absurd (omega arith)
     go (Is at end) k from upto i =
         let (x, w, e) = k at end refl in
         let (a, c, f, g, j) = moved-is at (foundIn (part s at end) name) from upto i in
         let same : part s at end ≡ take (end - at) p = ap (take (end - at)) (sym e) in
-        let y = treeOf (part (part s at end) a c) in (
+        let y = partTree (part (part s at end) a c) in (
           y,
           subst (λ (z : ℕ). Stands s z upto y) g (subst (λ (z : ℕ). Stands s (at + a) z y) j (stands-found s name at end w a c f)),
           v .starts (end - at) x (subst (λ (q : List ℕ). Whole q x) same (w .whole)) a c (ap (λ (q : List ℕ). foundIn q name) (sym same) ∙ f)

@@ -17,7 +17,7 @@ use Rattle.json.proofs.Spellings.{value-spells}
 use Rattle.walk.specs.declared.Member.{Member}
 use Rattle.walk.specs.declared.ValueKind.the-variants as kind
 use Rattle.walk.specs.Walk.{part, itemsOf}
-use Rattle.walk.specs.Part.{Whole, treeOf, kindOf}
+use Rattle.walk.specs.Part.{Whole, partTree, kindOf}
 use Rattle.walk.proofs.Wholes.{whole-tree}
 use Rattle.walk.proofs.Parts.{itemOf}
 use Rattle.walk.proofs.Trees.{array-parts}
@@ -102,13 +102,13 @@ along-tree s (name ∷ names) from upto x w a e h = go (along-tree s names) (fou
     go ih Missing f k = none-is (sym (none-along s names) ∙ k)
     go ih Twice f k = none-is (sym (none-along s names) ∙ k)
     go ih (Once c d) f k =
-        let y = treeOf (part p c d) in
+        let y = partTree (part p c d) in
         let m : member name x ≡ some y = member-found p name x (w .whole) ∙ ap (λ (o : Found). onceOnly (treeIn p o)) f in
         let (z, g, v) = ih (from + c) (from + d) y (stands-found s name from upto w c d f) a e k in
         (z, rw (valueAlong, m) g, v)
 
-listed-of : (l : List Json) → listed (tree.itemsOf l) ≡ l
-unfolding listed tree.itemsOf
+listed-of : (l : List Json) → listed (tree.asItems l) ≡ l
+unfolding listed tree.asItems
 listed-of [] = refl
 listed-of (x ∷ l) = ap (λ (z : List Json). x ∷ z) (listed-of l)
 

@@ -4,7 +4,7 @@ use mathlib.Core.Bool.{Bool, true, false}
 use mathlib.Core.List.{List, [], _∷_}
 use Prim.Native.Nat.{ℕ}
 pub use Rattle.notation.specs.Maybe.{Maybe, none, some}
-use Rattle.schema.specs.Pick.{Picked, Slot, bare, items, slots, listOf, missing, once, twice, at, single}
+use Rattle.schema.specs.Pick.{Picked, Slot, bare, items, slots, missing, once, twice, slotOf, elements, single}
 
 abbrev pub onceOnly : {A : Type 0} → Slot A → Maybe A
 onceOnly missing = none
@@ -13,16 +13,11 @@ onceOnly twice = none
 
 -- the value of a field of an object
 unfoldable pub field : ℕ → Picked → Maybe Picked
-field f (slots ss) = onceOnly (at f ss)
+field f (slots ss) = onceOnly (slotOf f ss)
 field f (bare x) = none
 field f (items is) = none
 
 -- the items of an array
-abbrev pub elements : Picked → List Picked
-elements (items is) = listOf is
-elements (bare x) = []
-elements (slots ss) = []
-
 abbrev pub elementsOf : Maybe Picked → List Picked
 elementsOf none = []
 elementsOf (some x) = elements x

@@ -8,7 +8,7 @@ use Rattle.lexeme.specs.Tokens.{blanks}
 use Rattle.limits.specs.Ceilings.{depth}
 use Rattle.json.specs.Text.{value}
 use Rattle.walk.specs.declared.Item.{Item}
-use Rattle.walk.specs.Walk.{place, part, itemsOf}
+use Rattle.walk.specs.Walk.{offsetOf, part, itemsOf}
 use Rattle.schema.specs.Records.{wayTo}
 use Rattle.slots.specs.declared.Found.{Found}
 use Rattle.slots.specs.declared.Found.the-variants.{Missing, Once, Twice}
@@ -23,17 +23,17 @@ moved at (Once from upto) = Is (at + from) (at + upto)
 moved at Twice = None
 
 -- the member of a name, in the object at a span of s
-abbrev pub memberAt : List ℕ → List ℕ → Span → Span
-memberAt s name None = None
-memberAt s name (Is from upto) = moved from (foundIn (part s from upto) name)
+abbrev pub memberSpan : List ℕ → List ℕ → Span → Span
+memberSpan s name None = None
+memberSpan s name (Is from upto) = moved from (foundIn (part s from upto) name)
 
 unfoldable pub membersAlong : List ℕ → List (List ℕ) → Span → Span
 membersAlong s [] span = span
-membersAlong s (name ∷ names) span = membersAlong s names (memberAt s name span)
+membersAlong s (name ∷ names) span = membersAlong s names (memberSpan s name span)
 
 -- the value of the whole file
 unfoldable pub topSpan : List ℕ → Span
-topSpan s = elim (value paired depth (blanks s)) [ done x r ↦ Is (place s (blanks s)) (place s r) | bad k r ↦ None ]
+topSpan s = elim (value paired depth (blanks s)) [ done x r ↦ Is (offsetOf s (blanks s)) (offsetOf s r) | bad k r ↦ None ]
 
 -- the array of records; none in a file without records
 unfoldable pub recordsSpan : ℕ → List ℕ → Span

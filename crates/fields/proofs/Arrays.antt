@@ -17,7 +17,7 @@ use Rattle.walk.specs.declared.Item.{Item}
 use Rattle.walk.specs.declared.ItemStep.{ItemStep}
 use Rattle.walk.specs.declared.ItemStep.the-variants as step
 use Rattle.walk.specs.Walk.{part, itemAt}
-use Rattle.walk.specs.Part.{Whole, treeOf, kindOf, kindAt}
+use Rattle.walk.specs.Part.{Whole, partTree, kindOf, kindAt}
 use Rattle.walk.specs.inner.Along.{AlongItems, ItemPlaced, ItemPassed}
 use Rattle.walk.proofs.Places.{item-placed}
 use Rattle.walk.proofs.Wholes.{whole-kind}
@@ -26,7 +26,7 @@ use Rattle.slots.specs.declared.Found.the-variants.{Missing, Once, Twice}
 use Rattle.slots.specs.Found.{foundIn}
 use Rattle.slots.specs.inner.Blank.{blankText}
 use Rattle.slots.proofs.Finds.{found-value}
-use Rattle.fields.specs.inner.Values.{code, foundBytes, memberOf, arrayBy}
+use Rattle.fields.specs.inner.Values.{kindCode, foundBytes, memberOf, arrayBy}
 
 -- an array with its brackets, where there is anything
 abbrev Bracketed : List ℕ → Type 0
@@ -43,7 +43,7 @@ array-whole : (q : List ℕ) (x : Json) → Whole q x → Bracketed (arrayBy q)
 unfolding arrayBy
 array-whole q x w = rw (arrayBy, whole-kind w) (go x w)
   where
-    go : (y : Json) → Whole q y → Bracketed (eqb (code (kindOf y)) 4 ⇒ q else [])
+    go : (y : Json) → Whole q y → Bracketed (eqb (kindCode (kindOf y)) 4 ⇒ q else [])
     go Json.null v = nothing
     go (Json.boolean b) v = nothing
     go (Json.number s) v = nothing
@@ -54,15 +54,15 @@ array-whole q x w = rw (arrayBy, whole-kind w) (go x w)
 module _ (p name : List ℕ) where
   pub member-array : 0 < length (arrayBy (memberOf p name)) → (is : Items) × Whole (arrayBy (memberOf p name)) (Json.array is)
   unfolding memberOf
-  member-array = go (eqb (code (kindAt p)) 5)
+  member-array = go (eqb (kindCode (kindAt p)) 5)
     where
-      unless-blank : (t : Bool) (q : List ℕ) → Whole q (treeOf q) → Bracketed (arrayBy (t ⇒ [] else q))
+      unless-blank : (t : Bool) (q : List ℕ) → Whole q (partTree q) → Bracketed (arrayBy (t ⇒ [] else q))
       unless-blank true q w = nothing-listed
-      unless-blank false q w = array-whole q (treeOf q) w
+      unless-blank false q w = array-whole q (partTree q) w
 
       in-found : (o : Found) → foundIn p name ≡ o → Bracketed (arrayBy (foundBytes p o))
       in-found Missing e = nothing-listed
-      in-found (Once from upto) e = unless-blank (blankText (treeOf (part p from upto))) (part p from upto) (found-value p name from upto e .whole)
+      in-found (Once from upto) e = unless-blank (blankText (partTree (part p from upto))) (part p from upto) (found-value p name from upto e .whole)
       in-found Twice e = nothing-listed
 
       go : (t : Bool) → Bracketed (arrayBy (t ⇒ foundBytes p (foundIn p name) else []))

@@ -7,19 +7,19 @@ use lib.Dec.{eqb}
 use lib.ListN.{length, drop, length-take, length-drop}
 use Rattle.notation.specs.Choice.{_⇒_else_}
 use Rattle.walk.specs.Walk.{part}
-use Rattle.walk.specs.Part.{treeOf, kindAt}
+use Rattle.walk.specs.Part.{partTree, kindAt}
 use Rattle.slots.specs.declared.Found.{Found}
 use Rattle.slots.specs.declared.Found.the-variants.{Missing, Once, Twice}
 use Rattle.slots.specs.Found.{foundIn}
 use Rattle.slots.specs.inner.Blank.{blankText}
-use Rattle.fields.specs.inner.Values.{code, foundBytes, memberOf, arrayBy}
+use Rattle.fields.specs.inner.Values.{kindCode, foundBytes, memberOf, arrayBy}
 
 pub part-short : (p : List ℕ) (from upto : ℕ) → length (part p from upto) ≤ length p
 part-short p from upto = omega (arith, length-take (upto - from) (drop from p), length-drop from p)
 
 pub found-short : (p : List ℕ) (o : Found) → length (foundBytes p o) ≤ length p
 found-short p Missing = omega arith
-found-short p (Once from upto) = go (blankText (treeOf (part p from upto)))
+found-short p (Once from upto) = go (blankText (partTree (part p from upto)))
   where
     go : (t : Bool) → length (t ⇒ [] else part p from upto) ≤ length p
     go true = omega arith
@@ -28,7 +28,7 @@ found-short p Twice = omega arith
 
 pub member-short : (p name : List ℕ) → length (memberOf p name) ≤ length p
 unfolding memberOf
-member-short p name = go (eqb (code (kindAt p)) 5)
+member-short p name = go (eqb (kindCode (kindAt p)) 5)
   where
     go : (t : Bool) → length (t ⇒ foundBytes p (foundIn p name) else []) ≤ length p
     go true = found-short p (foundIn p name)
@@ -36,7 +36,7 @@ member-short p name = go (eqb (code (kindAt p)) 5)
 
 pub array-short : (q : List ℕ) → length (arrayBy q) ≤ length q
 unfolding arrayBy
-array-short q = go (eqb (code (kindAt q)) 4)
+array-short q = go (eqb (kindCode (kindAt q)) 4)
   where
     go : (t : Bool) → length (t ⇒ q else []) ≤ length q
     go true = omega arith

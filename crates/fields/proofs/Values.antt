@@ -15,14 +15,14 @@ use Rattle.json.specs.Tree as tree
 use Rattle.json.specs.Tree.{Json}
 use Rattle.walk.specs.declared.Item.{Item}
 use Rattle.walk.specs.Walk.{part, itemsOf, itemsFrom}
-use Rattle.walk.specs.Part.{Whole, treeOf, kindOf, kindAt, inside}
+use Rattle.walk.specs.Part.{Whole, partTree, kindOf, kindAt, inside}
 use Rattle.walk.proofs.Wholes.{whole-kind, whole-some, whole-boolean, whole-number, whole-string}
 use Rattle.walk.proofs.Parts.{itemOf}
 use Rattle.walk.proofs.Trees.{array-parts}
 use Rattle.text.specs.Text.{textOf}
 use Rattle.schema.specs.Shape as shape
 use Rattle.schema.specs.Shape.{Shape, Rows, Sort, Numbering}
-use Rattle.schema.specs.Pick.{Picked, missing, once, given, pick, each, outline, bare, items, listOf}
+use Rattle.schema.specs.Pick.{Picked, missing, once, filled, pick, pickItems, emptied, bare, items, listOf}
 use Rattle.slots.specs.declared.Found.{Found}
 use Rattle.slots.specs.declared.Found.the-variants.{Missing, Once, Twice}
 use Rattle.slots.specs.Found.{foundIn}
@@ -34,7 +34,7 @@ use Rattle.document.specs.Document as document
 use Rattle.document.specs.Document.{Maybe, none, some, onceOnly, field, elementsOf, then, textIn, spellingIn, truthIn}
 use Rattle.document.proofs.Fields.{Lists, over, at-row}
 use Rattle.document.proofs.Records.{pickedItems, list-each}
-use Rattle.fields.specs.inner.Values.{code, foundBytes, memberOf, truthBy, spelledBy, textBy, arrayBy, thereBy}
+use Rattle.fields.specs.inner.Values.{kindCode, foundBytes, memberOf, truthBy, spelledBy, textBy, arrayBy, thereBy}
 
 -- the bytes q hold what is picked by σ; or there is nothing
 abbrev pub Holds : Shape → List ℕ → Maybe Picked → Type 0
@@ -42,11 +42,11 @@ Holds σ q none = q ≡ []
 Holds σ q (some y) = (x : Json) × Whole q x × (pick σ x ≡ y)
 
 -- a kind's number, of a whole value
-whole-code : {q : List ℕ} {x : Json} → Whole q x → code (kindAt q) ≡ code (kindOf x)
-whole-code w = ap code (whole-kind w)
+whole-code : {q : List ℕ} {x : Json} → Whole q x → kindCode (kindAt q) ≡ kindCode (kindOf x)
+whole-code w = ap kindCode (whole-kind w)
 
 -- no bytes are of no kind that is asked for
-nothing-there : code (kindAt []) ≡ 0
+nothing-there : kindCode (kindAt []) ≡ 0
 unfolding kindAt start digit within
 nothing-there = refl
 
@@ -57,19 +57,19 @@ module _ (σ : Shape) (p : List ℕ) where
   held-unless true q x w e = refl
   held-unless false q x w e = (x, w, refl)
 
-  held-found : (name : List ℕ) (o : Found) → foundIn p name ≡ o → Holds σ (foundBytes p o) (onceOnly (over (pick σ) (given (treeIn p o))))
+  held-found : (name : List ℕ) (o : Found) → foundIn p name ≡ o → Holds σ (foundBytes p o) (onceOnly (over (pick σ) (filled (treeIn p o))))
   held-found name Missing e = refl
   held-found name (Once from upto) e =
       let q = part p from upto in
-      rw (unless-blank (treeOf q)) (held-unless (blankText (treeOf q)) q (treeOf q) (found-value p name from upto e .whole) refl)
+      rw (unless-blank (partTree q)) (held-unless (blankText (partTree q)) q (partTree q) (found-value p name from upto e .whole) refl)
   held-found name Twice e = refl
 
 -- nothing else has members
-no-member : (p name : List ℕ) → eqb (code (kindAt p)) 5 ≡ false → memberOf p name ≡ []
+no-member : (p name : List ℕ) → eqb (kindCode (kindAt p)) 5 ≡ false → memberOf p name ≡ []
 unfolding memberOf
 no-member p name e = rw e
 
-in-object : (p name : List ℕ) → eqb (code (kindAt p)) 5 ≡ true → memberOf p name ≡ foundBytes p (foundIn p name)
+in-object : (p name : List ℕ) → eqb (kindCode (kindAt p)) 5 ≡ true → memberOf p name ≡ foundBytes p (foundIn p name)
 unfolding memberOf
 in-object p name e = rw e
 
@@ -91,26 +91,26 @@ holds-there σ q (some y) h = lt-ltb 0 (length q) (whole-some (h .1))
 
 -- by the kind
 module _ (q : List ℕ) where
-  truth-is : (b : Bool) → eqb (code (kindAt q)) 1 ≡ b → truthBy q ≡ (b ⇒ some (eqb (getD q 0 0) 0x74) else none)
+  truth-is : (b : Bool) → eqb (kindCode (kindAt q)) 1 ≡ b → truthBy q ≡ (b ⇒ some (eqb (getD q 0 0) 0x74) else none)
   unfolding truthBy
   truth-is b e = rw e
 
-  spelled-is : (b : Bool) → eqb (code (kindAt q)) 2 ≡ b → spelledBy q ≡ (b ⇒ some q else none)
+  spelled-is : (b : Bool) → eqb (kindCode (kindAt q)) 2 ≡ b → spelledBy q ≡ (b ⇒ some q else none)
   unfolding spelledBy
   spelled-is b e = rw e
 
-  text-is : (b : Bool) → eqb (code (kindAt q)) 3 ≡ b → textBy q ≡ (b ⇒ some (textOf (inside q)) else none)
+  text-is : (b : Bool) → eqb (kindCode (kindAt q)) 3 ≡ b → textBy q ≡ (b ⇒ some (textOf (inside q)) else none)
   unfolding textBy
   text-is b e = rw e
 
-  array-is : (b : Bool) → eqb (code (kindAt q)) 4 ≡ b → arrayBy q ≡ (b ⇒ q else [])
+  array-is : (b : Bool) → eqb (kindCode (kindAt q)) 4 ≡ b → arrayBy q ≡ (b ⇒ q else [])
   unfolding arrayBy
   array-is b e = rw e
 
-  whole-test : (k : ℕ) (x : Json) → Whole q x → eqb (code (kindAt q)) k ≡ eqb (code (kindOf x)) k
+  whole-test : (k : ℕ) (x : Json) → Whole q x → eqb (kindCode (kindAt q)) k ≡ eqb (kindCode (kindOf x)) k
   whole-test k x w = ap (λ (n : ℕ). eqb n k) (whole-code w)
 
-  truth-whole : (x : Json) → Whole q x → truthBy q ≡ truthIn (bare (outline x))
+  truth-whole : (x : Json) → Whole q x → truthBy q ≡ truthIn (bare (emptied x))
   truth-whole tree.null w = truth-is false (whole-test 1 _ w)
   truth-whole (tree.boolean b) w = truth-is true (whole-test 1 _ w) ∙ ap some (whole-boolean w)
   truth-whole (tree.number s) w = truth-is false (whole-test 1 _ w)
@@ -118,7 +118,7 @@ module _ (q : List ℕ) where
   truth-whole (tree.array is) w = truth-is false (whole-test 1 _ w)
   truth-whole (tree.object ms) w = truth-is false (whole-test 1 _ w)
 
-  spelled-whole : (x : Json) → Whole q x → spelledBy q ≡ spellingIn (bare (outline x))
+  spelled-whole : (x : Json) → Whole q x → spelledBy q ≡ spellingIn (bare (emptied x))
   spelled-whole tree.null w = spelled-is false (whole-test 2 _ w)
   spelled-whole (tree.boolean b) w = spelled-is false (whole-test 2 _ w)
   spelled-whole (tree.number s) w = spelled-is true (whole-test 2 _ w) ∙ ap some (sym (whole-number w))
@@ -126,7 +126,7 @@ module _ (q : List ℕ) where
   spelled-whole (tree.array is) w = spelled-is false (whole-test 2 _ w)
   spelled-whole (tree.object ms) w = spelled-is false (whole-test 2 _ w)
 
-  text-whole : (x : Json) → Whole q x → textBy q ≡ textIn (bare (outline x))
+  text-whole : (x : Json) → Whole q x → textBy q ≡ textIn (bare (emptied x))
   text-whole tree.null w = text-is false (whole-test 3 _ w)
   text-whole (tree.boolean b) w = text-is false (whole-test 3 _ w)
   text-whole (tree.number s) w = text-is false (whole-test 3 _ w)
@@ -152,7 +152,7 @@ module _ (sort : Sort) where
 
 -- the items of an array
 module _ (numbering : Numbering) (most : ℕ) (σ : Shape) where
-  no-items : (q : List ℕ) → eqb (code (kindAt q)) 4 ≡ false → pickedItems σ (arrayBy q) ≡ []
+  no-items : (q : List ℕ) → eqb (kindCode (kindAt q)) 4 ≡ false → pickedItems σ (arrayBy q) ≡ []
   unfolding itemsOf itemsFrom
   no-items q e = rw (array-is q false e)
 
@@ -164,7 +164,7 @@ module _ (numbering : Numbering) (most : ℕ) (σ : Shape) where
   items-whole q (tree.string s) w = no-items q (whole-test q 4 _ w)
   items-whole q (tree.array is) w =
       ap (pickedItems σ) (array-is q true (whole-test q 4 _ w))
-      ∙ sym (ap (λ js. listOf (each (λ y. pick σ y) js)) (array-parts q w) ∙ list-each (λ y. pick σ y) (itemsOf q) (λ m. treeOf (itemOf q m)))
+      ∙ sym (ap (λ js. listOf (pickItems (λ y. pick σ y) js)) (array-parts q w) ∙ list-each (λ y. pick σ y) (itemsOf q) (λ m. partTree (itemOf q m)))
   items-whole q (tree.object ms) w = no-items q (whole-test q 4 _ w)
 
   pub holds-items : (q : List ℕ) (o : Maybe Picked) → Holds (shape.array numbering most σ) q o → pickedItems σ (arrayBy q) ≡ elementsOf o

@@ -13,7 +13,7 @@ use Rattle.slots.specs.declared.Found.the-variants.{Missing, Once, Twice}
 use Rattle.slots.specs.Found.{foundIn}
 use Rattle.slots.proofs.Finds.{found-value}
 use Rattle.document.specs.Document.{none, some}
-use Rattle.fields.specs.inner.Values.{code, foundBytes, Standing, memberOf, spelledBy, textBy, arrayBy}
+use Rattle.fields.specs.inner.Values.{kindCode, foundBytes, Standing, memberOf, spelledBy, textBy, arrayBy}
 
 -- what is found stands there whole
 pub found-standing : (p name : List ℕ) (o : Found) → o ≡ foundIn p name → Standing p o
@@ -22,7 +22,7 @@ found-standing p name (Once from upto) e = found-value p name from upto (sym e) 
 found-standing p name Twice e = tt
 
 -- a member, of an object and of what is none
-module _ (p name : List ℕ) (n : ℕ) (e : n ≡ code (kindAt p)) where
+module _ (p name : List ℕ) (n : ℕ) (e : n ≡ kindCode (kindAt p)) where
   pub member-none : (n ≡ 5 → ⊥) → [] ≡ memberOf p name
   unfolding memberOf
   member-none h = rw (← e, ne-eqb n 5 h)
@@ -32,7 +32,7 @@ module _ (p name : List ℕ) (n : ℕ) (e : n ≡ code (kindAt p)) where
   member-found h o f = rw (← e, eq-eqb n 5 h, f)
 
 -- by the kind of q
-module _ (q : List ℕ) (n : ℕ) (e : n ≡ code (kindAt q)) where
+module _ (q : List ℕ) (n : ℕ) (e : n ≡ kindCode (kindAt q)) where
   pub spelled-none : (n ≡ 2 → ⊥) → spelledBy q ≡ none
   unfolding spelledBy
   spelled-none h = rw (← e, ne-eqb n 2 h)

@@ -17,7 +17,7 @@ ghost use Rattle.json.specs.Tree.{Json};
 ghost use Rattle.walk.specs.Part.{Whole, kindAt, inside};
 ghost use Rattle.slots.specs.inner.Blank.{blankText};
 ghost use Rattle.fields.specs.Values.{integerIn};
-ghost use Rattle.fields.specs.inner.Values.{code, foundBytes, Standing, memberOf, spelledBy, textBy, arrayBy, isId};
+ghost use Rattle.fields.specs.inner.Values.{kindCode, foundBytes, Standing, memberOf, spelledBy, textBy, arrayBy, isId};
 
 // The kinds that are asked for.
 pub const NUMBER: u8 = 2;
@@ -30,7 +30,7 @@ pub const OBJECT: u8 = 5;
 
 // The kind of a value, by number.
 pub fn code_of(q: &[u8]) -> u8
-    ensures { λ r. ⌜ r ≡ code (kindAt (now (q .entry))) ⌝ }
+    ensures { λ r. ⌜ r ≡ kindCode (kindAt (now (q .entry))) ⌝ }
 {
     match value_kind(q) {
         ValueKind::Null => 0,

@@ -11,16 +11,17 @@ use Rattle.word.specs.declared.Parts.{Parts}
 use Rattle.word.specs.Form.{form1}
 use Rattle.word.specs.Word.{wordOf}
 use Rattle.word.proofs.Laws.{full1}
-use Rattle.clean.specs.declared.Cleanness.{Cleanness}
+use Rattle.clean.specs.declared.Outcome.{Outcome}
 use Rattle.gbfs.specs.declared.Acceptance.the-variants.{NoRoom}
-use Rattle.gbfs.specs.Verdict.{Feeds, verdictOf, said, accepts, numberOf, bufferOf, number}
+use Rattle.cross.specs.Stage.{Feeds}
+use Rattle.gbfs.specs.Verdict.{verdictOf, said, accepts, numberOf, bufferOf, number}
 
 pub word-length : (p : Parts) → length (wordOf form1 p) ≡ 8
 unfolding wordOf
 word-length p = packed-length (form1 .widths) 8 (full1 .filled) _
 
 -- the number where there is room
-abbrev pub told : Cleanness → ℕ
+abbrev pub told : Outcome → ℕ
 told x = accepts x ⇒ 0 else 1
 
 module _ (s : Feeds) (b : List ℕ) where
@@ -28,7 +29,7 @@ module _ (s : Feeds) (b : List ℕ) where
   unfolding numberOf bufferOf
   answer-short h = (rw (lt-ltb (length b) 8 h), rw (lt-ltb (length b) 8 h))
 
-  pub answer-room : {x y : Cleanness} {p : Parts} {after : List ℕ} → 8 ≤ length b → x ≡ verdictOf s → p ≡ said x → after ≡ wordOf form1 p ++ drop 8 b → x ≡ y
+  pub answer-room : {x y : Outcome} {p : Parts} {after : List ℕ} → 8 ≤ length b → x ≡ verdictOf s → p ≡ said x → after ≡ wordOf form1 p ++ drop 8 b → x ≡ y
       → (told y ≡ numberOf s b) × (after ≡ bufferOf s b)
   unfolding numberOf bufferOf
   answer-room room v q w e =

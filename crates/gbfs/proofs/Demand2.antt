@@ -8,9 +8,10 @@ use Rattle.word.specs.declared.Parts.{Parts}
 use Rattle.word.specs.Form.{form1}
 use Rattle.word.specs.Word.{IsWord, readWord}
 use Rattle.word.proofs.Laws.{full1, word-read, read-word, no-word}
-use Rattle.clean.specs.declared.Cleanness.{Cleanness}
-use Rattle.clean.specs.declared.Cleanness.the-variants.{Clean, Broken}
-use Rattle.gbfs.specs.Verdict.{Feeds, rules, verdictOf}
+use Rattle.clean.specs.declared.Outcome.{Outcome}
+use Rattle.clean.specs.declared.Outcome.the-variants.{Unbroken, Broken}
+use Rattle.cross.specs.Stage.{Feeds}
+use Rattle.gbfs.specs.Verdict.{brokenRules, verdictOf}
 use Rattle.gbfs.specs.Demand2.{First, Demand2}
 use Rattle.gbfs.proofs.First.{broken-parts, accepted, accepted-only, refused-first}
 use Rattle.gbfs.proofs.Only.{first-refused}
@@ -20,11 +21,11 @@ use Rattle.gbfs.proofs.Prices.{price, price-given, no-credit, marked-mi
 use Rattle.gbfs.proofs.Zones.{together-there, rule, no-rule, ruled, unruled}
 
 -- a set that breaks a rule breaks a first one
-some-first : (s : Feeds) → (rules s ≡ [] → ⊥) → (p : Parts) × First p (rules s)
+some-first : (s : Feeds) → (brokenRules s ≡ [] → ⊥) → (p : Parts) × First p (brokenRules s)
 some-first s n = go (verdictOf s) refl
   where
-    go : (x : Cleanness) → verdictOf s ≡ x → (p : Parts) × First p (rules s)
-    go Clean e = absurd (n (accepted-only s e))
+    go : (x : Outcome) → verdictOf s ≡ x → (p : Parts) × First p (brokenRules s)
+    go Unbroken e = absurd (n (accepted-only s e))
     go (Broken p) e = (p, refused-first s p e)
 
 -- bytes that are read are the word of what is read
@@ -36,7 +37,7 @@ pub demand-2 : Demand2
 unfolding readWord
 demand-2 =
     record {
-      accepted = λ s e. says s Clean (accepted s e);
+      accepted = λ s e. says s Unbroken (accepted s e);
       first = some-first;
       only = λ s p q f g. broken-parts (sym (first-refused s p f) ∙ first-refused s q g);
       notAccepted = λ s p f. says s (Broken p) (first-refused s p f);

@@ -8,9 +8,10 @@ use native.Mathlib.Omega.{arith}
 use Rattle.word.specs.declared.Parts.{Parts}
 use Rattle.fault.proofs.Order.{by-test}
 use Rattle.judge.proofs.Holds.{All, none, more}
-use Rattle.clean.specs.declared.Cleanness.{Cleanness}
-use Rattle.clean.specs.declared.Cleanness.the-variants.{Clean, Broken}
-use Rattle.gbfs.specs.Verdict.{Feeds, rules, before, earlier, first, verdictOf}
+use Rattle.clean.specs.declared.Outcome.{Outcome}
+use Rattle.clean.specs.declared.Outcome.the-variants.{Unbroken, Broken}
+use Rattle.cross.specs.Stage.{Feeds}
+use Rattle.gbfs.specs.Verdict.{brokenRules, before, earlier, first, verdictOf}
 use Rattle.gbfs.specs.Demand2.{First}
 use Rattle.gbfs.proofs.Every.{all-at, all-of}
 use Rattle.gbfs.proofs.Order.{before-irrefl, before-asym, before-after}
@@ -22,7 +23,7 @@ NoneBefore p l = All (λ q. before q p ≡ false) l
 first-of : {p : Parts} {l : List Parts} → List·Memᴰ p l → NoneBefore p l → First p l
 first-of m a = record { among = m; first = λ q. all-at a }
 
-clean-broken : {A : Type 0} {p : Parts} → Clean ≡ Broken p → A
+clean-broken : {A : Type 0} {p : Parts} → Unbroken ≡ Broken p → A
 clean-broken e = let z : _≡_ {A = ℕ} 0 1 = cc in absurd (omega arith)
 
 pub broken-parts : {p q : Parts} → Broken p ≡ Broken q → p ≡ q
@@ -37,16 +38,16 @@ module _ (p q : Parts) where
   earlier-first e = rw e
 
 -- where there is a rule, one is named
-pub record Named (x : Cleanness) : Type 0 where
+pub record Named (x : Outcome) : Type 0 where
   pub parts : Parts
   pub is : x ≡ Broken parts
 
-pub earlier-named : (p : Parts) (x : Cleanness) → Named (earlier p x)
-earlier-named p Clean = record { parts = p; is = refl }
+pub earlier-named : (p : Parts) (x : Outcome) → Named (earlier p x)
+earlier-named p Unbroken = record { parts = p; is = refl }
 earlier-named p (Broken q) =
     by-test (before q p) (λ t. record { parts = q; is = earlier-second p q t }) (λ f. record { parts = p; is = earlier-first p q f })
 
-pub first-clean : (l : List Parts) → first l ≡ Clean → l ≡ []
+pub first-clean : (l : List Parts) → first l ≡ Unbroken → l ≡ []
 unfolding first
 first-clean [] e = refl
 first-clean (p ∷ l) e = let n = earlier-named p (first l) in clean-broken (sym e ∙ n .is)
@@ -76,8 +77,8 @@ first-broken (r ∷ l) p e = go (first l) refl e (first-broken l)
     at : {q : Parts} → Broken q ≡ Broken p → First q (r ∷ l) → First p (r ∷ l)
     at e f = subst (λ (z : Parts). First z (r ∷ l)) (broken-parts e) f
 
-    go : (x : Cleanness) → first l ≡ x → earlier r x ≡ Broken p → ((q : Parts) → first l ≡ Broken q → First q l) → First p (r ∷ l)
-    go Clean h k ih = at k (first-alone r l (first-clean l h))
+    go : (x : Outcome) → first l ≡ x → earlier r x ≡ Broken p → ((q : Parts) → first l ≡ Broken q → First q l) → First p (r ∷ l)
+    go Unbroken h k ih = at k (first-alone r l (first-clean l h))
     go (Broken q) h k ih =
         by-test (before q r)
         (λ t. at (sym (earlier-second r q t) ∙ k) (first-later r l q (ih q h) t))
@@ -85,14 +86,14 @@ first-broken (r ∷ l) p e = go (first l) refl e (first-broken l)
 
 -- of a set
 module _ (s : Feeds) where
-  pub accepted : rules s ≡ [] → verdictOf s ≡ Clean
+  pub accepted : brokenRules s ≡ [] → verdictOf s ≡ Unbroken
   unfolding verdictOf first
   accepted e = ap first e
 
-  pub accepted-only : verdictOf s ≡ Clean → rules s ≡ []
+  pub accepted-only : verdictOf s ≡ Unbroken → brokenRules s ≡ []
   unfolding verdictOf
-  accepted-only e = first-clean (rules s) e
+  accepted-only e = first-clean (brokenRules s) e
 
-  pub refused-first : (p : Parts) → verdictOf s ≡ Broken p → First p (rules s)
+  pub refused-first : (p : Parts) → verdictOf s ≡ Broken p → First p (brokenRules s)
   unfolding verdictOf
-  refused-first p e = first-broken (rules s) p e
+  refused-first p e = first-broken (brokenRules s) p e

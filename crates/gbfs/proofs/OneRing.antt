@@ -2,7 +2,7 @@
 -- rules are equal, and with them all that is told of their first.
 use mathlib.Core.Bool.{Bool}
 use mathlib.Core.List.{List, [], _∷_, _++_, map}
-use mathlib.Core.Path.{_≡_, refl, ap}
+use mathlib.Core.Path.{_≡_, refl, sym, ap, subst}
 use Prim.Native.Nat.{ℕ, zero, suc, _≤_}
 use native.Mathlib.Omega.{arith}
 use lib.Dec.{leb, ltb}
@@ -14,12 +14,13 @@ use Rattle.word.specs.Word.{noParts, wordOf}
 use Rattle.rings.specs.Rings.{coordinatesFound}
 use Rattle.rings.specs.OneRing.{coordinatesOfOne}
 use Rattle.document.specs.Spans.{recordSpan}
-use Rattle.clean.specs.declared.Cleanness.{Cleanness}
-use Rattle.clean.specs.Clean.{place}
+use Rattle.clean.specs.declared.Outcome.{Outcome}
+use Rattle.clean.specs.Clean.{faultParts}
 use Rattle.clean.specs.Show.{ofSpan, ofClean, refused, shownOf}
 use Rattle.zone.specs.Single.{WithoutHoles, cleanOfOne}
 use Rattle.zone.proofs.Single.{faults-one, single}
-use Rattle.gbfs.specs.Verdict.{Feeds, bytesOf, faultsBBy, stageA, stageBBy, stageC, orElse, rulesBy, first, verdictOf, said, accepts, numberOf, bufferOf}
+use Rattle.cross.specs.Stage.{Feeds, bytesOf}
+use Rattle.gbfs.specs.Verdict.{faultsBBy, stageA, stageBBy, stageC, orElse, brokenRulesBy, first, verdictOf, said, accepts, numberOf, bufferOf}
 use Rattle.gbfs.specs.OneRing.{verdictOfOne, OneRing}
 use Rattle.gbfs.proofs.Every.{every-same}
 
@@ -27,33 +28,32 @@ file-same : (file : ℕ) (s : List ℕ) → (file ≡ 6 → WithoutHoles s) → 
 file-same file [] one = refl
 file-same file (b ∷ s) one = faults-one file (b ∷ s) one
 
-module _ (s : Feeds) (one : WithoutHoles (s .zones)) where
+module _ (s : Feeds) (one : WithoutHoles (bytesOf s 6)) where
   zones-one : (file : ℕ) → file ≡ 6 → WithoutHoles (bytesOf s file)
-  unfolding bytesOf
-  zones-one file e = rw (e) one
+  zones-one file e = subst (λ (k : ℕ). WithoutHoles (bytesOf s k)) (sym e) one
 
   stage-same : stageBBy coordinatesFound s ≡ stageBBy coordinatesOfOne s
   unfolding stageBBy
-  stage-same = every-same _ _ (λ file h i. ap (map (place file)) (file-same file (bytesOf s file) (zones-one file)))
+  stage-same = every-same _ _ (λ file h i. ap (map (faultParts file)) (file-same file (bytesOf s file) (zones-one file)))
 
   verdict-same : verdictOf s ≡ verdictOfOne s
-  unfolding verdictOf rulesBy
+  unfolding verdictOf brokenRulesBy
   verdict-same = ap (λ (l : List Parts). first (orElse (stageA s) (orElse l (stageC s)))) stage-same
 
   module _ (b : List ℕ) where
     number-same : numberOf s b ≡ (ltb (length b) 8 ⇒ 2 else accepts (verdictOfOne s) ⇒ 0 else 1)
     unfolding numberOf
-    number-same = ap (λ (v : Cleanness). ltb (length b) 8 ⇒ 2 else accepts v ⇒ 0 else 1) verdict-same
+    number-same = ap (λ (v : Outcome). ltb (length b) 8 ⇒ 2 else accepts v ⇒ 0 else 1) verdict-same
 
     buffer-same : bufferOf s b ≡ (ltb (length b) 8 ⇒ b else wordOf form1 (said (verdictOfOne s)) ++ drop 8 b)
     unfolding bufferOf
-    buffer-same = ap (λ (v : Cleanness). ltb (length b) 8 ⇒ b else wordOf form1 (said v) ++ drop 8 b) verdict-same
+    buffer-same = ap (λ (v : Outcome). ltb (length b) 8 ⇒ b else wordOf form1 (said v) ++ drop 8 b) verdict-same
 
 shown-same : (file n : ℕ) (s : List ℕ) → (file ≡ 6 → WithoutHoles s)
     → shownOf file n s ≡ (leb 1 file and leb file 6 ⇒ ofClean (cleanOfOne file s) (ofSpan (recordSpan file s n)) else refused 10 noParts)
 unfolding shownOf
 shown-same file n s one =
-    ap (λ (c : Cleanness). leb 1 file and leb file 6 ⇒ ofClean c (ofSpan (recordSpan file s n)) else refused 10 noParts) (single .clean file s one)
+    ap (λ (c : Outcome). leb 1 file and leb file 6 ⇒ ofClean c (ofSpan (recordSpan file s n)) else refused 10 noParts) (single .clean file s one)
 
 pub one-ring : OneRing
 one-ring =

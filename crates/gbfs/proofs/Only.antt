@@ -12,11 +12,12 @@ use Rattle.json.specs.Text.{syntaxOf}
 use Rattle.fault.specs.declared.Fault.{Fault}
 use Rattle.fault.proofs.Order as faults
 use Rattle.judge.proofs.Holds.{All, none, more, only}
-use Rattle.clean.specs.declared.Cleanness.{Cleanness}
-use Rattle.clean.specs.declared.Cleanness.the-variants.{Clean, Broken}
-use Rattle.clean.specs.Clean.{place}
+use Rattle.clean.specs.declared.Outcome.{Outcome}
+use Rattle.clean.specs.declared.Outcome.the-variants.{Unbroken, Broken}
+use Rattle.clean.specs.Clean.{faultParts}
 use Rattle.cross.specs.Cross.{crossFaults}
-use Rattle.gbfs.specs.Verdict.{Feeds, bytesOf, picked, syntaxRules, rulesA, faultsB, everyFile, stageA, stageBBy, stageB, stageC, orElse, rulesBy, rules, before, first, verdictOf}
+use Rattle.cross.specs.Stage.{Feeds, bytesOf, picked}
+use Rattle.gbfs.specs.Verdict.{syntaxRules, rulesA, faultsB, everyFile, stageA, stageBBy, stageB, stageC, orElse, brokenRulesBy, brokenRules, before, first, verdictOf}
 use Rattle.gbfs.specs.Demand2.{First}
 use Rattle.gbfs.proofs.Every.{all-at, every-all}
 use Rattle.gbfs.proofs.Order.{faultOf, same-file, not-before-file}
@@ -55,31 +56,31 @@ module _ (at : ℕ → List ℕ) where
   read-offset file (b ∷ s) e = syntax-offset file (syntaxOf (b ∷ s)) (ap syntaxOf e)
 
 -- stages B and C
-placed-offset : (file : ℕ) (l : List Fault) → All (λ p. p .offset ≡ 0) (map (place file) l)
+placed-offset : (file : ℕ) (l : List Fault) → All (λ p. p .offset ≡ 0) (map (faultParts file) l)
 placed-offset file [] = none
 placed-offset file (f ∷ l) = more refl (placed-offset file l)
 
-offsets-placed : (f : ℕ → List Fault) → Offsets (everyFile (λ file. map (place file) (f file)))
+offsets-placed : (f : ℕ → List Fault) → Offsets (everyFile (λ file. map (faultParts file) (f file)))
 offsets-placed f =
-    record { at = λ file. 0; are = every-all (λ file. map (place file) (f file)) (λ file h i. placed-offset file (f file)) }
+    record { at = λ file. 0; are = every-all (λ file. map (faultParts file) (f file)) (λ file h i. placed-offset file (f file)) }
 
 -- all that count
 offsets-orElse : (l m : List Parts) → Offsets l → Offsets m → Offsets (orElse l m)
 offsets-orElse [] m o n = n
 offsets-orElse (p ∷ l) m o n = o
 
-offsets : (s : Feeds) → Offsets (rules s)
-unfolding rulesBy stageA stageBBy stageC
+offsets : (s : Feeds) → Offsets (brokenRules s)
+unfolding brokenRulesBy stageA stageBBy stageC
 offsets s =
     offsets-orElse (stageA s) _
     (record { at = _; are = every-all (λ file. rulesA file (bytesOf s file)) (λ file h i. read-offset (bytesOf s) file (bytesOf s file) refl) })
     (offsets-orElse (stageB s) (stageC s) (offsets-placed (λ file. faultsB file (bytesOf s file))) (offsets-placed (crossFaults (picked s))))
 
 -- what has none before it is what the verdict names
-pub first-refused : (s : Feeds) (p : Parts) → First p (rules s) → verdictOf s ≡ Broken p
+pub first-refused : (s : Feeds) (p : Parts) → First p (brokenRules s) → verdictOf s ≡ Broken p
 unfolding verdictOf
-first-refused s p f = go (first (rules s)) refl
+first-refused s p f = go (first (brokenRules s)) refl
   where
-    go : (x : Cleanness) → first (rules s) ≡ x → first (rules s) ≡ Broken p
-    go Clean e = absurd (List·Memᴰ·not-nil (subst (List·Memᴰ p) (first-clean (rules s) e) (f .among)))
-    go (Broken q) e = e ∙ ap Broken (first-only (rules s) (offsets s) q p (first-broken (rules s) q e) f)
+    go : (x : Outcome) → first (brokenRules s) ≡ x → first (brokenRules s) ≡ Broken p
+    go Unbroken e = absurd (List·Memᴰ·not-nil (subst (List·Memᴰ p) (first-clean (brokenRules s) e) (f .among)))
+    go (Broken q) e = e ∙ ap Broken (first-only (brokenRules s) (offsets s) q p (first-broken (brokenRules s) q e) f)

@@ -22,8 +22,8 @@ use Rattle.fare.specs.Charges.{minutesOf, kilometresOf, sum, amount, allEnded, 
 use Rattle.fare.proofs.Past as ends
 use Rattle.fare.proofs.Amounts.{amount-natural}
 use Rattle.fault.proofs.Order.{true-false}
-use Rattle.clean.specs.declared.Cleanness.{Cleanness}
-use Rattle.clean.specs.declared.Cleanness.the-variants.{Clean, Broken}
+use Rattle.clean.specs.declared.Outcome.{Outcome}
+use Rattle.clean.specs.declared.Outcome.the-variants.{Unbroken, Broken}
 use Rattle.clean.specs.Clean.{treeOf, cleanOf}
 use Rattle.quote.specs.Plan.{priceAt, perMinute, perKilometre, tripAmount, pastMinutes, pastKilometres}
 use Rattle.quote.specs.Quote.{Answer, planQuote, cleanQuote, short, quoteOf, mostSeconds, mostMetres}
@@ -33,28 +33,28 @@ use Rattle.quote.proofs.Past.{ended-minutes, ended-kilometres}
 use Rattle.gbfs.specs.Demand2.{planIn, fare, PastEnds}
 
 -- whatever it answers, the amount is not negative
-asked-natural : (t : Bool) (c : Cleanness) (m : Maybe Picked) (seconds metres : ℕ) → leZ (pos 0) (asked t c m seconds metres .amount) ≡ true
+asked-natural : (t : Bool) (c : Outcome) (m : Maybe Picked) (seconds metres : ℕ) → leZ (pos 0) (asked t c m seconds metres .amount) ≡ true
 unfolding tripAmount
 asked-natural false c m seconds metres = refl
 asked-natural true (Broken p) m seconds metres = refl
-asked-natural true Clean none seconds metres = refl
-asked-natural true Clean (some plan) seconds metres =
+asked-natural true Unbroken none seconds metres = refl
+asked-natural true Unbroken (some plan) seconds metres =
     amount-natural (tenThousandths (priceAt plan)) (perMinute plan) (perKilometre plan) (minutesOf seconds) (kilometresOf metres)
 
 -- a mark that a quote gives is its plan's
 module _ (seconds metres : ℕ) (plan : Picked) where
-  asked-minutes : (t : Bool) (c : Cleanness) (m : Maybe Picked) → m ≡ some plan → asked t c m seconds metres .pastMinutes ≡ true → pastMinutes plan seconds ≡ true
+  asked-minutes : (t : Bool) (c : Outcome) (m : Maybe Picked) → m ≡ some plan → asked t c m seconds metres .pastMinutes ≡ true → pastMinutes plan seconds ≡ true
   asked-minutes false c m f e = true-false e refl
   asked-minutes true (Broken p) m f e = true-false e refl
-  asked-minutes true Clean none f e = true-false e refl
-  asked-minutes true Clean (some x) f e =
+  asked-minutes true Unbroken none f e = true-false e refl
+  asked-minutes true Unbroken (some x) f e =
       let p : x ≡ plan = cc in ap (λ (y : Picked). pastMinutes y seconds) (sym p) ∙ e
 
-  asked-kilometres : (t : Bool) (c : Cleanness) (m : Maybe Picked) → m ≡ some plan → asked t c m seconds metres .pastKilometres ≡ true → pastKilometres plan metres ≡ true
+  asked-kilometres : (t : Bool) (c : Outcome) (m : Maybe Picked) → m ≡ some plan → asked t c m seconds metres .pastKilometres ≡ true → pastKilometres plan metres ≡ true
   asked-kilometres false c m f e = true-false e refl
   asked-kilometres true (Broken p) m f e = true-false e refl
-  asked-kilometres true Clean none f e = true-false e refl
-  asked-kilometres true Clean (some x) f e =
+  asked-kilometres true Unbroken none f e = true-false e refl
+  asked-kilometres true Unbroken (some x) f e =
       let p : x ≡ plan = cc in ap (λ (y : Picked). pastKilometres y metres) (sym p) ∙ e
 
 -- segments that have all ended
@@ -111,11 +111,11 @@ module _ (s id : List ℕ) where
   abbrev file : Picked
   file = pick (fileShape table23 5) (treeOf s)
 
-  quote-clean : (seconds metres : ℕ) → short seconds metres ≡ true → cleanOf 5 s ≡ Clean → quoteOf s id seconds metres ≡ cleanQuote file id seconds metres
+  quote-clean : (seconds metres : ℕ) → short seconds metres ≡ true → cleanOf 5 s ≡ Unbroken → quoteOf s id seconds metres ≡ cleanQuote file id seconds metres
   unfolding quoteOf
   quote-clean seconds metres h c = rw (h, c)
 
-  pub price : (seconds metres : ℕ) (plan : Picked) → seconds ≤ mostSeconds → metres ≤ mostMetres → cleanOf 5 s ≡ Clean
+  pub price : (seconds metres : ℕ) (plan : Picked) → seconds ≤ mostSeconds → metres ≤ mostMetres → cleanOf 5 s ≡ Unbroken
       → planIn s id ≡ some plan → quoteOf s id seconds metres ≡ fare plan seconds metres
   unfolding short cleanQuote tripAmount sum amount pastMinutes pastKilometres
   price seconds metres plan a b c found =
@@ -146,7 +146,7 @@ module _ (s id : List ℕ) where
     by-plan : quoteOf s id seconds metres ≡ cleanQuote file id seconds metres
     by-plan = quote-clean seconds metres (through .brief) (through .clean)
 
-    pub price-given : (seconds ≤ mostSeconds) × (metres ≤ mostMetres) × (cleanOf 5 s ≡ Clean)
+    pub price-given : (seconds ≤ mostSeconds) × (metres ≤ mostMetres) × (cleanOf 5 s ≡ Unbroken)
         × (plan : Picked) × (planIn s id ≡ some plan) × (quoteOf s id seconds metres ≡ fare plan seconds metres)
     unfolding short cleanQuote tripAmount sum amount pastMinutes pastKilometres
     price-given =

@@ -18,16 +18,17 @@ use Rattle.fault.specs.declared.Fault.{Fault}
 use Rattle.fault.specs.declared.Least.{Least}
 use Rattle.fault.specs.declared.Least.the-variants.{None, Is}
 use Rattle.fault.specs.Fault.{least}
-use Rattle.clean.specs.declared.Cleanness.{Cleanness}
-use Rattle.clean.specs.declared.Cleanness.the-variants.{Clean, Broken}
-use Rattle.clean.specs.Clean.{place, broken}
+use Rattle.clean.specs.declared.Outcome.{Outcome}
+use Rattle.clean.specs.declared.Outcome.the-variants.{Unbroken, Broken}
+use Rattle.clean.specs.Clean.{faultParts, broken}
 use Rattle.clean.proofs.Judged.{offset-fits}
 use Rattle.cross.specs.Cross.{crossFaults}
-use Rattle.cross.specs.inner.Stage.{firstOf, stageC}
-use Rattle.gbfs.specs.Verdict.{Feeds, bytesOf, picked, faultsB, verdictOf, said, bufferOf}
+use Rattle.cross.specs.inner.Stage.{firstOf, firstC}
+use Rattle.cross.specs.Stage.{Feeds, fileCount, bytesOf, picked}
+use Rattle.gbfs.specs.Verdict.{faultsB, verdictOf, said, bufferOf}
 use Rattle.gbfs.specs.inner.Stages.{orNext, malformed, brokenA, firstA, firstB, staged}
 use Rattle.gbfs.proofs.Passed.{syntax-kind}
-use Rattle.gbfs.proofs.Every.{files-all}
+use Rattle.cross.proofs.Onward.{onward-all}
 use Rattle.gbfs.proofs.ByFile.{verdict-staged}
 use Rattle.gbfs.proofs.Through.{all-through}
 use Rattle.gbfs.proofs.Answers.{word-room}
@@ -38,7 +39,7 @@ record Said (p : Parts) : Type 0 where
   fits : Fits form1 p
   kept : keeps form1 p ≡ true
 
-said-clean : Said (said Clean)
+said-clean : Said (said Unbroken)
 unfolding keeps
 said-clean =
     record {
@@ -46,7 +47,7 @@ said-clean =
       kept = refl;
     }
 
-module _ (file : ℕ) (h : 1 ≤ file) (i : file ≤ 6) where
+module _ (file : ℕ) (h : 1 ≤ file) (i : file ≤ fileCount) where
   said-offset : (k o : ℕ) → 1 ≤ k → k ≤ 4 → o ≤ fileBytes → Said (record { file = file; kind = k; field = 0; «record» = 0; sub = 0; offset = o })
   said-offset k o a b c =
       record {
@@ -54,22 +55,22 @@ module _ (file : ℕ) (h : 1 ≤ file) (i : file ≤ 6) where
         kept = sym (by-offset form1 _ (λ z. omega arith) (λ z. omega arith) i (omega arith) b);
       }
 
-  said-place : (f : Fault) → InWord f → Said (place file f)
+  said-place : (f : Fault) → InWord f → Said (faultParts file f)
   said-place f w =
       record {
         fits = (omega arith, (omega arith, (omega arith, (omega arith, (omega arith, (omega arith, (omega arith, tt)))))));
-        kept = sym (by-place form1 (place file f) (λ z. omega arith) (λ z. omega arith) i (w .field) (omega arith));
+        kept = sym (by-place form1 (faultParts file f) (λ z. omega arith) (λ z. omega arith) i (w .field) (omega arith));
       }
 
 -- what is found, one after another
-abbrev Sayable : Cleanness → Type 0
+abbrev Sayable : Outcome → Type 0
 Sayable x = Said (said x)
 
-sayable-next : (x y : Cleanness) → Sayable x → (x ≡ Clean → Sayable y) → Sayable (orNext x y)
-sayable-next Clean y h k = k refl
+sayable-next : (x y : Outcome) → Sayable x → (x ≡ Unbroken → Sayable y) → Sayable (orNext x y)
+sayable-next Unbroken y h k = k refl
 sayable-next (Broken p) y h k = h
 
-module _ (file : ℕ) (h : 1 ≤ file) (i : file ≤ 6) (next : Cleanness) (n : Sayable next) where
+module _ (file : ℕ) (h : 1 ≤ file) (i : file ≤ fileCount) (next : Outcome) (n : Sayable next) where
   sayable-syntax : (s : List ℕ) (x : Syntax) → syntaxOf s ≡ x → Sayable (malformed file x next)
   sayable-syntax s syntax.Sound e = n
   sayable-syntax s (syntax.Fault k o) e = let b = syntax-kind s k o e in said-offset file h i k o (b .0) (b .1) (offset-fits s k o e)
@@ -82,22 +83,22 @@ module _ (file : ℕ) (h : 1 ≤ file) (i : file ≤ 6) (next : Cleanness) (n : 
   sayable-broken None w = n
   sayable-broken (Is f) w = said-place file h i f (w f refl)
 
-sayable-faults : (faults : ℕ → List Fault) → ((file : ℕ) → 1 ≤ file → file ≤ 6 → (f : Fault) → least (faults file) ≡ Is f → InWord f)
+sayable-faults : (faults : ℕ → List Fault) → ((file : ℕ) → 1 ≤ file → file ≤ fileCount → (f : Fault) → least (faults file) ≡ Is f → InWord f)
     → Sayable (firstOf (λ file next. broken file (least (faults file)) next))
 sayable-faults faults w =
-    files-all Sayable (λ file next. broken file (least (faults file)) next) said-clean (λ file h i x n. sayable-broken file h i x n (least (faults file)) (w file h i))
+    onward-all Sayable (λ file next. broken file (least (faults file)) next) said-clean (λ file h i x n. sayable-broken file h i x n (least (faults file)) (w file h i))
 
 module _ (s : Feeds) where
   sayable-A : Sayable (firstA s)
   unfolding firstA
-  sayable-A = files-all Sayable (λ file next. brokenA file (bytesOf s file) next) said-clean (λ file h i x n. sayable-read file h i x n (bytesOf s file))
+  sayable-A = onward-all Sayable (λ file next. brokenA file (bytesOf s file) next) said-clean (λ file h i x n. sayable-read file h i x n (bytesOf s file))
 
   sayable-B : Sayable (firstB s)
   unfolding firstB
   sayable-B = sayable-faults (λ file. faultsB file (bytesOf s file)) (λ file h i. faults-fit file (bytesOf s file))
 
-  sayable-C : firstA s ≡ Clean → firstB s ≡ Clean → Sayable (stageC (picked s))
-  unfolding stageC
+  sayable-C : firstA s ≡ Unbroken → firstB s ≡ Unbroken → Sayable (firstC (picked s))
+  unfolding firstC
   sayable-C a b = sayable-faults (crossFaults (picked s)) (cross-fits s (all-through s a b))
 
   verdict-said : Said (said (verdictOf s))

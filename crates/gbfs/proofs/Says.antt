@@ -4,16 +4,17 @@ use mathlib.Core.Path.{_≡_, ap, _∙_}
 use Rattle.word.specs.Form.{form1}
 use Rattle.word.specs.Word as word
 use Rattle.word.specs.Word.{wordOf}
-use Rattle.clean.specs.declared.Cleanness.{Cleanness}
-use Rattle.gbfs.specs.Verdict.{Feeds, verdictOf, said}
+use Rattle.clean.specs.declared.Outcome.{Outcome}
+use Rattle.cross.specs.Stage.{Feeds}
+use Rattle.gbfs.specs.Verdict.{verdictOf, said}
 use Rattle.gbfs.specs.Demand2.{Says}
 use Rattle.gbfs.proofs.Answers.{told, number-room, word-room}
 use Rattle.gbfs.proofs.ReadBack.{verdict-read}
 
-abbrev reads : Cleanness → word.Answer
+abbrev reads : Outcome → word.Answer
 reads x = record { number = 0; parts = said x }
 
-pub says : (s : Feeds) (x : Cleanness) → verdictOf s ≡ x → Says s (told x) (said x)
+pub says : (s : Feeds) (x : Outcome) → verdictOf s ≡ x → Says s (told x) (said x)
 says s x e =
     record {
       numbered = λ b room. number-room s b room ∙ ap told e;

@@ -1,10 +1,9 @@
 -- A stage goes from file to file: what is found first from one file on is what is found in that file, or else from the next one on.
 use mathlib.Core.List.{List, [], _∷_}
 use mathlib.Core.Path.{_≡_, refl, sym, ap, _∙_}
-use Prim.Native.Nat.{ℕ, zero, suc, _+_, _-_, _≤_}
+use Prim.Native.Nat.{ℕ, _+_, _≤_}
 use native.Mathlib.Omega.{arith}
 use lib.ListN.{length}
-use Rattle.word.specs.declared.Parts.{Parts}
 use Rattle.json.specs.declared.Syntax.{Syntax}
 use Rattle.json.specs.declared.Syntax.the-variants as syntax
 use Rattle.json.specs.Text.{syntaxOf}
@@ -13,76 +12,59 @@ use Rattle.schema.specs.Table23.{table23}
 use Rattle.fault.specs.declared.Least.{Least}
 use Rattle.fault.specs.Fault.{least}
 use Rattle.judge.specs.Faults.{fileFaults}
-use Rattle.clean.specs.declared.Cleanness.{Cleanness}
-use Rattle.clean.specs.declared.Cleanness.the-variants.{Clean, Broken}
+use Rattle.clean.specs.declared.Outcome.{Outcome}
+use Rattle.clean.specs.declared.Outcome.the-variants.{Unbroken, Broken}
 use Rattle.clean.specs.Clean.{treeOf, broken}
-use Rattle.cross.specs.inner.Stage.{firstOf}
-use Rattle.gbfs.specs.Verdict.{Feeds, bytesOf, faultsB}
-use Rattle.gbfs.specs.inner.Stages.{orNext, malformed, brokenA, firstA, firstB}
+use Rattle.cross.specs.Stage.{Feeds, fileCount, bytesOf}
+use Rattle.cross.proofs.Onward.{ahead, ahead-next}
+use Rattle.gbfs.specs.Verdict.{faultsB}
+use Rattle.gbfs.specs.inner.Stages.{orNext, malformed, brokenA}
 use Rattle.gbfs.proofs.Passed.{faults-there}
 use Rattle.gbfs.proofs.ByFile.{broken-next}
 
--- what is found first in so many files, from one on
-module _ (found : ℕ → Cleanness) where
-  unfoldable pub onward : ℕ → ℕ → Cleanness
-  onward file zero = Clean
-  onward file (suc n) = orNext (found file) (onward (file + 1) n)
-
-  onward-next : (file : ℕ) → file ≤ 6 → onward file (7 - file) ≡ orNext (found file) (onward (file + 1) (7 - (file + 1)))
-  unfolding onward
-  onward-next file h = let z : 7 - file ≡ suc (7 - (file + 1)) = omega arith in ap (onward file) z
-
-  module _ (file : ℕ) {x : Cleanness} (e : onward file (7 - file) ≡ x) where
-    pub onward-end : 7 ≤ file → Clean ≡ x
-    unfolding onward
-    onward-end h = let z : 0 ≡ 7 - file = omega arith in ap (onward file) z ∙ e
-
-    module _ (h : file ≤ 6) where
-      pub onward-here : {p : Parts} → found file ≡ Broken p → Broken p ≡ x
-      onward-here b = sym (onward-next file h ∙ ap (λ y. orNext y (onward (file + 1) (7 - (file + 1)))) b) ∙ e
-
-      pub onward-later : found file ≡ Clean → onward (file + 1) (7 - (file + 1)) ≡ x
-      onward-later c = sym (onward-next file h ∙ ap (λ y. orNext y (onward (file + 1) (7 - (file + 1)))) c) ∙ e
+-- a loop over the files whose steps hand on what comes next
+module _ (step : ℕ → Outcome → Outcome) (hands : (file : ℕ) (next : Outcome) → orNext (step file Unbroken) next ≡ step file next) where
+  pub ahead-found : (file : ℕ) → file ≤ fileCount → {r : Outcome} → r ≡ step file Unbroken → ahead step Unbroken file ≡ orNext r (ahead step Unbroken (file + 1))
+  ahead-found file h e =
+      ahead-next step Unbroken file h ∙ sym (hands file (ahead step Unbroken (file + 1))) ∙ ap (λ y. orNext y (ahead step Unbroken (file + 1))) (sym e)
 
 -- stage A of a file, absent or there
-syntax-next : (file : ℕ) (x : Syntax) (next : Cleanness) → orNext (malformed file x Clean) next ≡ malformed file x next
+syntax-next : (file : ℕ) (x : Syntax) (next : Outcome) → orNext (malformed file x Unbroken) next ≡ malformed file x next
 syntax-next file syntax.Sound next = refl
 syntax-next file (syntax.Fault kind offset) next = refl
 
-read-next : (file : ℕ) (s : List ℕ) (next : Cleanness) → orNext (brokenA file s Clean) next ≡ brokenA file s next
+read-next : (file : ℕ) (s : List ℕ) (next : Outcome) → orNext (brokenA file s Unbroken) next ≡ brokenA file s next
 read-next file [] next = refl
 read-next file (b ∷ s) next = syntax-next file (syntaxOf (b ∷ s)) next
 
-pub read-absent : (file : ℕ) (s : List ℕ) → length s ≡ 0 → Clean ≡ brokenA file s Clean
+pub read-absent : (file : ℕ) (s : List ℕ) → length s ≡ 0 → Unbroken ≡ brokenA file s Unbroken
 read-absent file [] e = refl
 read-absent file (b ∷ s) e = absurd (omega arith)
 
-pub read-present : (file : ℕ) (s : List ℕ) → (length s ≡ 0 → ⊥) → malformed file (syntaxOf s) Clean ≡ brokenA file s Clean
+pub read-present : (file : ℕ) (s : List ℕ) → (length s ≡ 0 → ⊥) → malformed file (syntaxOf s) Unbroken ≡ brokenA file s Unbroken
 read-present file [] h = absurd (h refl)
 read-present file (b ∷ s) h = refl
 
 -- stage B
-pub faults-absent : (file : ℕ) (s : List ℕ) → length s ≡ 0 → Clean ≡ broken file (least (faultsB file s)) Clean
+pub faults-absent : (file : ℕ) (s : List ℕ) → length s ≡ 0 → Unbroken ≡ broken file (least (faultsB file s)) Unbroken
 unfolding least
 faults-absent file [] e = refl
 faults-absent file (b ∷ s) e = absurd (omega arith)
 
 pub faults-found : (file : ℕ) (s : List ℕ) (x : Least) → syntaxOf s ≡ syntax.Sound → x ≡ least (fileFaults (fileShape table23 file) (treeOf s))
-    → broken file x Clean ≡ broken file (least (faultsB file s)) Clean
-faults-found file s x h e = ap (λ y. broken file y Clean) (e ∙ sym (ap least (faults-there file s h)))
+    → broken file x Unbroken ≡ broken file (least (faultsB file s)) Unbroken
+faults-found file s x h e = ap (λ y. broken file y Unbroken) (e ∙ sym (ap least (faults-there file s h)))
 
 -- of a set
 module _ (s : Feeds) where
-  abbrev pub foundA : ℕ → Cleanness
-  foundA file = brokenA file (bytesOf s file) Clean
+  abbrev pub stepA : ℕ → Outcome → Outcome
+  stepA file next = brokenA file (bytesOf s file) next
 
-  abbrev pub foundB : ℕ → Cleanness
-  foundB file = broken file (least (faultsB file (bytesOf s file))) Clean
+  abbrev pub stepB : ℕ → Outcome → Outcome
+  stepB file next = broken file (least (faultsB file (bytesOf s file))) next
 
-  pub onward-A : onward foundA 1 6 ≡ firstA s
-  unfolding firstA onward
-  onward-A = ap firstOf (λ i file next. read-next file (bytesOf s file) next i)
+  pub next-A : (file : ℕ) → file ≤ fileCount → {r : Outcome} → r ≡ stepA file Unbroken → ahead stepA Unbroken file ≡ orNext r (ahead stepA Unbroken (file + 1))
+  next-A = ahead-found stepA (λ file next. read-next file (bytesOf s file) next)
 
-  pub onward-B : onward foundB 1 6 ≡ firstB s
-  unfolding firstB onward
-  onward-B = ap firstOf (λ i file next. broken-next file (least (faultsB file (bytesOf s file))) next i)
+  pub next-B : (file : ℕ) → file ≤ fileCount → {r : Outcome} → r ≡ stepB file Unbroken → ahead stepB Unbroken file ≡ orNext r (ahead stepB Unbroken (file + 1))
+  next-B = ahead-found stepB (λ file next. broken-next file (least (faultsB file (bytesOf s file))) next)

@@ -11,10 +11,11 @@ use Rattle.schema.specs.Shape.{fileShape}
 use Rattle.schema.specs.Table23.{table23}
 use Rattle.fault.specs.declared.Fault.{Fault}
 use Rattle.judge.specs.Faults.{fileFaults}
-use Rattle.clean.specs.declared.Cleanness.the-variants.{Clean}
-use Rattle.clean.specs.Clean.{treeOf, place}
-use Rattle.cross.specs.inner.Stage.{Through}
-use Rattle.gbfs.specs.Verdict.{Feeds, bytesOf, syntaxRules, rulesA, faultsB, stageA, stageBBy, stageB}
+use Rattle.clean.specs.declared.Outcome.the-variants.{Unbroken}
+use Rattle.clean.specs.Clean.{treeOf, faultParts}
+use Rattle.cross.specs.inner.Stage.{AllThrough}
+use Rattle.cross.specs.Stage.{Feeds, fileCount, bytesOf}
+use Rattle.gbfs.specs.Verdict.{syntaxRules, rulesA, faultsB, stageA, stageBBy, stageB}
 use Rattle.gbfs.specs.inner.Stages.{firstA, firstB}
 use Rattle.gbfs.proofs.Every.{every-none}
 use Rattle.gbfs.proofs.First.{first-clean}
@@ -24,7 +25,7 @@ no-syntax : (file : ℕ) (x : Syntax) → syntaxRules file x ≡ [] → x ≡ sy
 no-syntax file syntax.Sound e = refl
 no-syntax file (syntax.Fault k o) e = let z : _≡_ {A = ℕ} 0 1 = cc in absurd (omega arith)
 
-no-places : (file : ℕ) (l : List Fault) → map (place file) l ≡ [] → l ≡ []
+no-places : (file : ℕ) (l : List Fault) → map (faultParts file) l ≡ [] → l ≡ []
 no-places file [] e = refl
 no-places file (f ∷ l) e = let z : _≡_ {A = ℕ} 0 1 = cc in absurd (omega arith)
 
@@ -37,14 +38,14 @@ faultless : (file : ℕ) (s : List ℕ) → faultsB file s ≡ [] → (length s 
 faultless file [] e h = absurd (h refl)
 faultless file (b ∷ s) e h = e
 
--- all six
-pub all-read : (s : Feeds) → firstA s ≡ Clean → (file : ℕ) → 1 ≤ file → file ≤ 6 → (length (bytesOf s file) ≡ 0 → ⊥) → syntaxOf (bytesOf s file) ≡ syntax.Sound
+-- all files
+pub all-read : (s : Feeds) → firstA s ≡ Unbroken → (file : ℕ) → 1 ≤ file → file ≤ fileCount → (length (bytesOf s file) ≡ 0 → ⊥) → syntaxOf (bytesOf s file) ≡ syntax.Sound
 unfolding stageA
 all-read s a file h i =
     reads file (bytesOf s file) (every-none (λ n. rulesA n (bytesOf s n)) (first-clean (stageA s) (first-stageA s ∙ a)) file h i)
 
-pub all-through : (s : Feeds) → firstA s ≡ Clean → firstB s ≡ Clean → (file : ℕ) → 1 ≤ file → file ≤ 6 → Through file (bytesOf s file)
+pub all-through : (s : Feeds) → firstA s ≡ Unbroken → firstB s ≡ Unbroken → AllThrough s
 unfolding stageBBy
 all-through s a b file h i =
-    let y = every-none (λ n. map (place n) (faultsB n (bytesOf s n))) (first-clean (stageB s) (first-stageB s ∙ b)) file h i in
+    let y = every-none (λ n. map (faultParts n) (faultsB n (bytesOf s n))) (first-clean (stageB s) (first-stageB s ∙ b)) file h i in
     record { reads = all-read s a file h i; faultless = faultless file (bytesOf s file) (no-places file (faultsB file (bytesOf s file)) y) }

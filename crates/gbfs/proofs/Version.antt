@@ -32,15 +32,17 @@ use Rattle.judge.specs.Bounds.{OfStageB}
 use Rattle.judge.specs.Faults.{fileFaults}
 use Rattle.judge.proofs.Holds.{All, none, only}
 use Rattle.judge.proofs.Fits.{first-fits}
-use Rattle.clean.specs.declared.Cleanness.{Cleanness}
-use Rattle.clean.specs.declared.Cleanness.the-variants.{Clean, Broken}
+use Rattle.clean.specs.declared.Outcome.{Outcome}
+use Rattle.clean.specs.declared.Outcome.the-variants.{Unbroken, Broken}
 use Rattle.clean.specs.Clean as clean
-use Rattle.clean.specs.Clean.{treeOf, place}
-use Rattle.gbfs.specs.Verdict.{Feeds, bytesOf, syntaxRules, rulesA, faultsB, stageA, stageBBy, stageB, stageC, orElse, rulesBy, rules, before, first, verdictOf}
+use Rattle.clean.specs.Clean.{treeOf, faultParts}
+use Rattle.cross.specs.Stage.{Feeds, fileCount, bytesOf}
+use Rattle.cross.proofs.Onward.{onward-all}
+use Rattle.gbfs.specs.Verdict.{syntaxRules, rulesA, faultsB, stageA, stageBBy, stageB, stageC, orElse, brokenRulesBy, brokenRules, before, first, verdictOf}
 use Rattle.gbfs.specs.inner.Stages.{firstB}
 use Rattle.gbfs.specs.Demand3.{OtherVersion, OfStageA, Ahead, malformed, earlier, header, Refused}
 use Rattle.gbfs.proofs.Passed.{syntax-kind, tree-spelled, faults-there}
-use Rattle.gbfs.proofs.Every.{all-at, every-all, every-member, files-all}
+use Rattle.gbfs.proofs.Every.{all-at, every-all, every-member}
 use Rattle.gbfs.proofs.Order.{faultOf, same-file, not-before-file}
 use Rattle.gbfs.proofs.First.{first-named, first-broken}
 use Rattle.gbfs.proofs.ByFile.{first-stageA, first-stageB}
@@ -59,7 +61,7 @@ text-some [] t e = let g = grammar-reads t in no-text (g .0) (g .1) (g .2)
 text-some (b ∷ s) t e = omega arith
 
 -- a file of another version that stage A passes
-file-opens : (file : ℕ) → 1 ≤ file → file ≤ 6 → (s : List ℕ) → OtherVersion s → syntaxOf s ≡ syntax.Sound → Opening (faultsB file s)
+file-opens : (file : ℕ) → 1 ≤ file → file ≤ fileCount → (s : List ℕ) → OtherVersion s → syntaxOf s ≡ syntax.Sound → Opening (faultsB file s)
 file-opens file h i s o e =
     let p = sound-spells s e in
     subst Opening (ap (fileFaults (fileShape table23 file)) (sym (tree-spelled s (p .1))) ∙ sym (faults-there file s e))
@@ -96,11 +98,11 @@ unfolding stageA
 stageA-kinds s = every-all (λ file. rulesA file (bytesOf s file)) (λ file h i. read-kinds file (bytesOf s file))
 
 -- kinds of stage B
-abbrev OfB : Cleanness → Type 0
-OfB Clean = Unit {0}
+abbrev OfB : Outcome → Type 0
+OfB Unbroken = Unit {0}
 OfB (Broken p) = OfStageB (p .kind)
 
-broken-kind : (file : ℕ) (next : Cleanness) → OfB next → (x : Least) → ((f : Fault) → x ≡ Is f → OfStageB (f .kind)) → OfB (clean.broken file x next)
+broken-kind : (file : ℕ) (next : Outcome) → OfB next → (x : Least) → ((f : Fault) → x ≡ Is f → OfStageB (f .kind)) → OfB (clean.broken file x next)
 broken-kind file next n None h = n
 broken-kind file next n (Is f) h = h f refl
 
@@ -112,19 +114,19 @@ fault-kind file (b ∷ s) f e = first-fits file (treeOf (b ∷ s)) f e .kind
 stageB-kind : (s : Feeds) → OfB (firstB s)
 unfolding firstB
 stageB-kind s =
-    files-all OfB (λ file next. clean.broken file (least (faultsB file (bytesOf s file))) next) tt
+    onward-all OfB (λ file next. clean.broken file (least (faultsB file (bytesOf s file))) next) tt
     (λ file h i x n. broken-kind file x n (least (faultsB file (bytesOf s file))) (fault-kind file (bytesOf s file)))
 
 -- which rules count
-only-stageA : (s : Feeds) (p : Parts) (l : List Parts) → stageA s ≡ p ∷ l → rules s ≡ stageA s
-unfolding rulesBy
+only-stageA : (s : Feeds) (p : Parts) (l : List Parts) → stageA s ≡ p ∷ l → brokenRules s ≡ stageA s
+unfolding brokenRulesBy
 only-stageA s p l e = ap (λ (m : List Parts). orElse m (orElse (stageB s) (stageC s))) e ∙ sym e
 
 orElse-some : (l m : List Parts) (p : Parts) → List·Memᴰ p l → orElse l m ≡ l
 orElse-some [] m p h = absurd (List·Memᴰ·not-nil h)
 orElse-some (q ∷ l) m p h = refl
 
-module _ (s : Feeds) (file : ℕ) (h : 1 ≤ file) (i : file ≤ 6) (o : OtherVersion (bytesOf s file)) where
+module _ (s : Feeds) (file : ℕ) (h : 1 ≤ file) (i : file ≤ fileCount) (o : OtherVersion (bytesOf s file)) where
   -- where stage A finds nothing
   module _ (a : stageA s ≡ []) where
     sound : syntaxOf (bytesOf s file) ≡ syntax.Sound
@@ -135,16 +137,16 @@ module _ (s : Feeds) (file : ℕ) (h : 1 ≤ file) (i : file ≤ 6) (o : OtherVe
     opens = file-opens file h i (bytesOf s file) o sound
 
     abbrev broken : Parts
-    broken = place file (fault 0 1 0 (opens .kind))
+    broken = faultParts file (fault 0 1 0 (opens .kind))
 
     in-stageB : List·Memᴰ broken (stageB s)
     unfolding stageBBy
     in-stageB =
-        every-member (λ n. map (place n) (faultsB n (bytesOf s n))) broken file h i
-        (subst (λ (l : List Fault). List·Memᴰ broken (map (place file) l)) (sym (opens .is)) (List·Memᴰ·head refl))
+        every-member (λ n. map (faultParts n) (faultsB n (bytesOf s n))) broken file h i
+        (subst (λ (l : List Fault). List·Memᴰ broken (map (faultParts file) l)) (sym (opens .is)) (List·Memᴰ·head refl))
 
-    only-stageB : rules s ≡ stageB s
-    unfolding rulesBy
+    only-stageB : brokenRules s ≡ stageB s
+    unfolding brokenRulesBy
     only-stageB = ap (λ (l : List Parts). orElse l (orElse (stageB s) (stageC s))) a ∙ orElse-some (stageB s) (stageC s) broken in-stageB
 
     -- what no fault at field 1 comes before
@@ -160,11 +162,11 @@ module _ (s : Feeds) (file : ℕ) (h : 1 ≤ file) (i : file ≤ 6) (o : OtherVe
     unfolding verdictOf
     refused-B =
         let m = subst (List·Memᴰ broken) (sym only-stageB) in-stageB in
-        let n = first-named (rules s) broken m in
+        let n = first-named (brokenRules s) broken m in
         let b : firstB s ≡ Broken (n .parts) = sym (first-stageB s) ∙ ap first (sym only-stageB) ∙ n .is in
         record {
           parts = n .parts;
-          ahead = ahead (n .parts) (subst OfB b (stageB-kind s)) (first-broken (rules s) (n .parts) (n .is) .first broken m);
+          ahead = ahead (n .parts) (subst OfB b (stageB-kind s)) (first-broken (brokenRules s) (n .parts) (n .is) .first broken m);
           told = says s (Broken (n .parts)) (n .is);
         }
 
@@ -176,6 +178,6 @@ module _ (s : Feeds) (file : ℕ) (h : 1 ≤ file) (i : file ≤ 6) (o : OtherVe
       go [] e = refused-B e
       go (p ∷ l) e =
           let r = only-stageA s p l e in
-          let n = first-named (rules s) p (subst (List·Memᴰ p) (sym (r ∙ e)) (List·Memᴰ·head refl)) in
-          let m = subst (List·Memᴰ (n .parts)) r (first-broken (rules s) (n .parts) (n .is) .among) in
+          let n = first-named (brokenRules s) p (subst (List·Memᴰ p) (sym (r ∙ e)) (List·Memᴰ·head refl)) in
+          let m = subst (List·Memᴰ (n .parts)) r (first-broken (brokenRules s) (n .parts) (n .is) .among) in
           record { parts = n .parts; ahead = malformed (all-at (stageA-kinds s) m); told = says s (Broken (n .parts)) (n .is) }

@@ -9,16 +9,16 @@ use Prim.Native.Nat.{ℕ}
 use native.Mathlib.Omega.{arith}
 use Rattle.notation.specs.Choice.{_⇒_else_, _and_}
 use Rattle.word.specs.Word.{noParts}
-use Rattle.schema.specs.Pick.{Picked}
+use Rattle.schema.specs.Pick.{Picked, elements}
 use Rattle.schema.proofs.Tests.{and-left, and-right}
-use Rattle.document.specs.Document.{Maybe, none, some, elements, field, fieldItems, spelling, truth, given}
+use Rattle.document.specs.Document.{Maybe, none, some, field, fieldItems, spelling, truth, given}
 use Rattle.fault.proofs.Order.{by-test, true-false}
 use Rattle.geometry.specs.Ring.{Point}
 use Rattle.geometry.specs.Held.{onRing, odd, sideOf, holds, onAny, inAny, polygonHolds}
 use Rattle.geometry.proofs.Any.{any-one, one-any}
 use Rattle.geometry.proofs.Polygon.{edge-held}
-use Rattle.clean.specs.declared.Cleanness.{Cleanness}
-use Rattle.clean.specs.declared.Cleanness.the-variants.{Clean, Broken}
+use Rattle.clean.specs.declared.Outcome.{Outcome}
+use Rattle.clean.specs.declared.Outcome.the-variants.{Unbroken, Broken}
 use Rattle.clean.specs.Clean.{cleanOf}
 use Rattle.zone.specs.Zone.{outline, counts, ringsHold, polygonsHoldBy, polygonsHold, polygonsOf, applies, zoneRulesBy, zoneRules, rulesBy, rules, applicable, zonesOf, rulesAt, otherwise, firstGiven}
 use Rattle.zone.specs.Answer.{Answer, refused, found, ruleOf, values, onMap, ofRules, ofClean, rulingOf}
@@ -245,7 +245,7 @@ module _ (q : Point) (type : List ℕ) (moment : ℕ) where
           (none-of z p (fieldItems 77 p) (λ r a. true-false (both (counts p moment) held (a .counting) (holding-held q z (a .holding))) f) ih))
 
   -- what a zone question asks, in order
-  abbrev asked : Bool → Cleanness → List Picked → Answer
+  abbrev asked : Bool → Outcome → List Picked → Answer
   asked t c k = t ⇒ ofClean c (ofRules k) else refused 8 noParts
 
   -- the values of the rules that apply
@@ -297,10 +297,10 @@ module _ (q : Point) (type : List ℕ) (moment : ℕ) where
         go [] o = absurd (none-applies o r m a)
         go (x ∷ k) o = together o
 
-    answered : onMap q ≡ true → cleanOf 6 s ≡ Clean → rulingOf s q type moment ≡ ofRules those
+    answered : onMap q ≡ true → cleanOf 6 s ≡ Unbroken → rulingOf s q type moment ≡ ofRules those
     answered h c = in-order ∙ rw (h, c)
 
-    pub rule : onMap q ≡ true → cleanOf 6 s ≡ Clean → (g : Together Apply (rulesIn s))
+    pub rule : onMap q ≡ true → cleanOf 6 s ≡ Unbroken → (g : Together Apply (rulesIn s))
         → rulingOf s q type moment ≡ found (ruleOf (g .ride) (g .through) (g .speed) (g .parking))
     rule h c g = answered h c ∙ go those listed
       where
@@ -308,7 +308,7 @@ module _ (q : Point) (type : List ℕ) (moment : ℕ) where
         go [] o = absurd (none-applies o (g .one) (g .stands) (g .has))
         go (x ∷ k) o = ap found (together-only o g)
 
-    pub no-rule : onMap q ≡ true → cleanOf 6 s ≡ Clean → NoneWith Apply (rulesIn s) → rulingOf s q type moment ≡ refused 9 noParts
+    pub no-rule : onMap q ≡ true → cleanOf 6 s ≡ Unbroken → NoneWith Apply (rulesIn s) → rulingOf s q type moment ≡ refused 9 noParts
     no-rule h c n = answered h c ∙ go those listed
       where
         go : (k : List Picked) → Applying (rulesIn s) k → ofRules k ≡ refused 9 noParts
@@ -319,22 +319,22 @@ module _ (q : Point) (type : List ℕ) (moment : ℕ) where
     numbered : {n : ℕ} → rulingOf s q type moment .number ≡ n → asked (onMap q) (cleanOf 6 s) those .number ≡ n
     numbered e = ap (λ (a : Answer). a .number) (sym in-order) ∙ e
 
-    pub ruled : rulingOf s q type moment .number ≡ 0 → (onMap q ≡ true) × (cleanOf 6 s ≡ Clean) × Together Apply (rulesIn s)
+    pub ruled : rulingOf s q type moment .number ≡ 0 → (onMap q ≡ true) × (cleanOf 6 s ≡ Unbroken) × Together Apply (rulesIn s)
     ruled e = go (onMap q) (cleanOf 6 s) those listed (numbered e)
       where
-        go : (t : Bool) (c : Cleanness) (k : List Picked) → Applying (rulesIn s) k → asked t c k .number ≡ 0
-            → (t ≡ true) × (c ≡ Clean) × Together Apply (rulesIn s)
+        go : (t : Bool) (c : Outcome) (k : List Picked) → Applying (rulesIn s) k → asked t c k .number ≡ 0
+            → (t ≡ true) × (c ≡ Unbroken) × Together Apply (rulesIn s)
         go false c k o i = absurd (omega arith)
         go true (Broken p) k o i = absurd (omega arith)
-        go true Clean [] o i = absurd (omega arith)
-        go true Clean (x ∷ k) o i = (refl, refl, together o)
+        go true Unbroken [] o i = absurd (omega arith)
+        go true Unbroken (x ∷ k) o i = (refl, refl, together o)
 
-    pub unruled : rulingOf s q type moment .number ≡ 9 → (onMap q ≡ true) × (cleanOf 6 s ≡ Clean) × NoneWith Apply (rulesIn s)
+    pub unruled : rulingOf s q type moment .number ≡ 9 → (onMap q ≡ true) × (cleanOf 6 s ≡ Unbroken) × NoneWith Apply (rulesIn s)
     unruled e = go (onMap q) (cleanOf 6 s) those listed (numbered e)
       where
-        go : (t : Bool) (c : Cleanness) (k : List Picked) → Applying (rulesIn s) k → asked t c k .number ≡ 9
-            → (t ≡ true) × (c ≡ Clean) × NoneWith Apply (rulesIn s)
+        go : (t : Bool) (c : Outcome) (k : List Picked) → Applying (rulesIn s) k → asked t c k .number ≡ 9
+            → (t ≡ true) × (c ≡ Unbroken) × NoneWith Apply (rulesIn s)
         go false c k o i = absurd (omega arith)
         go true (Broken p) k o i = absurd (omega arith)
-        go true Clean [] o i = (refl, refl, none-applies o)
-        go true Clean (x ∷ k) o i = absurd (omega arith)
+        go true Unbroken [] o i = (refl, refl, none-applies o)
+        go true Unbroken (x ∷ k) o i = absurd (omega arith)

@@ -1,6 +1,6 @@
 -- Verdicts on sets, computed: what comes ahead of what. Document 01's own readings (k) and (l) stand in the table of all of them.
 use mathlib.Core.List.{List, [], _∷_, _++_}
-use mathlib.Core.Path.{_≡_, refl}
+use mathlib.Core.Path.{refl}
 use Prim.Native.Nat.{ℕ}
 use Prim.Native.String.{String}
 use Rattle.notation.specs.Case.{Case, Answers, json}
@@ -8,16 +8,16 @@ use Rattle.schema.specs.Records.{identified}
 use Rattle.schema.specs.Pick as pick
 use Rattle.document.specs.Document as document
 use Rattle.judge.specs.Cases.{judging, inData}
-use Rattle.clean.specs.declared.Cleanness.{Cleanness}
-use Rattle.clean.specs.declared.Cleanness.the-variants.{Clean, Broken}
+use Rattle.clean.specs.declared.Outcome.{Outcome}
+use Rattle.clean.specs.declared.Outcome.the-variants.{Unbroken, Broken}
 use Rattle.clean.specs.Clean as clean
 use Rattle.references.specs.References as references
 use Rattle.cross.specs.Cross as cross
-use Rattle.gbfs.specs.Verdict.{bytesOf, stageA, stageBBy, stageC, rulesBy, before, first, verdictOf}
+use Rattle.gbfs.specs.Verdict.{eachFrom, stageA, stageBBy, stageC, brokenRulesBy, before, first, verdictOf}
 
 -- opens every definition of a verdict
 unfoldable pub judgingSets : Unit {0}
-unfolding judging identified pick.at document.field document.fieldItems document.along document.text document.spelling clean.treeOf clean.recordsOf clean.usedBefore clean.repeatedId clean.repeatsFrom clean.repeats references.anyWith cross.recordsIn cross.repeatsIn cross.sumOf cross.availableFaults cross.idFaults cross.ruleFaults cross.typeFaults cross.statusFaults cross.bikeFaults cross.zoneFaults cross.each cross.faultsOf cross.absentees cross.fileIn cross.crossFaults bytesOf stageA stageBBy stageC rulesBy before first verdictOf
+unfolding judging identified pick.slotOf document.field document.fieldItems document.along document.text document.spelling clean.treeOf clean.recordsOf clean.usedBefore clean.repeatedId clean.repeatsFrom clean.repeats references.anyWith cross.sumOf cross.availableFaults cross.idFaults cross.ruleFaults cross.typeFaults cross.statusFaults cross.bikeFaults cross.zoneFaults cross.eachRecord cross.faultsOf cross.absentees cross.crossFaults eachFrom stageA stageBBy stageC brokenRulesBy before first verdictOf
 judgingSets = tt
 
 -- a file that lists these records under this name
@@ -25,11 +25,10 @@ abbrev pub listing : (name records : String) → List ℕ
 listing name records = inData (json "{'" ++ json name ++ json "':[" ++ json records ++ json "]}")
 
 -- the verdict on vehicle types, stations and bikes
-abbrev pub verdict : (types stations bikes : List ℕ) → Cleanness
-verdict types stations bikes =
-    verdictOf (record { vehicleTypes = types; stations = stations; statuses = []; bikes = bikes; plans = []; zones = [] })
+abbrev pub verdict : (types stations bikes : List ℕ) → Outcome
+verdict types stations bikes = verdictOf (types ∷ stations ∷ [] ∷ bikes ∷ [])
 
-abbrev pub broken : (file kind field rec sub offset : ℕ) → Cleanness
+abbrev pub broken : (file kind field rec sub offset : ℕ) → Outcome
 broken file kind field rec sub offset =
     Broken (record { file = file; kind = kind; field = field; «record» = rec; sub = sub; offset = offset })
 
@@ -44,9 +43,9 @@ laterBikes =
     json "{'data':{'x':[1],'bikes':[{'is_reserved':false,'bike_id':'a','is_disabled':false},{'is_disabled':false,'bike_id':'b','is_reserved':false},{'y':0}]},'ttl': 0,'versi\\u006fn':'2.3','last_updated':0}"
 
 -- vehicle types, stations and bikes
-abbrev sets : List (Case (List ℕ × List ℕ × List ℕ) Cleanness)
+abbrev sets : List (Case (List ℕ × List ℕ × List ℕ) Outcome)
 sets =
-    ("no bike, but a list of them", ([], [], listing "bikes" ""), Clean) ∷
+    ("no bike, but a list of them", ([], [], listing "bikes" ""), Unbroken) ∷
     ("neither stations nor bikes", ([], [], []), broken 4 14 0 0 0 0) ∷
     ("stations call for their statuses", ([], listing "stations" "", []), broken 3 14 0 0 0 0) ∷
     ("stage A of file 4 ahead of stage B of file 1", (json "{'version':'2.2'}", [], json "[1,]"), broken 4 2 0 0 0 3) ∷

@@ -13,15 +13,15 @@ use Rattle.word.specs.Form.{form1}
 use Rattle.word.specs.Word.{noParts, wordOf, IsWord, readWord}
 use Rattle.schema.specs.Shape.{fileShape}
 use Rattle.schema.specs.Table23.{table23}
-use Rattle.schema.specs.Pick.{Picked, pick}
+use Rattle.schema.specs.Pick.{Picked, pick, elements}
 use Rattle.document.specs.Document as document
-use Rattle.document.specs.Document.{Maybe, some, elements, field, fieldItems, spelling, truth, given}
+use Rattle.document.specs.Document.{Maybe, some, field, fieldItems, spelling, truth, given}
 use Rattle.decimal.specs.Exact.{tenThousandths}
 use Rattle.fare.specs.declared.Segment.{Segment}
 use Rattle.fare.specs.Charges.{charge, charges, clamped, greatestEnd, past}
 use Rattle.geometry.specs.Ring.{Point}
 use Rattle.geometry.specs.Held.{onRing, odd, holds}
-use Rattle.clean.specs.declared.Cleanness.the-variants.{Clean}
+use Rattle.clean.specs.declared.Outcome.the-variants.{Unbroken}
 use Rattle.clean.specs.Clean.{treeOf, cleanOf}
 use Rattle.quote.specs.Plan.{priceAt, perMinute, perKilometre, planOf, plans}
 use Rattle.quote.specs.Quote as quote
@@ -29,7 +29,8 @@ use Rattle.quote.specs.Quote.{mostSeconds, mostMetres, quoteOf}
 use Rattle.zone.specs.Zone.{outline, counts, polygonsOf, applies, zonesOf}
 use Rattle.zone.specs.Answer as zone
 use Rattle.zone.specs.Answer.{ruleOf, onMap, rulingOf}
-use Rattle.gbfs.specs.Verdict.{Feeds, rules, before, numberOf, bufferOf}
+use Rattle.cross.specs.Stage.{Feeds}
+use Rattle.gbfs.specs.Verdict.{brokenRules, before, numberOf, bufferOf}
 
 -- The verdict: p is among the rules, and none of them comes before it.
 pub record First (p : Parts) (l : List Parts) : Type 0 where
@@ -156,13 +157,13 @@ pub record Together (P : ZoneRule → Type 0) (l : List ZoneRule) : Type 0 where
 pub record Demand2 : Type 0 where
   -- A set that breaks no rule is accepted, and its word says nothing else.
   -- Shut out: a verdict that refuses all sets; a call that writes nothing.
-  pub accepted : (s : Feeds) → rules s ≡ [] → Says s 0 noParts
+  pub accepted : (s : Feeds) → brokenRules s ≡ [] → Says s 0 noParts
   -- Of the rules that a set breaks, there is one with none before it, and only one.
-  pub first : (s : Feeds) → (rules s ≡ [] → ⊥) → (p : Parts) × First p (rules s)
-  pub only : (s : Feeds) (p q : Parts) → First p (rules s) → First q (rules s) → p ≡ q
+  pub first : (s : Feeds) → (brokenRules s ≡ [] → ⊥) → (p : Parts) × First p (brokenRules s)
+  pub only : (s : Feeds) (p q : Parts) → First p (brokenRules s) → First q (brokenRules s) → p ≡ q
   -- The set is not accepted for that rule.
   -- Shut out: one word for everything; a record number or an offset made up; a later rule named.
-  pub notAccepted : (s : Feeds) (p : Parts) → First p (rules s) → Says s 1 p
+  pub notAccepted : (s : Feeds) (p : Parts) → First p (brokenRules s) → Says s 1 p
   -- Reading answers 0 and parts exactly where the bytes are the word of these parts, and 3 with nothing else otherwise.
   -- Shut out: a reader that takes any eight bytes; one that refuses all.
   pub word : (s : List ℕ) (p : Parts) → IsWord form1 p s → readWord s ≡ record { number = 0; parts = p }
@@ -175,10 +176,10 @@ pub record Demand2 : Type 0 where
   -- no other quote gives a price.
   -- Shut out: one amount for everything; a ride rounded up to the next minute; a quote that always refuses, or refuses a large amount; a price out of a file
   -- that is not clean.
-  pub price : (s id : List ℕ) (seconds metres : ℕ) (plan : Picked) → seconds ≤ mostSeconds → metres ≤ mostMetres → cleanOf 5 s ≡ Clean
+  pub price : (s id : List ℕ) (seconds metres : ℕ) (plan : Picked) → seconds ≤ mostSeconds → metres ≤ mostMetres → cleanOf 5 s ≡ Unbroken
       → planIn s id ≡ some plan → quoteOf s id seconds metres ≡ fare plan seconds metres
   pub priced : (s id : List ℕ) (seconds metres : ℕ) → quoteOf s id seconds metres .number ≡ 0
-      → (seconds ≤ mostSeconds) × (metres ≤ mostMetres) × (cleanOf 5 s ≡ Clean)
+      → (seconds ≤ mostSeconds) × (metres ≤ mostMetres) × (cleanOf 5 s ≡ Unbroken)
       × (plan : Picked) × (planIn s id ≡ some plan) × (quoteOf s id seconds metres ≡ fare plan seconds metres)
   -- No amount is negative.
   -- Shut out: a credit where discounts outweigh the price.
@@ -203,12 +204,12 @@ pub record Demand2 : Type 0 where
       → Together (Applies q type moment) (rulesIn s)
   -- At a point in range where rules apply, a clean file answers with the values that they give together, and with 9 where none applies; and only there.
   -- Shut out: a zone's value outside of it, or in a hole that does not cut; a later rule's value, or none where a later rule gives one; 9 for everything.
-  pub rule : (s : List ℕ) (q : Point) (type : List ℕ) (moment : ℕ) → onMap q ≡ true → cleanOf 6 s ≡ Clean
+  pub rule : (s : List ℕ) (q : Point) (type : List ℕ) (moment : ℕ) → onMap q ≡ true → cleanOf 6 s ≡ Unbroken
       → (g : Together (Applies q type moment) (rulesIn s))
       → rulingOf s q type moment ≡ zone.found (ruleOf (g .ride) (g .through) (g .speed) (g .parking))
-  pub noRule : (s : List ℕ) (q : Point) (type : List ℕ) (moment : ℕ) → onMap q ≡ true → cleanOf 6 s ≡ Clean
+  pub noRule : (s : List ℕ) (q : Point) (type : List ℕ) (moment : ℕ) → onMap q ≡ true → cleanOf 6 s ≡ Unbroken
       → NoneWith (Applies q type moment) (rulesIn s) → rulingOf s q type moment ≡ zone.refused 9 noParts
   pub ruled : (s : List ℕ) (q : Point) (type : List ℕ) (moment : ℕ) → rulingOf s q type moment .number ≡ 0
-      → (onMap q ≡ true) × (cleanOf 6 s ≡ Clean) × Together (Applies q type moment) (rulesIn s)
+      → (onMap q ≡ true) × (cleanOf 6 s ≡ Unbroken) × Together (Applies q type moment) (rulesIn s)
   pub unruled : (s : List ℕ) (q : Point) (type : List ℕ) (moment : ℕ) → rulingOf s q type moment .number ≡ 9
-      → (onMap q ≡ true) × (cleanOf 6 s ≡ Clean) × NoneWith (Applies q type moment) (rulesIn s)
+      → (onMap q ≡ true) × (cleanOf 6 s ≡ Unbroken) × NoneWith (Applies q type moment) (rulesIn s)

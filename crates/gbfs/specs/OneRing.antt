@@ -11,22 +11,23 @@ use Rattle.word.specs.Word.{noParts, wordOf}
 use Rattle.geometry.specs.Ring.{Point}
 use Rattle.rings.specs.OneRing.{coordinatesOfOne}
 use Rattle.document.specs.Spans.{recordSpan}
-use Rattle.clean.specs.declared.Cleanness.{Cleanness}
+use Rattle.clean.specs.declared.Outcome.{Outcome}
 use Rattle.clean.specs.Show.{ofSpan, ofClean, refused, shownOf}
 use Rattle.zone.specs.Answer.{rulingOf}
 use Rattle.zone.specs.Single.{WithoutHoles, cleanOfOne, rulingOfOne}
-use Rattle.gbfs.specs.Verdict.{Feeds, rulesBy, first, verdictOf, said, accepts, numberOf, bufferOf}
+use Rattle.cross.specs.Stage.{Feeds, bytesOf}
+use Rattle.gbfs.specs.Verdict.{brokenRulesBy, first, verdictOf, said, accepts, numberOf, bufferOf}
 
 -- document 01's own verdict: the first broken rule of a set, by its rules on polygons
-abbrev pub verdictOfOne : Feeds → Cleanness
-verdictOfOne s = first (rulesBy coordinatesOfOne s)
+abbrev pub verdictOfOne : Feeds → Outcome
+verdictOfOne s = first (brokenRulesBy coordinatesOfOne s)
 
 pub record OneRing : Type 0 where
   -- the verdict, and so the number and the buffer of its question
-  pub verdict : (s : Feeds) → WithoutHoles (s .zones) → verdictOf s ≡ verdictOfOne s
-  pub number : (s : Feeds) (buffer : List ℕ) → WithoutHoles (s .zones)
+  pub verdict : (s : Feeds) → WithoutHoles (bytesOf s 6) → verdictOf s ≡ verdictOfOne s
+  pub number : (s : Feeds) (buffer : List ℕ) → WithoutHoles (bytesOf s 6)
       → numberOf s buffer ≡ (ltb (length buffer) 8 ⇒ 2 else accepts (verdictOfOne s) ⇒ 0 else 1)
-  pub buffer : (s : Feeds) (buffer : List ℕ) → WithoutHoles (s .zones)
+  pub buffer : (s : Feeds) (buffer : List ℕ) → WithoutHoles (bytesOf s 6)
       → bufferOf s buffer ≡ (ltb (length buffer) 8 ⇒ buffer else wordOf form1 (said (verdictOfOne s)) ++ drop 8 buffer)
   -- the zone rule, number 5 included
   pub ruling : (s : List ℕ) (q : Point) (type : List ℕ) (moment : ℕ) → WithoutHoles s → rulingOf s q type moment ≡ rulingOfOne s q type moment

@@ -1,7 +1,7 @@
 -- Document 01's worked readings (a) to (l) as one table, (g) with document 02's W2: what is asked, and the paper's answer. One test runs over all of it.
 use mathlib.Core.Bool.{true, false}
 use mathlib.Core.List.{List, [], _∷_}
-use mathlib.Core.Path.{_≡_, refl}
+use mathlib.Core.Path.{refl}
 use Prim.Native.Nat.{ℕ}
 use Prim.Native.String.{String}
 use lib.ListN.{replicate}
@@ -12,8 +12,8 @@ use Rattle.word.specs.Form.{form1}
 use Rattle.word.specs.Word as reading
 use Rattle.geometry.specs.Ring.{Point}
 use Rattle.geometry.specs.Cases.{degrees}
-use Rattle.clean.specs.declared.Cleanness.{Cleanness}
-use Rattle.clean.specs.declared.Cleanness.the-variants.{Clean}
+use Rattle.clean.specs.declared.Outcome.{Outcome}
+use Rattle.clean.specs.declared.Outcome.the-variants.{Unbroken}
 use Rattle.quote.specs.Quote as quote
 use Rattle.quote.specs.Cases.{quoting, quoteBy, fare, endedFare}
 use Rattle.zone.specs.Answer as zone
@@ -29,7 +29,7 @@ data Question : Type 0 where
   ruleAt : String → Point → Question
 
 data Answer : Type 0 where
-  judged : Cleanness → Answer
+  judged : Outcome → Answer
   bytes : List ℕ → Answer
   says : reading.Answer → Answer
   asks : quote.Answer → Answer
@@ -101,9 +101,9 @@ table =
     ("(k) the third bike has no id", judge threeBikes, judged (broken 4 6 40 3 0 0)) ∷
     ("(k) as a word", wordFor threeBikes, bytes k) ∷
     ("(k) read back", readWord k, says (record { number = 0; parts = said (broken 4 6 40 3 0 0) })) ∷
-    ("(l) a sound set", judge oneBike, judged Clean) ∷
+    ("(l) a sound set", judge oneBike, judged Unbroken) ∷
     ("(l) as a word", wordFor oneBike, bytes l) ∷
-    ("(l) read back", readWord l, says (record { number = 0; parts = said Clean })) ∷
+    ("(l) read back", readWord l, says (record { number = 0; parts = said Unbroken })) ∷
     []
 
 readings : Answers answered table

@@ -1,9 +1,9 @@
 -- The verdict on a feed set: document 01, "Kinds" and the first row of the table of questions. Stage by stage, file by file, the first broken rule is
--- named; `rules` lists all that count, and `before` is their order.
+-- named; `brokenRules` lists all that count, and `before` is their order.
 use mathlib.Core.Bool.{Bool, true, false}
 use mathlib.Core.List.{List, [], _∷_, _++_, map}
-use Prim.Native.Nat.{ℕ}
-use lib.Dec.{eqb, ltb}
+use Prim.Native.Nat.{ℕ, zero, suc, _+_}
+use lib.Dec.{ltb}
 use lib.ListN.{length, drop}
 use Rattle.notation.specs.Choice.{_⇒_else_}
 use Rattle.word.specs.declared.Parts.{Parts}
@@ -19,38 +19,13 @@ use Rattle.fault.specs.declared.Fault.{Fault}
 use Rattle.fault.specs.Fault as fault
 use Rattle.rings.specs.Rings.{Found, coordinatesFound}
 use Rattle.judge.specs.Faults.{fileFaultsBy}
-use Rattle.clean.specs.declared.Cleanness.{Cleanness}
-use Rattle.clean.specs.declared.Cleanness.the-variants.{Clean, Broken}
-use Rattle.clean.specs.Clean.{treeOf, place}
-use Rattle.cross.specs.Cross.{Files, crossFaults}
-use Rattle.cross.specs.Stage.{filesOf}
+use Rattle.clean.specs.declared.Outcome.{Outcome}
+use Rattle.clean.specs.declared.Outcome.the-variants.{Unbroken, Broken}
+use Rattle.clean.specs.Clean.{treeOf, faultParts}
+use Rattle.cross.specs.Cross.{crossFaults}
+use Rattle.cross.specs.Stage.{Feeds, fileCount, bytesOf, picked}
 use Rattle.gbfs.specs.declared.Acceptance.{Acceptance}
 use Rattle.gbfs.specs.declared.Acceptance.the-variants.{NoRoom, Accepted, NotAccepted}
-
--- six byte strings
-pub record Feeds : Type 0 where
-  pub vehicleTypes : List ℕ
-  pub stations : List ℕ
-  pub statuses : List ℕ
-  pub bikes : List ℕ
-  pub plans : List ℕ
-  pub zones : List ℕ
-
-abbrev pub feeds : (vehicleTypes stations statuses bikes plans zones : List ℕ) → Feeds
-feeds t s u b p z = record { vehicleTypes = t; stations = s; statuses = u; bikes = b; plans = p; zones = z }
-
--- by number
-unfoldable pub bytesOf : Feeds → ℕ → List ℕ
-bytesOf s file =
-    eqb file 1 ⇒ s .vehicleTypes else
-    eqb file 2 ⇒ s .stations else
-    eqb file 3 ⇒ s .statuses else
-    eqb file 4 ⇒ s .bikes else
-    eqb file 5 ⇒ s .plans else s .zones
-
--- what is picked of them
-abbrev pub picked : Feeds → Files
-picked s = filesOf (s .vehicleTypes) (s .stations) (s .statuses) (s .bikes) (s .plans) (s .zones)
 
 -- what a file breaks in stage A, B or C; an absent file breaks nothing in A and B
 abbrev pub syntaxRules : ℕ → Syntax → List Parts
@@ -65,18 +40,22 @@ abbrev pub faultsBBy : (coordinates : PickedItems → List Found) → ℕ → Li
 faultsBBy coordinates file [] = []
 faultsBBy coordinates file (b ∷ s) = fileFaultsBy coordinates (fileShape table23 file) (treeOf (b ∷ s))
 
--- all files, from 1 to 6
+-- file after file: so many from one on, and all
+unfoldable pub eachFrom : {A : Type 0} → (ℕ → List A) → (file left : ℕ) → List A
+eachFrom f file zero = []
+eachFrom f file (suc left) = f file ++ eachFrom f (file + 1) left
+
 abbrev pub everyFile : {A : Type 0} → (ℕ → List A) → List A
-everyFile f = f 1 ++ f 2 ++ f 3 ++ f 4 ++ f 5 ++ f 6
+everyFile f = eachFrom f 1 fileCount
 
 unfoldable pub stageA : Feeds → List Parts
 stageA s = everyFile (λ file. rulesA file (bytesOf s file))
 
 unfoldable pub stageBBy : (coordinates : PickedItems → List Found) → Feeds → List Parts
-stageBBy coordinates s = everyFile (λ file. map (place file) (faultsBBy coordinates file (bytesOf s file)))
+stageBBy coordinates s = everyFile (λ file. map (faultParts file) (faultsBBy coordinates file (bytesOf s file)))
 
 unfoldable pub stageC : Feeds → List Parts
-stageC s = everyFile (λ file. map (place file) (crossFaults (picked s) file))
+stageC s = everyFile (λ file. map (faultParts file) (crossFaults (picked s) file))
 
 -- the first stage that has any
 abbrev pub orElse : {A : Type 0} → List A → List A → List A
@@ -84,11 +63,11 @@ orElse [] m = m
 orElse (x ∷ l) m = x ∷ l
 
 -- the broken rules of a set; `coordinates` tells what is found in field 73
-unfoldable pub rulesBy : (coordinates : PickedItems → List Found) → Feeds → List Parts
-rulesBy coordinates s = orElse (stageA s) (orElse (stageBBy coordinates s) (stageC s))
+unfoldable pub brokenRulesBy : (coordinates : PickedItems → List Found) → Feeds → List Parts
+brokenRulesBy coordinates s = orElse (stageA s) (orElse (stageBBy coordinates s) (stageC s))
 
-abbrev pub rules : Feeds → List Parts
-rules = rulesBy coordinatesFound
+abbrev pub brokenRules : Feeds → List Parts
+brokenRules = brokenRulesBy coordinatesFound
 
 abbrev pub faultsB : ℕ → List ℕ → List Fault
 faultsB = faultsBBy coordinatesFound
@@ -104,24 +83,24 @@ before p q =
     fault.before (fault.fault (p .«record») (p .field) (p .sub) (p .kind)) (fault.fault (q .«record») (q .field) (q .sub) (q .kind))
 
 -- the first of them
-abbrev pub earlier : Parts → Cleanness → Cleanness
-earlier p Clean = Broken p
+abbrev pub earlier : Parts → Outcome → Outcome
+earlier p Unbroken = Broken p
 earlier p (Broken q) = before q p ⇒ Broken q else Broken p
 
-unfoldable pub first : List Parts → Cleanness
-first [] = Clean
+unfoldable pub first : List Parts → Outcome
+first [] = Unbroken
 first (p ∷ l) = earlier p (first l)
 
-unfoldable pub verdictOf : Feeds → Cleanness
-verdictOf s = first (rules s)
+unfoldable pub verdictOf : Feeds → Outcome
+verdictOf s = first (brokenRules s)
 
 -- an accepting word says nothing else
-abbrev pub said : Cleanness → Parts
-said Clean = noParts
+abbrev pub said : Outcome → Parts
+said Unbroken = noParts
 said (Broken p) = p
 
-abbrev pub accepts : Cleanness → Bool
-accepts Clean = true
+abbrev pub accepts : Outcome → Bool
+accepts Unbroken = true
 accepts (Broken p) = false
 
 -- The first row of the table of questions: the number in its order of checking, and the buffer after the call. Without room for a word nothing is

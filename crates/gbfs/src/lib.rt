@@ -1,15 +1,15 @@
 // The verdict on a feed set: whether it is accepted, and the word that says why not.
 use crate::stages::judge;
-use clean::Cleanness;
+use clean::Outcome;
 use word::Parts;
 use word::Word;
-ghost use mathlib.Core.List.{_++_};
+ghost use mathlib.Core.List.{[], _∷_, _++_};
 ghost use mathlib.Core.Path.{_≡_};
 ghost use Prim.Native.Nat.{_≤_};
 ghost use lib.ListN.{length, drop};
 ghost use Rattle.word.specs.Form.{form1};
 ghost use Rattle.word.specs.Word.{Fits, wordOf};
-ghost use Rattle.gbfs.specs.Verdict.{feeds, said, number, numberOf, bufferOf};
+ghost use Rattle.gbfs.specs.Verdict.{said, number, numberOf, bufferOf};
 
 mod stages;
 
@@ -21,12 +21,12 @@ pub enum Acceptance {
 }
 
 // What a word says: nothing of an accepted set.
-fn parts_in(c: Cleanness) -> Parts
+fn parts_in(c: Outcome) -> Parts
     ensures { λ r. ⌜ r ≡ said c ⌝ }
 {
     match c {
-        Cleanness::Broken(p) => p,
-        Cleanness::Clean => Parts {
+        Outcome::Broken(p) => p,
+        Outcome::Unbroken => Parts {
             file: 0,
             kind: 0,
             field: 0,
@@ -64,19 +64,19 @@ pub fn verdict<'a>(
     buffer: &mut [u8],
 ) -> Acceptance
     ensures { λ r. ⌜ (number r ≡ numberOf
-        (feeds (now (types .entry)) (now (stations .entry)) (now (statuses .entry)) (now (bikes .entry)) (now (plans .entry)) (now (zones .entry)))
+        (now (types .entry) ∷ now (stations .entry) ∷ now (statuses .entry) ∷ now (bikes .entry) ∷ now (plans .entry) ∷ now (zones .entry) ∷ [])
         (now (buffer .entry)))
         × (now (buffer .exit) ≡ bufferOf
-        (feeds (now (types .entry)) (now (stations .entry)) (now (statuses .entry)) (now (bikes .entry)) (now (plans .entry)) (now (zones .entry)))
+        (now (types .entry) ∷ now (stations .entry) ∷ now (statuses .entry) ∷ now (bikes .entry) ∷ now (plans .entry) ∷ now (zones .entry) ∷ [])
         (now (buffer .entry))) ⌝ }
 {
     if buffer.len() < Word::SIZE {
         return Acceptance::NoRoom;
     }
-    let c = judge(types, stations, statuses, bikes, plans, zones);
+    let c = judge([types, stations, statuses, bikes, plans, zones]);
     put(parts_in(c), buffer);
     match c {
-        Cleanness::Clean => Acceptance::Accepted,
-        Cleanness::Broken(_) => Acceptance::NotAccepted,
+        Outcome::Unbroken => Acceptance::Accepted,
+        Outcome::Broken(_) => Acceptance::NotAccepted,
     }
 }

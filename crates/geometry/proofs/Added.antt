@@ -8,7 +8,7 @@ use lib.IntN.{pos, _+ℤ_}
 use Rattle.signed.proofs.Gap.{gap, gap-pos, gap-same, gap-add, gap-minus, gap-mul}
 use Rattle.geometry.specs.Ring.{turn}
 use Rattle.geometry.specs.Held.{side}
-use Rattle.geometry.specs.inner.Shifted.{Fits, OnMap, added, halfLat, halfLon, none, origin, point, value}
+use Rattle.geometry.specs.inner.Shifted.{Fits, OnMap, added, halfLat, halfLon, noBalance, origin, point, value}
 use Rattle.geometry.specs.declared.Balance.{Balance}
 use Rattle.geometry.specs.declared.Position.{Position}
 
@@ -17,7 +17,7 @@ pub record Room (s : Balance) (k : ℕ) : Type 0 where
   pub plus : s .plus ≤ k * 64_800_000_000_000_000
   pub minus : s .minus ≤ k * 64_800_000_000_000_000
 
-pub room-none : {s : Balance} → s ≡ none → Room s 0
+pub room-none : {s : Balance} → s ≡ noBalance → Room s 0
 room-none e = rw e (record { plus = omega arith; minus = omega arith })
 
 pub room-added : {s : Balance} {k : ℕ} {a b : Position} → OnMap a → OnMap b → Room s k → Room (added s a b) (k + 1)
@@ -34,7 +34,7 @@ pub on-map-origin : OnMap origin
 on-map-origin = record { east = omega arith; north = omega arith }
 
 -- the side of three points
-pub side-added : (a b q : Position) → value (added (added (added none a b) b q) q a) ≡ side (point a) (point b) (point q)
+pub side-added : (a b q : Position) → value (added (added (added noBalance a b) b q) q a) ≡ side (point a) (point b) (point q)
 unfolding side
 side-added a b q =
     let ax = gap (a .lon) halfLon in let ay = gap (a .lat) halfLat in
@@ -45,7 +45,7 @@ side-added a b q =
     (omega arith)
 
 -- a line that ends at the origin: its first point, and one point more
-pub area-first : (p : Position) → value (added (added none origin p) p origin) ≡ pos 0
+pub area-first : (p : Position) → value (added (added noBalance origin p) p origin) ≡ pos 0
 area-first p = gap-same (gap _ _) (gap-pos 0) (omega arith)
 
 pub area-added : (s : Balance) (a b : Position)

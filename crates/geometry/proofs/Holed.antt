@@ -6,7 +6,7 @@ use mathlib.Core.Path.{_≡_, refl, sym, ap, _∙_}
 use Rattle.notation.specs.Choice.{_⇒_else_}
 use Rattle.geometry.specs.Ring.{Point, clockwise}
 use Rattle.geometry.specs.Held.{onRing, odd, sideOf, onAny, inAny, polygonHolds}
-use Rattle.geometry.specs.inner.Shifted.{place, stands}
+use Rattle.geometry.specs.inner.Shifted.{placeOf, stands}
 use Rattle.geometry.specs.declared.Place.{Place}
 use Rattle.geometry.specs.declared.Place.the-variants as at
 use Rattle.geometry.specs.declared.Standing.{Standing}
@@ -19,8 +19,8 @@ standing at.Inside first held way = Is (first ⇒ (way ⇒ true else false) else
 standing at.Outside first held way = Is (first ⇒ (way ⇒ false else true) else held)
 
 module _ (first held : Bool) (l : List Point) (q : Point) where
-  stands-place : (o : Place) → o ≡ place l q → standing o first held (clockwise l) ≡ stands first held l q
-  unfolding place stands
+  stands-place : (o : Place) → o ≡ placeOf l q → standing o first held (clockwise l) ≡ stands first held l q
+  unfolding placeOf stands
   stands-place o e = ap (λ (x : Place). standing x first held (clockwise l)) e ∙ go (onRing l q) (odd l q) first (clockwise l)
     where
       go : (on inside first way : Bool) → standing (on ⇒ at.Edge else inside ⇒ at.Inside else at.Outside) first held way
@@ -31,19 +31,19 @@ module _ (first held : Bool) (l : List Point) (q : Point) where
       go false false true way = refl
       go false false false way = refl
 
-  pub stands-edge : at.Edge ≡ place l q → Edge ≡ stands first held l q
+  pub stands-edge : at.Edge ≡ placeOf l q → Edge ≡ stands first held l q
   stands-edge e = stands-place at.Edge e
 
-  pub inside-first : first ≡ true → at.Inside ≡ place l q → Is (clockwise l ⇒ true else false) ≡ stands first held l q
+  pub inside-first : first ≡ true → at.Inside ≡ placeOf l q → Is (clockwise l ⇒ true else false) ≡ stands first held l q
   inside-first f e = ap (λ (b : Bool). Is (b ⇒ (clockwise l ⇒ true else false) else false)) (sym f) ∙ stands-place at.Inside e
 
-  pub inside-further : first ≡ false → at.Inside ≡ place l q → Is false ≡ stands first held l q
+  pub inside-further : first ≡ false → at.Inside ≡ placeOf l q → Is false ≡ stands first held l q
   inside-further f e = ap (λ (b : Bool). Is (b ⇒ (clockwise l ⇒ true else false) else false)) (sym f) ∙ stands-place at.Inside e
 
-  pub outside-first : first ≡ true → at.Outside ≡ place l q → Is (clockwise l ⇒ false else true) ≡ stands first held l q
+  pub outside-first : first ≡ true → at.Outside ≡ placeOf l q → Is (clockwise l ⇒ false else true) ≡ stands first held l q
   outside-first f e = ap (λ (b : Bool). Is (b ⇒ (clockwise l ⇒ false else true) else held)) (sym f) ∙ stands-place at.Outside e
 
-  pub outside-further : first ≡ false → at.Outside ≡ place l q → Is held ≡ stands first held l q
+  pub outside-further : first ≡ false → at.Outside ≡ placeOf l q → Is held ≡ stands first held l q
   outside-further f e = ap (λ (b : Bool). Is (b ⇒ (clockwise l ⇒ false else true) else held)) (sym f) ∙ stands-place at.Outside e
 
 -- from the rings that were asked on to those that are left

@@ -24,32 +24,32 @@ more-is : (z w : ℤ) → up w + down z < up z + down w → leZ z w ≡ false
 more-is z w h = gap-le (parts z) (parts w) ∙ lt-leb (up z + down w) (up w + down z) h
 
 -- x to the ends w and e of a range: w ≤ x, x ≤ w, x ≤ e, e ≤ x
-data Spot : Bool → Bool → Bool → Bool → Type 0 where
-  before : Spot false true true false
-  first : Spot true true true false
-  within : Spot true false true false
-  last : Spot true false true true
-  after : Spot true false false true
+data Against : Bool → Bool → Bool → Bool → Type 0 where
+  before : Against false true true false
+  first : Against true true true false
+  within : Against true false true false
+  last : Against true false true true
+  after : Against true false false true
 
-spot : (w e x : ℤ) → leZ e w ≡ false → Spot (leZ w x) (leZ x w) (leZ x e) (leZ e x)
-spot w e x h = outer (leZ w x) refl
+against : (w e x : ℤ) → leZ e w ≡ false → Against (leZ w x) (leZ x w) (leZ x e) (leZ e x)
+against w e x h = outer (leZ w x) refl
   where
     wide : up w + down e < up e + down w
     wide = more e w h
 
-    upper : leZ w x ≡ true → leZ x w ≡ false → (t : Bool) → leZ x e ≡ t → (u : Bool) → leZ e x ≡ u → Spot true false t u
+    upper : leZ w x ≡ true → leZ x w ≡ false → (t : Bool) → leZ x e ≡ t → (u : Bool) → leZ e x ≡ u → Against true false t u
     upper a b true c true d = last
     upper a b true c false d = within
     upper a b false c true d = after
     upper a b false c false d = absurd (omega (arith, more x e c, more e x d))
 
-    inner : leZ w x ≡ true → (t : Bool) → leZ x w ≡ t → Spot true t (leZ x e) (leZ e x)
+    inner : leZ w x ≡ true → (t : Bool) → leZ x w ≡ t → Against true t (leZ x e) (leZ e x)
     inner a true b =
         let f = at-most w x a in let g = at-most x w b in
         rw (at-most-is x e (omega (arith, wide)), more-is e x (omega (arith, wide))) first
     inner a false b = upper a b (leZ x e) refl (leZ e x) refl
 
-    outer : (t : Bool) → leZ w x ≡ t → Spot t (leZ x w) (leZ x e) (leZ e x)
+    outer : (t : Bool) → leZ w x ≡ t → Against t (leZ x w) (leZ x e) (leZ e x)
     outer true a = inner a (leZ x w) refl
     outer false a =
         let f = more w x a in
@@ -125,7 +125,7 @@ oddOfFour a b c d a′ b′ c′ d′ =
     (flip false (flip (d′ and not a′ ⇒ not c else a′ and not d′ ⇒ not d else false) (flip false false)))
 
 -- at each of the places: what is held, and what is inside and on no edge
-settled : {a b c d a′ b′ c′ d′ : Bool} → Spot a b c d → Spot a′ b′ c′ d′
+settled : {a b c d a′ b′ c′ d′ : Bool} → Against a b c d → Against a′ b′ c′ d′
     → (onFour a b c d a′ b′ c′ d′ ⇒ true else oddOfFour a b c d a′ b′ c′ d′) ≡ ((a and c) and (a′ and c′))
 settled before before = refl
 settled before first = refl
@@ -153,7 +153,7 @@ settled after within = refl
 settled after last = refl
 settled after after = refl
 
-strictly : {a b c d a′ b′ c′ d′ : Bool} → Spot a b c d → Spot a′ b′ c′ d′
+strictly : {a b c d a′ b′ c′ d′ : Bool} → Against a b c d → Against a′ b′ c′ d′
     → (onFour a b c d a′ b′ c′ d′ ⇒ false else oddOfFour a b c d a′ b′ c′ d′) ≡ ((not b and not d) and (not b′ and not d′))
 strictly before before = refl
 strictly before first = refl
@@ -257,7 +257,7 @@ module _ (w e s n : ℤ) (wide : leZ e w ≡ false) (high : leZ n s ≡ false) (
   unfolding holds onRing odd clockwise
   rectangle-holds =
       rw (on-west, on-north, on-east, on-south, across-west, level w e n q, across-east, level e w s q, area-below)
-      (settled (spot w e (q .lon) wide) (spot s n (q .lat) high))
+      (settled (against w e (q .lon) wide) (against s n (q .lat) high))
 
   -- as a hole it takes away what lies strictly between
   pub rectangle-inside : (onRing (rectangle w e s n) q ⇒ false else odd (rectangle w e s n) q)
@@ -265,4 +265,4 @@ module _ (w e s n : ℤ) (wide : leZ e w ≡ false) (high : leZ n s ≡ false) (
   unfolding onRing odd
   rectangle-inside =
       rw (on-west, on-north, on-east, on-south, across-west, level w e n q, across-east, level e w s q)
-      (strictly (spot w e (q .lon) wide) (spot s n (q .lat) high))
+      (strictly (against w e (q .lon) wide) (against s n (q .lat) high))

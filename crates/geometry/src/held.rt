@@ -9,12 +9,12 @@ ghost use mathlib.Core.Bool.{not};
 ghost use mathlib.Core.Path.{_≡_};
 ghost use Rattle.notation.specs.Choice.{_⇒_else_};
 ghost use Rattle.geometry.specs.Ring.{clockwise as clockwiseOf};
-ghost use Rattle.geometry.specs.inner.Shifted.{InRange, OnMap, points, point, place, stands};
+ghost use Rattle.geometry.specs.inner.Shifted.{InRange, OnMap, points, point, placeOf, stands};
 
 // On an edge, or inside where an odd number of edges cross east of the point.
 pub fn locate(xs: &[u64], ys: &[u64], q: Position) -> Place
     requires { ⌜ InRange (now xs) (now ys) × OnMap q ⌝ }
-    ensures { λ r. ⌜ r ≡ place (points (now (xs .entry)) (now (ys .entry))) (point q) ⌝ }
+    ensures { λ r. ⌜ r ≡ placeOf (points (now (xs .entry)) (now (ys .entry))) (point q) ⌝ }
 {
     let mut odd = false;
     let mut i: usize = 0;

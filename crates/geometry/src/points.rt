@@ -3,7 +3,7 @@ use crate::Position;
 ghost use mathlib.Core.Path.{_≡_};
 ghost use Prim.Native.Nat.{_<_};
 ghost use lib.ListN.{length};
-ghost use Rattle.geometry.specs.inner.Shifted.{origin, at};
+ghost use Rattle.geometry.specs.inner.Shifted.{origin, positionAt};
 
 impl Position {
     // Lon 0 and lat 0.
@@ -19,7 +19,7 @@ impl Position {
     // The point of a ring at an index.
     pub fn of(xs: &[u64], ys: &[u64], i: usize) -> Position
         requires { ⌜ (i < length (now xs)) × (i < length (now ys)) ⌝ }
-        ensures { λ r. ⌜ r ≡ at (now (xs .entry)) (now (ys .entry)) i ⌝ }
+        ensures { λ r. ⌜ r ≡ positionAt (now (xs .entry)) (now (ys .entry)) i ⌝ }
     {
         Position {
             lon: xs[i],

@@ -5,11 +5,11 @@ ghost use mathlib.Core.Path.{_≡_};
 ghost use lib.IntN.{pos};
 ghost use lib.Signed.{ltZ};
 ghost use Rattle.geometry.specs.Ring.{equal};
-ghost use Rattle.geometry.specs.inner.Shifted.{Fits, value, none, added};
+ghost use Rattle.geometry.specs.inner.Shifted.{Fits, value, noBalance, added};
 
 impl Balance {
     pub fn none() -> Balance
-        ensures { λ r. ⌜ r ≡ none ⌝ }
+        ensures { λ r. ⌜ r ≡ noBalance ⌝ }
     {
         Balance { plus: 0, minus: 0 }
     }

@@ -12,7 +12,7 @@ use Rattle.text.specs.inner.Digest.{digest}
 use Rattle.walk.specs.Walk.{part}
 use Rattle.document.specs.Document.{Maybe, none, some}
 use Rattle.ids.specs.inner.Ids.{idOf, Unmet, recordBytes}
-use Rattle.ids.specs.inner.Notes.{buckets, size, digestAt, startAt, endAt, memberAt, linkAt, headAt, lastIn, entered, kept, Entry, Noted, Blank}
+use Rattle.ids.specs.inner.Notes.{buckets, size, digestAt, startAt, endAt, memberStart, linkAt, headAt, lastIn, entered, kept, Entry, Noted, Blank}
 use Rattle.ids.proofs.Single.{unmet-none, unmet-at}
 use Rattle.ids.proofs.Chains.{last-here, last-before}
 
@@ -107,7 +107,7 @@ module _ (notes : List ℕ) (n d a e x : ℕ) (long : length notes ≡ size) (h 
       ∙ getD-set-other l₃ (3 * records + n) (2 * records + n) x 0 (λ z. omega arith)
       ∙ getD-set-same l₂ (2 * records + n) e 0 (simp length-set (omega arith))
 
-  member-new : memberAt new n ≡ x
+  member-new : memberStart new n ≡ x
   unfolding entered
   member-new =
       getD-set-other l₅ (5 * records + d % buckets) (3 * records + n) (n + 1) 0 (λ z. omega arith)
@@ -138,7 +138,7 @@ module _ (notes : List ℕ) (n d a e x : ℕ) (long : length notes ≡ size) (h 
     end-old : endAt new j ≡ endAt notes j
     end-old = entered-other (2 * records + j) (λ y. omega arith) (λ y. omega arith) (λ y. omega arith) (λ y. omega arith) (λ y. omega arith) (λ y. omega arith)
 
-    member-old : memberAt new j ≡ memberAt notes j
+    member-old : memberStart new j ≡ memberStart notes j
     member-old = entered-other (3 * records + j) (λ y. omega arith) (λ y. omega arith) (λ y. omega arith) (λ y. omega arith) (λ y. omega arith) (λ y. omega arith)
 
     link-old : linkAt new j ≡ linkAt notes j

@@ -31,7 +31,7 @@ use Rattle.slots.specs.declared.Found.{Found}
 use Rattle.slots.specs.declared.Found.the-variants.{Missing, Once, Twice}
 use Rattle.slots.specs.Found.{noted, foundIn}
 use Rattle.document.specs.Document.{Maybe, none, some}
-use Rattle.fields.specs.inner.Values.{code, foundBytes, Standing, memberOf, textBy, isId}
+use Rattle.fields.specs.inner.Values.{kindCode, foundBytes, Standing, memberOf, textBy, isId}
 use Rattle.fields.proofs.Ways.{member-found}
 use Rattle.ids.specs.inner.Ids.{idName, idValue, idOf, Unmet, IdPlace, hasId}
 use Rattle.ids.specs.inner.Notes.{kept}
@@ -50,7 +50,7 @@ none-found : (file : ℕ) (q : List ℕ) (o : Found) → o ≡ foundIn q (idName
 unfolding idValue memberOf
 none-found file q o e z =
     ap textBy
-    (by-test (eqb (code (kindAt q)) 5) (λ t. rw (idValue, memberOf, t, ← e) z) (λ t. rw (idValue, memberOf, t)))
+    (by-test (eqb (kindCode (kindAt q)) 5) (λ t. rw (idValue, memberOf, t, ← e) z) (λ t. rw (idValue, memberOf, t)))
     ∙ no-text
 
 -- what is kept of a record has the record's id, and once
@@ -81,18 +81,18 @@ module _ (file : ℕ) (q : List ℕ) where
       go (some id) e t = let n = none-found file q Twice (sym t) refl in let z : _≡_ {A = ℕ} 0 1 = cc in omega arith
 
   -- and is an object, or nothing
-  object-id : (id : List ℕ) → idOf file q ≡ some id → 5 ≡ code (kindAt q)
+  object-id : (id : List ℕ) → idOf file q ≡ some id → 5 ≡ kindCode (kindAt q)
   unfolding idValue memberOf
   object-id id e =
-      by-test (eqb (code (kindAt q)) 5)
-      (λ t. sym (eqb-true (code (kindAt q)) 5 t))
+      by-test (eqb (kindCode (kindAt q)) 5)
+      (λ t. sym (eqb-true (kindCode (kindAt q)) 5 t))
       (λ t.
       let n : none ≡ some id = sym no-text ∙ (rw (idValue, memberOf, t) at e) in let z : _≡_ {A = ℕ} 0 1 = cc in absurd (omega arith))
 
-  kept-object : (0 < length (kept file q)) → 5 ≡ code (kindAt (kept file q))
+  kept-object : (0 < length (kept file q)) → 5 ≡ kindCode (kindAt (kept file q))
   kept-object = go (idOf file q) refl
     where
-      go : (o : Maybe (List ℕ)) → idOf file q ≡ o → 0 < length (held o) → 5 ≡ code (kindAt (held o))
+      go : (o : Maybe (List ℕ)) → idOf file q ≡ o → 0 < length (held o) → 5 ≡ kindCode (kindAt (held o))
       go none e h = absurd (omega arith)
       go (some id) e h = object-id id e
 
@@ -150,7 +150,7 @@ module _ {file : ℕ} {q : List ℕ} {at : ℕ} (u : Unmet file q at) where
   place-end e =
       record { unmet = u; here = λ m f. let k : members.End ≡ members.Found m = sym e ∙ f in let z : _≡_ {A = ℕ} 0 1 = cc in absurd (omega arith) }
 
-  pub value-end : memberAt q at ≡ members.End → 5 ≡ code (kindAt q) → [] ≡ idValue file q
+  pub value-end : memberAt q at ≡ members.End → 5 ≡ kindCode (kindAt q) → [] ≡ idValue file q
   unfolding idValue
   value-end e object = member-found q (idName file) 5 object refl Missing (unmet-end e)
 
@@ -175,7 +175,7 @@ module _ {file : ℕ} {q : List ℕ} {at : ℕ} (u : Unmet file q at) where
         }
 
     -- v is what it holds
-    pub value-here : same (textOf x) (idName file) ≡ true → 5 ≡ code (kindAt q) → (foundIn q (idName file) ≡ Twice → ⊥) → {v : List ℕ}
+    pub value-here : same (textOf x) (idName file) ≡ true → 5 ≡ kindCode (kindAt q) → (foundIn q (idName file) ≡ Twice → ⊥) → {v : List ℕ}
         → (Standing q (Once (m .value) (m .«value_end»)) → v ≡ foundBytes q (Once (m .value) (m .«value_end»))) → v ≡ idValue file q
     unfolding idValue
     value-here e object single holds =
@@ -196,5 +196,5 @@ module _ (file : ℕ) (id r q : List ℕ) (keeps : q ≡ kept file r) {at : ℕ}
       let single : foundIn q (idName file) ≡ Twice → ⊥ = λ t. kept-single file r (ap (λ (y : List ℕ). foundIn y (idName file)) (sym keeps) ∙ t) in
       let k = member-placed q at m f in
       let some : 0 < length (kept file r) = omega (arith, ap length keeps) in
-      let object : 5 ≡ code (kindAt q) = kept-object file r some ∙ ap (λ (y : List ℕ). code (kindAt y)) (sym keeps) in
+      let object : 5 ≡ kindCode (kindAt q) = kept-object file r some ∙ ap (λ (y : List ℕ). kindCode (kindAt y)) (sym keeps) in
       ap (λ (y : List ℕ). isId id (textBy y)) (value-here u m f x is e object single holds) ∙ kept-has

@@ -5,7 +5,7 @@ ghost use mathlib.Core.Path.{_≡_};
 ghost use Prim.Native.Nat.{_%_, _≤_, _<_};
 ghost use Rattle.limits.specs.Ceilings.{records, fileBytes};
 ghost use Rattle.walk.specs.Walk.{part};
-ghost use Rattle.ids.specs.inner.Notes.{buckets, digestAt, startAt, endAt, memberAt, linkAt, headAt, entered};
+ghost use Rattle.ids.specs.inner.Notes.{buckets, digestAt, startAt, endAt, memberStart, linkAt, headAt, entered};
 
 // A place or an index as a number of 64 bits.
 fn wide(x: u32) -> usize
@@ -37,7 +37,7 @@ pub fn record_at<'a>(p: &'a [u8], notes: &[u32; Notes::SIZE], k: usize) -> &'a [
 // Where in the record of the entry `k` the member of its id is looked for.
 pub fn member_at(notes: &[u32; Notes::SIZE], k: usize) -> usize
     requires { ⌜ k < records ⌝ }
-    ensures { λ r. ⌜ r ≡ memberAt (now (notes .entry)) k ⌝ }
+    ensures { λ r. ⌜ r ≡ memberStart (now (notes .entry)) k ⌝ }
 {
     wide(notes[Notes::MEMBERS + k])
 }

@@ -25,7 +25,7 @@ use Rattle.lexeme.proofs.Takes.{string-takes, blanks-of}
 use Rattle.lexeme.proofs.Goes.{string-goes}
 use Rattle.lexeme.proofs.Starts.{string-byte, array-byte, object-byte}
 use Rattle.json.specs.Cases.{reading}
-use Rattle.json.specs.Tree.{Json, itemsOf, membersOf}
+use Rattle.json.specs.Tree.{Json, asItems, asMembers}
 use Rattle.json.specs.Text.{expect, after, contents, bracketed, member, valueBy, value, finish, text}
 use Rattle.json.specs.Text.After.{closed, more}
 use Rattle.json.specs.Places.{Place, outside, inside, step, along}
@@ -398,10 +398,10 @@ module _ (k : ℕ) (P : List ℕ → Type 0) (z : ℕ) (W : ℕ → Place) (L : 
           value-by-holds _ _ (suc d)
           (λ b l r h i.
           cons-held 1 b (λ m. value-start paired _ _ b m ∙ rw (h, valueAt)) (λ n. ap (step (outside n)) (array-byte b h) ∙ opens-array n) (deeper d)
-          (made-holds (λ xs. Json.array (itemsOf xs)) _ d items l r i))
+          (made-holds (λ xs. Json.array (asItems xs)) _ d items l r i))
           (λ b l r h i.
           cons-held 1 b (λ m. value-start paired _ _ b m ∙ rw (h, valueAt)) (λ n. ap (step (outside n)) (object-byte b h) ∙ opens-object n) (deeper d)
-          (made-holds (λ ms. Json.object (membersOf ms)) _ d members l r i))
+          (made-holds (λ ms. Json.object (asMembers ms)) _ d members l r i))
 
       -- a whole text
       pub text-holds : (d : ℕ) → Holds outside (text paired d) d

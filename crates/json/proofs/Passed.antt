@@ -14,7 +14,7 @@ use Rattle.lexeme.specs.inner.Start.{start}
 use Rattle.lexeme.proofs.Reading.{Eats, Stops}
 use Rattle.lexeme.proofs.Steps.{bad-done, made-reads, made-done, then-reads, then-done, blanks-stop}
 use Rattle.json.specs.Cases.{reading}
-use Rattle.json.specs.Tree.{Json, itemsOf, membersOf}
+use Rattle.json.specs.Tree.{Json, asItems, asMembers}
 use Rattle.json.specs.Text.{expect, bracketed, member, valueBy, value, finish, text}
 use Rattle.json.specs.Spelling as Spelling
 use Rattle.json.specs.Spelling.{Padded, Listed}
@@ -120,12 +120,12 @@ nested-reads : (d : ℕ) {S : List ℕ → Type 0} {s : List ℕ} → Passes (va
 nested-reads d k (Nested.scalar y) = scalar-reads (suc d) y
 nested-reads d k (Nested.array {s} ys) =
     let m = bracketed-passed k square ys in (
-      Json.array (itemsOf (m .0)),
+      Json.array (asItems (m .0)),
       λ q h. ap (λ (l : List ℕ). value lone (suc d) (0x5b ∷ l)) (append-assoc s (0x5d ∷ []) q) ∙ array-opens lone d _ ∙ made-reads _ (m .1 q),
     )
 nested-reads d k (Nested.object {s} ms) =
     let m = bracketed-passed (members k) curly ms in (
-      Json.object (membersOf (m .0)),
+      Json.object (asMembers (m .0)),
       λ q h. ap (λ (l : List ℕ). value lone (suc d) (0x7b ∷ l)) (append-assoc s (0x7d ∷ []) q) ∙ object-opens lone d _ ∙ made-reads _ (m .1 q),
     )
 
@@ -202,10 +202,10 @@ value-finds (suc d) =
     value-by-finds lone _ _ (λ x. Nested (Value d)) (λ l y r e. widened (λ s k. Nested.scalar (Scalar.string k)) (quoted-front l y r e))
     (λ n e. Nested.scalar (Scalar.number (number-found n n [] e))) (Nested.scalar Scalar.yes) (Nested.scalar Scalar.no) (Nested.scalar Scalar.null)
     (λ l r x e.
-    let m = made-done (λ xs. Json.array (itemsOf xs)) (bracketed 0x5d (value lone d) l) x r e in
+    let m = made-done (λ xs. Json.array (asItems xs)) (bracketed 0x5d (value lone d) l) x r e in
     closing 0x5b 0x5d (λ s k. Nested.array (enclosed-of k)) (bracketed-finds 0x5d eats ih l r (m .0) (m .1)))
     (λ l r x e.
-    let m = made-done (λ ms. Json.object (membersOf ms)) (bracketed 0x7d (member lone (value lone d)) l) x r e in
+    let m = made-done (λ ms. Json.object (asMembers ms)) (bracketed 0x7d (member lone (value lone d)) l) x r e in
     closing 0x7b 0x7d (λ s k. Nested.object (enclosed-of k))
     (bracketed-finds 0x7d (member-eats lone (value lone d) eats) (member-finds ih) l r (m .0) (m .1)))
 

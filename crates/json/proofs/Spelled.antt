@@ -20,7 +20,7 @@ use Rattle.lexeme.proofs.Steps.{by-test, true-false, done-what, made-reads, the
 use Rattle.lexeme.proofs.Takes.{number-takes, number-eats}
 use Rattle.lexeme.proofs.Starts.{blank-other, blank-stops, number-starts}
 use Rattle.json.specs.Cases.{reading}
-use Rattle.json.specs.Tree.{Json, itemsOf, membersOf}
+use Rattle.json.specs.Tree.{Json, asItems, asMembers}
 use Rattle.json.specs.Text.{expect, contents, bracketed, member, valueBy, value, finish, text}
 use Rattle.json.specs.Text.After.{more}
 use Rattle.json.specs.Spelling.{Blanks, Padded, Quoted, Plain, Listed, Enclosed, Member, Nested, Value, Spells}
@@ -191,12 +191,12 @@ plain-reads d (Plain.string k) q h = string-reads d k q h
 
 -- a bracket that opens
 pub array-opens : (ρ : Surrogates) (d : ℕ) (l : List ℕ)
-    → value ρ (suc d) (0x5b ∷ l) ≡ made (λ xs. Json.array (itemsOf xs)) (bracketed 0x5d (value ρ d) l)
+    → value ρ (suc d) (0x5b ∷ l) ≡ made (λ xs. Json.array (asItems xs)) (bracketed 0x5d (value ρ d) l)
 unfolding value valueBy
 array-opens ρ d l = refl
 
 pub object-opens : (ρ : Surrogates) (d : ℕ) (l : List ℕ)
-    → value ρ (suc d) (0x7b ∷ l) ≡ made (λ ms. Json.object (membersOf ms)) (bracketed 0x7d (member ρ (value ρ d)) l)
+    → value ρ (suc d) (0x7b ∷ l) ≡ made (λ ms. Json.object (asMembers ms)) (bracketed 0x7d (member ρ (value ρ d)) l)
 unfolding value valueBy
 object-opens ρ d l = refl
 

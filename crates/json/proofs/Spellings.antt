@@ -25,8 +25,8 @@ use Rattle.lexeme.proofs.Takes.{number-takes}
 use Rattle.lexeme.proofs.Starts.{string-byte, array-byte, object-byte}
 use Rattle.lexeme.proofs.Spells.{number-spells, literal-spells}
 use Rattle.json.specs.declared.Syntax.the-variants.{Sound, Fault}
-use Rattle.json.specs.Tree.{Json, itemsOf, membersOf}
-use Rattle.json.specs.Text.{expect, contents, bracketed, member, valueBy, value, finish, text, verdictOf, syntaxOf}
+use Rattle.json.specs.Tree.{Json, asItems, asMembers}
+use Rattle.json.specs.Text.{expect, contents, bracketed, member, valueBy, value, finish, text, syntaxBy, syntaxOf}
 use Rattle.json.specs.Text.After.{closed, more}
 use Rattle.json.specs.Spelling.{Blanks, Padded, Quoted, Plain, Listed, Enclosed, Member, Nested, Value, Spells}
 use Rattle.json.proofs.Steps.{expect-end, expect-here, expect-other, contents-end, contents-none, contents-some, named, valueAt, value-start}
@@ -217,7 +217,7 @@ string-front plain l y r e = let k = quoted-front l y r e in record { part = k .
 
 -- brackets around elements that are spelled
 array-front : {S : Json → List ℕ → Type 0} (l r : List ℕ) (xs : List Json) → (s : List ℕ) × (l ≡ s ++ (0x5d ∷ r)) × Enclosed S xs s
-    → Front (Nested S (Json.array (itemsOf xs))) (0x5b ∷ l) r
+    → Front (Nested S (Json.array (asItems xs))) (0x5b ∷ l) r
 array-front l r xs c =
     record {
       part = bytes "[" ++ c .0 ++ bytes "]";
@@ -226,7 +226,7 @@ array-front l r xs c =
     }
 
 object-front : {S : Json → List ℕ → Type 0} (l r : List ℕ) (ms : List (List ℕ × Json)) → (s : List ℕ) × (l ≡ s ++ (0x7d ∷ r)) × Enclosed (Member S) ms s
-    → Front (Nested S (Json.object (membersOf ms))) (0x7b ∷ l) r
+    → Front (Nested S (Json.object (asMembers ms))) (0x7b ∷ l) r
 object-front l r ms c =
     record {
       part = bytes "{" ++ c .0 ++ bytes "}";
@@ -246,10 +246,10 @@ value-finds (suc d) =
     value-by-finds paired _ _ (Nested (Value d)) (string-front {S = Nested (Value d)} (λ x s k. Nested.plain k)) (λ n e. Nested.plain (Plain.number e))
     (Nested.plain Plain.yes) (Nested.plain Plain.no) (Nested.plain Plain.null)
     (λ l r x e.
-    let m = made-done (λ xs. Json.array (itemsOf xs)) (bracketed 0x5d (value paired d) l) x r e in
+    let m = made-done (λ xs. Json.array (asItems xs)) (bracketed 0x5d (value paired d) l) x r e in
     subst (λ z. Front (Nested (Value d) z) (0x5b ∷ l) r) (m .2) (array-front l r (m .0) (bracketed-finds 0x5d eats ih l r (m .0) (m .1))))
     (λ l r x e.
-    let m = made-done (λ ms. Json.object (membersOf ms)) (bracketed 0x7d (member paired (value paired d)) l) x r e in
+    let m = made-done (λ ms. Json.object (asMembers ms)) (bracketed 0x7d (member paired (value paired d)) l) x r e in
     subst (λ z. Front (Nested (Value d) z) (0x7b ∷ l) r) (m .2)
     (object-front l r (m .0) (bracketed-finds 0x7d (member-eats paired (value paired d) eats) (member-finds ih) l r (m .0) (m .1))))
 
@@ -286,13 +286,13 @@ read-spells d x s e = text-finds d x s [] e .0
 
 -- Stage A passes a file exactly where it is short enough and spells some tree.
 pub sound-spells : (s : List ℕ) → syntaxOf s ≡ Sound → (x : Json) × Spells depth x s
-unfolding syntaxOf verdictOf placed
+unfolding syntaxOf syntaxBy placed
 sound-spells s e = by-test (ltb fileBytes (length s)) long read
   where
     long : ltb fileBytes (length s) ≡ true → (x : Json) × Spells depth x s
     long h = let p : Fault tooLong 0 ≡ Sound = rw (h, syntaxOf) at e in absurd (let z : _≡_ {A = ℕ} 0 1 = cc in omega arith)
 
-    go : (o : Read Json) → text paired depth s ≡ o → verdictOf (placed s o) ≡ Sound → (x : Json) × Spells depth x s
+    go : (o : Read Json) → text paired depth s ≡ o → syntaxBy (placed s o) ≡ Sound → (x : Json) × Spells depth x s
     go (done x r) h i = (x, text-finds depth x s r h .0)
     go (bad k r) h i = absurd (let z : _≡_ {A = ℕ} 0 1 = cc in omega arith)
 
@@ -300,5 +300,5 @@ sound-spells s e = by-test (ltb fileBytes (length s)) long read
     read h = go (text paired depth s) refl (rw (h, syntaxOf) at e)
 
 pub spells-sound : {x : Json} (s : List ℕ) → length s ≤ fileBytes → Spells depth x s → syntaxOf s ≡ Sound
-unfolding verdictOf placed
+unfolding syntaxBy placed
 spells-sound {x} s few h = sym (judged s (placed s (done x [])) few (ap (placed s) (sym (spelled-read h))))

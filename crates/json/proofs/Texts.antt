@@ -15,7 +15,7 @@ use Rattle.lexeme.proofs.Spans.{Skipped}
 use Rattle.lexeme.proofs.Steps.{then-reads, then-fails}
 use Rattle.json.specs.Tree.{Json}
 use Rattle.json.specs.declared.Syntax.the-variants.{Fault}
-use Rattle.json.specs.Text.{value, finish, text, verdictOf, syntaxOf}
+use Rattle.json.specs.Text.{value, finish, text, syntaxBy, syntaxOf}
 
 module _ (s : List ℕ) (d i : ℕ) (k : Skipped s 0 i) where
   pub text-bad : (n : ℕ) (r : List ℕ) → value paired d (drop i s) ≡ bad n r → text paired d s ≡ bad n r
@@ -39,6 +39,6 @@ pub too-long : (s : List ℕ) → fileBytes < length s → Fault tooLong 0 ≡ s
 unfolding syntaxOf
 too-long s h = rw (syntaxOf, lt-ltb _ _ h)
 
-pub judged : (s : List ℕ) (o : Scan) → length s ≤ fileBytes → o ≡ placed s (text paired depth s) → verdictOf o ≡ syntaxOf s
+pub judged : (s : List ℕ) (o : Scan) → length s ≤ fileBytes → o ≡ placed s (text paired depth s) → syntaxBy o ≡ syntaxOf s
 unfolding syntaxOf
 judged s o h e = rw (syntaxOf, le-ltb _ _ h, e)

@@ -23,7 +23,7 @@ use Rattle.lexeme.proofs.Placed.{placed-made}
 use Rattle.lexeme.proofs.Spans.{Skipped}
 use Rattle.lexeme.proofs.Steps.{true-false, then-reads, then-fails}
 use Rattle.lexeme.proofs.Words.{literal-placed}
-use Rattle.json.specs.Tree.{Json, itemsOf, membersOf}
+use Rattle.json.specs.Tree.{Json, asItems, asMembers}
 use Rattle.json.specs.Text.{expect, bracketed, member, valueBy, value}
 use Rattle.json.proofs.Steps.{expect-end, expect-here, expect-other, valueAt, value-start}
 
@@ -33,10 +33,10 @@ nested f close element zero t = bad tooDeep t
 nested f close element (suc d) t = made f (bracketed close (element d) (drop 1 t))
 
 arrays : ℕ → List ℕ → Read Json
-arrays = nested (λ xs. Json.array (itemsOf xs)) 0x5d (value paired)
+arrays = nested (λ xs. Json.array (asItems xs)) 0x5d (value paired)
 
 objects : ℕ → List ℕ → Read Json
-objects = nested (λ ms. Json.object (membersOf ms)) 0x7d (λ d. member paired (value paired d))
+objects = nested (λ ms. Json.object (asMembers ms)) 0x7d (λ d. member paired (value paired d))
 
 value-by : (d : ℕ) (l : List ℕ) → value paired d l ≡ valueBy paired (arrays d) (objects d) l
 unfolding value arrays objects nested

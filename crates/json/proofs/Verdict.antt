@@ -15,7 +15,7 @@ use Rattle.lexeme.proofs.Steps.{by-test}
 use Rattle.json.specs.declared.Syntax.{Syntax}
 use Rattle.json.specs.declared.Syntax.the-variants.{Fault}
 use Rattle.json.specs.Tree.{Json}
-use Rattle.json.specs.Text.{text, verdictOf, syntaxOf}
+use Rattle.json.specs.Text.{text, syntaxBy, syntaxOf}
 
 pub record Met (s : List ℕ) (k n : ℕ) : Type 0 where
   pub rest : List ℕ
@@ -23,7 +23,7 @@ pub record Met (s : List ℕ) (k n : ℕ) : Type 0 where
   pub place : length s - length rest ≡ n
 
 pub met : (s : List ℕ) (k n : ℕ) → syntaxOf s ≡ Fault k n → (k ≡ tooLong → ⊥) → Met s k n
-unfolding syntaxOf verdictOf placed
+unfolding syntaxOf syntaxBy placed
 met s k n e other = by-test (ltb fileBytes (length s)) long read
   where
     long : ltb fileBytes (length s) ≡ true → Met s k n
@@ -32,7 +32,7 @@ met s k n e other = by-test (ltb fileBytes (length s)) long read
         let i : k ≡ tooLong = cc in
         absurd (other i)
 
-    go : (o : Read Json) → text paired depth s ≡ o → verdictOf (placed s o) ≡ Fault k n → Met s k n
+    go : (o : Read Json) → text paired depth s ≡ o → syntaxBy (placed s o) ≡ Fault k n → Met s k n
     go (done x r) h i = absurd (let z : _≡_ {A = ℕ} 0 1 = cc in omega arith)
     go (bad m r) h i =
         let p : m ≡ k = cc in

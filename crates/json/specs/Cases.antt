@@ -15,14 +15,14 @@ use Rattle.lexeme.specs.Character.{within, paired}
 use Rattle.lexeme.specs.Cases.{lexing}
 use Rattle.json.specs.declared.Syntax.{Syntax}
 use Rattle.json.specs.declared.Syntax.the-variants.{Sound, Fault}
-use Rattle.json.specs.Tree.{Json, item, noItem, itemsOf, membersOf}
-use Rattle.json.specs.Text.{expect, separator, after, elements, contents, bracketed, member, valueBy, value, finish, text, verdictOf, syntaxOf}
+use Rattle.json.specs.Tree.{Json, item, noItem, asItems, asMembers}
+use Rattle.json.specs.Text.{expect, separator, after, elements, contents, bracketed, member, valueBy, value, finish, text, syntaxBy, syntaxOf}
 use Rattle.json.specs.Spelling.{Blanks, Padded, Character, Characters, Quoted, Plain, Listed, Enclosed, Nested, Spells}
 use Rattle.json.specs.Places.{Place, outside, inside, escaped, placeAfter, placing, Escape, Low, Unpaired}
 
 -- opens every definition of stage A
 unfoldable pub reading : Unit {0}
-unfolding lexing placed itemsOf membersOf expect separator after elements contents bracketed member valueBy value finish text verdictOf syntaxOf
+unfolding lexing placed asItems asMembers expect separator after elements contents bracketed member valueBy value finish text syntaxBy syntaxOf
 reading = tt
 
 abbrev texts : List (Case (List ℕ) Syntax)
@@ -199,6 +199,6 @@ too-long : (s : List ℕ) → fileBytes < length s → syntaxOf s ≡ Fault 1 0
 unfolding syntaxOf
 too-long s h = rw (lt-ltb fileBytes (length s) h, syntaxOf)
 
-not-too-long : (s : List ℕ) → length s ≤ fileBytes → syntaxOf s ≡ verdictOf (placed s (text paired depth s))
+not-too-long : (s : List ℕ) → length s ≤ fileBytes → syntaxOf s ≡ syntaxBy (placed s (text paired depth s))
 unfolding syntaxOf
 not-too-long s h = rw (le-ltb fileBytes (length s) h, syntaxOf)

@@ -13,7 +13,7 @@ use Rattle.lexeme.specs.Read.Read.{done}
 use Rattle.lexeme.specs.Character.{paired, bytesOf, next}
 use Rattle.lexeme.specs.Numbers as Numbers
 use Rattle.lexeme.specs.Tokens.{blank}
-use Rattle.json.specs.Tree.{Json, itemsOf, membersOf}
+use Rattle.json.specs.Tree.{Json, asItems, asMembers}
 
 -- any number of blanks, also none
 pub data Blanks : List ℕ → Type 0 where
@@ -63,8 +63,8 @@ pub data Member (Inner : Json → List ℕ → Type 0) : List ℕ × Json → Li
 -- a value, where values inside it are spelled so
 pub data Nested (Inner : Json → List ℕ → Type 0) : Json → List ℕ → Type 0 where
   plain : {x : Json} {s : List ℕ} → Plain x s → Nested Inner x s
-  array : {xs : List Json} {s : List ℕ} → Enclosed Inner xs s → Nested Inner (Json.array (itemsOf xs)) (bytes "[" ++ s ++ bytes "]")
-  object : {ms : List (List ℕ × Json)} {s : List ℕ} → Enclosed (Member Inner) ms s → Nested Inner (Json.object (membersOf ms)) (bytes "{" ++ s ++ bytes "}")
+  array : {xs : List Json} {s : List ℕ} → Enclosed Inner xs s → Nested Inner (Json.array (asItems xs)) (bytes "[" ++ s ++ bytes "]")
+  object : {ms : List (List ℕ × Json)} {s : List ℕ} → Enclosed (Member Inner) ms s → Nested Inner (Json.object (asMembers ms)) (bytes "{" ++ s ++ bytes "}")
 
 -- a value with at most so many levels of brackets
 abbrev pub Value : ℕ → Json → List ℕ → Type 0

@@ -18,7 +18,7 @@ use Rattle.lexeme.specs.Numbers as Numbers
 use Rattle.lexeme.specs.Tokens.{blanks, literal}
 use Rattle.json.specs.declared.Syntax.{Syntax}
 use Rattle.json.specs.declared.Syntax.the-variants as syntax
-use Rattle.json.specs.Tree.{Json, itemsOf, membersOf}
+use Rattle.json.specs.Tree.{Json, asItems, asMembers}
 
 -- the byte c, and then what f reads
 unfoldable pub expect : {A : Type 0} → ℕ → (List ℕ → Read A) → List ℕ → Read A
@@ -83,8 +83,8 @@ unfoldable pub value : Surrogates → ℕ → List ℕ → Read Json
 value ρ zero l = valueBy ρ (bad tooDeep) (bad tooDeep) l
 value ρ (suc levels) l =
     valueBy ρ
-    (λ t. made (λ xs. Json.array (itemsOf xs)) (bracketed 0x5d (value ρ levels) (drop 1 t)))
-    (λ t. made (λ ms. Json.object (membersOf ms)) (bracketed 0x7d (member ρ (value ρ levels)) (drop 1 t)))
+    (λ t. made (λ xs. Json.array (asItems xs)) (bracketed 0x5d (value ρ levels) (drop 1 t)))
+    (λ t. made (λ ms. Json.object (asMembers ms)) (bracketed 0x7d (member ρ (value ρ levels)) (drop 1 t)))
     l
 
 -- nothing but blanks up to the end
@@ -96,14 +96,13 @@ finish x (b ∷ r) = bad notJson (b ∷ r)
 unfoldable pub text : Surrogates → ℕ → List ℕ → Read Json
 text ρ levels l = then (value ρ levels (blanks l)) (λ x r. finish x (blanks r))
 
--- stage A's verdict on a file
-unfoldable pub verdictOf : Scan → Syntax
-verdictOf (End n) = syntax.Sound
-verdictOf (Fault kind offset) = syntax.Fault kind offset
+-- what the end of reading says
+unfoldable pub syntaxBy : Scan → Syntax
+syntaxBy (End n) = syntax.Sound
+syntaxBy (Fault kind offset) = syntax.Fault kind offset
 
+-- stage A's verdict on a file
 unfoldable pub syntaxOf : List ℕ → Syntax
 syntaxOf s =
-    elim (ltb fileBytes (length s)) [
-      | true ↦ syntax.Fault tooLong 0
-      | false ↦ verdictOf (placed s (text paired depth s))
-    ]
+    ltb fileBytes (length s) ⇒ syntax.Fault tooLong 0 else
+    syntaxBy (placed s (text paired depth s))

@@ -21,11 +21,11 @@ mutual
     noMember : Members
     member : List ℕ → Json → Members → Members
 
--- the items and members of lists of them
-unfoldable pub itemsOf : List Json → Items
-itemsOf [] = noItem
-itemsOf (j ∷ js) = item j (itemsOf js)
+-- lists of items and of members, as a tree holds them
+unfoldable pub asItems : List Json → Items
+asItems [] = noItem
+asItems (j ∷ js) = item j (asItems js)
 
-unfoldable pub membersOf : List (List ℕ × Json) → Members
-membersOf [] = noMember
-membersOf (m ∷ ms) = member (m .0) (m .1) (membersOf ms)
+unfoldable pub asMembers : List (List ℕ × Json) → Members
+asMembers [] = noMember
+asMembers (m ∷ ms) = member (m .0) (m .1) (asMembers ms)

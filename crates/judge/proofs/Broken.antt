@@ -15,7 +15,7 @@ use Rattle.decimal.specs.declared.Number.the-variants as number
 use Rattle.decimal.specs.declared.Price.{Price}
 use Rattle.decimal.specs.declared.Price.the-variants as price
 use Rattle.decimal.specs.Decimals.{numberOf, hasPoint, priceOf}
-use Rattle.decimal.specs.Exact.{natural, portion, within}
+use Rattle.decimal.specs.Exact.{natural, portion, inRange}
 use Rattle.text.specs.Text.{same, currency}
 use Rattle.schema.specs.Shape as sort
 use Rattle.schema.specs.Shape.{Sort}
@@ -52,9 +52,9 @@ number-kinds sort.timestamp s = integer-kinds (hasPoint s) (numberOf s)
 number-kinds sort.integer s = integer-kinds (hasPoint s) (numberOf s)
 number-kinds sort.amount s = formed-kinds natural (numberOf s)
 number-kinds sort.portion s = formed-kinds portion (numberOf s)
-number-kinds sort.latitude s = formed-kinds (within 90) (numberOf s)
-number-kinds sort.longitude s = formed-kinds (within 180) (numberOf s)
-number-kinds sort.ordinate s = none
+number-kinds sort.latitude s = formed-kinds (inRange 90) (numberOf s)
+number-kinds sort.longitude s = formed-kinds (inRange 180) (numberOf s)
+number-kinds sort.coordinate s = none
 number-kinds sort.money s = formed-kinds anyMoney (numberOf s)
 number-kinds sort.price s = formed-kinds priceMoney (numberOf s)
 number-kinds sort.boolean s = only (omega arith)
@@ -72,7 +72,7 @@ text-kinds sort.amount s = only (omega arith)
 text-kinds sort.portion s = only (omega arith)
 text-kinds sort.latitude s = only (omega arith)
 text-kinds sort.longitude s = only (omega arith)
-text-kinds sort.ordinate s = only (omega arith)
+text-kinds sort.coordinate s = only (omega arith)
 text-kinds sort.money s = only (omega arith)
 text-kinds sort.price s = pricing-kinds (priceOf s)
 text-kinds sort.boolean s = only (omega arith)
@@ -90,7 +90,7 @@ boolean-kinds sort.amount = only (omega arith)
 boolean-kinds sort.portion = only (omega arith)
 boolean-kinds sort.latitude = only (omega arith)
 boolean-kinds sort.longitude = only (omega arith)
-boolean-kinds sort.ordinate = only (omega arith)
+boolean-kinds sort.coordinate = only (omega arith)
 boolean-kinds sort.money = only (omega arith)
 boolean-kinds sort.price = only (omega arith)
 boolean-kinds sort.boolean = none

@@ -8,29 +8,26 @@ use lib.Dec.{leb}
 use lib.ListN.{length}
 use borrow.Author.Tests.{leb-true}
 use Rattle.limits.specs.Ceilings as ceiling
-use Rattle.schema.specs.Pick.{Picked, PickedItems, bare, items, slots, listOf}
+use Rattle.schema.specs.Pick.{Picked, PickedItems, bare, items, slots, listOf, elements}
 use Rattle.schema.proofs.Tests.{and-right}
-use Rattle.rings.specs.Rings.{count, ringPositions, ringsPositions, polygonPositions, polygonRings, polygonsRings}
+use Rattle.rings.specs.Rings.{count, itemCount, itemTotal, polygonPositions}
 use Rattle.rings.proofs.OneRing.{coordinates-one}
 use Rattle.judge.specs.Faults.{numbered}
-use Rattle.judge.specs.Coordinates.{Coordinates, WithinCeilings, ringsOf, polygonsPositions}
+use Rattle.judge.specs.Coordinates.{Coordinates, WithinCeilings, polygonsPositions}
 use Rattle.judge.proofs.Holds.{holds-is}
 use Rattle.judge.proofs.Positions.{coordinates-fit}
 
-rings-room : (l : List Picked) → ((x : Picked) → List·Memᴰ x l → ringPositions x ≤ ceiling.positions) → ringsPositions l ≤ ceiling.positions * length l
-unfolding ringsPositions
+rings-room : (l : List Picked) → ((x : Picked) → List·Memᴰ x l → itemCount x ≤ ceiling.positions) → itemTotal l ≤ ceiling.positions * length l
+unfolding itemTotal
 rings-room [] few = omega arith
 rings-room (x ∷ l) few = omega (arith, few x (List·Memᴰ·head refl), rings-room l (λ y i. few y (List·Memᴰ·tail i)))
 
-polygon-room : (x : Picked) → ((r : Picked) → List·Memᴰ r (ringsOf x) → ringPositions r ≤ ceiling.positions) → polygonPositions x ≤ ceiling.positions * polygonRings x
-unfolding count
-polygon-room (items is) few = rings-room (listOf is) few
-polygon-room (bare x) few = omega arith
-polygon-room (slots ss) few = omega arith
+polygon-room : (x : Picked) → ((r : Picked) → List·Memᴰ r (elements x) → itemCount r ≤ ceiling.positions) → polygonPositions x ≤ ceiling.positions * itemCount x
+polygon-room x few = rings-room (elements x) few
 
-polygons-room : (l : List Picked) → ((x r : Picked) → List·Memᴰ x l → List·Memᴰ r (ringsOf x) → ringPositions r ≤ ceiling.positions)
-    → polygonsPositions l ≤ ceiling.positions * polygonsRings l
-unfolding polygonsPositions polygonsRings
+polygons-room : (l : List Picked) → ((x r : Picked) → List·Memᴰ x l → List·Memᴰ r (elements x) → itemCount r ≤ ceiling.positions)
+    → polygonsPositions l ≤ ceiling.positions * itemTotal l
+unfolding polygonsPositions itemTotal
 polygons-room [] few = omega arith
 polygons-room (x ∷ l) few =
     omega (arith, polygon-room x (λ r i. few x r (List·Memᴰ·head refl) i), polygons-room l (λ y r i j. few y r (List·Memᴰ·tail i) j))
@@ -41,8 +38,8 @@ coordinates =
       lastFits =
           λ is w.
           let l = listOf is in
-          let most : polygonsRings l ≤ ceiling.zoneRings =
-          leb-true (polygonsRings l) ceiling.zoneRings (and-right (leb (count is) ceiling.polygons) _ (w .counts)) in
+          let most : itemTotal l ≤ ceiling.zoneRings =
+          leb-true (itemTotal l) ceiling.zoneRings (and-right (leb (count is) ceiling.polygons) _ (w .counts)) in
           omega (arith, polygons-room l (w .positions));
       sixteen = omega arith;
       firstFits = λ p field is f fits known e. holds-is (coordinates-fit p field fits known is) e;

@@ -17,7 +17,7 @@ use Rattle.json.specs.Tree.{Json, Items, Members}
 use Rattle.walk.specs.declared.Item.{Item}
 use Rattle.walk.specs.declared.ItemStep.the-variants as items
 use Rattle.walk.specs.Walk.{part, onward, itemAt, itemsOf}
-use Rattle.walk.specs.Part.{Whole, treeOf, kindAt}
+use Rattle.walk.specs.Part.{Whole, partTree, kindAt}
 use Rattle.walk.specs.inner.Along.{AlongItems}
 use Rattle.walk.specs.inner.Front.{Ends}
 use Rattle.walk.proofs.Along.{ItemsAlong, items-along, items-along-next, items-along-last}
@@ -30,7 +30,7 @@ use Rattle.schema.specs.Shape as shape
 use Rattle.schema.specs.Shape.{Shape, Rows, Need, Numbering}
 use Rattle.schema.specs.inner.Line.{lineAt, numberingLetter}
 use Rattle.schema.specs.Pick as picking
-use Rattle.schema.specs.Pick.{Slot, missing, once, twice, given, find, put, Picked, PickedItems, pick, pickRows, each, listOf}
+use Rattle.schema.specs.Pick.{Slot, missing, once, twice, filled, find, put, Picked, PickedItems, pick, pickRows, pickItems, listOf}
 use Rattle.schema.specs.Table23.{table23}
 use Rattle.schema.proofs.Tests.{and-left, and-right}
 use Rattle.schema.proofs.Walk.{Laid, linesIn, step, first-row, no-row}
@@ -60,9 +60,9 @@ passed acc this rest e t = lesser-assoc acc this rest ∙ ap (lesser acc) (sym e
 -- a row and the rows below it
 pub row-first : (q : Place) (field : ℕ) (need : Need) (name : List ℕ) (σ : Shape) (rows : Rows) (ms : Members) →
     least (rowFaults (shape.row field need name σ rows) q (pickRows (shape.row field need name σ rows) ms)) ≡
-    lesser (least (memberFaults need σ q field (given (find name ms)))) (least (rowFaults rows q (pickRows rows ms)))
+    lesser (least (memberFaults need σ q field (filled (find name ms)))) (least (rowFaults rows q (pickRows rows ms)))
 unfolding rowFaultsBy pickRows
-row-first q field need name σ rows ms = go (given (find name ms))
+row-first q field need name σ rows ms = go (filled (find name ms))
   where
     go : (o : Slot Json) → least (rowFaults (shape.row field need name σ rows) q (put field (λ y. pick σ y) o (pickRows rows ms))) ≡
         lesser (least (memberFaults need σ q field o)) (least (rowFaults rows q (pickRows rows ms)))
@@ -181,25 +181,25 @@ no-item judge numbering q φ n = refl
 
 -- the least so far, and how many they are
 abbrev pub judged : List ℕ → Numbering → Shape → Place → ℕ → Least × ℕ → Item → Least × ℕ
-judged p numbering σ q φ s m = (lesser (s .0) (least (faults σ (itemPlace numbering (s .1 + 1) q) φ (pick σ (treeOf (itemOf p m))))), s .1 + 1)
+judged p numbering σ q φ s m = (lesser (s .0) (least (faults σ (itemPlace numbering (s .1 + 1) q) φ (pick σ (partTree (itemOf p m))))), s .1 + 1)
 
 -- what the walk over the items comes to
 module _ (p : List ℕ) (numbering : Numbering) (σ : Shape) (q : Place) (φ : ℕ) where
   abbrev picks : List Item → PickedItems
-  picks ms = each (λ y. pick σ y) (tree.itemsOf (map (λ m. treeOf (itemOf p m)) ms))
+  picks ms = pickItems (λ y. pick σ y) (tree.asItems (map (λ m. partTree (itemOf p m)) ms))
 
   items-least : (ms : List Item) (acc : Least) (n : ℕ) →
       foldl (judged p numbering σ q φ) (acc, n) ms .0 ≡ lesser acc (least (eachItem (λ r f y. faults σ r f y) numbering q φ n (picks ms)))
-  unfolding each tree.itemsOf
+  unfolding pickItems tree.asItems
   items-least [] acc n = sym (ap (lesser acc) (no-item (λ r f y. faults σ r f y) numbering q φ n) ∙ lesser-none acc)
   items-least (m ∷ ms) acc n =
-      let this = least (faults σ (itemPlace numbering (n + 1) q) φ (pick σ (treeOf (itemOf p m)))) in
+      let this = least (faults σ (itemPlace numbering (n + 1) q) φ (pick σ (partTree (itemOf p m)))) in
       items-least ms (lesser acc this) (n + 1)
       ∙ lesser-assoc acc this _
-      ∙ ap (lesser acc) (sym (item-first (λ r f y. faults σ r f y) numbering q φ n (pick σ (treeOf (itemOf p m))) (picks ms)))
+      ∙ ap (lesser acc) (sym (item-first (λ r f y. faults σ r f y) numbering q φ n (pick σ (partTree (itemOf p m))) (picks ms)))
 
   items-count : (ms : List Item) (acc : Least) (n : ℕ) → foldl (judged p numbering σ q φ) (acc, n) ms .1 ≡ n + count (picks ms)
-  unfolding each tree.itemsOf count listOf
+  unfolding pickItems tree.asItems count listOf
   items-count [] acc n = omega arith
   items-count (m ∷ ms) acc n = items-count ms _ (n + 1) ∙ omega arith
 
@@ -273,9 +273,9 @@ module _ (p : List ℕ) (i : ℕ) (q : Place) (level : ℕ) where
         let h =
         o .is σ (item-told i field need name numbering most σ rows l b)
         (λ c. plain-single σ b (line-item i field need name numbering most σ rows l ∙ c)) (and-right (plain σ) (ready σ level) y)
-        (treeOf (itemOf P m)) (item-whole P at m f)
-        ∙ ap (λ (z : Place). least (faults σ z (lineAt table23 i .field) (pick σ (treeOf (itemOf P m))))) (line-place i field need name numbering most σ rows l (k + 1) q)
-        ∙ ap (λ (φ : ℕ). least (faults σ (itemPlace numbering (k + 1) q) φ (pick σ (treeOf (itemOf P m)))))
+        (partTree (itemOf P m)) (item-whole P at m f)
+        ∙ ap (λ (z : Place). least (faults σ z (lineAt table23 i .field) (pick σ (partTree (itemOf P m))))) (line-place i field need name numbering most σ rows l (k + 1) q)
+        ∙ ap (λ (φ : ℕ). least (faults σ (itemPlace numbering (k + 1) q) φ (pick σ (partTree (itemOf P m)))))
         (line-field i field need name (shape.array numbering most σ) rows l) in
         rw h (items-along-next P (judged P numbering σ q field) (acc, k) at _ m f a)
 
@@ -324,7 +324,7 @@ module _ (p : List ℕ) (i : ℕ) (q : Place) (level : ℕ) where
               ap (λ (z : Least × ℕ). z .0) we ∙ items-least P numbering σ q field (itemsOf P) None 0 ∙ none-lesser _ in
               let c : k ≡ count picked = ap (λ (z : Least × ℕ). z .1) we ∙ items-count P numbering σ q field (itemsOf P) None 0 ∙ omega arith in
               let t : pick (shape.array numbering most σ) x ≡ picking.items picked =
-              ap (pick (shape.array numbering most σ)) (m .1) ∙ ap (λ (z : Items). picking.items (each (λ y. pick σ y) z)) (array-parts P v′) in
+              ap (pick (shape.array numbering most σ)) (m .1) ∙ ap (λ (z : Items). picking.items (pickItems (λ y. pick σ y) z)) (array-parts P v′) in
               h ∙ ap (λ (z : Line). lesser (least (faulty q (z .field) (unless (leb k (z .most)) tooMany))) acc) line-is
               ∙ ap (λ (φ : ℕ). lesser (least (faulty q φ (unless (leb k (lineAt table23 i .most)) tooMany))) acc)
               (line-field i field need name (shape.array numbering most σ) rows l)

@@ -13,7 +13,7 @@ use Rattle.schema.specs.declared.Line.{Line}
 use Rattle.schema.specs.Shape as shape
 use Rattle.schema.specs.Shape.{Shape, Numbering}
 use Rattle.schema.specs.inner.Line.{lineAt, numberingLetter}
-use Rattle.schema.specs.Pick.{Picked, PickedItems, bare, items, item, outline, inArray, each, pick}
+use Rattle.schema.specs.Pick.{Picked, PickedItems, bare, items, item, emptied, inArray, pickItems, pick}
 use Rattle.schema.specs.Table23.{table23, coordinates}
 use Rattle.fault.specs.declared.Least.{Least}
 use Rattle.fault.specs.Fault.{least}
@@ -24,8 +24,8 @@ use Rattle.judge.specs.inner.Ready.{arrays, ready}
 use Rattle.judge.specs.inner.Judged.{Array}
 use Rattle.judge.proofs.Lines.{line-field, line-numbering}
 
-each-same : (f g : Json → Picked) → ((x : Json) → f x ≡ g x) → (is : Items) → each f is ≡ each g is
-unfolding each
+each-same : (f g : Json → Picked) → ((x : Json) → f x ≡ g x) → (is : Items) → pickItems f is ≡ pickItems g is
+unfolding pickItems
 each-same f g h tree.noItem = refl
 each-same f g h (tree.item x is) = ap₂ item (h x) (each-same f g h is)
 
@@ -37,7 +37,7 @@ in-same f g h (tree.string s) = refl
 in-same f g h (tree.array is) = ap items (h is)
 in-same f g h (tree.object ms) = refl
 
-single-picked : (σ : Shape) → arrays σ 0 ≡ true → (x : Json) → pick σ x ≡ bare (outline x)
+single-picked : (σ : Shape) → arrays σ 0 ≡ true → (x : Json) → pick σ x ≡ bare (emptied x)
 unfolding arrays pick
 single-picked shape.unlisted e x = refl
 single-picked (shape.scalar sort) e x = refl

@@ -21,7 +21,7 @@ use Rattle.fault.proofs.Order.{by-test}
 use Rattle.fault.proofs.Leasts.{least-one, least-append}
 use Rattle.scalar.specs.Scalars.{unless}
 use Rattle.geometry.specs.Ring.{sound}
-use Rattle.rings.specs.Rings.{Found, at, count, ordinateKinds, numberKinds, positionKinds, position, allSound, positionsFound, ringFound, ring, ringPositions, ringsFound, ringsPositions, polygon, polygonPositions, polygonRings, polygonsRings, isRingCount, areZoneCounts, polygonsFound, coordinatesFound}
+use Rattle.rings.specs.Rings.{Found, foundAt, count, coordinateKinds, coordinatesKinds, positionKinds, position, allSound, positionsFound, ringFound, ring, itemCount, ringsFound, itemTotal, polygon, polygonPositions, isRingCount, areZoneCounts, polygonsFound, coordinatesFound}
 use Rattle.judge.specs.declared.Place.{Place}
 use Rattle.judge.specs.Faults.{numbered}
 use Rattle.judge.specs.Bounds.{OfStageB, Fitting, greatest, fields}
@@ -30,19 +30,19 @@ use Rattle.judge.proofs.Broken.{AllStageB, unless-kinds, value-kinds}
 
 -- kinds of a position
 
-ordinate-kinds : (σ : sort.Sort) (x : Picked) → AllStageB (ordinateKinds σ x)
-unfolding ordinateKinds
+ordinate-kinds : (σ : sort.Sort) (x : Picked) → AllStageB (coordinateKinds σ x)
+unfolding coordinateKinds
 ordinate-kinds σ (bare x) = value-kinds σ x
 ordinate-kinds σ (items is) = only (omega arith)
 ordinate-kinds σ (slots ss) = only (omega arith)
 
-number-kinds : (l : List Picked) → AllStageB (numberKinds l)
-unfolding numberKinds
+number-kinds : (l : List Picked) → AllStageB (coordinatesKinds l)
+unfolding coordinatesKinds
 number-kinds [] = none
 number-kinds (x ∷ []) = ordinate-kinds sort.longitude x
 number-kinds (x ∷ y ∷ []) = all-append (ordinate-kinds sort.longitude x) (ordinate-kinds sort.latitude y)
 number-kinds (x ∷ y ∷ z ∷ l) =
-    all-append (all-append (ordinate-kinds sort.longitude x) (ordinate-kinds sort.latitude y)) (ordinate-kinds sort.ordinate z)
+    all-append (all-append (ordinate-kinds sort.longitude x) (ordinate-kinds sort.latitude y)) (ordinate-kinds sort.coordinate z)
 
 position-kinds : (x : Picked) → AllStageB (positionKinds x)
 unfolding positionKinds
@@ -63,8 +63,8 @@ upTo-more : {m n : ℕ} {l : List Found} → m ≤ n → AllUpTo m l → AllUpTo
 upTo-more h none = none
 upTo-more h (more {x = x} u us) = more {x = x} (record { number = omega (arith, u .number); kind = u .kind }) (upTo-more h us)
 
-at-upTo : (n : ℕ) {top : ℕ} {ks : List ℕ} → n ≤ top → AllStageB ks → AllUpTo top (at n ks)
-unfolding at
+at-upTo : (n : ℕ) {top : ℕ} {ks : List ℕ} → n ≤ top → AllStageB ks → AllUpTo top (foundAt n ks)
+unfolding foundAt
 at-upTo n h none = none
 at-upTo n h (more k ks) = more (record { number = h; kind = k }) (at-upTo n h ks)
 
@@ -73,16 +73,16 @@ unfolding positionsFound
 positions-upTo n top [] h = none
 positions-upTo n top (x ∷ l) h = all-append (at-upTo n (omega arith) (position-kinds x)) (positions-upTo (n + 1) top l (omega arith))
 
-closed-upTo : (n top : ℕ) → n ≤ top → (t s : Bool) → AllUpTo top (t ⇒ at n (unless s badRing) else [])
+closed-upTo : (n top : ℕ) → n ≤ top → (t s : Bool) → AllUpTo top (t ⇒ foundAt n (unless s badRing) else [])
 closed-upTo n top h true s = at-upTo n h (unless-kinds s badRing (omega arith))
 closed-upTo n top h false s = none
 
 -- a ring, a polygon: its numbers start at n
 module _ (n : ℕ) where
-  no-array : AllUpTo (n + 0) (at n (wrongType ∷ []))
+  no-array : AllUpTo (n + 0) (foundAt n (wrongType ∷ []))
   no-array = at-upTo n (omega arith) (only (omega arith))
 
-  ring-upTo : (x : Picked) → AllUpTo (n + ringPositions x) (ring n x)
+  ring-upTo : (x : Picked) → AllUpTo (n + itemCount x) (ring n x)
   unfolding ringFound count
   ring-upTo (bare x) = no-array
   ring-upTo (items is) =
@@ -96,12 +96,13 @@ module _ (n : ℕ) where
       (closed-upTo n (n + length l) h (allSound l) (sound (map position l)))
   ring-upTo (slots ss) = no-array
 
-rings-upTo : (n : ℕ) (l : List Picked) → AllUpTo (n + ringsPositions l) (ringsFound n l)
-unfolding ringsFound ringsPositions
+rings-upTo : (n : ℕ) (l : List Picked) → AllUpTo (n + itemTotal l) (ringsFound n l)
+unfolding ringsFound itemTotal
 rings-upTo n [] = none
-rings-upTo n (x ∷ l) = all-append (upTo-more (omega arith) (ring-upTo n x)) (upTo-more (omega arith) (rings-upTo (n + ringPositions x) l))
+rings-upTo n (x ∷ l) = all-append (upTo-more (omega arith) (ring-upTo n x)) (upTo-more (omega arith) (rings-upTo (n + itemCount x) l))
 
 polygon-upTo : (n : ℕ) (x : Picked) → AllUpTo (n + polygonPositions x) (polygon n x)
+unfolding itemTotal
 polygon-upTo n (bare x) = no-array n
 polygon-upTo n (items is) = all-append (at-upTo n (omega arith) (unless-kinds (isRingCount (count is)) badRing (omega arith))) (rings-upTo n (listOf is))
 polygon-upTo n (slots ss) = no-array n
@@ -143,8 +144,8 @@ module _ (p : Place) (φ : ℕ) where
     numbered-fit h u = holds-least (numbered-all (λ x v. record { rec = fits; field = known; sub = omega (arith, v .number); kind = v .kind }) u)
 
     -- one fault that fits
-    number-small : (n kind : ℕ) → n ≤ greatest → OfStageB kind → Small (p .«record») φ (N (at n (kind ∷ [])))
-    unfolding at numbered
+    number-small : (n kind : ℕ) → n ≤ greatest → OfStageB kind → Small (p .«record») φ (N (foundAt n (kind ∷ [])))
+    unfolding foundAt numbered
     number-small n kind h b =
         record {
           what = fault (p .«record») φ n kind;
@@ -153,7 +154,7 @@ module _ (p : Place) (φ : ℕ) where
           fits = record { rec = fits; field = known; sub = h; kind = b };
         }
 
-    failed-small : (n kind : ℕ) → n ≤ greatest → OfStageB kind → (t : Bool) → t ≡ false → Small (p .«record») φ (N (at n (unless t kind)))
+    failed-small : (n kind : ℕ) → n ≤ greatest → OfStageB kind → (t : Bool) → t ≡ false → Small (p .«record») φ (N (foundAt n (unless t kind)))
     failed-small n kind h b t e = rw e (number-small n kind h b)
 
     -- with others behind it, and before it
@@ -164,13 +165,13 @@ module _ (p : Place) (φ : ℕ) where
     others-then xs ys u s = rw (N-append xs ys) (small-right (numbered-of u) s)
 
     -- a ring of too many positions
-    long-ring : (n : ℕ) → n ≤ greatest → (x : Picked) → ceiling.positions < ringPositions x → Small (p .«record») φ (N (ring n x))
+    long-ring : (n : ℕ) → n ≤ greatest → (x : Picked) → ceiling.positions < itemCount x → Small (p .«record») φ (N (ring n x))
     unfolding ringFound count
     long-ring n h (bare x) o = absurd (omega arith)
     long-ring n h (items is) o =
         let l = listOf is in
-        let few = at n (unless (leb 4 (length l)) badRing) in
-        let many = at n (unless (leb (length l) ceiling.positions) tooMany) in
+        let few = foundAt n (unless (leb 4 (length l)) badRing) in
+        let many = foundAt n (unless (leb (length l) ceiling.positions) tooMany) in
         let s = failed-small n tooMany h (omega arith) _ (lt-leb (length l) ceiling.positions o) in
         let top : ℕ = n + length l in
         then-others {top = top} ((few ++ many) ++ positionsFound n l) _
@@ -181,36 +182,36 @@ module _ (p : Place) (φ : ℕ) where
     long-ring n h (slots ss) o = absurd (omega arith)
 
     -- rings of which one is too long: they take more numbers than as many rings may
-    long-rings : (n : ℕ) (l : List Picked) → n + ceiling.positions * length l ≤ greatest → ceiling.positions * length l < ringsPositions l
+    long-rings : (n : ℕ) (l : List Picked) → n + ceiling.positions * length l ≤ greatest → ceiling.positions * length l < itemTotal l
         → Small (p .«record») φ (N (ringsFound n l))
-    unfolding ringsFound ringsPositions
+    unfolding ringsFound itemTotal
     long-rings n [] h o = absurd (omega arith)
     long-rings n (x ∷ l) h o =
-        let m = n + ringPositions x in
-        by-test (leb (ringPositions x) ceiling.positions)
-        (λ t. let k : ringPositions x ≤ ceiling.positions = leb-true (ringPositions x) ceiling.positions t in
+        let m = n + itemCount x in
+        by-test (leb (itemCount x) ceiling.positions)
+        (λ t. let k : itemCount x ≤ ceiling.positions = leb-true (itemCount x) ceiling.positions t in
         others-then (ring n x) (ringsFound m l) (ring-upTo n x) (long-rings m l (omega arith) (omega arith)))
-        (λ t. let k : ceiling.positions < ringPositions x = leb-false (ringPositions x) ceiling.positions t in
+        (λ t. let k : ceiling.positions < itemCount x = leb-false (itemCount x) ceiling.positions t in
         then-others (ring n x) (ringsFound m l) (long-ring n (omega arith) x k) (rings-upTo m l))
 
     -- a polygon of such rings
-    long-polygon : (n : ℕ) (x : Picked) → n + ceiling.positions * polygonRings x ≤ greatest → ceiling.positions * polygonRings x < polygonPositions x
+    long-polygon : (n : ℕ) (x : Picked) → n + ceiling.positions * itemCount x ≤ greatest → ceiling.positions * itemCount x < polygonPositions x
         → Small (p .«record») φ (N (polygon n x))
-    unfolding count
+    unfolding count itemTotal
     long-polygon n (bare x) h o = absurd (omega arith)
     long-polygon n (items is) h o =
         let l = listOf is in
         let t = isRingCount (length l) in
-        others-then {top = n} (at n (unless t badRing)) (ringsFound n l) (at-upTo n (omega arith) (unless-kinds t badRing (omega arith))) (long-rings n l h o)
+        others-then {top = n} (foundAt n (unless t badRing)) (ringsFound n l) (at-upTo n (omega arith) (unless-kinds t badRing (omega arith))) (long-rings n l h o)
     long-polygon n (slots ss) h o = absurd (omega arith)
 
     -- with numbers left for all rings
-    polygons-fit : (n : ℕ) (l : List Picked) → n + ceiling.positions * polygonsRings l ≤ greatest → Holds Fitting (N (polygonsFound n l))
-    unfolding polygonsFound polygonsRings numbered least
+    polygons-fit : (n : ℕ) (l : List Picked) → n + ceiling.positions * itemTotal l ≤ greatest → Holds Fitting (N (polygonsFound n l))
+    unfolding polygonsFound itemTotal numbered least
     polygons-fit n [] h = nothing
     polygons-fit n (x ∷ l) h =
         let m = n + polygonPositions x in
-        let most : ℕ = ceiling.positions * polygonRings x in
+        let most : ℕ = ceiling.positions * itemCount x in
         by-test (leb (polygonPositions x) most)
         (λ t. let o : polygonPositions x ≤ most = leb-true (polygonPositions x) most t in
         rw (N-append (polygon n x) (polygonsFound m l))
@@ -223,10 +224,10 @@ module _ (p : Place) (φ : ℕ) where
     unfolding coordinatesFound count
     coordinates-fit is =
         let l = listOf is in
-        let t = areZoneCounts (length l) (polygonsRings l) in
-        let many = at 0 (unless t tooMany) in
+        let t = areZoneCounts (length l) (itemTotal l) in
+        let many = foundAt 0 (unless t tooMany) in
         by-test t
-        (λ e. let o : polygonsRings l ≤ ceiling.zoneRings = leb-true (polygonsRings l) ceiling.zoneRings (and-right (leb (length l) ceiling.polygons) _ e) in
+        (λ e. let o : itemTotal l ≤ ceiling.zoneRings = leb-true (itemTotal l) ceiling.zoneRings (and-right (leb (length l) ceiling.polygons) _ e) in
         rw (N-append many (polygonsFound 1 l))
         (holds-lesser (numbered-fit {top = 0} (omega arith) (at-upTo 0 (omega arith) (unless-kinds t tooMany (omega arith)))) (polygons-fit 1 l (omega arith))))
         (λ e. small-fits (then-others many (polygonsFound 1 l) (failed-small 0 tooMany (omega arith) (omega arith) t e) (polygons-upTo 1 l .1)))
@@ -235,6 +236,6 @@ module _ (p : Place) (φ : ℕ) where
   pub coordinates-of : (is : PickedItems) → Holds (Of (p .«record») φ) (N (coordinatesFound is))
   unfolding coordinatesFound
   coordinates-of is =
-      let t = areZoneCounts (count is) (polygonsRings (listOf is)) in
-      rw (N-append (at 0 (unless t tooMany)) (polygonsFound 1 (listOf is)))
+      let t = areZoneCounts (count is) (itemTotal (listOf is)) in
+      rw (N-append (foundAt 0 (unless t tooMany)) (polygonsFound 1 (listOf is)))
       (holds-lesser (numbered-of {top = 0} (at-upTo 0 (omega arith) (unless-kinds t tooMany (omega arith)))) (numbered-of (polygons-upTo 1 (listOf is) .1)))

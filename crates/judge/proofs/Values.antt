@@ -13,12 +13,12 @@ use Rattle.word.specs.Kinds.{nameTwice, wrongType}
 use Rattle.json.specs.Tree as tree
 use Rattle.json.specs.Tree.{Json, Members}
 use Rattle.walk.specs.Walk.{part}
-use Rattle.walk.specs.Part.{Whole, treeOf, kindAt}
+use Rattle.walk.specs.Part.{Whole, partTree, kindAt}
 use Rattle.schema.specs.declared.Line.{Line}
 use Rattle.schema.specs.Shape as shape
 use Rattle.schema.specs.Shape.{Shape, Rows, Need, Sort}
 use Rattle.schema.specs.inner.Line.{lineAt, wordsAt, sortLetter, sortWords, inside}
-use Rattle.schema.specs.Pick.{Slot, missing, once, given, unlessEmpty, find, outline, pick}
+use Rattle.schema.specs.Pick.{Slot, missing, once, filled, unlessEmpty, find, emptied, pick}
 use Rattle.schema.specs.inner.Sound.{distinctRows}
 use Rattle.schema.specs.Table23.{table23}
 use Rattle.schema.proofs.Letters.{IsArray, IsObject, array-letter, object-letter}
@@ -48,7 +48,7 @@ use Rattle.judge.proofs.Lines.{how-many, line-field, line-need, line-va
 
 -- a single value
 
-outline-kinds : (sort : Sort) (x : Json) → kindsOf sort (outline x) ≡ kindsOf sort x
+outline-kinds : (sort : Sort) (x : Json) → kindsOf sort (emptied x) ≡ kindsOf sort x
 unfolding kindsOf
 outline-kinds sort tree.null = refl
 outline-kinds sort (tree.boolean b) = refl
@@ -153,11 +153,11 @@ module _ {p : List ℕ} {i : ℕ} {q : Place} {level : ℕ} {r : Least} {line : 
 pub record Row (p : List ℕ) (found : Found) (i : ℕ) (q : Place) (level : ℕ) (r : Least) : Type 0 where
   pub is : (field : ℕ) (need : Need) (name : List ℕ) (σ : Shape) (rows : Rows) → Laid table23 i (shape.row field need name σ rows) →
       ready σ level ≡ true → (ms : Members) → Whole p (Json.object ms) → found ≡ foundIn p name →
-      r ≡ least (memberFaults need σ q field (given (find name ms)))
+      r ≡ least (memberFaults need σ q field (filled (find name ms)))
 
 given-found : {p : List ℕ} {found o : Found} (name : List ℕ) (ms : Members) → Whole p (Json.object ms) → found ≡ foundIn p name → found ≡ o →
-    given (find name ms) ≡ given (treeIn p o)
-given-found {p} name ms w f e = ap given (find-found p name w ∙ ap (treeIn p) (sym f ∙ e))
+    filled (find name ms) ≡ filled (treeIn p o)
+given-found {p} name ms w f e = ap filled (find-found p name w ∙ ap (treeIn p) (sym f ∙ e))
 
 module _ {p : List ℕ} {found : Found} {i : ℕ} {q : Place} {level : ℕ} {r : Least} where
   module _ {line : Line} (at : line ≡ lineAt table23 i) where
@@ -181,7 +181,7 @@ module _ {p : List ℕ} {found : Found} {i : ℕ} {q : Place} {level : ℕ} {r :
   row-once {from} {upto} g m =
       record {
         is = λ field need name σ rows l e ms w f.
-            m .is field need name σ rows l e (treeOf (part p from upto)) (found-value p name from upto (sym f ∙ g) .whole)
+            m .is field need name σ rows l e (partTree (part p from upto)) (found-value p name from upto (sym f ∙ g) .whole)
             ∙ sym (ap (λ (o : Slot Json). least (memberFaults need σ q field o)) (given-found name ms w f g));
       }
 

@@ -1,10 +1,10 @@
 -- Files and the first rule that each breaks, computed.
 use mathlib.Core.List.{List, [], _∷_, _++_}
-use mathlib.Core.Path.{_≡_, refl}
+use mathlib.Core.Path.{refl}
 use Prim.Native.Nat.{ℕ, zero, suc}
 use Prim.Native.String.{String}
 use Rattle.notation.specs.Case.{Case, Answers, json}
-use Rattle.walk.specs.Part.{treeOf}
+use Rattle.walk.specs.Part.{partTree}
 use Rattle.text.specs.Cases.{comparing}
 use Rattle.schema.specs.Shape.{fileShape}
 use Rattle.schema.specs.Table23.{table23}
@@ -90,6 +90,6 @@ files =
     ("sixteen, which are too many", (6, polygons "[7,7,7,7,7,7,7,7],[7,7,7,7,7,7,7,7]"), broken 1 73 0 10) ∷
     []
 
-files-answered : Answers (λ c. least (fileFaults (fileShape table23 (c .0)) (treeOf (c .1)))) files
+files-answered : Answers (λ c. least (fileFaults (fileShape table23 (c .0)) (partTree (c .1)))) files
 unfolding judging times
 files-answered = refl

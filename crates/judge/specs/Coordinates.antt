@@ -5,26 +5,20 @@ use mathlib.Core.List.{List, [], _∷_, List·Memᴰ}
 use mathlib.Core.Path.{_≡_}
 use Prim.Native.Nat.{ℕ, _+_, _*_, _≤_, _<_}
 use Rattle.limits.specs.Ceilings as ceiling
-use Rattle.schema.specs.Pick.{Picked, PickedItems, bare, items, slots, listOf}
+use Rattle.schema.specs.Pick.{Picked, PickedItems, items, listOf, elements}
 use Rattle.fault.specs.declared.Fault.{Fault}
 use Rattle.fault.specs.declared.Least.the-variants.{Is}
 use Rattle.fault.specs.Fault.{least}
-use Rattle.rings.specs.Rings.{count, ringPositions, polygonPositions, polygonsRings, areZoneCounts}
+use Rattle.rings.specs.Rings.{count, itemCount, polygonPositions, itemTotal, areZoneCounts}
 use Rattle.rings.specs.OneRing.{coordinatesOfOne, OneRingAtMost}
 use Rattle.judge.specs.declared.Place.{Place}
 use Rattle.judge.specs.Faults.{numbered, coordinateFaults}
 use Rattle.judge.specs.Bounds.{Fitting, greatest, fields}
 
--- the rings of a polygon
-abbrev pub ringsOf : Picked → List Picked
-ringsOf (items is) = listOf is
-ringsOf (bare x) = []
-ringsOf (slots ss) = []
-
 -- no more polygons and rings than a zone may have, and no ring of more positions than it may have
 pub record WithinCeilings (is : PickedItems) : Type 0 where
-  pub counts : areZoneCounts (count is) (polygonsRings (listOf is)) ≡ true
-  pub positions : (polygon ring : Picked) → List·Memᴰ polygon (listOf is) → List·Memᴰ ring (ringsOf polygon) → ringPositions ring ≤ ceiling.positions
+  pub counts : areZoneCounts (count is) (itemTotal (listOf is)) ≡ true
+  pub positions : (polygon ring : Picked) → List·Memᴰ polygon (listOf is) → List·Memᴰ ring (elements polygon) → itemCount ring ≤ ceiling.positions
 
 -- the positions of polygons
 unfoldable pub polygonsPositions : List Picked → ℕ

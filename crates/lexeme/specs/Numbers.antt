@@ -35,7 +35,6 @@ optional test follow (b ∷ r) = test b ⇒ made (λ y. b ∷ y) (follow r) else
 unfoldable pub both : (List ℕ → Read (List ℕ)) → (List ℕ → Read (List ℕ)) → List ℕ → Read (List ℕ)
 both first second l = then (first l) (λ x r. made (λ y. x ++ y) (second r))
 
--- nothing
 unfoldable pub nothing : List ℕ → Read (List ℕ)
 nothing l = done [] l
 

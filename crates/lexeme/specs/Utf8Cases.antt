@@ -1,6 +1,6 @@
 -- UTF-8 on cases, computed: the first and the last code point of each length, and those beside the surrogates.
 use mathlib.Core.List.{List, [], _∷_}
-use mathlib.Core.Path.{_≡_, refl}
+use mathlib.Core.Path.{refl}
 use Prim.Native.Nat.{ℕ}
 use Prim.Native.String.{String}
 use Rattle.notation.specs.Case.{Case, Answers}

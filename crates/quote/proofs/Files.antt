@@ -14,7 +14,7 @@ use Rattle.lexeme.specs.Tokens.{blanks}
 use Rattle.json.specs.Text.{text, value, valueBy}
 use Rattle.walk.specs.declared.Item.{Item}
 use Rattle.walk.specs.Walk.{part, itemsOf}
-use Rattle.walk.specs.Part.{Whole, treeOf}
+use Rattle.walk.specs.Part.{Whole, partTree}
 use Rattle.walk.specs.inner.Along.{AlongItems}
 use Rattle.walk.proofs.Parts.{itemOf, items-whole}
 use Rattle.schema.specs.Shape.{fileShape}
@@ -28,8 +28,8 @@ use Rattle.document.specs.Document.{none, some, field, along}
 use Rattle.document.specs.inner.Spans.{RecordsFrom}
 use Rattle.document.proofs.Records.{pickedItems}
 use Rattle.document.proofs.Rests.{rest-along, rest-picked}
-use Rattle.clean.specs.declared.Cleanness.{Cleanness}
-use Rattle.clean.specs.declared.Cleanness.the-variants.{Clean}
+use Rattle.clean.specs.declared.Outcome.{Outcome}
+use Rattle.clean.specs.declared.Outcome.the-variants.{Unbroken}
 use Rattle.clean.specs.Clean as clean
 use Rattle.clean.specs.Clean.{recordsOf, cleanOf}
 use Rattle.clean.proofs.Repeated.{Held}
@@ -61,7 +61,7 @@ module _ (seconds metres : ℕ) where
 
 -- a plan that is found is one of the records
 module _ (p id : List ℕ) (φ from upto : ℕ) where
-  clear-in : (ms : List Item) → ((m : Item) → List·Memᴰ m ms → Whole (itemOf p m) (treeOf (itemOf p m)))
+  clear-in : (ms : List Item) → ((m : Item) → List·Memᴰ m ms → Whole (itemOf p m) (partTree (itemOf p m)))
       → ((y : Picked) → List·Memᴰ y (map (recordOf p) ms) → (q : Place) × (faults plan q φ y ≡ [])) → lookupIn p id ms ≡ found.Plan from upto → ClearPlan (part p from upto)
   unfolding lookupIn
   clear-in [] w sound e = let z : _≡_ {A = ℕ} 0 1 = cc in absurd (omega arith)
@@ -126,22 +126,22 @@ module _ {s p : List ℕ} (k : Sound 5 s) (f : RecordsFrom 5 s p) where
       quote-clear =
           clear-in p id (held .field) start end (itemsOf p) (items-whole p) (λ y i. held .sound y (subst (List·Memᴰ y) (sym records-are) i)) e
 
-      pub quote-some : (seconds metres : ℕ) → planQuote seconds metres (some (pick plan (treeOf (part p start end))))
+      pub quote-some : (seconds metres : ℕ) → planQuote seconds metres (some (pick plan (partTree (part p start end))))
           ≡ cleanQuote (pick (fileShape table23 5) (clean.treeOf s)) id seconds metres
       quote-some seconds metres = quoted (found.Plan start end) e seconds metres
 
     -- and a plan that is there is found so
-    pub plan-clear : (y : Picked) → planOf (plans (pick (fileShape table23 5) (clean.treeOf s))) id ≡ some y → (q : List ℕ) × ClearPlan q × (y ≡ pick plan (treeOf q))
+    pub plan-clear : (y : Picked) → planOf (plans (pick (fileShape table23 5) (clean.treeOf s))) id ≡ some y → (q : List ℕ) × ClearPlan q × (y ≡ pick plan (partTree q))
     plan-clear y e = go (lookup p id) refl
       where
-        go : (o : Lookup) → lookup p id ≡ o → (q : List ℕ) × ClearPlan q × (y ≡ pick plan (treeOf q))
+        go : (o : Lookup) → lookup p id ≡ o → (q : List ℕ) × ClearPlan q × (y ≡ pick plan (partTree q))
         go found.Nothing h = let n : none ≡ some y = ap (planAt p) (sym h) ∙ plans-are ∙ e in let z : _≡_ {A = ℕ} 0 1 = cc in absurd (omega arith)
         go (found.Plan start end) h =
-            let n : some (pick plan (treeOf (part p start end))) ≡ some y = ap (planAt p) (sym h) ∙ plans-are ∙ e in (part p start end, quote-clear start end h, cc)
+            let n : some (pick plan (partTree (part p start end))) ≡ some y = ap (planAt p) (sym h) ∙ plans-are ∙ e in (part p start end, quote-clear start end h, cc)
 
 -- so the plan of an id in a clean file is clear
-pub found-clear : (s id : List ℕ) (y : Picked) → cleanOf 5 s ≡ Clean → planOf (plans (pick (fileShape table23 5) (clean.treeOf s))) id ≡ some y
-    → (q : List ℕ) × ClearPlan q × (y ≡ pick plan (treeOf q))
+pub found-clear : (s id : List ℕ) (y : Picked) → cleanOf 5 s ≡ Unbroken → planOf (plans (pick (fileShape table23 5) (clean.treeOf s))) id ≡ some y
+    → (q : List ℕ) × ClearPlan q × (y ≡ pick plan (partTree q))
 found-clear s id y c e =
     by-test (eqb (length s) 0)
     (λ t. let n : none ≡ some y = sym (plans-absent s id (eqb-true _ _ t)) ∙ e in let z : _≡_ {A = ℕ} 0 1 = cc in absurd (omega arith))
@@ -153,7 +153,7 @@ module _ (s id : List ℕ) (seconds metres : ℕ) where
   unfolding quoteOf
   quote-long e = rw (quoteOf, e)
 
-  pub quote-of : short seconds metres ≡ true → (x : Cleanness) → x ≡ cleanOf 5 s
+  pub quote-of : short seconds metres ≡ true → (x : Outcome) → x ≡ cleanOf 5 s
       → ofClean x (cleanQuote (pick (fileShape table23 5) (clean.treeOf s)) id seconds metres) ≡ quoteOf s id seconds metres
   unfolding quoteOf
   quote-of e x h = rw (quoteOf, e, h)

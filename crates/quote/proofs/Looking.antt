@@ -10,7 +10,7 @@ use Rattle.notation.specs.Choice.{_⇒_else_}
 use Rattle.text.specs.Text.{same}
 use Rattle.walk.specs.declared.Item.{Item}
 use Rattle.walk.specs.Walk.{part, itemsFrom, itemsOf}
-use Rattle.walk.specs.Part.{treeOf}
+use Rattle.walk.specs.Part.{partTree}
 use Rattle.walk.proofs.Folds.{itemSteps, one-more}
 use Rattle.walk.proofs.Parts.{itemOf}
 use Rattle.schema.specs.Pick.{Picked, pick}
@@ -24,7 +24,7 @@ use Rattle.quote.specs.inner.Lookup.{isPlan, lookupIn, lookup}
 
 -- an item's record
 abbrev pub recordOf : List ℕ → Item → Picked
-recordOf p m = pick plan (treeOf (itemOf p m))
+recordOf p m = pick plan (partTree (itemOf p m))
 
 module _ (p id : List ℕ) where
   looked-here : (m : Item) (l : List Item) → isPlan id (recordOf p m) ≡ true → lookupIn p id (m ∷ l) ≡ Plan (m .value) (m .«value_end»)
@@ -61,7 +61,7 @@ module _ (p id : List ℕ) where
 
 -- the plan at a place
 abbrev pub planAt : List ℕ → Lookup → Maybe Picked
-planAt p (Plan from upto) = some (pick plan (treeOf (part p from upto)))
+planAt p (Plan from upto) = some (pick plan (partTree (part p from upto)))
 planAt p Nothing = none
 
 module _ (p id : List ℕ) where

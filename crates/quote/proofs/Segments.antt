@@ -14,7 +14,7 @@ use Rattle.notation.specs.Choice.{_⇒_else_, _and_}
 use Rattle.limits.specs.Ceilings.{segments}
 use Rattle.walk.specs.declared.Item.{Item}
 use Rattle.walk.specs.Walk.{itemsFrom, itemsOf}
-use Rattle.walk.specs.Part.{Whole, treeOf}
+use Rattle.walk.specs.Part.{Whole, partTree}
 use Rattle.walk.proofs.Folds.{itemSteps, one-more}
 use Rattle.walk.proofs.Parts.{itemOf, items-whole}
 use Rattle.schema.specs.Pick.{Picked, pick}
@@ -26,7 +26,7 @@ use Rattle.decimal.specs.declared.Price.{Price}
 use Rattle.decimal.specs.declared.Price.the-variants as price
 use Rattle.decimal.specs.declared.Money.the-variants as money
 use Rattle.decimal.specs.Decimals.{numberOf, priceOf}
-use Rattle.decimal.specs.Exact.{unit, size, within, amountOf, moneyOf}
+use Rattle.decimal.specs.Exact.{unit, size, inRange, amountOf, moneyOf}
 use Rattle.decimal.proofs.Tests.{within-is}
 use Rattle.document.specs.Document.{Maybe, none, some}
 use Rattle.document.proofs.Records.{pickedItems}
@@ -44,9 +44,9 @@ use Rattle.quote.proofs.Fields.{segment-is}
 
 money-most : (d : Decimal) → amountIn (moneyOf d) .size ≤ mostMoney
 unfolding moneyOf
-money-most d = go (within 1_000_000 d) refl _
+money-most d = go (inRange 1_000_000 d) refl _
   where
-    go : (a : Bool) → within 1_000_000 d ≡ a → (b : Bool)
+    go : (a : Bool) → inRange 1_000_000 d ≡ a → (b : Bool)
         → amountIn (a and b ⇒ money.Is (amountOf d) else money.Outside) .size ≤ mostMoney
     go false e b = omega arith
     go true e false = omega arith
@@ -140,8 +140,8 @@ module _ (p : List ℕ) where
           }
 
 -- the segments of the bytes are the picked ones
-same-segments : (f : ℕ) (p : List ℕ) (ms : List Item) → ((m : Item) → List·Memᴰ m ms → Whole (itemOf p m) (treeOf (itemOf p m)))
-    → map (segmentOf p) ms ≡ map (segment f) (map (λ m. pick (table.segment f) (treeOf (itemOf p m))) ms)
+same-segments : (f : ℕ) (p : List ℕ) (ms : List Item) → ((m : Item) → List·Memᴰ m ms → Whole (itemOf p m) (partTree (itemOf p m)))
+    → map (segmentOf p) ms ≡ map (segment f) (map (λ m. pick (table.segment f) (partTree (itemOf p m))) ms)
 same-segments f p [] h = refl
 same-segments f p (m ∷ ms) h =
     ap₂ (λ (s : Segment) (l : List Segment). s ∷ l) (segment-is f (h m (List·Memᴰ·head refl))) (same-segments f p ms (λ t i. h t (List·Memᴰ·tail i)))

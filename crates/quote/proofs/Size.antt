@@ -14,8 +14,8 @@ use Rattle.fare.specs.Charges.{minutesOf, kilometresOf}
 use Rattle.fare.specs.Bounds.{mostSum}
 use Rattle.fare.specs.inner.Room.{Quotable}
 use Rattle.fare.proofs.Size.{sum-size, amount-size, sum-room}
-use Rattle.clean.specs.declared.Cleanness.{Cleanness}
-use Rattle.clean.specs.declared.Cleanness.the-variants.{Clean, Broken}
+use Rattle.clean.specs.declared.Outcome.{Outcome}
+use Rattle.clean.specs.declared.Outcome.the-variants.{Unbroken, Broken}
 use Rattle.clean.specs.Clean.{treeOf, cleanOf}
 use Rattle.quote.specs.Plan.{priceAt, perMinute, perKilometre, planOf, plans, tripAmount, pastMinutes, pastKilometres}
 use Rattle.quote.specs.Quote.{Answer, priced, planQuote, cleanQuote, short, quoteOf}
@@ -41,7 +41,7 @@ module _ {s id : List ℕ} {plan : Picked} (p : PlanIn s id plan) (seconds metre
   quoted : quoteOf s id seconds metres ≡ priced (tripAmount plan seconds metres) (pastMinutes plan seconds) (pastKilometres plan metres)
   unfolding cleanQuote
   quoted =
-      sym (quote-of s id seconds metres brief Clean (sym (p .clean))) ∙ ap (planQuote seconds metres) (p .found)
+      sym (quote-of s id seconds metres brief Unbroken (sym (p .clean))) ∙ ap (planQuote seconds metres) (p .found)
 
 -- what every quote keeps: its amount's size and its number
 record Kept (a : Answer) : Type 0 where
@@ -52,16 +52,16 @@ kept : (s id : List ℕ) (seconds metres : ℕ) → Kept (quoteOf s id seconds m
 unfolding cleanQuote
 kept s id seconds metres = by-ride (short seconds metres) refl
   where
-    by-plan : short seconds metres ≡ true → cleanOf 5 s ≡ Clean → (o : Maybe Picked) → planOf (plans (pick (fileShape table23 5) (treeOf s))) id ≡ o → Kept (quoteOf s id seconds metres)
+    by-plan : short seconds metres ≡ true → cleanOf 5 s ≡ Unbroken → (o : Maybe Picked) → planOf (plans (pick (fileShape table23 5) (treeOf s))) id ≡ o → Kept (quoteOf s id seconds metres)
     by-plan e c none f =
-        subst Kept (ap (planQuote seconds metres) (sym f) ∙ quote-of s id seconds metres e Clean (sym c))
+        subst Kept (ap (planQuote seconds metres) (sym f) ∙ quote-of s id seconds metres e Unbroken (sym c))
         (record { size = omega arith; number = List·Memᴰ·tail (List·Memᴰ·tail (List·Memᴰ·tail (List·Memᴰ·head refl))) })
     by-plan e c (some plan) f =
         let p : PlanIn s id plan = record { clean = c; found = f } in
         subst Kept (sym (quoted p seconds metres e)) (record { size = trip-amount p seconds metres e; number = List·Memᴰ·head refl })
 
-    by-file : short seconds metres ≡ true → (x : Cleanness) → x ≡ cleanOf 5 s → Kept (quoteOf s id seconds metres)
-    by-file e Clean c = by-plan e (sym c) (planOf (plans (pick (fileShape table23 5) (treeOf s))) id) refl
+    by-file : short seconds metres ≡ true → (x : Outcome) → x ≡ cleanOf 5 s → Kept (quoteOf s id seconds metres)
+    by-file e Unbroken c = by-plan e (sym c) (planOf (plans (pick (fileShape table23 5) (treeOf s))) id) refl
     by-file e (Broken q) c =
         subst Kept (quote-of s id seconds metres e (Broken q) c) (record { size = omega arith; number = List·Memᴰ·tail (List·Memᴰ·tail (List·Memᴰ·head refl)) })
 

@@ -8,7 +8,7 @@ use lib.ListN.{length}
 use lib.IntN.{natAbs}
 use Rattle.notation.specs.Ascii.{bytes}
 use Rattle.limits.specs.Ceilings.{segments}
-use Rattle.walk.specs.Part.{treeOf}
+use Rattle.walk.specs.Part.{partTree}
 use Rattle.schema.specs.Pick.{Picked, pick}
 use Rattle.schema.specs.Table23 as table
 use Rattle.document.specs.Document.{some, fieldItems}
@@ -61,7 +61,7 @@ chargeable {l} {s} {sum} f few modest room short =
 
 module _ {p : List ℕ} (c : ClearPlan p) where
   abbrev plan : Picked
-  plan = pick table.plan (treeOf p)
+  plan = pick table.plan (partTree p)
 
   minutes-are : byMinute p ≡ perMinute plan
   unfolding perMinute

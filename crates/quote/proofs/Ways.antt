@@ -17,7 +17,7 @@ use Rattle.decimal.specs.Exact.{amountOf}
 use Rattle.decimal.proofs.Tests.{money-amount}
 use Rattle.document.specs.Document.{some}
 use Rattle.fields.specs.Values.{wholeOf, integerIn}
-use Rattle.fields.specs.inner.Values.{code, spelledBy, textBy}
+use Rattle.fields.specs.inner.Values.{kindCode, spelledBy, textBy}
 use Rattle.fields.proofs.Ways.{spelled-none, spelled-some, text-some}
 use Rattle.quote.specs.Plan.{amountIn, numberAmount, priceAmount, moneyIn, priceIn}
 use Rattle.quote.specs.inner.Values.{priceBy}
@@ -33,9 +33,9 @@ price-value h = cc
 amount-is : {r d : Decimal} → r ≡ d → (m : IsMoney d) → amountOf r ≡ m .0
 amount-is {r} {d} e m = ap (λ x. amountOf x) e ∙ money-amount d (m .0) (m .1)
 
-module _ (q : List ℕ) (k : code (kindAt q) ≡ 2) (r : Decimal) (h : number.Value r ≡ numberOf q) where
+module _ (q : List ℕ) (k : kindCode (kindAt q) ≡ 2) (r : Decimal) (h : number.Value r ≡ numberOf q) where
   spelled : spelledBy q ≡ some q
-  spelled = spelled-some q (code (kindAt q)) refl k
+  spelled = spelled-some q (kindCode (kindAt q)) refl k
 
   pub integer-read : r .whole ≡ integerIn (spelledBy q)
   integer-read = ap wholeOf h ∙ sym (ap integerIn spelled)
@@ -51,11 +51,11 @@ module _ (q : List ℕ) (k : code (kindAt q) ≡ 2) (r : Decimal) (h : number.Va
     unfolding priceBy
     price-read = amount-read ∙ sym (ap (λ o. priceIn o (textBy q)) spelled)
 
-pub price-text-read : (q : List ℕ) → code (kindAt q) ≡ 3 → (r d : Decimal) → price.Value r ≡ priceOf (textOf (inside q)) → priceOf (textOf (inside q)) ≡ price.Value d → IsMoney d
+pub price-text-read : (q : List ℕ) → kindCode (kindAt q) ≡ 3 → (r d : Decimal) → price.Value r ≡ priceOf (textOf (inside q)) → priceOf (textOf (inside q)) ≡ price.Value d → IsMoney d
     → amountOf r ≡ priceBy q
 unfolding priceBy
 price-text-read q k r d h e m =
-    rw (spelled-none q (code (kindAt q)) refl (λ j. omega (arith, j, k)), text-some q (code (kindAt q)) refl k)
+    rw (spelled-none q (kindCode (kindAt q)) refl (λ j. omega (arith, j, k)), text-some q (kindCode (kindAt q)) refl k)
     (amount-is (price-value (h ∙ e)) m ∙ sym (ap priceAmount e ∙ ap amountIn (m .1)))
 
 -- no bytes spell nothing

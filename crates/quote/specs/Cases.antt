@@ -2,14 +2,14 @@
 -- readings (f) to (i) stand in the table of all of them.
 use mathlib.Core.Bool.{true, false}
 use mathlib.Core.List.{List, [], _∷_, _++_}
-use mathlib.Core.Path.{_≡_, refl}
+use mathlib.Core.Path.{refl}
 use Prim.Native.Nat.{ℕ}
 use Prim.Native.String.{String}
 use lib.IntN.{pos}
 use Rattle.notation.specs.Ascii.{bytes}
 use Rattle.notation.specs.Case.{Case, Answers, json}
 use Rattle.schema.specs.Records.{identified}
-use Rattle.schema.specs.Pick.{at}
+use Rattle.schema.specs.Pick.{slotOf}
 use Rattle.document.specs.Document as document
 use Rattle.fare.specs.Cases.{charging}
 use Rattle.judge.specs.Cases.{judging, inData}
@@ -19,7 +19,7 @@ use Rattle.quote.specs.Quote.{Answer, refused, unclean, priced, cleanQuo
 
 -- opens every definition of a quote
 unfoldable pub quoting : Unit {0}
-unfolding judging identified charging at document.field document.fieldItems document.along document.text document.spelling treeOf recordsOf usedBefore repeatedId repeatsFrom repeats cleanBy priceAt segment perKilometre perMinute planOf plans tripAmount pastMinutes pastKilometres cleanQuote short quoteOf
+unfolding judging identified charging slotOf document.field document.fieldItems document.along document.text document.spelling treeOf recordsOf usedBefore repeatedId repeatsFrom repeats cleanBy priceAt segment perKilometre perMinute planOf plans tripAmount pastMinutes pastKilometres cleanQuote short quoteOf
 quoting = tt
 
 -- a file with these plans; a plan of this id, with its price and segments
@@ -106,7 +106,7 @@ longer =
     ("fourteen cost what nine did", (forAWhile, 840, 0), fare 10_000) ∷
     ("and fifteen more", (forAWhile, 900, 0), fare 11_000) ∷
     ("short of the first end", (allEnd, 240, 0), fare 10_000) ∷
-    ("at it less, without a mark", (allEnd, 300, 0), fare 7_500) ∷
+    ("slotOf it less, without a mark", (allEnd, 300, 0), fare 7_500) ∷
     ("past the last end", (allEnd, 360, 0), endedFare 7_500) ∷
     ("the longest ride stays there", (allEnd, 2_678_400, 0), endedFare 7_500) ∷
     ("short of nineteen minutes", (capped, 1139, 0), fare 19_000) ∷

@@ -12,8 +12,8 @@ use Rattle.schema.specs.Shape.{fileShape}
 use Rattle.schema.specs.Table23.{table23}
 use Rattle.schema.specs.Pick.{Picked, pick}
 use Rattle.document.specs.Document.{Maybe, none, some}
-use Rattle.clean.specs.declared.Cleanness.{Cleanness}
-use Rattle.clean.specs.declared.Cleanness.the-variants.{Clean, Broken}
+use Rattle.clean.specs.declared.Outcome.{Outcome}
+use Rattle.clean.specs.declared.Outcome.the-variants.{Unbroken, Broken}
 use Rattle.clean.specs.Clean.{treeOf, cleanOf}
 use Rattle.quote.specs.declared.Quote.{Quote}
 use Rattle.quote.specs.declared.Quote.the-variants.{TooLong, NotClean, NoPlan, Fare}
@@ -65,8 +65,8 @@ unfoldable pub short : ℕ → ℕ → Bool
 short seconds metres = leb seconds mostSeconds and leb metres mostMetres
 
 -- 5 where the file is not clean
-abbrev pub ofClean : Cleanness → Answer → Answer
-ofClean Clean next = next
+abbrev pub ofClean : Outcome → Answer → Answer
+ofClean Unbroken next = next
 ofClean (Broken p) next = unclean p
 
 -- of the bytes s of file 5, and of an id: 4 where the ride is too long, before all else

@@ -13,7 +13,7 @@ use Rattle.schema.specs.Pick.{Picked, pick}
 use Rattle.document.specs.Document.{some}
 use Rattle.fare.specs.Charges.{minutesOf, kilometresOf, sum}
 use Rattle.fare.specs.Bounds.{mostSum}
-use Rattle.clean.specs.declared.Cleanness.the-variants.{Clean}
+use Rattle.clean.specs.declared.Outcome.the-variants.{Unbroken}
 use Rattle.clean.specs.Clean.{treeOf, cleanOf}
 use Rattle.quote.specs.Plan.{priceAt, perMinute, perKilometre, planOf, plans, tripAmount, pastMinutes, pastKilometres}
 use Rattle.quote.specs.Quote as quote
@@ -21,7 +21,7 @@ use Rattle.quote.specs.Quote.{short, quoteOf}
 
 -- the plan of an id in a clean file, of the file's bytes
 pub record PlanIn (s id : List ℕ) (plan : Picked) : Type 0 where
-  pub clean : cleanOf 5 s ≡ Clean
+  pub clean : cleanOf 5 s ≡ Unbroken
   pub found : planOf (plans (pick (fileShape table23 5) (treeOf s))) id ≡ some plan
 
 -- a plan's price and charges for a ride, negative where discounts make it so

@@ -1,7 +1,7 @@
 // What a trip costs by a plan of a file of plans.
 use crate::plans::find_plan;
 use crate::trip::quote_plan;
-use clean::Cleanness;
+use clean::Outcome;
 use clean::check_clean;
 use document::cut;
 use document::records_from;
@@ -11,7 +11,7 @@ ghost use Prim.Native.Nat.{_≤_};
 ghost use Rattle.schema.specs.Shape.{fileShape};
 ghost use Rattle.schema.specs.Table23.{table23};
 ghost use Rattle.schema.specs.Pick.{pick};
-ghost use Rattle.clean.specs.declared.Cleanness.the-variants.{Clean};
+ghost use Rattle.clean.specs.declared.Outcome.the-variants.{Unbroken};
 ghost use Rattle.clean.specs.Clean.{treeOf, cleanOf};
 ghost use Rattle.quote.specs.Quote.{mostSeconds, mostMetres, answer, short, cleanQuote, quoteOf};
 
@@ -56,7 +56,7 @@ fn is_short(seconds: u64, metres: u64) -> bool
 
 // The quote of a plan out of a clean file of plans, for a ride that is short enough.
 fn quote_clean(s: &[u8], id: &[u8], seconds: u64, metres: u64) -> Quote
-    requires { ⌜ (cleanOf 5 (now s) ≡ Clean) × (seconds ≤ mostSeconds) × (metres ≤ mostMetres) ⌝ }
+    requires { ⌜ (cleanOf 5 (now s) ≡ Unbroken) × (seconds ≤ mostSeconds) × (metres ≤ mostMetres) ⌝ }
     ensures { λ r. ⌜ answer r ≡ cleanQuote (pick (fileShape table23 5) (treeOf (now (s .entry)))) (now (id .entry)) seconds metres ⌝ }
 {
     if s.len() == 0 {
@@ -80,10 +80,10 @@ pub fn quote_trip(s: &[u8], id: &[u8], seconds: u64, metres: u64) -> Quote
         return Quote::TooLong;
     }
     match check_clean(Quote::FILE, s) {
-        Cleanness::Broken(p) => {
+        Outcome::Broken(p) => {
             return Quote::NotClean(p);
         }
-        Cleanness::Clean => {
+        Outcome::Unbroken => {
             return quote_clean(s, id, seconds, metres);
         }
     }

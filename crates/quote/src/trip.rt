@@ -11,7 +11,7 @@ use fields::member;
 ghost use mathlib.Core.Path.{_≡_};
 ghost use Prim.Native.Nat.{_≤_};
 ghost use Rattle.notation.specs.Ascii.{bytes};
-ghost use Rattle.walk.specs.Part.{Whole, treeOf};
+ghost use Rattle.walk.specs.Part.{Whole, partTree};
 ghost use Rattle.schema.specs.Pick.{pick};
 ghost use Rattle.schema.specs.Table23.{plan};
 ghost use Rattle.document.specs.Document.{some};
@@ -31,7 +31,7 @@ fn price_of(p: &[u8]) -> Sum
 
 // The segments under a name.
 fn segments_of(p: &[u8], name: &[u8]) -> Segments
-    requires { ⌜ Whole (now p) (treeOf (now p)) × ClearSegments (arrayBy (memberOf (now p) (now name))) ⌝ }
+    requires { ⌜ Whole (now p) (partTree (now p)) × ClearSegments (arrayBy (memberOf (now p) (now name))) ⌝ }
     ensures { λ r. ⌜ Fills r (segmentsBy (arrayBy (memberOf (now (p .entry)) (now (name .entry))))) ⌝ }
 {
     segments_in(array_in(member(p, name)))
@@ -41,7 +41,7 @@ fn segments_of(p: &[u8], name: &[u8]) -> Segments
 // Shut out: a ride's kilometres charged by the minute; segments of one sort left out of the amount; a mark set by the other sort.
 pub fn quote_plan(p: &[u8], seconds: u64, metres: u64) -> Quote
     requires { ⌜ (seconds ≤ mostSeconds) × (metres ≤ mostMetres) × ClearPlan (now p) ⌝ }
-    ensures { λ r. ⌜ answer r ≡ planQuote seconds metres (some (pick plan (treeOf (now (p .entry))))) ⌝ }
+    ensures { λ r. ⌜ answer r ≡ planQuote seconds metres (some (pick plan (partTree (now (p .entry))))) ⌝ }
 {
     let minutes = Minutes::of_seconds(seconds);
     let kilometres = Kilometres::of_metres(metres);

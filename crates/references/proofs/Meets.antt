@@ -12,7 +12,7 @@ use Rattle.json.specs.Tree.{Json}
 use Rattle.text.specs.Text.{same}
 use Rattle.walk.specs.declared.Item.{Item}
 use Rattle.walk.specs.Walk.{itemsOf}
-use Rattle.walk.specs.Part.{Whole, treeOf}
+use Rattle.walk.specs.Part.{Whole, partTree}
 use Rattle.walk.proofs.Parts.{itemOf, items-whole}
 use Rattle.schema.specs.Table23.{vehicleType, station}
 use Rattle.schema.specs.Records.{recordShape, located}
@@ -86,4 +86,4 @@ pub meets-picked : (file : ℕ) → 1 ≤ file → file ≤ 5 → (tested : Bool
     → anyMeets file tested id (recordBytes p) (length (itemsOf p)) ≡ anyWith (testedOf file tested) (idField file) (pickedItems (recordShape file) p) id
 unfolding recordBytes
 meets-picked file h i tested id p =
-    alike-all file tested id (itemOf p) (λ m. pick (recordShape file) (treeOf (itemOf p m))) (itemsOf p) (λ m j. alike file h i (items-whole p m j))
+    alike-all file tested id (itemOf p) (λ m. pick (recordShape file) (partTree (itemOf p m))) (itemsOf p) (λ m j. alike file h i (items-whole p m j))

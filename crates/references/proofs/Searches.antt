@@ -10,7 +10,7 @@ use Rattle.notation.specs.Choice.{_⇒_else_, _and_}
 use Rattle.lexeme.proofs.Steps.{by-test}
 use Rattle.walk.specs.declared.Item.{Item}
 use Rattle.walk.specs.Walk.{part, itemsOf}
-use Rattle.walk.specs.Part.{Whole, treeOf}
+use Rattle.walk.specs.Part.{Whole, partTree}
 use Rattle.walk.proofs.Parts.{itemOf, items-whole}
 use Rattle.ids.specs.inner.Ids.{hasId, recordBytes, lastWith}
 use Rattle.ids.specs.inner.Notes.{startAt, endAt, linkAt, Noted, Searched}
@@ -41,13 +41,13 @@ module _ (file : ℕ) (tested : Bool) (id : List ℕ) (rs : List (List ℕ)) whe
       ∙ ap (anyMeets file tested id rs) (sym (with-before file id rs m t)))
 
 -- every record of an array is whole
-each-whole : (bytesOf : Item → List ℕ) (ms : List Item) → ((m : Item) → List·Memᴰ m ms → Whole (bytesOf m) (treeOf (bytesOf m)))
-    → (k : ℕ) → k < length ms → Whole (getD (map bytesOf ms) k []) (treeOf (getD (map bytesOf ms) k []))
+each-whole : (bytesOf : Item → List ℕ) (ms : List Item) → ((m : Item) → List·Memᴰ m ms → Whole (bytesOf m) (partTree (bytesOf m)))
+    → (k : ℕ) → k < length ms → Whole (getD (map bytesOf ms) k []) (partTree (getD (map bytesOf ms) k []))
 each-whole f [] w k h = absurd (omega arith)
 each-whole f (m ∷ ms) w zero h = w m (List·Memᴰ·head refl)
 each-whole f (m ∷ ms) w (suc k) h = each-whole f ms (λ n i. w n (List·Memᴰ·tail i)) k (omega arith)
 
-record-whole : (p : List ℕ) (k : ℕ) → k < length (itemsOf p) → Whole (getD (recordBytes p) k []) (treeOf (getD (recordBytes p) k []))
+record-whole : (p : List ℕ) (k : ℕ) → k < length (itemsOf p) → Whole (getD (recordBytes p) k []) (partTree (getD (recordBytes p) k []))
 unfolding recordBytes
 record-whole p = each-whole (itemOf p) (itemsOf p) (items-whole p)
 
@@ -81,8 +81,8 @@ module _ {file : ℕ} {tested : Bool} {id p : List ℕ} {j : ℕ} (w : Comes fil
       itself : q ≡ getD (recordBytes p) (j - 1) []
       itself = is ∙ chain-entry comes-on h ∙ kept-whole file (getD (recordBytes p) (j - 1) []) id (has .1)
 
-      pub comes-whole : Whole q (treeOf q)
-      comes-whole = subst (λ (x : List ℕ). Whole x (treeOf x)) (sym itself) (record-whole p (j - 1) (omega (arith, has .0, w .within)))
+      pub comes-whole : Whole q (partTree q)
+      comes-whole = subst (λ (x : List ℕ). Whole x (partTree x)) (sym itself) (record-whole p (j - 1) (omega (arith, has .0, w .within)))
 
       asked : {t : Bool} → t ≡ (tested ⇒ passing file q else true) → t ≡ meeting file tested id (getD (recordBytes p) (j - 1) [])
       asked e =

@@ -10,9 +10,9 @@ use Rattle.schema.specs.Pick.{Picked}
 use Rattle.document.specs.Document.{Maybe, none, some, field, text, given}
 
 -- a kind where the test holds
-abbrev pub when : Bool → ℕ → List ℕ
-when true kind = kind ∷ []
-when false kind = []
+abbrev pub kindIf : Bool → ℕ → List ℕ
+kindIf true kind = kind ∷ []
+kindIf false kind = []
 
 -- some record of the list has this text in its field, and passes a test
 unfoldable pub anyWith : (Picked → Bool) → ℕ → List Picked → List ℕ → Bool
@@ -24,15 +24,15 @@ anyWith test f (x ∷ l) id =
 abbrev pub any : Picked → Bool
 any x = true
 
-abbrev pub roomy : Picked → Bool
-roomy x = given (field 24 x)
+abbrev pub hasCapacity : Picked → Bool
+hasCapacity x = given (field 24 x)
 
 abbrev pub notHuman : Maybe (List ℕ) → Bool
 notHuman none = true
 notHuman (some w) = not (sameWord w (bytes "human"))
 
-abbrev pub driven : Picked → Bool
-driven x = notHuman (text 12 x)
+abbrev pub motorized : Picked → Bool
+motorized x = notHuman (text 12 x)
 
 -- a record that the reference names passes the test, where a reference is given
 abbrev pub named : (Picked → Bool) → ℕ → List Picked → Maybe (List ℕ) → Bool
@@ -42,8 +42,8 @@ named test f l (some id) = anyWith test f l id
 -- a reference that is given names a record
 abbrev pub refers : Maybe (List ℕ) → ℕ → List Picked → List ℕ
 refers none f l = []
-refers (some id) f l = when (not (anyWith any f l id)) dangling
+refers (some id) f l = kindIf (not (anyWith any f l id)) dangling
 
 -- a field that is needed is given
 abbrev pub demanded : (needed there : Bool) → List ℕ
-demanded needed there = when (needed and not there) condition
+demanded needed there = kindIf (needed and not there) condition

@@ -14,7 +14,7 @@ ghost use mathlib.Core.Bool.{true};
 ghost use mathlib.Core.Path.{_≡_};
 ghost use Rattle.notation.specs.Choice.{_⇒_else_};
 ghost use Rattle.text.specs.Text.{textOf};
-ghost use Rattle.walk.specs.Part.{Whole, treeOf};
+ghost use Rattle.walk.specs.Part.{Whole, partTree};
 ghost use Rattle.schema.specs.Records.{recordShape};
 ghost use Rattle.document.proofs.Records.{pickedItems};
 ghost use Rattle.fields.specs.inner.Values.{textBy};
@@ -23,7 +23,7 @@ ghost use Rattle.references.specs.References.{anyWith, notHuman};
 ghost use Rattle.references.specs.inner.Known.{Searchable, passing, testedOf};
 
 // Whether no human drives, by the value of field 12.
-pub fn is_driven(value: &[u8]) -> bool
+pub fn is_motorized(value: &[u8]) -> bool
     ensures { λ r. ⌜ r ≡ notHuman (textBy (now (value .entry))) ⌝ }
 {
     if code_of(value) != STRING {
@@ -34,11 +34,11 @@ pub fn is_driven(value: &[u8]) -> bool
 
 // Whether the record `q` is of the sort that its file's references are asked about: a type that no human drives, a station with a capacity.
 fn passes(file: u8, q: &[u8]) -> bool
-    requires { ⌜ Whole (now q) (treeOf (now q)) ⌝ }
+    requires { ⌜ Whole (now q) (partTree (now q)) ⌝ }
     ensures { λ r. ⌜ r ≡ passing file (now (q .entry)) ⌝ }
 {
     match file {
-        1 => is_driven(member(q, b"propulsion_type")),
+        1 => is_motorized(member(q, b"propulsion_type")),
         2 => 0 < member(q, b"capacity").len(),
         _ => true,
     }
@@ -46,7 +46,7 @@ fn passes(file: u8, q: &[u8]) -> bool
 
 // The same where that is asked.
 fn passes_test(file: u8, q: &[u8], tested: bool) -> bool
-    requires { ⌜ Whole (now q) (treeOf (now q)) ⌝ }
+    requires { ⌜ Whole (now q) (partTree (now q)) ⌝ }
     ensures { λ r. ⌜ r ≡ (tested ⇒ passing file (now (q .entry)) else true) ⌝ }
 {
     if tested {

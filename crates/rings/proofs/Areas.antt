@@ -19,7 +19,7 @@ use Rattle.geometry.specs.Ring.{sound}
 use Rattle.geometry.specs.inner.Shifted.{InRange, points}
 use Rattle.schema.specs.Pick.{Picked}
 use Rattle.scalar.specs.Scalars.{unless}
-use Rattle.rings.specs.Rings.{Found, at, positionKinds, position, none, allSound, positionsFound, ringFound}
+use Rattle.rings.specs.Rings.{Found, foundAt, positionKinds, position, noKinds, allSound, positionsFound, ringFound}
 use Rattle.rings.specs.inner.Least.{lesser, leastFound}
 use Rattle.rings.specs.inner.Parts.{positionShape, partsOf, Charted, RingRead, RingRoom, Outlined, areaLeast, Tells}
 use Rattle.rings.specs.declared.LeastFound.{LeastFound}
@@ -31,49 +31,49 @@ use Rattle.rings.proofs.Numbers.{least-one, least-empty, not-none}
 use Rattle.rings.proofs.Charts.{Drawn, drawn-end}
 
 -- the positions of a ring, as items that are one position each
-abbrev pub spotFound : ℕ → Picked → List Found
-spotFound n x = at n (positionKinds x)
+abbrev pub positionFound : ℕ → Picked → List Found
+positionFound n x = foundAt n (positionKinds x)
 
 abbrev pub single : Picked → ℕ
 single x = 1
 
-spots-found : (n : ℕ) (l : List Picked) → positionsFound n l ≡ foundIn spotFound single n l
+positions-found : (n : ℕ) (l : List Picked) → positionsFound n l ≡ foundIn positionFound single n l
 unfolding positionsFound foundIn
-spots-found n [] = refl
-spots-found n (x ∷ l) = ap (λ (fs : List Found). at n (positionKinds x) ++ fs) (spots-found (n + 1) l)
+positions-found n [] = refl
+positions-found n (x ∷ l) = ap (λ (fs : List Found). foundAt n (positionKinds x) ++ fs) (positions-found (n + 1) l)
 
 -- all are sound just where nothing is found
 pub sound-found : (n : ℕ) (l : List Picked) → allSound l ≡ true → leastFound (positionsFound n l) ≡ None
-unfolding allSound positionsFound none at
+unfolding allSound positionsFound noKinds foundAt
 sound-found n [] e = least-of-none
 sound-found n (x ∷ l) e = go (positionKinds x) e (sound-found (n + 1) l)
   where
-    go : (ks : List ℕ) → (none ks and allSound l) ≡ true → (allSound l ≡ true → leastFound (positionsFound (n + 1) l) ≡ None)
-        → leastFound (at n ks ++ positionsFound (n + 1) l) ≡ None
+    go : (ks : List ℕ) → (noKinds ks and allSound l) ≡ true → (allSound l ≡ true → leastFound (positionsFound (n + 1) l) ≡ None)
+        → leastFound (foundAt n ks ++ positionsFound (n + 1) l) ≡ None
     go [] f ih = ih f
     go (k ∷ ks) f ih = let z : _≡_ {A = ℕ} 0 1 = cc in absurd (omega arith)
 
 pub found-sound : (n : ℕ) (l : List Picked) → leastFound (positionsFound n l) ≡ None → allSound l ≡ true
-unfolding allSound positionsFound none
+unfolding allSound positionsFound noKinds
 found-sound n [] e = refl
 found-sound n (x ∷ l) e =
-    let b = both-none _ _ (sym (least-append (at n (positionKinds x)) (positionsFound (n + 1) l)) ∙ e) in
+    let b = both-none _ _ (sym (least-append (foundAt n (positionKinds x)) (positionsFound (n + 1) l)) ∙ e) in
     let k : positionKinds x ≡ [] = at-nothing n (positionKinds x) (least-nothing _ (b .0)) in
-    ap (λ ks. none ks and allSound l) k ∙ found-sound (n + 1) l (b .1)
+    ap (λ ks. noKinds ks and allSound l) k ∙ found-sound (n + 1) l (b .1)
 
 -- where the loop over positions ends
 module _ (n : ℕ) (p : List ℕ) {at₀ count : ℕ} {least : LeastFound} {lons lats : List ℕ}
-    (g : Going spotFound single positionShape n p at₀ count count least)
+    (g : Going positionFound single positionShape n p at₀ count count least)
     (d : Drawn lons lats count least (g .left) (partsOf positionShape p)) {o : ItemStep} (f : ItemPassed p at₀ o) (h : o ≡ step.End) where
   pub ring-read : RingRead n (partsOf positionShape p) (record { lons = lons; lats = lats; count = count; least = least })
   ring-read =
-      let t = going-end spotFound single positionShape n p g f h in
-      let found = t .found ∙ ap leastFound (sym (spots-found n (partsOf positionShape p))) in
+      let t = going-end positionFound single positionShape n p g f h in
+      let found = t .found ∙ ap leastFound (sym (positions-found n (partsOf positionShape p))) in
       record {
         count = t .counted;
         least = found;
         points = λ s i.
-            drawn-end d (none-left spotFound single positionShape n p g f h) (found ∙ sound-found n (partsOf positionShape p) s) (omega (arith, t .counted));
+            drawn-end d (none-left positionFound single positionShape n p g f h) (found ∙ sound-found n (partsOf positionShape p) s) (omega (arith, t .counted));
       }
 
 -- the part that is filled
@@ -107,32 +107,32 @@ module _ (n : ℕ) (r : RingPoints) where
   area-many e h = rw (e, lt-leb (r .count) positions h)
 
   pub area-asked : r .least ≡ None → r .count ≤ positions
-      → leastFound (at n (unless (sound (points (take (r .count) (r .lons)) (take (r .count) (r .lats)))) badRing)) ≡ areaLeast n r
+      → leastFound (foundAt n (unless (sound (points (take (r .count) (r .lons)) (take (r .count) (r .lats)))) badRing)) ≡ areaLeast n r
   unfolding areaLeast
   area-asked e h = rw (e, le-leb (r .count) positions h)
 
-hidden : (n : ℕ) (t : Bool) → lesser (At n tooMany) (leastFound (at n (unless t badRing))) ≡ At n tooMany
+hidden : (n : ℕ) (t : Bool) → lesser (At n tooMany) (leastFound (foundAt n (unless t badRing))) ≡ At n tooMany
 hidden n true = ap (lesser (At n tooMany)) (least-empty n) ∙ lesser-none (At n tooMany)
 hidden n false = ap (lesser (At n tooMany)) (least-one n badRing) ∙ later-kind n tooMany badRing (omega arith)
 
 module _ {n : ℕ} {l : List Picked} {r : RingPoints} (h : RingRead n l r) where
   abbrev few : LeastFound
-  few = leastFound (at n (unless (leb 4 (r .count)) badRing))
+  few = leastFound (foundAt n (unless (leb 4 (r .count)) badRing))
 
   abbrev many : LeastFound
-  many = leastFound (at n (unless (leb (r .count) positions) tooMany))
+  many = leastFound (foundAt n (unless (leb (r .count) positions) tooMany))
 
   abbrev area : LeastFound
-  area = leastFound (allSound l ⇒ at n (unless (sound (map position l)) badRing) else [])
+  area = leastFound (allSound l ⇒ foundAt n (unless (sound (map position l)) badRing) else [])
 
   unsound : (m k : ℕ) → r .least ≡ At m k → area ≡ None
   unsound m k e = go (allSound l) refl
     where
-      go : (t : Bool) → allSound l ≡ t → leastFound (t ⇒ at n (unless (sound (map position l)) badRing) else []) ≡ None
+      go : (t : Bool) → allSound l ≡ t → leastFound (t ⇒ foundAt n (unless (sound (map position l)) badRing) else []) ≡ None
       go true s = not-none (sym e ∙ h .least ∙ sound-found n l s)
       go false s = least-of-none
 
-  asked : r .least ≡ None → area ≡ leastFound (at n (unless (sound (map position l)) badRing))
+  asked : r .least ≡ None → area ≡ leastFound (foundAt n (unless (sound (map position l)) badRing))
   asked e = rw (found-sound n l (sym (h .least) ∙ e))
 
   abbrev sofar : LeastFound
@@ -147,11 +147,11 @@ module _ {n : ℕ} {l : List Picked} {r : RingPoints} (h : RingRead n l r) where
       go None e true i =
           let c : r .count ≤ positions = leb-true (r .count) positions i in
           let q = h .points (found-sound n l (sym (h .least) ∙ e)) (omega (arith, h .count)) in
-          ap (lesser sofar) (sym (area-asked n r e c) ∙ ap (λ ps. leastFound (at n (unless (sound ps) badRing))) q ∙ sym (asked e))
+          ap (lesser sofar) (sym (area-asked n r e c) ∙ ap (λ ps. leastFound (foundAt n (unless (sound ps) badRing))) q ∙ sym (asked e))
       go None e false i =
           let base : sofar ≡ lesser few (At n tooMany) =
           ap (lesser (lesser few many)) e ∙ lesser-none (lesser few many)
-          ∙ ap (lesser few) (ap (λ t. leastFound (at n (unless t tooMany))) i ∙ least-one n tooMany) in
+          ∙ ap (lesser few) (ap (λ t. leastFound (foundAt n (unless t tooMany))) i ∙ least-one n tooMany) in
           ap₂ lesser base (sym (area-many n r e (leb-false (r .count) positions i))) ∙ lesser-none (lesser few (At n tooMany))
           ∙ sym (ap₂ lesser base (asked e) ∙ lesser-assoc few (At n tooMany) _ ∙ ap (lesser few) (hidden n (sound (map position l))))
 
@@ -161,8 +161,8 @@ module _ {n : ℕ} {l : List Picked} {r : RingPoints} (h : RingRead n l r) where
       let c = sym (h .count) in
       as-asked
       ∙ sym (least-append _ _ ∙ ap (λ z. lesser z area) (least-append _ (positionsFound n l)
-      ∙ ap₂ lesser (least-append _ _ ∙ ap₂ lesser (ap (λ k. leastFound (at n (unless (leb 4 k) badRing))) c)
-      (ap (λ k. leastFound (at n (unless (leb k positions) tooMany))) c)) (sym (h .least))))
+      ∙ ap₂ lesser (least-append _ _ ∙ ap₂ lesser (ap (λ k. leastFound (foundAt n (unless (leb 4 k) badRing))) c)
+      (ap (λ k. leastFound (foundAt n (unless (leb k positions) tooMany))) c)) (sym (h .least))))
 
   pub ring-tells : (found : LeastFound) → found ≡ lesser (lesser (lesser few many) (r .least)) (areaLeast n r)
       → Tells (ringFound n l) (length l) (record { positions = r .count; least = found })
@@ -175,7 +175,7 @@ pub record Clean (l : List Picked) : Type 0 where
   pub each : allSound l ≡ true
   pub whole : sound (map position l) ≡ true
 
-held : (n k : ℕ) (t : Bool) → leastFound (at n (unless t k)) ≡ None → t ≡ true
+held : (n k : ℕ) (t : Bool) → leastFound (foundAt n (unless t k)) ≡ None → t ≡ true
 held n k true e = refl
 held n k false e = not-none (sym (least-one n k) ∙ e)
 

@@ -19,10 +19,10 @@ use Rattle.geometry.specs.declared.Position.{Position}
 use Rattle.schema.specs.Pick.{Picked}
 use Rattle.rings.specs.Rings.{positionKinds, position}
 use Rattle.rings.specs.inner.Least.{lesser}
-use Rattle.rings.specs.inner.Parts.{Charted, Spotted}
+use Rattle.rings.specs.inner.Parts.{Charted, FindsPosition}
 use Rattle.rings.specs.declared.LeastFound.{LeastFound}
 use Rattle.rings.specs.declared.LeastFound.the-variants.{None}
-use Rattle.rings.specs.declared.Spot.{Spot}
+use Rattle.rings.specs.declared.PositionFound.{PositionFound}
 use Rattle.rings.proofs.Order.{both-none}
 
 points-append : (xs ys : List ℕ) (v w : List ℕ) → length ys ≡ length xs → points (xs ++ v) (ys ++ w) ≡ points xs ys ++ points v w
@@ -98,8 +98,8 @@ unfolding points
 drawn-start all = record { drawn = λ e h. refl }
 
 module _ {lons lats : List ℕ} {count : ℕ} {least : LeastFound} {left all : List Picked} (d : Drawn lons lats count least left all) where
-  pub drawn-more : Charted lons lats → (x : Picked) (rest : List Picked) (n : ℕ) (s : Spot) (next : LeastFound) (lons′ lats′ : List ℕ)
-      → left ≡ x ∷ rest → Spotted n (positionKinds x) (position x) s → next ≡ lesser least (s .least)
+  pub drawn-more : Charted lons lats → (x : Picked) (rest : List Picked) (n : ℕ) (s : PositionFound) (next : LeastFound) (lons′ lats′ : List ℕ)
+      → left ≡ x ∷ rest → FindsPosition n (positionKinds x) (position x) s → next ≡ lesser least (s .least)
       → lons′ ≡ stored lons count (s .point .lon) → lats′ ≡ stored lats count (s .point .lat)
       → Drawn lons′ lats′ (count + 1) next rest all
   drawn-more c x rest n s next lons′ lats′ e k f g h =

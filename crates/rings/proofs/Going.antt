@@ -10,7 +10,7 @@ use Rattle.walk.specs.declared.Item.{Item}
 use Rattle.walk.specs.declared.ItemStep.{ItemStep}
 use Rattle.walk.specs.declared.ItemStep.the-variants as step
 use Rattle.walk.specs.Walk.{part}
-use Rattle.walk.specs.Part.{Whole, treeOf}
+use Rattle.walk.specs.Part.{Whole, partTree}
 use Rattle.walk.specs.inner.Along.{ItemPlaced, ItemPassed}
 use Rattle.walk.proofs.Parts.{itemOf}
 use Rattle.schema.specs.Shape.{Shape}
@@ -148,7 +148,7 @@ module _ (e : ℕ → Picked → List Found) (c : Picked → ℕ) where
             record { counted = end-counted; numbered = omega (arith, g .numbered); found = end-found }
 
       -- where one is found, its bytes are whole
-      pub going-whole : (m : Item) → o ≡ step.Found m → Whole (itemOf p m) (treeOf (itemOf p m))
+      pub going-whole : (m : Item) → o ≡ step.Found m → Whole (itemOf p m) (partTree (itemOf p m))
       going-whole m h = left-more σ p at (g .left) (g .here) f m h .whole
 
       module _ (m : Item) (h : o ≡ step.Found m) (first next : LeastFound) (q : ℕ)

@@ -16,22 +16,22 @@ use Rattle.walk.proofs.Wholes.{whole-kind, whole-number}
 use Rattle.decimal.specs.declared.Decimal.{Decimal}
 use Rattle.decimal.specs.declared.Number.the-variants as number
 use Rattle.decimal.specs.Decimals.{numberOf}
-use Rattle.decimal.specs.Exact.{within, millionths}
+use Rattle.decimal.specs.Exact.{inRange, millionths}
 use Rattle.decimal.proofs.Millionths.{millionths-within}
 use Rattle.schema.specs.Shape as shape
 use Rattle.schema.specs.Pick.{Picked, bare, items, slots, pick}
 use Rattle.scalar.specs.Scalars as scalar
 use Rattle.scalar.specs.Scalars.{unless, formed, kindsOf}
-use Rattle.rings.specs.Rings.{at, coordinate, ordinateKinds}
+use Rattle.rings.specs.Rings.{foundAt, inMillionths, coordinateKinds}
 use Rattle.rings.specs.inner.Least.{leastFound}
-use Rattle.rings.specs.inner.Parts.{numberShape, isNumber, rangeKinds, Measured}
+use Rattle.rings.specs.inner.Parts.{numberShape, isNumber, rangeKinds, FindsCoordinate}
 use Rattle.rings.specs.declared.LeastFound.the-variants.{None, At}
-use Rattle.rings.specs.declared.Ordinate.{Ordinate}
+use Rattle.rings.specs.declared.CoordinateFound.{CoordinateFound}
 use Rattle.rings.proofs.Order.{lesser-none}
 
 -- the sorts
-pub longitude-kinds : (x : Picked) → ordinateKinds shape.longitude x ≡ rangeKinds 180 x
-unfolding ordinateKinds kindsOf scalar.sortKinds
+pub longitude-kinds : (x : Picked) → coordinateKinds shape.longitude x ≡ rangeKinds 180 x
+unfolding coordinateKinds kindsOf scalar.sortKinds
 longitude-kinds (bare tree.null) = refl
 longitude-kinds (bare (tree.boolean b)) = refl
 longitude-kinds (bare (tree.number s)) = refl
@@ -41,8 +41,8 @@ longitude-kinds (bare (tree.object ms)) = refl
 longitude-kinds (items is) = refl
 longitude-kinds (slots ss) = refl
 
-pub latitude-kinds : (x : Picked) → ordinateKinds shape.latitude x ≡ rangeKinds 90 x
-unfolding ordinateKinds kindsOf scalar.sortKinds
+pub latitude-kinds : (x : Picked) → coordinateKinds shape.latitude x ≡ rangeKinds 90 x
+unfolding coordinateKinds kindsOf scalar.sortKinds
 latitude-kinds (bare tree.null) = refl
 latitude-kinds (bare (tree.boolean b)) = refl
 latitude-kinds (bare (tree.number s)) = refl
@@ -52,8 +52,8 @@ latitude-kinds (bare (tree.object ms)) = refl
 latitude-kinds (items is) = refl
 latitude-kinds (slots ss) = refl
 
-third-tree : (x : Json) → unless (isNumber (kindOf x)) wrongType ≡ ordinateKinds shape.ordinate (pick numberShape x)
-unfolding ordinateKinds kindsOf scalar.sortKinds pick
+third-tree : (x : Json) → unless (isNumber (kindOf x)) wrongType ≡ coordinateKinds shape.coordinate (pick numberShape x)
+unfolding coordinateKinds kindsOf scalar.sortKinds pick
 third-tree tree.null = refl
 third-tree (tree.boolean b) = refl
 third-tree (tree.number s) = refl
@@ -62,26 +62,26 @@ third-tree (tree.array is) = refl
 third-tree (tree.object ms) = refl
 
 -- the third number
-pub third-kinds : {p : List ℕ} {x : Json} → Whole p x → unless (isNumber (kindAt p)) wrongType ≡ ordinateKinds shape.ordinate (pick numberShape x)
+pub third-kinds : {p : List ℕ} {x : Json} → Whole p x → unless (isNumber (kindAt p)) wrongType ≡ coordinateKinds shape.coordinate (pick numberShape x)
 third-kinds {p} {x} w = ap (λ k. unless (isNumber k) wrongType) (whole-kind w) ∙ third-tree x
 
 -- one fault
-pub least-one : (n k : ℕ) → leastFound (at n (k ∷ [])) ≡ At n k
-unfolding leastFound at
+pub least-one : (n k : ℕ) → leastFound (foundAt n (k ∷ [])) ≡ At n k
+unfolding leastFound foundAt
 least-one n k = lesser-none (At n k)
 
-pub least-empty : (n : ℕ) → leastFound (at n []) ≡ None
-unfolding leastFound at
+pub least-empty : (n : ℕ) → leastFound (foundAt n []) ≡ None
+unfolding leastFound foundAt
 least-empty n = refl
 
 pub not-none : {A : Type 0} {n k : ℕ} → At n k ≡ None → A
 not-none e = let z : _≡_ {A = ℕ} 0 1 = cc in absurd (omega arith)
 
-pub measured-broken : (most n kind : ℕ) (x : Picked) (o : Ordinate) → rangeKinds most x ≡ kind ∷ []
-    → o ≡ record { least = At n kind; value = 0 } → Measured most n x o
+pub measured-broken : (most n kind : ℕ) (x : Picked) (o : CoordinateFound) → rangeKinds most x ≡ kind ∷ []
+    → o ≡ record { least = At n kind; value = 0 } → FindsCoordinate most n x o
 measured-broken most n kind x o h e =
     rw e
-    record { least = sym (ap (λ ks. leastFound (at n ks)) h ∙ least-one n kind); value = λ f. not-none f }
+    record { least = sym (ap (λ ks. leastFound (foundAt n ks)) h ∙ least-one n kind); value = λ f. not-none f }
 
 -- what is no number
 other-kinds : (most : ℕ) (x : Json) → isNumber (kindOf x) ≡ false → rangeKinds most (pick numberShape x) ≡ wrongType ∷ []
@@ -121,7 +121,7 @@ up-to a h b e = go (decLe h a)
     go (no n) = omega (arith, n)
 
 -- so a coordinate in the range is at most twice its half
-pub inside-upto : (most v : ℕ) (d : Decimal) → within most d ≡ true → difference v (most * 1_000_000) ≡ millionths d → v ≤ most * 2_000_000
+pub inside-upto : (most v : ℕ) (d : Decimal) → inRange most d ≡ true → difference v (most * 1_000_000) ≡ millionths d → v ≤ most * 2_000_000
 inside-upto most v d f g =
     let k : natAbs (difference v (most * 1_000_000)) ≤ most * 1_000_000 = rw g (millionths-within most d f) in
     let q = up-to v (most * 1_000_000) (most * 1_000_000) k in
@@ -130,20 +130,20 @@ inside-upto most v d f g =
 module _ (most : ℕ) {p : List ℕ} {x : Json} (w : Whole p x) (e : isNumber (kindAt p) ≡ true) where
   pub unformed-kinds : numberOf p ≡ number.Unformed → rangeKinds most (pick numberShape x) ≡ numberForm ∷ []
   unfolding formed
-  unformed-kinds h = ap (rangeKinds most) (number-picked w e) ∙ ap (formed (within most)) h
+  unformed-kinds h = ap (rangeKinds most) (number-picked w e) ∙ ap (formed (inRange most)) h
 
   module _ (d : Decimal) (h : numberOf p ≡ number.Value d) where
-    pub outside-kinds : within most d ≡ false → rangeKinds most (pick numberShape x) ≡ outOfRange ∷ []
+    pub outside-kinds : inRange most d ≡ false → rangeKinds most (pick numberShape x) ≡ outOfRange ∷ []
     unfolding formed
-    outside-kinds f = ap (rangeKinds most) (number-picked w e) ∙ ap (formed (within most)) h ∙ ap (λ t. unless t outOfRange) f
+    outside-kinds f = ap (rangeKinds most) (number-picked w e) ∙ ap (formed (inRange most)) h ∙ ap (λ t. unless t outOfRange) f
 
-    pub measured-inside : (n v : ℕ) → within most d ≡ true → difference v (most * 1_000_000) ≡ millionths d
-        → Measured most n (pick numberShape x) (record { least = None; value = v })
+    pub measured-inside : (n v : ℕ) → inRange most d ≡ true → difference v (most * 1_000_000) ≡ millionths d
+        → FindsCoordinate most n (pick numberShape x) (record { least = None; value = v })
     unfolding formed
     measured-inside n v f g =
-        subst (λ (y : Picked). Measured most n y (record { least = None; value = v })) (sym (number-picked w e)) (
+        subst (λ (y : Picked). FindsCoordinate most n y (record { least = None; value = v })) (sym (number-picked w e)) (
         record {
-          least = sym (ap (λ ks. leastFound (at n ks)) (ap (formed (within most)) h ∙ ap (λ t. unless t outOfRange) f) ∙ least-empty n);
-          value = λ z. g ∙ sym (ap coordinate h);
+          least = sym (ap (λ ks. leastFound (foundAt n ks)) (ap (formed (inRange most)) h ∙ ap (λ t. unless t outOfRange) f) ∙ least-empty n);
+          value = λ z. g ∙ sym (ap inMillionths h);
         }
         )

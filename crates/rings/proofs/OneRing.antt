@@ -13,7 +13,7 @@ use Rattle.notation.specs.Choice.{_and_}
 use Rattle.word.specs.Kinds.{tooMany, badRing}
 use Rattle.schema.specs.Pick.{Picked, PickedItems, bare, items, slots, listOf}
 use Rattle.scalar.specs.Scalars.{unless}
-use Rattle.rings.specs.Rings.{Found, at, count, ringsFound, polygon, polygonPositions, polygonRings, polygonsRings, isRingCount, areZoneCounts, polygonsFound, coordinatesFound}
+use Rattle.rings.specs.Rings.{Found, foundAt, count, ringsFound, polygon, polygonPositions, itemCount, itemTotal, isRingCount, areZoneCounts, polygonsFound, coordinatesFound}
 use Rattle.rings.specs.OneRing.{polygonOfOne, polygonsOfOne, coordinatesOfOne, OneRingAtMost}
 
 -- of no ring and of one the rules agree
@@ -22,8 +22,9 @@ counts-agree zero h = refl
 counts-agree (suc zero) h = refl
 counts-agree (suc (suc m)) h = absurd (omega (arith, h))
 
-polygon-one : (n : ℕ) (x : Picked) → polygonRings x ≤ 1 → polygon n x ≡ polygonOfOne n x
-polygon-one n (items is) h = ap (λ (t : Bool). at n (unless t badRing) ++ ringsFound n (listOf is)) (counts-agree (count is) h)
+polygon-one : (n : ℕ) (x : Picked) → itemCount x ≤ 1 → polygon n x ≡ polygonOfOne n x
+unfolding count
+polygon-one n (items is) h = ap (λ (t : Bool). foundAt n (unless t badRing) ++ ringsFound n (listOf is)) (counts-agree (count is) h)
 polygon-one n (bare x) h = refl
 polygon-one n (slots ss) h = refl
 
@@ -33,8 +34,8 @@ polygons-one n [] one = refl
 polygons-one n (x ∷ l) one =
     ap₂ (λ (a b : List Found). a ++ b) (polygon-one n x (one x (List·Memᴰ·head refl))) (polygons-one (n + polygonPositions x) l (λ y i. one y (List·Memᴰ·tail i)))
 
-rings-few : (l : List Picked) → OneRingAtMost l → polygonsRings l ≤ length l
-unfolding polygonsRings
+rings-few : (l : List Picked) → OneRingAtMost l → itemTotal l ≤ length l
+unfolding itemTotal
 rings-few [] one = omega arith
 rings-few (x ∷ l) one = omega (arith, one x (List·Memᴰ·head refl), rings-few l (λ y i. one y (List·Memᴰ·tail i)))
 
@@ -49,5 +50,5 @@ zone-few m k h = go (leb m ceiling.polygons) refl
 pub coordinates-one : (is : PickedItems) → OneRingAtMost (listOf is) → coordinatesFound is ≡ coordinatesOfOne is
 unfolding coordinatesFound coordinatesOfOne count
 coordinates-one is one =
-    ap₂ (λ (t : Bool) (l : List Found). at 0 (unless t tooMany) ++ l) (zone-few (length (listOf is)) (polygonsRings (listOf is)) (rings-few (listOf is) one))
+    ap₂ (λ (t : Bool) (l : List Found). foundAt 0 (unless t tooMany) ++ l) (zone-few (length (listOf is)) (itemTotal (listOf is)) (rings-few (listOf is) one))
     (polygons-one 1 (listOf is) one)

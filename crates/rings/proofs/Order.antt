@@ -8,7 +8,7 @@ use Prim.Native.Nat.{ℕ, _≤_, _<_}
 use native.Mathlib.Omega.{arith}
 use lib.Dec.{ltb}
 use borrow.Author.Tests.{ltb-true, ltb-false, lt-ltb, le-ltb}
-use Rattle.rings.specs.Rings.{Found, at}
+use Rattle.rings.specs.Rings.{Found, foundAt}
 use Rattle.rings.specs.inner.Least.{earlier, lesser, leastFound}
 use Rattle.rings.specs.declared.LeastFound.{LeastFound}
 use Rattle.rings.specs.declared.LeastFound.the-variants.{None, At}
@@ -154,15 +154,15 @@ unfolding leastFound
 least-nothing [] e = refl
 least-nothing (f ∷ l) e = absurd (some (f .number) (f .kind) (leastFound l) e)
 
-pub at-append : (n : ℕ) (xs ys : List ℕ) → at n (xs ++ ys) ≡ at n xs ++ at n ys
-unfolding at
+pub at-append : (n : ℕ) (xs ys : List ℕ) → foundAt n (xs ++ ys) ≡ foundAt n xs ++ foundAt n ys
+unfolding foundAt
 at-append n [] ys = refl
 at-append n (k ∷ xs) ys = ap (λ (l : List Found). record { number = n; kind = k } ∷ l) (at-append n xs ys)
 
-pub at-nothing : (n : ℕ) (ks : List ℕ) → at n ks ≡ [] → ks ≡ []
-unfolding at
+pub at-nothing : (n : ℕ) (ks : List ℕ) → foundAt n ks ≡ [] → ks ≡ []
+unfolding foundAt
 at-nothing n [] e = refl
 at-nothing n (k ∷ ks) e = let z : _≡_ {A = ℕ} 0 1 = cc in absurd (omega arith)
 
-pub least-at : (n : ℕ) (xs ys : List ℕ) → leastFound (at n (xs ++ ys)) ≡ lesser (leastFound (at n xs)) (leastFound (at n ys))
-least-at n xs ys = ap leastFound (at-append n xs ys) ∙ least-append (at n xs) (at n ys)
+pub least-at : (n : ℕ) (xs ys : List ℕ) → leastFound (foundAt n (xs ++ ys)) ≡ lesser (leastFound (foundAt n xs)) (leastFound (foundAt n ys))
+least-at n xs ys = ap leastFound (at-append n xs ys) ∙ least-append (foundAt n xs) (foundAt n ys)

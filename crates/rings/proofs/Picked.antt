@@ -7,13 +7,13 @@ use Prim.Native.Nat.{ℕ, _≤_, _<_}
 use native.Mathlib.Decide.{decLt}
 use native.Mathlib.Omega.{arith}
 use lib.ListN.{length}
-use Rattle.json.specs.Tree as Tree
+use Rattle.json.specs.Tree
 use Rattle.json.specs.Tree.{Json, Items}
 use Rattle.walk.specs.declared.Item.{Item}
 use Rattle.walk.specs.declared.ItemStep.{ItemStep}
 use Rattle.walk.specs.declared.ItemStep.the-variants as step
 use Rattle.walk.specs.Walk.{itemAt, itemsFrom, itemsOf}
-use Rattle.walk.specs.Part.{Whole, treeOf, kindOf, kindAt}
+use Rattle.walk.specs.Part.{Whole, partTree, kindOf, kindAt}
 use Rattle.walk.specs.inner.Along.{AlongItems, ItemPlaced, ItemPassed}
 use Rattle.walk.proofs.Folds.{one-more, itemSteps, items-end}
 use Rattle.walk.proofs.Places.{item-placed}
@@ -22,7 +22,7 @@ use Rattle.walk.proofs.Wholes.{whole-kind}
 use Rattle.walk.proofs.Trees.{array-parts}
 use Rattle.schema.specs.Shape as shape
 use Rattle.schema.specs.Shape.{Shape, Numbering}
-use Rattle.schema.specs.Pick.{Picked, PickedItems, bare, items, each, pick, listOf}
+use Rattle.schema.specs.Pick.{Picked, PickedItems, bare, items, pickItems, pick, listOf}
 use Rattle.rings.specs.inner.Parts.{Listing, picked, partsOf, Left, isArray}
 
 -- a loop over the items of p
@@ -36,7 +36,7 @@ module _ (σ : Shape) (p : List ℕ) where
     pub rest : List Picked
     pub is : l ≡ picked σ p m ∷ rest
     pub left : Left σ p (m .next) rest
-    pub whole : Whole (itemOf p m) (treeOf (itemOf p m))
+    pub whole : Whole (itemOf p m) (partTree (itemOf p m))
 
   module _ (at : ℕ) (l : List Picked) (h : Left σ p at l) {o : ItemStep} (f : ItemPassed p at o) where
     -- behind the last byte nothing is found
@@ -73,8 +73,8 @@ module _ (σ : Shape) (p : List ℕ) where
         }
 
 -- an array's picked items
-each-list : (f : Json → Picked) (js : List Json) → listOf (each f (Tree.itemsOf js)) ≡ map f js
-unfolding listOf each Tree.itemsOf
+each-list : (f : Json → Picked) (js : List Json) → listOf (pickItems f (Tree.asItems js)) ≡ map f js
+unfolding listOf pickItems Tree.asItems
 each-list f [] = refl
 each-list f (j ∷ js) = ap (λ (l : List Picked). f j ∷ l) (each-list f js)
 
@@ -93,12 +93,12 @@ pub record ArrayPicked (ν : Numbering) (most : ℕ) (σ : Shape) (p : List ℕ)
   pub listed : Listed σ p (listOf list)
 
 module _ (ν : Numbering) (most : ℕ) (σ : Shape) {p : List ℕ} where
-  parts-picked : {is : Items} → Whole p (Json.array is) → Listed σ p (listOf (each (λ y. pick σ y) is))
+  parts-picked : {is : Items} → Whole p (Json.array is) → Listed σ p (listOf (pickItems (λ y. pick σ y) is))
   unfolding partsOf
   parts-picked {is} w =
       record {
         listing = record { whole = λ h. (is, w) };
-        parts = ap (λ (js : Items). listOf (each (λ y. pick σ y) js)) (array-parts p w) ∙ each-list (λ y. pick σ y) _ ∙ map-twice (λ y. pick σ y) _ (itemsOf p);
+        parts = ap (λ (js : Items). listOf (pickItems (λ y. pick σ y) js)) (array-parts p w) ∙ each-list (λ y. pick σ y) _ ∙ map-twice (λ y. pick σ y) _ (itemsOf p);
       }
 
   pub array-picked : (x : Json) → Whole p x → isArray (kindAt p) ≡ true → ArrayPicked ν most σ p x
@@ -113,7 +113,7 @@ module _ (ν : Numbering) (most : ℕ) (σ : Shape) {p : List ℕ} where
       go (Json.boolean b) v f = other f
       go (Json.number s) v f = other f
       go (Json.string s) v f = other f
-      go (Json.array is) v f = record { list = each (λ y. pick σ y) is; picks = refl; listed = parts-picked v }
+      go (Json.array is) v f = record { list = pickItems (λ y. pick σ y) is; picks = refl; listed = parts-picked v }
       go (Json.object ms) v f = other f
 
   pub other-picked : (x : Json) → Whole p x → isArray (kindAt p) ≡ false → (y : Json) × (pick (shape.array ν most σ) x ≡ bare y)
@@ -141,5 +141,5 @@ module _ (ν : Numbering) (most : ℕ) (σ : Shape) {p : List ℕ} where
       go (Json.boolean b) v f = other f
       go (Json.number s) v f = other f
       go (Json.string s) v f = other f
-      go (Json.array js) v f = let z : each (λ y. pick σ y) js ≡ is = cc in subst (λ (js : PickedItems). Listed σ p (listOf js)) z (parts-picked v)
+      go (Json.array js) v f = let z : pickItems (λ y. pick σ y) js ≡ is = cc in subst (λ (js : PickedItems). Listed σ p (listOf js)) z (parts-picked v)
       go (Json.object ms) v f = other f

@@ -12,7 +12,7 @@ use Rattle.schema.specs.Shape as shape
 use Rattle.schema.specs.Table23.{coordinates}
 use Rattle.schema.specs.Pick.{Picked, PickedItems, items, pick, listOf}
 use Rattle.scalar.specs.Scalars.{unless}
-use Rattle.rings.specs.Rings.{Found, at, count, ring, ringPositions, ringFound, ringsFound, ringsPositions, polygon, polygonPositions, polygonRings, polygonsRings, isRingCount, areZoneCounts, polygonsFound, coordinatesFound}
+use Rattle.rings.specs.Rings.{Found, foundAt, count, ring, itemCount, ringFound, ringsFound, itemTotal, polygon, polygonPositions, isRingCount, areZoneCounts, polygonsFound, coordinatesFound}
 use Rattle.rings.specs.inner.Least.{lesser, leastFound}
 use Rattle.rings.specs.inner.Parts.{positionShape, ringShape, polygonShape, Listing, partsOf, isArray, Tells, TellsRings, TellsPolygon, TellsPolygons}
 use Rattle.rings.specs.declared.LeastFound.{LeastFound}
@@ -26,25 +26,20 @@ use Rattle.rings.proofs.Picked.{array-picked, other-picked, items-parts
 use Rattle.rings.proofs.Numbers.{least-one}
 
 -- the definitions, as items after another
-pub rings-found : (n : ℕ) (l : List Picked) → ringsFound n l ≡ foundIn ring ringPositions n l
+pub rings-found : (n : ℕ) (l : List Picked) → ringsFound n l ≡ foundIn ring itemCount n l
 unfolding ringsFound foundIn
 rings-found n [] = refl
-rings-found n (x ∷ l) = ap (λ (fs : List Found). ring n x ++ fs) (rings-found (n + ringPositions x) l)
+rings-found n (x ∷ l) = ap (λ (fs : List Found). ring n x ++ fs) (rings-found (n + itemCount x) l)
 
-pub rings-positions : (l : List Picked) → ringsPositions l ≡ sumOver ringPositions l
-unfolding ringsPositions sumOver
-rings-positions [] = refl
-rings-positions (x ∷ l) = ap (λ k. ringPositions x + k) (rings-positions l)
+pub item-total : (l : List Picked) → itemTotal l ≡ sumOver itemCount l
+unfolding itemTotal sumOver
+item-total [] = refl
+item-total (x ∷ l) = ap (λ k. itemCount x + k) (item-total l)
 
 pub polygons-found : (n : ℕ) (l : List Picked) → polygonsFound n l ≡ foundIn polygon polygonPositions n l
 unfolding polygonsFound foundIn
 polygons-found n [] = refl
 polygons-found n (x ∷ l) = ap (λ (fs : List Found). polygon n x ++ fs) (polygons-found (n + polygonPositions x) l)
-
-pub polygons-rings : (l : List Picked) → polygonsRings l ≡ sumOver polygonRings l
-unfolding polygonsRings sumOver
-polygons-rings [] = refl
-polygons-rings (x ∷ l) = ap (λ k. polygonRings x + k) (polygons-rings l)
 
 abbrev broken : ℕ → Judged
 broken n = record { positions = 0; least = At n wrongType }
@@ -52,18 +47,18 @@ broken n = record { positions = 0; least = At n wrongType }
 module _ {p : List ℕ} {x : Json} (w : Whole p x) (n : ℕ) where
   -- an item of a polygon
   pub ring-array : (r : Judged) → isArray (kindAt p) ≡ true → (Listing p → Tells (ringFound n (partsOf positionShape p)) (length (partsOf positionShape p)) r)
-      → Tells (ring n (pick ringShape x)) (ringPositions (pick ringShape x)) r
+      → Tells (ring n (pick ringShape x)) (itemCount (pick ringShape x)) r
   unfolding count
   ring-array r e h = let k = array-picked shape.positions ceiling.positions positionShape x w e in rw (k .picks) (rw (k .listed .parts) (h (k .listed .listing)))
 
-  pub ring-other : isArray (kindAt p) ≡ false → Tells (ring n (pick ringShape x)) (ringPositions (pick ringShape x)) (broken n)
+  pub ring-other : isArray (kindAt p) ≡ false → Tells (ring n (pick ringShape x)) (itemCount (pick ringShape x)) (broken n)
   ring-other e =
       let k = other-picked shape.positions ceiling.positions positionShape x w e in
       rw (k .1) record { least = sym (least-one n wrongType); positions = refl }
 
   -- an item of the coordinates
   pub polygon-array : (t : PolygonTally) (found : LeastFound) → isArray (kindAt p) ≡ true → (Listing p → TellsRings n (partsOf ringShape p) t)
-      → found ≡ lesser (leastFound (at n (unless (isRingCount (t .rings)) badRing))) (t .least)
+      → found ≡ lesser (leastFound (foundAt n (unless (isRingCount (t .rings)) badRing))) (t .least)
       → TellsPolygon n (pick polygonShape x) (record { rings = t .rings; positions = t .positions; least = found })
   unfolding count
   polygon-array t found e g f =
@@ -76,17 +71,18 @@ module _ {p : List ℕ} {x : Json} (w : Whole p x) (n : ℕ) where
         positions = rw (k .listed .parts) (h .positions);
         least =
             rw (k .listed .parts)
-            (f ∙ ap₂ lesser (ap (λ m. leastFound (at n (unless (isRingCount m) badRing))) (h .rings)) (h .least)
-            ∙ sym (least-append (at n (unless (isRingCount (length l)) badRing)) (ringsFound n l)));
+            (f ∙ ap₂ lesser (ap (λ m. leastFound (foundAt n (unless (isRingCount m) badRing))) (h .rings)) (h .least)
+            ∙ sym (least-append (foundAt n (unless (isRingCount (length l)) badRing)) (ringsFound n l)));
       }
 
   pub polygon-other : isArray (kindAt p) ≡ false → TellsPolygon n (pick polygonShape x) (record { rings = 0; positions = 0; least = At n wrongType })
+  unfolding itemTotal
   polygon-other e =
       let k = other-picked shape.positions ceiling.rings ringShape x w e in
       rw (k .1) record { rings = refl; positions = refl; least = sym (least-one n wrongType) }
 
 abbrev counts : (m k : ℕ) → List Found
-counts m k = at 0 (unless (areZoneCounts m k) tooMany)
+counts m k = foundAt 0 (unless (areZoneCounts m k) tooMany)
 
 -- all of field 73
 pub coordinates-found : {p : List ℕ} (t : ZoneTally) → (Listing p → TellsPolygons 1 (partsOf polygonShape p) t)
@@ -97,6 +93,6 @@ coordinates-found {p} t g x is w e =
     let k = items-parts shape.positions ceiling.polygons polygonShape x is w e in
     let h = g (k .listing) in let l = k .parts in
     ap₂ lesser
-    (ap₂ (λ m j. leastFound (counts m j)) (h .polygons ∙ ap length (sym l)) (h .rings ∙ ap polygonsRings (sym l)))
+    (ap₂ (λ m j. leastFound (counts m j)) (h .polygons ∙ ap length (sym l)) (h .rings ∙ ap itemTotal (sym l)))
     (h .least ∙ ap (λ (ps : List Picked). leastFound (polygonsFound 1 ps)) (sym l))
-    ∙ sym (least-append (counts (length (listOf is)) (polygonsRings (listOf is))) (polygonsFound 1 (listOf is)))
+    ∙ sym (least-append (counts (length (listOf is)) (itemTotal (listOf is))) (polygonsFound 1 (listOf is)))

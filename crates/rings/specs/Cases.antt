@@ -1,18 +1,18 @@
 -- Field 73 on cases, computed: every rule at its limit, with all that is found.
 use mathlib.Core.List.{List, [], _∷_, map}
-use mathlib.Core.Path.{_≡_, refl}
+use mathlib.Core.Path.{refl}
 use Prim.Native.Nat.{ℕ, zero, suc}
 use Prim.Native.String.{String}
 use Rattle.notation.specs.Ascii.{bytes}
 use Rattle.notation.specs.Case.{Case, Answers}
 use Rattle.json.specs.Cases.{reading}
-use Rattle.walk.specs.Part.{treeOf}
+use Rattle.walk.specs.Part.{partTree}
 use Rattle.decimal.specs.Cases.{deciding}
 use Rattle.geometry.specs.Cases.{holding}
 use Rattle.schema.specs.Table23.{coordinates, written23}
-use Rattle.schema.specs.Pick.{Picked, PickedItems, bare, items, slots, noItem, item, each, pick, listOf}
+use Rattle.schema.specs.Pick.{Picked, PickedItems, bare, items, slots, noItem, item, pickItems, pick, listOf}
 use Rattle.scalar.specs.Scalars as scalar
-use Rattle.rings.specs.Rings.{Found, at, count, ordinateKinds, numberKinds, positionKinds, pointOf, position, none, allSound, positionsFound, ringFound, ringsFound, ringsPositions, polygonsRings, polygonsFound, coordinatesFound}
+use Rattle.rings.specs.Rings.{Found, foundAt, count, coordinateKinds, coordinatesKinds, positionKinds, pointOf, position, noKinds, allSound, positionsFound, ringFound, ringsFound, itemTotal, polygonsFound, coordinatesFound}
 use Rattle.rings.specs.inner.Least.{earlier, lesser, leastFound}
 use Rattle.rings.specs.inner.Parts.{ringShape, positionShape}
 use Rattle.rings.specs.declared.LeastFound.{LeastFound}
@@ -20,7 +20,7 @@ use Rattle.rings.specs.declared.LeastFound.the-variants.{None, At}
 
 -- opens every definition of this layer
 unfoldable pub ringing : Unit {0}
-unfolding reading treeOf deciding holding written23 each pick scalar.formed scalar.sortKinds scalar.kindsOf at listOf count ordinateKinds numberKinds positionKinds pointOf position none allSound positionsFound ringFound ringsFound ringsPositions polygonsRings polygonsFound coordinatesFound earlier lesser leastFound
+unfolding reading partTree deciding holding written23 pickItems pick scalar.formed scalar.sortKinds scalar.kindsOf foundAt listOf count coordinateKinds coordinatesKinds positionKinds pointOf position noKinds allSound positionsFound ringFound ringsFound itemTotal polygonsFound coordinatesFound earlier lesser leastFound
 ringing = tt
 
 -- what is found in the coordinates that a text spells: positions' numbers and kinds
@@ -30,7 +30,7 @@ foundIn (items is) = coordinatesFound is
 foundIn (slots ss) = []
 
 unfoldable found : String → List (ℕ × ℕ)
-found s = map (λ f. (f .number, f .kind)) (foundIn (pick coordinates (treeOf (bytes s))))
+found s = map (λ f. (f .number, f .kind)) (foundIn (pick coordinates (partTree (bytes s))))
 
 abbrev positions : List (Case String (List (ℕ × ℕ)))
 positions =
@@ -63,7 +63,7 @@ rings =
     ("open by a millionth", "[[[[0,0],[0,2],[2,2],[0.000001,0]]]]", (1, 11) ∷ []) ∷
     ("closed by rounding", "[[[[0,0],[0,2],[2,2],[0.0000004,-0.0000004]]]]", []) ∷
     ("closed by rounding up", "[[[[0.000001,0],[0,2],[2,2],[0.0000005,0]]]]", []) ∷
-    ("closed at the end of the map", "[[[[179.9999995,0],[179,2],[178,2],[180,0]]]]", []) ∷
+    ("closed foundAt the end of the map", "[[[[179.9999995,0],[179,2],[178,2],[180,0]]]]", []) ∷
     ("opened by rounding", "[[[[0,0],[0,2],[2,2],[0.0000001,-0.0000009]]]]", (1, 11) ∷ []) ∷
     ("opened by half a millionth", "[[[[0,0],[0,2],[2,2],[0.0000005,0]]]]", (1, 11) ∷ []) ∷
     ("an area by rounding alone", "[[[[0,0],[0,0.0000005],[0.0000005,0.0000005],[0,0]]]]", []) ∷
@@ -113,10 +113,10 @@ itemsOf (x ∷ l) = item x (itemsOf l)
 
 -- a position, a ring and a polygon; a triangle whose third corner is named n times
 abbrev placed : String → Picked
-placed s = pick positionShape (treeOf (bytes s))
+placed s = pick positionShape (partTree (bytes s))
 
 abbrev ring : String → Picked
-ring s = pick ringShape (treeOf (bytes s))
+ring s = pick ringShape (partTree (bytes s))
 
 abbrev polygon : List Picked → Picked
 polygon rings = items (itemsOf rings)
@@ -142,9 +142,9 @@ abbrev many : List (Case (List Picked) LeastFound)
 many =
     ("256 positions", polygon (triangle 253 "[0,0]" "[0,0]" ∷ []) ∷ [], None) ∷
     ("257", polygon (triangle 254 "[0,0]" "[0,0]" ∷ []) ∷ [], At 1 10) ∷
-    ("and open, which comes later at the same number", polygon (triangle 254 "[0,0]" "[0,1]" ∷ []) ∷ [], At 1 10) ∷
+    ("and open, which comes later foundAt the same number", polygon (triangle 254 "[0,0]" "[0,1]" ∷ []) ∷ [], At 1 10) ∷
     ("and a fault of the first position, which comes before", polygon (triangle 254 "[181,0]" "[0,0]" ∷ []) ∷ [], At 1 9) ∷
-    ("256 positions in each of two rings", polygon (triangle 253 "[0,0]" "[0,0]" ∷ triangle 253 "[0,0]" "[0,0]" ∷ []) ∷ [], None) ∷
+    ("256 positions in pickItems of two rings", polygon (triangle 253 "[0,0]" "[0,0]" ∷ triangle 253 "[0,0]" "[0,0]" ∷ []) ∷ [], None) ∷
     ("257 in the second", polygon (triangle 253 "[0,0]" "[0,0]" ∷ triangle 254 "[0,0]" "[0,0]" ∷ []) ∷ [], At 257 10) ∷
     ("fifteen polygons", repeated 14 (ringed 0 sound) (ringed 0 sound ∷ []), None) ∷
     ("with a fault in the last", repeated 14 (ringed 0 sound) (ringed 0 noArray ∷ []), At 57 7) ∷
@@ -163,7 +163,7 @@ many =
     ("sixteen", fourteen (ringed 1 sound ∷ []), At 0 10) ∷
     ("the last no array", fourteen (ringed 1 noArray ∷ []), At 0 10) ∷
     ("behind what is no polygon", noArray ∷ fourteen (ringed 1 noArray ∷ []), At 0 10) ∷
-    ("fifteen behind what is none", noArray ∷ fourteen (ringed 0 noArray ∷ []), At 1 7) ∷
+    ("fifteen behind what is noKinds", noArray ∷ fourteen (ringed 0 noArray ∷ []), At 1 7) ∷
     []
 
 many-answered : Answers (λ l. leastFound (coordinatesFound (itemsOf l))) many

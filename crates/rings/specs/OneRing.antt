@@ -6,13 +6,13 @@ use Rattle.limits.specs.Ceilings.{polygons}
 use Rattle.word.specs.Kinds.{wrongType, tooMany, badRing}
 use Rattle.schema.specs.Pick.{Picked, PickedItems, bare, items, slots, listOf}
 use Rattle.scalar.specs.Scalars.{unless}
-use Rattle.rings.specs.Rings.{Found, at, count, ringsFound, polygonPositions, polygonRings}
+use Rattle.rings.specs.Rings.{Found, foundAt, count, ringsFound, polygonPositions, itemCount}
 
 -- a polygon: one ring
 abbrev pub polygonOfOne : ℕ → Picked → List Found
-polygonOfOne n (items is) = at n (unless (eqb (count is) 1) badRing) ++ ringsFound n (listOf is)
-polygonOfOne n (bare x) = at n (wrongType ∷ [])
-polygonOfOne n (slots ss) = at n (wrongType ∷ [])
+polygonOfOne n (items is) = foundAt n (unless (eqb (count is) 1) badRing) ++ ringsFound n (listOf is)
+polygonOfOne n (bare x) = foundAt n (wrongType ∷ [])
+polygonOfOne n (slots ss) = foundAt n (wrongType ∷ [])
 
 unfoldable pub polygonsOfOne : ℕ → List Picked → List Found
 polygonsOfOne n [] = []
@@ -20,8 +20,8 @@ polygonsOfOne n (x ∷ l) = polygonOfOne n x ++ polygonsOfOne (n + polygonPositi
 
 -- all of field 73, where it is an array: too many polygons stand at 0
 unfoldable pub coordinatesOfOne : PickedItems → List Found
-coordinatesOfOne is = at 0 (unless (leb (count is) polygons) tooMany) ++ polygonsOfOne 1 (listOf is)
+coordinatesOfOne is = foundAt 0 (unless (leb (count is) polygons) tooMany) ++ polygonsOfOne 1 (listOf is)
 
 -- none of these polygons has more than one ring; one that has none, or is no array, may be among them
 abbrev pub OneRingAtMost : List Picked → Type 0
-OneRingAtMost l = (polygon : Picked) → List·Memᴰ polygon l → polygonRings polygon ≤ 1
+OneRingAtMost l = (polygon : Picked) → List·Memᴰ polygon l → itemCount polygon ≤ 1

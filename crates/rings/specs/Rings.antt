@@ -15,7 +15,7 @@ use Rattle.decimal.specs.Decimals.{numberOf}
 use Rattle.decimal.specs.Exact.{millionths}
 use Rattle.geometry.specs.Ring.{Point, sound}
 use Rattle.schema.specs.Shape as sort
-use Rattle.schema.specs.Pick.{Picked, PickedItems, bare, items, slots, listOf, single}
+use Rattle.schema.specs.Pick.{Picked, PickedItems, bare, items, slots, listOf, elements, single}
 use Rattle.scalar.specs.Scalars.{unless, kindsOf}
 
 -- what is found at a position's number: its kind
@@ -23,92 +23,89 @@ pub record Found : Type 0 where
   pub number : ℕ
   pub kind : ℕ
 
-unfoldable pub at : ℕ → List ℕ → List Found
-at n [] = []
-at n (k ∷ ks) = record { number = n; kind = k } ∷ at n ks
+unfoldable pub foundAt : ℕ → List ℕ → List Found
+foundAt n [] = []
+foundAt n (k ∷ ks) = record { number = n; kind = k } ∷ foundAt n ks
 
 -- how many items
 unfoldable pub count : PickedItems → ℕ
 count is = length (listOf is)
 
 -- the kinds of the numbers of a position: lon, lat and any third number; what comes after them is not judged
-unfoldable pub ordinateKinds : sort.Sort → Picked → List ℕ
-ordinateKinds σ (bare x) = kindsOf σ x
-ordinateKinds σ (items is) = wrongType ∷ []
-ordinateKinds σ (slots ss) = wrongType ∷ []
+unfoldable pub coordinateKinds : sort.Sort → Picked → List ℕ
+coordinateKinds σ (bare x) = kindsOf σ x
+coordinateKinds σ (items is) = wrongType ∷ []
+coordinateKinds σ (slots ss) = wrongType ∷ []
 
-unfoldable pub numberKinds : List Picked → List ℕ
-numberKinds [] = []
-numberKinds (x ∷ []) = ordinateKinds sort.longitude x
-numberKinds (x ∷ y ∷ []) = ordinateKinds sort.longitude x ++ ordinateKinds sort.latitude y
-numberKinds (x ∷ y ∷ z ∷ rest) =
-    ordinateKinds sort.longitude x ++ ordinateKinds sort.latitude y ++ ordinateKinds sort.ordinate z
+unfoldable pub coordinatesKinds : List Picked → List ℕ
+coordinatesKinds [] = []
+coordinatesKinds (x ∷ []) = coordinateKinds sort.longitude x
+coordinatesKinds (x ∷ y ∷ []) = coordinateKinds sort.longitude x ++ coordinateKinds sort.latitude y
+coordinatesKinds (x ∷ y ∷ z ∷ rest) =
+    coordinateKinds sort.longitude x ++ coordinateKinds sort.latitude y ++ coordinateKinds sort.coordinate z
 
 -- a position: an array of two or three numbers
 unfoldable pub positionKinds : Picked → List ℕ
-positionKinds (items is) = unless (leb 2 (count is) and leb (count is) 3) badRing ++ numberKinds (listOf is)
+positionKinds (items is) = unless (leb 2 (count is) and leb (count is) 3) badRing ++ coordinatesKinds (listOf is)
 positionKinds (bare x) = wrongType ∷ []
 positionKinds (slots ss) = wrongType ∷ []
 
 -- the point of a sound position; the origin stands in for one that is not sound, and is never looked at
-abbrev pub coordinate : Number → ℤ
-coordinate (number.Value d) = millionths d
-coordinate number.Unformed = pos 0
+abbrev pub inMillionths : Number → ℤ
+inMillionths (number.Value d) = millionths d
+inMillionths number.Unformed = pos 0
 
-abbrev pub ordinate : Picked → ℤ
-ordinate x = single (λ b. pos 0) (λ s. coordinate (numberOf s)) (λ s. pos 0) (pos 0) x
+abbrev pub coordinate : Picked → ℤ
+coordinate x = single (λ b. pos 0) (λ s. inMillionths (numberOf s)) (λ s. pos 0) (pos 0) x
 
 unfoldable pub pointOf : List Picked → Point
 pointOf [] = record { lon = pos 0; lat = pos 0 }
-pointOf (x ∷ []) = record { lon = ordinate x; lat = pos 0 }
-pointOf (x ∷ y ∷ rest) = record { lon = ordinate x; lat = ordinate y }
+pointOf (x ∷ []) = record { lon = coordinate x; lat = pos 0 }
+pointOf (x ∷ y ∷ rest) = record { lon = coordinate x; lat = coordinate y }
 
 unfoldable pub position : Picked → Point
-position (items is) = pointOf (listOf is)
-position (bare x) = pointOf []
-position (slots ss) = pointOf []
+position x = pointOf (elements x)
 
 -- no kinds at all
-unfoldable pub none : List ℕ → Bool
-none [] = true
-none (k ∷ ks) = false
+unfoldable pub noKinds : List ℕ → Bool
+noKinds [] = true
+noKinds (k ∷ ks) = false
 
 unfoldable pub allSound : List Picked → Bool
 allSound [] = true
-allSound (x ∷ l) = none (positionKinds x) and allSound l
+allSound (x ∷ l) = noKinds (positionKinds x) and allSound l
 
 -- the positions of a ring, each with its number: the first has the number n
 unfoldable pub positionsFound : ℕ → List Picked → List Found
 positionsFound n [] = []
-positionsFound n (x ∷ l) = at n (positionKinds x) ++ positionsFound (n + 1) l
+positionsFound n (x ∷ l) = foundAt n (positionKinds x) ++ positionsFound (n + 1) l
 
 -- a ring whose first position has the number n; faults of the whole ring stand there
 unfoldable pub ringFound : ℕ → List Picked → List Found
 ringFound n l =
-    at n (unless (leb 4 (length l)) badRing) ++
-    at n (unless (leb (length l) positions) tooMany) ++
+    foundAt n (unless (leb 4 (length l)) badRing) ++
+    foundAt n (unless (leb (length l) positions) tooMany) ++
     positionsFound n l ++
     -- first equals last, and the area sum is not zero
-    (allSound l ⇒ at n (unless (sound (map position l)) badRing) else [])
+    (allSound l ⇒ foundAt n (unless (sound (map position l)) badRing) else [])
 
--- an item of a polygon: what is found in it, and how many positions it has
+-- how many items an array has, and arrays have in all: the positions of a ring and of rings, the rings of a polygon and of polygons
+abbrev pub itemCount : Picked → ℕ
+itemCount x = length (elements x)
+
+unfoldable pub itemTotal : List Picked → ℕ
+itemTotal [] = 0
+itemTotal (x ∷ l) = itemCount x + itemTotal l
+
+-- an item of a polygon
 abbrev pub ring : ℕ → Picked → List Found
 ring n (items is) = ringFound n (listOf is)
-ring n (bare x) = at n (wrongType ∷ [])
-ring n (slots ss) = at n (wrongType ∷ [])
-
-abbrev pub ringPositions : Picked → ℕ
-ringPositions (items is) = count is
-ringPositions (bare x) = 0
-ringPositions (slots ss) = 0
+ring n (bare x) = foundAt n (wrongType ∷ [])
+ring n (slots ss) = foundAt n (wrongType ∷ [])
 
 unfoldable pub ringsFound : ℕ → List Picked → List Found
 ringsFound n [] = []
-ringsFound n (x ∷ l) = ring n x ++ ringsFound (n + ringPositions x) l
-
-unfoldable pub ringsPositions : List Picked → ℕ
-ringsPositions [] = 0
-ringsPositions (x ∷ l) = ringPositions x + ringsPositions l
+ringsFound n (x ∷ l) = ring n x ++ ringsFound (n + itemCount x) l
 
 -- how many rings a polygon may have
 abbrev pub isRingCount : ℕ → Bool
@@ -116,24 +113,12 @@ isRingCount m = leb 1 m and leb m rings
 
 -- a polygon: rings, one at least
 abbrev pub polygon : ℕ → Picked → List Found
-polygon n (items is) = at n (unless (isRingCount (count is)) badRing) ++ ringsFound n (listOf is)
-polygon n (bare x) = at n (wrongType ∷ [])
-polygon n (slots ss) = at n (wrongType ∷ [])
+polygon n (items is) = foundAt n (unless (isRingCount (count is)) badRing) ++ ringsFound n (listOf is)
+polygon n (bare x) = foundAt n (wrongType ∷ [])
+polygon n (slots ss) = foundAt n (wrongType ∷ [])
 
 abbrev pub polygonPositions : Picked → ℕ
-polygonPositions (items is) = ringsPositions (listOf is)
-polygonPositions (bare x) = 0
-polygonPositions (slots ss) = 0
-
--- its rings: every item counts as one, an array or not
-abbrev pub polygonRings : Picked → ℕ
-polygonRings (items is) = count is
-polygonRings (bare x) = 0
-polygonRings (slots ss) = 0
-
-unfoldable pub polygonsRings : List Picked → ℕ
-polygonsRings [] = 0
-polygonsRings (x ∷ l) = polygonRings x + polygonsRings l
+polygonPositions x = itemTotal (elements x)
 
 unfoldable pub polygonsFound : ℕ → List Picked → List Found
 polygonsFound n [] = []
@@ -145,4 +130,4 @@ areZoneCounts m k = leb m polygons and leb k zoneRings
 
 -- all of field 73, where it is an array: too many polygons stand at 0, and so do too many rings
 unfoldable pub coordinatesFound : PickedItems → List Found
-coordinatesFound is = at 0 (unless (areZoneCounts (count is) (polygonsRings (listOf is))) tooMany) ++ polygonsFound 1 (listOf is)
+coordinatesFound is = foundAt 0 (unless (areZoneCounts (count is) (itemTotal (listOf is))) tooMany) ++ polygonsFound 1 (listOf is)

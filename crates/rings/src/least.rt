@@ -2,7 +2,7 @@
 use crate::LeastFound;
 ghost use mathlib.Core.Path.{_≡_};
 ghost use Rattle.scalar.specs.Scalars.{unless as unlessOf};
-ghost use Rattle.rings.specs.Rings.{at};
+ghost use Rattle.rings.specs.Rings.{foundAt};
 ghost use Rattle.rings.specs.inner.Least.{earlier as earlierOf, lesser as lesserOf, leastFound};
 
 // The kind j at the number m comes before the kind k at the number n.
@@ -42,7 +42,7 @@ impl LeastFound {
 
     // One fault where the test fails.
     pub fn unless(test: bool, number: u32, kind: u8) -> LeastFound
-        ensures { λ r. ⌜ r ≡ leastFound (at number (unlessOf test kind)) ⌝ }
+        ensures { λ r. ⌜ r ≡ leastFound (foundAt number (unlessOf test kind)) ⌝ }
     {
         if test {
             return LeastFound::None;

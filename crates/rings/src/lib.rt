@@ -13,13 +13,13 @@ pub enum LeastFound {
 }
 
 // A number of a position: its first fault, or its value in millionths, moved up by half of its range.
-pub struct Ordinate {
+pub struct CoordinateFound {
     pub least: LeastFound,
     pub value: u64,
 }
 
 // A position: its first fault, or its point.
-pub struct Spot {
+pub struct PositionFound {
     pub least: LeastFound,
     pub point: Position,
 }

@@ -1,7 +1,7 @@
 // One position: an array of lon, lat and perhaps a third number.
+use crate::CoordinateFound;
 use crate::LeastFound;
-use crate::Ordinate;
-use crate::Spot;
+use crate::PositionFound;
 use decimal::Number;
 use decimal::spelling::read_decimal;
 use geometry::Position;
@@ -16,11 +16,11 @@ ghost use Prim.Native.Nat.{_*_, _≤_};
 ghost use Rattle.json.specs.Tree.{Json};
 ghost use Rattle.walk.specs.Part.{Whole, kindAt};
 ghost use Rattle.schema.specs.Pick.{Picked, pick};
-ghost use Rattle.rings.specs.Rings.{at as foundAt, positionKinds, pointOf, position};
+ghost use Rattle.rings.specs.Rings.{foundAt, positionKinds, pointOf, position};
 ghost use Rattle.rings.specs.inner.Least.{leastFound};
 ghost use Rattle.rings.specs.declared.LeastFound.the-variants.{At};
 ghost use Rattle.geometry.specs.inner.Shifted.{OnMap, origin};
-ghost use Rattle.rings.specs.inner.Parts.{numberShape, positionShape, Listing, partsOf, Left, isArray, isNumber, Measured, listKinds, restKinds, Spotted};
+ghost use Rattle.rings.specs.inner.Parts.{numberShape, positionShape, Listing, partsOf, Left, isArray, isNumber, FindsCoordinate, listKinds, restKinds, FindsPosition};
 
 pub fn is_array(p: &[u8]) -> bool
     ensures { λ r. ⌜ r ≡ isArray (kindAt (now (p .entry))) ⌝ }
@@ -48,11 +48,11 @@ fn is_number(p: &[u8]) -> bool
     }
 }
 
-impl Ordinate {
-    fn broken(number: u32, kind: u8) -> Ordinate
+impl CoordinateFound {
+    fn broken(number: u32, kind: u8) -> CoordinateFound
         ensures { λ r. ⌜ r ≡ record { least = At number kind; value = 0 } ⌝ }
     {
-        Ordinate {
+        CoordinateFound {
             least: LeastFound::At(number, kind),
             value: 0,
         }
@@ -60,20 +60,20 @@ impl Ordinate {
 }
 
 // Lon or lat, from -most to most degrees.
-fn read_ordinate(p: &[u8], most: u64, number: u32) -> Ordinate
+fn read_coordinate(p: &[u8], most: u64, number: u32) -> CoordinateFound
     requires { ⌜ most ≤ 180 ⌝ }
-    ensures { λ r. ⌜ (r .value ≤ most * 2_000_000) × ((x : Json) → Whole (now (p .entry)) x → Measured most number (pick numberShape x) r) ⌝ }
+    ensures { λ r. ⌜ (r .value ≤ most * 2_000_000) × ((x : Json) → Whole (now (p .entry)) x → FindsCoordinate most number (pick numberShape x) r) ⌝ }
 {
     if !is_number(p) {
-        return Ordinate::broken(number, Kind::WRONG_TYPE);
+        return CoordinateFound::broken(number, Kind::WRONG_TYPE);
     }
     let Number::Value(d) = read_decimal(p) else {
-        return Ordinate::broken(number, Kind::NUMBER_FORM);
+        return CoordinateFound::broken(number, Kind::NUMBER_FORM);
     };
     if !d.within(most) {
-        return Ordinate::broken(number, Kind::OUT_OF_RANGE);
+        return CoordinateFound::broken(number, Kind::OUT_OF_RANGE);
     }
-    Ordinate {
+    CoordinateFound {
         least: LeastFound::None,
         value: d.coordinate(most),
     }
@@ -95,11 +95,11 @@ fn judge_rest(p: &[u8], at: usize, number: u32) -> LeastFound
     return LeastFound::At(number, Kind::BAD_RING).lesser(least);
 }
 
-impl Spot {
-    fn broken(least: LeastFound) -> Spot
+impl PositionFound {
+    fn broken(least: LeastFound) -> PositionFound
         ensures { λ r. ⌜ r ≡ record { least = least; point = origin } ⌝ }
     {
-        Spot {
+        PositionFound {
             least,
             point: Position::origin(),
         }
@@ -107,20 +107,20 @@ impl Spot {
 }
 
 // Lat and what follows it, behind lon.
-fn judge_behind(p: &[u8], at: usize, lon: Ordinate, number: u32) -> Spot
+fn judge_behind(p: &[u8], at: usize, lon: CoordinateFound, number: u32) -> PositionFound
     requires { ⌜ lon .value ≤ 180 * 2_000_000 ⌝ }
-    ensures { λ r. ⌜ OnMap (r .point) × ((x : Picked) (l : List Picked) → Measured 180 number x lon → Left numberShape (now (p .entry)) at l → Spotted number (listKinds (x ∷ l)) (pointOf (x ∷ l)) r) ⌝ }
+    ensures { λ r. ⌜ OnMap (r .point) × ((x : Picked) (l : List Picked) → FindsCoordinate 180 number x lon → Left numberShape (now (p .entry)) at l → FindsPosition number (listKinds (x ∷ l)) (pointOf (x ∷ l)) r) ⌝ }
 {
     let east = lon.least;
     let ItemStep::Found(second) = pass_item(p, at) else {
-        return Spot::broken(LeastFound::At(number, Kind::BAD_RING).lesser(east));
+        return PositionFound::broken(LeastFound::At(number, Kind::BAD_RING).lesser(east));
     };
     let from = second.value;
     let upto = second.value_end;
-    let lat = read_ordinate(&p[from..upto], 90, number);
+    let lat = read_coordinate(&p[from..upto], 90, number);
     let north = lat.least;
     let rest = judge_rest(p, second.next, number);
-    Spot {
+    PositionFound {
         least: east.lesser(north.lesser(rest)),
         point: Position {
             lon: lon.value,
@@ -129,24 +129,24 @@ fn judge_behind(p: &[u8], at: usize, lon: Ordinate, number: u32) -> Spot
     }
 }
 
-fn judge_numbers(p: &[u8], number: u32) -> Spot
-    ensures { λ r. ⌜ OnMap (r .point) × (Listing (now (p .entry)) → Spotted number (listKinds (partsOf numberShape (now (p .entry)))) (pointOf (partsOf numberShape (now (p .entry)))) r) ⌝ }
+fn judge_numbers(p: &[u8], number: u32) -> PositionFound
+    ensures { λ r. ⌜ OnMap (r .point) × (Listing (now (p .entry)) → FindsPosition number (listKinds (partsOf numberShape (now (p .entry)))) (pointOf (partsOf numberShape (now (p .entry)))) r) ⌝ }
 {
     let ItemStep::Found(first) = pass_item(p, 1) else {
-        return Spot::broken(LeastFound::At(number, Kind::BAD_RING));
+        return PositionFound::broken(LeastFound::At(number, Kind::BAD_RING));
     };
     let from = first.value;
     let upto = first.value_end;
-    let lon = read_ordinate(&p[from..upto], 180, number);
+    let lon = read_coordinate(&p[from..upto], 180, number);
     return judge_behind(p, first.next, lon, number);
 }
 
 // The least kind of a position, at its number; and its point, where it is sound.
-pub fn judge_position(p: &[u8], number: u32) -> Spot
-    ensures { λ r. ⌜ OnMap (r .point) × ((x : Json) → Whole (now (p .entry)) x → Spotted number (positionKinds (pick positionShape x)) (position (pick positionShape x)) r) ⌝ }
+pub fn judge_position(p: &[u8], number: u32) -> PositionFound
+    ensures { λ r. ⌜ OnMap (r .point) × ((x : Json) → Whole (now (p .entry)) x → FindsPosition number (positionKinds (pick positionShape x)) (position (pick positionShape x)) r) ⌝ }
 {
     if !is_array(p) {
-        return Spot::broken(LeastFound::At(number, Kind::WRONG_TYPE));
+        return PositionFound::broken(LeastFound::At(number, Kind::WRONG_TYPE));
     }
     return judge_numbers(p, number);
 }

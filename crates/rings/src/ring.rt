@@ -19,7 +19,7 @@ ghost use Rattle.notation.specs.Choice.{_⇒_else_};
 ghost use Rattle.json.specs.Tree.{Json};
 ghost use Rattle.walk.specs.Part.{Whole};
 ghost use Rattle.schema.specs.Pick.{PickedItems, items as itemsAre, pick, listOf};
-ghost use Rattle.rings.specs.Rings.{ring, ringPositions, ringFound};
+ghost use Rattle.rings.specs.Rings.{ring, itemCount, ringFound};
 ghost use Rattle.rings.specs.inner.Parts.{positionShape, ringShape, Listing, partsOf, RingRead, RingRoom, Outlined, Charted, areaLeast, Tells};
 
 // Into the place of position i, where there is one for it.
@@ -52,9 +52,9 @@ pub fn read_ring(p: &[u8], n: u32) -> RingPoints
         };
         let from = item.value;
         let upto = item.value_end;
-        let spot = judge_position(&p[from..upto], n + count);
-        let first = spot.least;
-        let point = spot.point;
+        let position = judge_position(&p[from..upto], n + count);
+        let first = position.least;
+        let point = position.point;
         least = least.lesser(first);
         keep(&mut lons, count, point.lon);
         keep(&mut lats, count, point.lat);
@@ -109,7 +109,7 @@ fn judge_positions(p: &[u8], n: u32) -> Judged
 // An item of a polygon, whose first position has the number n.
 pub fn judge_ring(p: &[u8], n: u32) -> Judged
     requires { ⌜ n + length (now p) < 2 ^ 32 ⌝ }
-    ensures { λ r. ⌜ (r .positions ≤ length (now (p .entry))) × ((x : Json) → Whole (now (p .entry)) x → Tells (ring n (pick ringShape x)) (ringPositions (pick ringShape x)) r) ⌝ }
+    ensures { λ r. ⌜ (r .positions ≤ length (now (p .entry))) × ((x : Json) → Whole (now (p .entry)) x → Tells (ring n (pick ringShape x)) (itemCount (pick ringShape x)) r) ⌝ }
 {
     if !is_array(p) {
         return Judged {

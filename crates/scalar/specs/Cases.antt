@@ -1,7 +1,7 @@
 -- Values of every sort at and past their limits, computed.
 use mathlib.Core.Bool.{true}
 use mathlib.Core.List.{List, [], _∷_, map}
-use mathlib.Core.Path.{_≡_, refl}
+use mathlib.Core.Path.{refl}
 use Prim.Native.Nat.{ℕ, zero, suc}
 use Prim.Native.String.{String}
 use Rattle.notation.specs.Ascii.{bytes}
@@ -77,8 +77,8 @@ numbers =
     ("past the greatest", (sort.longitude, "180.00000001"), astray) ∷
     ("below the least", (sort.longitude, "-181"), astray) ∷
     ("an exponent", (sort.longitude, "18e1"), unformed) ∷
-    ("a third number of any size", (sort.ordinate, "-1e400"), sound) ∷
-    ("of any length", (sort.ordinate, "12345678901234567890"), sound) ∷
+    ("a third number of any size", (sort.coordinate, "-1e400"), sound) ∷
+    ("of any length", (sort.coordinate, "12345678901234567890"), sound) ∷
     ("a million", (sort.money, "1000000"), sound) ∷
     ("a million below zero", (sort.money, "-1000000"), sound) ∷
     ("zeros behind ten-thousandths", (sort.money, "0.25000"), sound) ∷
@@ -176,7 +176,7 @@ types =
     ("portion", sort.portion, numeric) ∷
     ("latitude", sort.latitude, numeric) ∷
     ("longitude", sort.longitude, numeric) ∷
-    ("third number of a position", sort.ordinate, numeric) ∷
+    ("third number of a position", sort.coordinate, numeric) ∷
     ("money", sort.money, numeric) ∷
     ("price", sort.price, sound ∷ astray ∷ mistyped ∷ mistyped ∷ mistyped ∷ mistyped ∷ []) ∷
     ("text", sort.text, textual sound) ∷

@@ -16,7 +16,7 @@ use Rattle.decimal.specs.declared.Price.{Price}
 use Rattle.decimal.specs.declared.Price.the-variants as price
 use Rattle.decimal.specs.declared.Money.the-variants as money
 use Rattle.decimal.specs.Decimals.{numberOf, hasPoint, priceOf}
-use Rattle.decimal.specs.Exact.{natural, portion, within, moneyOf}
+use Rattle.decimal.specs.Exact.{natural, portion, inRange, moneyOf}
 use Rattle.text.specs.Text.{same, sameWord, currency}
 use Rattle.schema.specs.Shape as sort
 use Rattle.schema.specs.Shape.{Sort}
@@ -70,9 +70,9 @@ sortKinds sort.timestamp = numbers whole
 sortKinds sort.integer = numbers whole
 sortKinds sort.amount = numbers (λ s. formed natural (numberOf s))
 sortKinds sort.portion = numbers (λ s. formed portion (numberOf s))
-sortKinds sort.latitude = numbers (λ s. formed (within 90) (numberOf s))
-sortKinds sort.longitude = numbers (λ s. formed (within 180) (numberOf s))
-sortKinds sort.ordinate = numbers (λ s. [])
+sortKinds sort.latitude = numbers (λ s. formed (inRange 90) (numberOf s))
+sortKinds sort.longitude = numbers (λ s. formed (inRange 180) (numberOf s))
+sortKinds sort.coordinate = numbers (λ s. [])
 sortKinds sort.money = numbers (λ s. formed anyMoney (numberOf s))
 sortKinds sort.price =
     record { ofNumber = λ s. formed priceMoney (numberOf s); ofText = λ s. pricing (priceOf s); ofBoolean = wrongType ∷ [] }

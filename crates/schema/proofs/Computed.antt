@@ -6,7 +6,7 @@ use mathlib.Core.Path.{_≡_, refl}
 use Prim.Native.Nat.{ℕ, zero, suc, _≤_, _<_}
 use native.Mathlib.Omega.{arith}
 use lib.Dec.{ltb}
-use lib.ListN.{length, getD, take}
+use lib.ListN.{length, getD}
 use borrow.Author.Tests.{ltb-true}
 use Rattle.notation.specs.Choice.{_and_}
 use Rattle.text.specs.Text.{same}
@@ -33,20 +33,7 @@ unfolding fileShape
 every-file test t e u zero = u
 every-file test t e u (suc i) = every-at test t e u i
 
--- Without the empty shape, by those of the first k files; and any number that is no file's has the empty shape.
-first-at : (test : Shape → Bool) (t : Table) (k : ℕ) → k ≤ length t → every test (take k t) ≡ true → (i : ℕ) → i < k → test (getD t i unlisted) ≡ true
-unfolding every
-first-at test t zero n e i h = absurd (omega arith)
-first-at test [] (suc k) n e i h = absurd (omega arith)
-first-at test (σ ∷ t) (suc k) n e zero h = and-left (test σ) (every test (take k t)) e
-first-at test (σ ∷ t) (suc k) n e (suc i) h = first-at test t k (omega arith) (and-right (test σ) (every test (take k t)) e) i (omega arith)
-
-pub first-files : (test : Shape → Bool) (t : Table) (k : ℕ) → k ≤ length t → every test (take k t) ≡ true → (file : ℕ) → 1 ≤ file → file ≤ k
-    → test (fileShape t file) ≡ true
-unfolding fileShape
-first-files test t k n e zero h i = absurd (omega arith)
-first-files test t k n e (suc j) h i = first-at test t k n e j (omega arith)
-
+-- a number that is no file's has the empty shape
 past-all : (t : Table) (i : ℕ) → length t ≤ i → getD t i unlisted ≡ unlisted
 past-all [] i h = refl
 past-all (σ ∷ t) zero h = absurd (omega arith)

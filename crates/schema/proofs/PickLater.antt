@@ -13,7 +13,7 @@ use Rattle.text.proofs.Laws.{same-refl, same-true}
 use Rattle.schema.specs.Shape as shape
 use Rattle.schema.specs.Shape.{Shape, Rows, Need}
 use Rattle.schema.specs.Pick as picking
-use Rattle.schema.specs.Pick.{Slot, missing, once, twice, again, find, unlessEmpty, given, put, Picked, items, slots, Slots, absent, present, repeated, each, pick, pickRows}
+use Rattle.schema.specs.Pick.{Slot, missing, once, twice, again, find, unlessEmpty, filled, put, Picked, items, slots, Slots, absent, present, repeated, pickItems, pick, pickRows}
 use Rattle.schema.specs.Later.{Later, LaterItems, LaterMembers, unchanged, afterwards, inArray, inObject, noItem′, item′, noMember′, kept, swapped, added, andThen, itemShape, rowsOf, listedIn, shapeIn, memberShape, listed}
 use Rattle.schema.specs.inner.Sound.{distinctNames, distinctRows}
 use Rattle.schema.proofs.Tests.{and-left, and-right}
@@ -128,15 +128,15 @@ put-over field f missing rest = refl
 put-over field f (once x) rest = refl
 put-over field f twice rest = refl
 
-over-given : (σ : Shape) (s : Slot Json) → over (pick σ) (given s) ≡ alone (over (seen σ) s)
+over-given : (σ : Shape) (s : Slot Json) → over (pick σ) (filled s) ≡ alone (over (seen σ) s)
 unfolding over alone seen
 over-given σ missing = refl
 over-given σ (once x) = refl
 over-given σ twice = refl
 
 -- a row's slot, by the members of its name
-put-seen : (field : ℕ) (σ : Shape) (s : Slot Json) (rest : Slots) → put field (λ y. pick σ y) (given s) rest ≡ place field (alone (over (seen σ) s)) rest
-put-seen field σ s rest = put-over field (pick σ) (given s) rest ∙ ap (λ (p : Slot Picked). place field p rest) (over-given σ s)
+put-seen : (field : ℕ) (σ : Shape) (s : Slot Json) (rest : Slots) → put field (λ y. pick σ y) (filled s) rest ≡ place field (alone (over (seen σ) s)) rest
+put-seen field σ s rest = put-over field (pick σ) (filled s) rest ∙ ap (λ (p : Slot Picked). place field p rest) (over-given σ s)
 
 -- Objects: the members of each listed name decide.
 
@@ -194,7 +194,7 @@ object-alike (shape.scalar sort) ms ms′ d h = refl
 object-alike (shape.array numbering most σ) ms ms′ d h = refl
 object-alike (shape.object rows) ms ms′ d h = ap slots (rows-alike rows ms ms′ (distinct-rowsOf (shape.object rows) d) h)
 
-array-alike : (σ : Shape) (is is′ : Items) → each (pick (itemShape σ)) is ≡ each (pick (itemShape σ)) is′ → pick σ (array is) ≡ pick σ (array is′)
+array-alike : (σ : Shape) (is is′ : Items) → pickItems (pick (itemShape σ)) is ≡ pickItems (pick (itemShape σ)) is′ → pick σ (array is) ≡ pick σ (array is′)
 unfolding pick itemShape
 array-alike shape.unlisted is is′ h = refl
 array-alike (shape.scalar sort) is is′ h = refl
@@ -232,7 +232,7 @@ record Kept (σ : Shape) (x x′ : Json) : Type 0 where
   shown : seen σ x ≡ seen σ x′
 
 mutual
-  unfolding seen over each
+  unfolding seen over pickItems
 
   later-kept : {σs : List Shape} {x x′ : Json} → Later σs x x′ → (σ : Shape) → Among σ σs → distinctNames σ ≡ true → Kept σ x x′
   later-kept unchanged σ a d = record { picked = refl; shown = refl }
@@ -248,7 +248,7 @@ mutual
       record { picked = e; shown = ap once e }
 
   items-kept : {σs : List Shape} {is is′ : Items} → LaterItems σs is is′ → (σ : Shape) → Among σ σs → distinctNames σ ≡ true →
-      each (pick σ) is ≡ each (pick σ) is′
+      pickItems (pick σ) is ≡ pickItems (pick σ) is′
   items-kept noItem′ σ a d = refl
   items-kept (item′ l r) σ a d = ap₂ picking.item (later-kept l σ a d .picked) (items-kept r σ a d)
 

@@ -46,13 +46,13 @@ mutual
     present : (field : ℕ) → Picked → Slots → Slots
 
 -- a value with nothing in it
-abbrev pub outline : Json → Json
-outline tree.null = tree.null
-outline (tree.boolean b) = tree.boolean b
-outline (tree.number s) = tree.number s
-outline (tree.string s) = tree.string s
-outline (tree.array is) = tree.array tree.noItem
-outline (tree.object ms) = tree.object tree.noMember
+abbrev pub emptied : Json → Json
+emptied tree.null = tree.null
+emptied (tree.boolean b) = tree.boolean b
+emptied (tree.number s) = tree.number s
+emptied (tree.string s) = tree.string s
+emptied (tree.array is) = tree.array tree.noItem
+emptied (tree.object ms) = tree.object tree.noMember
 
 abbrev pub inArray : (Items → PickedItems) → Json → Picked
 inArray f tree.null = bare tree.null
@@ -70,9 +70,9 @@ inObject f (tree.string s) = bare (tree.string s)
 inObject f (tree.array is) = bare (tree.array tree.noItem)
 inObject f (tree.object ms) = slots (f ms)
 
-unfoldable pub each : (Json → Picked) → Items → PickedItems
-each f tree.noItem = noItem
-each f (tree.item x is) = item (f x) (each f is)
+unfoldable pub pickItems : (Json → Picked) → Items → PickedItems
+pickItems f tree.noItem = noItem
+pickItems f (tree.item x is) = item (f x) (pickItems f is)
 
 -- a member that holds "" counts as missing; not so one of two, which are twice there
 abbrev pub unlessEmpty : Json → Slot Json
@@ -84,10 +84,10 @@ unlessEmpty (tree.string (b ∷ s)) = once (tree.string (b ∷ s))
 unlessEmpty (tree.array is) = once (tree.array is)
 unlessEmpty (tree.object ms) = once (tree.object ms)
 
-abbrev pub given : Slot Json → Slot Json
-given missing = missing
-given (once x) = unlessEmpty x
-given twice = twice
+abbrev pub filled : Slot Json → Slot Json
+filled missing = missing
+filled (once x) = unlessEmpty x
+filled twice = twice
 
 abbrev pub put : ℕ → (Json → Picked) → Slot Json → Slots → Slots
 put field f missing rest = absent field rest
@@ -96,26 +96,32 @@ put field f twice rest = repeated field rest
 
 unfoldable mutual
   pub pick : Shape → Json → Picked
-  pick shape.unlisted x = bare (outline x)
-  pick (shape.scalar sort) x = bare (outline x)
-  pick (shape.array numbering most σ) x = inArray (λ is. each (λ y. pick σ y) is) x
+  pick shape.unlisted x = bare (emptied x)
+  pick (shape.scalar sort) x = bare (emptied x)
+  pick (shape.array numbering most σ) x = inArray (λ is. pickItems (λ y. pick σ y) is) x
   pick (shape.object rows) x = inObject (λ ms. pickRows rows ms) x
 
   pub pickRows : Rows → Members → Slots
   pickRows shape.noRow ms = noSlot
-  pickRows (shape.row field need name σ rows) ms = put field (λ y. pick σ y) (given (find name ms)) (pickRows rows ms)
+  pickRows (shape.row field need name σ rows) ms = put field (λ y. pick σ y) (filled (find name ms)) (pickRows rows ms)
 
 -- the slot of a field
-unfoldable pub at : ℕ → Slots → Slot Picked
-at field noSlot = missing
-at field (absent f rest) = eqb field f ⇒ missing else at field rest
-at field (repeated f rest) = eqb field f ⇒ twice else at field rest
-at field (present f x rest) = eqb field f ⇒ once x else at field rest
+unfoldable pub slotOf : ℕ → Slots → Slot Picked
+slotOf field noSlot = missing
+slotOf field (absent f rest) = eqb field f ⇒ missing else slotOf field rest
+slotOf field (repeated f rest) = eqb field f ⇒ twice else slotOf field rest
+slotOf field (present f x rest) = eqb field f ⇒ once x else slotOf field rest
 
 -- the items of an array as a list
 unfoldable pub listOf : PickedItems → List Picked
 listOf noItem = []
 listOf (item x is) = x ∷ listOf is
+
+-- the items of an array; anything else has none
+abbrev pub elements : Picked → List Picked
+elements (items is) = listOf is
+elements (bare x) = []
+elements (slots ss) = []
 
 -- by what a single value is: the truth of a boolean, the spelling of a number, the text of a string; anything else is `other`
 abbrev pub single : {A : Type 0} → (Bool → A) → (List ℕ → A) → (List ℕ → A) → (other : A) → Picked → A

@@ -6,7 +6,7 @@ use Rattle.limits.specs.Ceilings as ceiling
 use Rattle.notation.specs.Ascii.{bytes}
 use Rattle.schema.specs.Shape.{Shape, Table, noRow, scalar, array, object, records, subs, outer, positions, _·_·_∶_▸_, _·_·_holds_▸_}
 use Rattle.schema.specs.Shape.Need.{required as R, optional as O, conditional as C}
-use Rattle.schema.specs.Shape.Sort.{timestamp as T, integer as N, amount as F, boolean as B, text as S, id, latitude as lat, longitude as lon, ordinate}
+use Rattle.schema.specs.Shape.Sort.{timestamp as T, integer as N, amount as F, boolean as B, text as S, id, latitude as lat, longitude as lon, coordinate}
 use Rattle.schema.specs.Shape.Sort.{money, price, portion, currency, exactly, word}
 use Rattle.schema.specs.Words.{formFactors, propulsionTypes}
 
@@ -98,7 +98,7 @@ rule = object (
 
 -- Polygons of rings of positions of numbers, as they are picked. How many there may be and what each must be is said in `rings/specs/Rings.antt`, not here.
 unfoldable pub coordinates : Shape
-coordinates = array positions ceiling.polygons (array positions ceiling.rings (array positions ceiling.positions (array positions 3 (scalar ordinate))))
+coordinates = array positions ceiling.polygons (array positions ceiling.rings (array positions ceiling.positions (array positions 3 (scalar coordinate))))
 
 unfoldable pub zone : Shape
 zone = object (

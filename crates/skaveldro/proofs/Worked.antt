@@ -1,6 +1,6 @@
 -- Numbers in bytes and signed numbers in bits, and what is told into short buffers, computed.
 use mathlib.Core.List.{List, [], _∷_}
-use mathlib.Core.Path.{_≡_, refl}
+use mathlib.Core.Path.{refl}
 use Prim.Native.Nat.{ℕ}
 use lib.IntN.{pos, negℤ}
 use Rattle.notation.specs.Case.{Case, Answers}

@@ -7,13 +7,13 @@ use Prim.Native.Nat.{ℕ, _≤_, _<_}
 use native.Mathlib.Omega.{arith}
 use lib.ListN.{length}
 use Rattle.notation.specs.Choice.{_⇒_else_}
-use Rattle.json.specs.Tree as Tree
+use Rattle.json.specs.Tree
 use Rattle.json.specs.Tree.{Json}
 use Rattle.text.specs.Text.{same}
 use Rattle.text.proofs.Laws.{same-sym}
 use Rattle.walk.specs.declared.Member.{Member}
 use Rattle.walk.specs.Walk.{part, membersOf}
-use Rattle.walk.specs.Part.{Whole, treeOf}
+use Rattle.walk.specs.Part.{Whole, partTree}
 use Rattle.walk.proofs.Places.{member-placed}
 use Rattle.walk.proofs.Folds.{each, memberSteps}
 use Rattle.walk.proofs.Parts.{nameOf, valueOf, member-whole}
@@ -41,7 +41,7 @@ joined-missing twice = refl
 module _ (p : List ℕ) where
   -- a member more, at the end of the first or in front of the second
   joined-member : (t : Bool) (a e : ℕ) (o : Found) (s : Slot Json)
-      → joined (treeIn p (t ⇒ oneMore o a e else o)) s ≡ joined (treeIn p o) (t ⇒ again (treeOf (part p a e)) s else s)
+      → joined (treeIn p (t ⇒ oneMore o a e else o)) s ≡ joined (treeIn p o) (t ⇒ again (partTree (part p a e)) s else s)
   unfolding joined
   joined-member false a e o s = refl
   joined-member true a e Missing missing = refl
@@ -54,14 +54,14 @@ module _ (p : List ℕ) where
 
   module _ (name : List ℕ) where
     fold-found : (ms : List Member) (o : Found)
-        → treeIn p (foldl (noted p name) o ms) ≡ joined (treeIn p o) (find name (Tree.membersOf (map (memberTree p) ms)))
-    unfolding find Tree.membersOf
+        → treeIn p (foldl (noted p name) o ms) ≡ joined (treeIn p o) (find name (Tree.asMembers (map (memberTree p) ms)))
+    unfolding find Tree.asMembers
     fold-found [] o = sym (joined-missing (treeIn p o))
     fold-found (m ∷ ms) o =
         fold-found ms (noted p name o m)
-        ∙ joined-member (same (nameOf p m) name) (m .value) (m .«value_end») o (find name (Tree.membersOf (map (memberTree p) ms)))
-        ∙ ap (λ (t : Bool). joined (treeIn p o) (t ⇒ again (treeOf (valueOf p m)) (find name (Tree.membersOf (map (memberTree p) ms)))
-        else find name (Tree.membersOf (map (memberTree p) ms)))) (same-sym (nameOf p m) name)
+        ∙ joined-member (same (nameOf p m) name) (m .value) (m .«value_end») o (find name (Tree.asMembers (map (memberTree p) ms)))
+        ∙ ap (λ (t : Bool). joined (treeIn p o) (t ⇒ again (partTree (valueOf p m)) (find name (Tree.asMembers (map (memberTree p) ms)))
+        else find name (Tree.asMembers (map (memberTree p) ms)))) (same-sym (nameOf p m) name)
 
     pub find-found : {ms : Tree.Members} → Whole p (Json.object ms) → find name ms ≡ treeIn p (foundIn p name)
     unfolding foundIn joined
@@ -69,7 +69,7 @@ module _ (p : List ℕ) where
 
 -- a value in p
 pub record Value (p : List ℕ) (from upto : ℕ) : Type 0 where
-  pub whole : Whole (part p from upto) (treeOf (part p from upto))
+  pub whole : Whole (part p from upto) (partTree (part p from upto))
   pub some : from < upto
   pub inside : upto ≤ length p
 

@@ -18,17 +18,17 @@ use Rattle.lexeme.proofs.Steps.{by-test, bad-done, done-what, done-rest, then-d
 use Rattle.json.specs.declared.Syntax.{Syntax}
 use Rattle.json.specs.declared.Syntax.the-variants as syntax
 use Rattle.json.specs.Tree.{Json}
-use Rattle.json.specs.Text.{value, finish, text, verdictOf, syntaxOf}
+use Rattle.json.specs.Text.{value, finish, text, syntaxBy, syntaxOf}
 use Rattle.json.proofs.Local.{value-part}
 use Rattle.json.proofs.Takes.{value-eats, value-takes}
 use Rattle.lexeme.proofs.Placed.{ends}
-use Rattle.walk.specs.Walk.{place, part}
+use Rattle.walk.specs.Walk.{offsetOf, part}
 use Rattle.walk.specs.Part.{Whole}
 use Rattle.walk.proofs.Rests.{Rest, rest-drop, rest-blanks, rest-read, rest-inside, rest-there}
 
 -- where the value of a file begins
 abbrev pub valueStart : List ℕ → ℕ
-valueStart s = place s (blanks s)
+valueStart s = offsetOf s (blanks s)
 
 pub record Passed (s : List ℕ) : Type 0 where
   pub tree : Json
@@ -59,22 +59,22 @@ in-text s r x e short =
     let sq : Rest s q = rest-read (value paired depth) (value-takes paired depth) l q (a .0) (a .2) sl in
     let n : length q < length l = value-eats paired depth l q (a .0) (a .2) in
     let m : length l ≤ length s = rest-inside sl in
-    let v : value paired depth (drop (place s l) s) ≡ done x q = ap (value paired depth) (rest-there sl) ∙ a .2 ∙ ap (λ (z : Json). done z q) (f .1) in
-    let some : place s l < place s q = omega arith in
+    let v : value paired depth (drop (offsetOf s l) s) ≡ done x q = ap (value paired depth) (rest-there sl) ∙ a .2 ∙ ap (λ (z : Json). done z q) (f .1) in
+    let some : offsetOf s l < offsetOf s q = omega arith in
     record {
       tree = x;
-      end = place s q;
+      end = offsetOf s q;
       reads = e ∙ ap (done x) (f .2);
-      whole = record { reads = value-part paired depth x s (place s l) (place s q) (omega arith) (omega arith) (v ∙ ap (done x) (sym (rest-there sq))) };
+      whole = record { reads = value-part paired depth x s (offsetOf s l) (offsetOf s q) (omega arith) (omega arith) (v ∙ ap (done x) (sym (rest-there sq))) };
       some = some;
       inside = omega arith;
-      found = ends s q (place s q) (value paired depth (drop (place s l) s)) refl x v;
+      found = ends s q (offsetOf s q) (value paired depth (drop (offsetOf s l) s)) refl x v;
       after = ap blanks (rest-there sq) ∙ f .0;
       short = short;
     }
 
 pub passed : (s : List ℕ) → syntaxOf s ≡ syntax.Sound → Passed s
-unfolding syntaxOf verdictOf placed
+unfolding syntaxOf syntaxBy placed
 passed s e = by-test (ltb fileBytes (length s)) long read
   where
     long : ltb fileBytes (length s) ≡ true → Passed s
@@ -82,7 +82,7 @@ passed s e = by-test (ltb fileBytes (length s)) long read
         let p : _≡_ {A = Syntax} (syntax.Fault _ 0) syntax.Sound = rw (h, syntaxOf) at e in
         absurd (let z : _≡_ {A = ℕ} 0 1 = cc in omega arith)
 
-    go : (o : Read Json) → text paired depth s ≡ o → verdictOf (placed s o) ≡ syntax.Sound → length s ≤ fileBytes → Passed s
+    go : (o : Read Json) → text paired depth s ≡ o → syntaxBy (placed s o) ≡ syntax.Sound → length s ≤ fileBytes → Passed s
     go (done x r) h i n = in-text s r x h n
     go (bad k r) h i n = absurd (let z : _≡_ {A = ℕ} 0 1 = cc in omega arith)
 

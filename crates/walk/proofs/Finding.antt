@@ -11,7 +11,7 @@ use Rattle.lexeme.specs.declared.Scan.the-variants as scan
 use Rattle.lexeme.specs.Read.{Read, placed}
 use Rattle.lexeme.specs.Read.Read.{done, bad}
 use Rattle.lexeme.specs.Character.{paired, byte}
-use Rattle.lexeme.specs.Strings as Strings
+use Rattle.lexeme.specs.Strings
 use Rattle.lexeme.specs.Tokens.{blanks}
 use Rattle.lexeme.proofs.Reading.{Ok}
 use Rattle.lexeme.proofs.Placed.{takes-leaves, Lands, lands}
@@ -24,7 +24,7 @@ use Rattle.json.proofs.Takes.{value-takes}
 use Rattle.json.proofs.Values.{expect-there, expect-absent}
 use Rattle.walk.specs.declared.MemberStep.the-variants as members
 use Rattle.walk.specs.declared.ItemStep.the-variants as items
-use Rattle.walk.specs.Walk.{place, onward, memberIn, memberAt, itemIn, itemAt}
+use Rattle.walk.specs.Walk.{offsetOf, onward, memberIn, memberAt, itemIn, itemAt}
 use Rattle.walk.proofs.Steps.{onward-end, onward-comma, onward-other, Reads, member-unvalued, member-found, item-none, item-found}
 
 abbrev quoted : List ℕ → Read (List ℕ)
@@ -48,13 +48,13 @@ module _ (p : List ℕ) (at i : ℕ) (k : Skipped p at i) where
   next-comma e =
       let n : i < length p = equal-inside 0x2c refl p i e in
       let h = sym (k .rest) ∙ shows (λ b. eqb b 0x2c) refl (drop i p) (eq-eqb _ _ e) in
-      place-at p (i + 1) (omega arith) ∙ ap (place p) (sym (next-drop p i)) ∙ sym (onward-comma p _ _ h (eq-eqb _ _ e))
+      place-at p (i + 1) (omega arith) ∙ ap (offsetOf p) (sym (next-drop p i)) ∙ sym (onward-comma p _ _ h (eq-eqb _ _ e))
 
   pub next-other : (byte (drop i p) 0 ≡ 0x2c → ⊥) → i ≡ onward p (blanks (drop at p))
   next-other n = place-at p i (k .upto) ∙ go (drop i p) (k .rest) n
     where
-      go : (l : List ℕ) → l ≡ blanks (drop at p) → (byte l 0 ≡ 0x2c → ⊥) → place p l ≡ onward p (blanks (drop at p))
-      go [] e m = let z : place p [] ≡ length p = omega arith in z ∙ sym (onward-end p (sym e))
+      go : (l : List ℕ) → l ≡ blanks (drop at p) → (byte l 0 ≡ 0x2c → ⊥) → offsetOf p l ≡ onward p (blanks (drop at p))
+      go [] e m = let z : offsetOf p [] ≡ length p = omega arith in z ∙ sym (onward-end p (sym e))
       go (b ∷ r) e m = sym (onward-other p b r (sym e) (ne-eqb _ _ m))
 
   -- an item
@@ -67,8 +67,8 @@ module _ (p : List ℕ) (at i : ℕ) (k : Skipped p at i) where
 
   pub item-there : (e n : ℕ) → Lands whole p i e → n ≡ onward p (blanks (drop e p)) → items.Found (record { value = i; «value_end» = e; next = n }) ≡ itemAt p at
   item-there e n v h =
-      let a : i ≡ place p (drop i p) = place-at p i (k .upto) in
-      let b : e ≡ place p (drop e p) = place-at p e (v .upto) in
+      let a : i ≡ offsetOf p (drop i p) = place-at p i (k .upto) in
+      let b : e ≡ offsetOf p (drop e p) = place-at p e (v .upto) in
       sym (item-here ∙ item-found p (drop i p) (v .reads) ∙ cc)
 
   -- a member
@@ -89,9 +89,9 @@ module _ (p : List ℕ) (at i : ℕ) (k : Skipped p at i) where
           → members.Found (record { name = i + 1; «name_end» = j - 1; value = v; «value_end» = e; next = n }) ≡ memberAt p at
       member-there e n x h =
           let r : Reads (drop i p) (named .what) (x .what) (drop j p) (drop e p) = record { named = named .reads; valued = after-colon ∙ x .reads } in
-          let a : i ≡ place p (drop i p) = place-at p i (k .upto) in
-          let b : j ≡ place p (drop j p) = place-at p j (named .upto) in
-          let d : e ≡ place p (drop e p) = place-at p e (x .upto) in
-          let f : v ≡ place p (blanks (drop 1 (blanks (drop j p)))) =
-          place-at p v (u .upto) ∙ ap (place p) (u .rest ∙ ap blanks (sym (next-drop p c) ∙ ap (drop 1) (w .rest))) in
+          let a : i ≡ offsetOf p (drop i p) = place-at p i (k .upto) in
+          let b : j ≡ offsetOf p (drop j p) = place-at p j (named .upto) in
+          let d : e ≡ offsetOf p (drop e p) = place-at p e (x .upto) in
+          let f : v ≡ offsetOf p (blanks (drop 1 (blanks (drop j p)))) =
+          place-at p v (u .upto) ∙ ap (offsetOf p) (u .rest ∙ ap blanks (sym (next-drop p c) ∙ ap (drop 1) (w .rest))) in
           sym (member-here ∙ member-found p (drop i p) r ∙ cc)

@@ -24,7 +24,7 @@ use Rattle.walk.specs.declared.Named.{Named}
 use Rattle.walk.specs.declared.NameStep.the-variants as names
 use Rattle.walk.specs.declared.MemberStep.the-variants as members
 use Rattle.walk.specs.declared.ItemStep.the-variants as items
-use Rattle.walk.specs.Walk.{place, part, onward, memberAt, itemAt}
+use Rattle.walk.specs.Walk.{offsetOf, part, onward, memberAt, itemAt}
 use Rattle.walk.specs.Part.{Whole, kindOf, kindAt}
 use Rattle.walk.specs.inner.Skip.{skipped}
 use Rattle.walk.specs.inner.Along.{AlongItems, AlongMembers, NamePassed}
@@ -68,8 +68,8 @@ pub skip-ends : (p : List ℕ) (e : ℕ) → e ≡ length p - length (skipped p)
 skip-ends p e v =
     record {
       inside = omega arith;
-      is = λ x n f. v ∙ ap (place p) (skip-value depth x p (drop n p) (f .reads)) ∙ sym (place-at p n (f .fits));
-      none = λ h. v ∙ ap (place p) (skipped-none p h) ∙ omega arith;
+      is = λ x n f. v ∙ ap (offsetOf p) (skip-value depth x p (drop n p) (f .reads)) ∙ sym (place-at p n (f .fits));
+      none = λ h. v ∙ ap (offsetOf p) (skipped-none p h) ∙ omega arith;
     }
 
 -- so many bytes are cut off the front

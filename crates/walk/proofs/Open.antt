@@ -12,7 +12,7 @@ use Rattle.limits.specs.Ceilings.{depth}
 use Rattle.lexeme.specs.Read.{Read}
 use Rattle.lexeme.specs.Read.Read.{done}
 use Rattle.lexeme.specs.Character.{paired}
-use Rattle.lexeme.specs.Strings as Strings
+use Rattle.lexeme.specs.Strings
 use Rattle.lexeme.specs.Tokens.{blanks}
 use Rattle.lexeme.proofs.Reading.{Ok, alike, Takes}
 use Rattle.lexeme.proofs.Steps.{by-test, no-cons}
@@ -24,7 +24,7 @@ use Rattle.json.proofs.Takes.{blanks-takes, expect-takes, value-eats, value-tak
 use Rattle.walk.specs.declared.Item.{Item}
 use Rattle.walk.specs.declared.MemberStep.the-variants as members
 use Rattle.walk.specs.declared.ItemStep.the-variants as items
-use Rattle.walk.specs.Walk.{place, part, onward, memberIn, memberAt, itemIn, itemAt, itemsFrom, itemsOf}
+use Rattle.walk.specs.Walk.{offsetOf, part, onward, memberIn, memberAt, itemIn, itemAt, itemsFrom, itemsOf}
 use Rattle.walk.specs.Part.{Whole}
 use Rattle.walk.specs.inner.Along.{AlongItems, AlongMembers}
 use Rattle.walk.proofs.Steps as step
@@ -61,7 +61,7 @@ module _ (t : List ℕ) where
       let k = takes l r x e in
       ap (λ (m : List ℕ). f (m ++ t)) (k .splits) ∙ ap f (append-assoc (k .part) r t) ∙ k .frame (r ++ t) (goes-on r h)
 
-  place-on : (q l : List ℕ) → place (q ++ t) (l ++ t) ≡ place q l
+  place-on : (q l : List ℕ) → offsetOf (q ++ t) (l ++ t) ≡ offsetOf q l
   place-on q l = omega (arith, length-append q t, length-append l t)
 
   onward-on : (q r : List ℕ) (b : ℕ) (w : List ℕ) → blanks r ≡ b ∷ w → onward (q ++ t) (blanks (r ++ t)) ≡ onward q (blanks r)
@@ -92,12 +92,12 @@ module _ (t : List ℕ) {l name : List ℕ} {x : Json} {q r : List ℕ} (m : Rea
         valued = ap valued behind-name ∙ read-on t valued takes (blanks q) r x (m .valued) f;
       }
 
-  value-on : (p : List ℕ) → place (p ++ t) (blanks (drop 1 (blanks (q ++ t)))) ≡ place p (blanks (drop 1 (blanks q)))
+  value-on : (p : List ℕ) → offsetOf (p ++ t) (blanks (drop 1 (blanks (q ++ t)))) ≡ offsetOf p (blanks (drop 1 (blanks q)))
   value-on p =
       let (u, h, e) = colon in
       let some : 0 < length (blanks u) = omega (arith, value-eats paired depth (blanks u) r x e) in
-      ap (λ (z : List ℕ). place (p ++ t) (blanks (drop 1 z))) (behind-name ∙ ap (λ (z : List ℕ). z ++ t) h) ∙ ap (place (p ++ t)) (solid-on t u some) ∙ place-on t p (blanks u)
-      ∙ sym (ap (λ (z : List ℕ). place p (blanks (drop 1 z))) h)
+      ap (λ (z : List ℕ). offsetOf (p ++ t) (blanks (drop 1 z))) (behind-name ∙ ap (λ (z : List ℕ). z ++ t) h) ∙ ap (offsetOf (p ++ t)) (solid-on t u some) ∙ place-on t p (blanks u)
+      ∙ sym (ap (λ (z : List ℕ). offsetOf p (blanks (drop 1 z))) h)
 
   member-as : (p : List ℕ) → memberOf (p ++ t) (l ++ t) (q ++ t) (r ++ t) ≡ memberOf p l q r
   member-as p =

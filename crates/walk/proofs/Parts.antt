@@ -9,7 +9,7 @@ use lib.Seq.{take-at}
 use Rattle.limits.specs.Ceilings.{depth}
 use Rattle.lexeme.specs.Read.Read.{done}
 use Rattle.lexeme.specs.Character.{paired}
-use Rattle.lexeme.specs.Strings as Strings
+use Rattle.lexeme.specs.Strings
 use Rattle.lexeme.proofs.Takes.{string-spelled}
 use Rattle.json.specs.Tree.{Json}
 use Rattle.json.specs.Text.{value}
@@ -19,7 +19,7 @@ use Rattle.walk.specs.declared.Item.{Item}
 use Rattle.walk.specs.declared.MemberStep.the-variants as members
 use Rattle.walk.specs.declared.ItemStep.the-variants as items
 use Rattle.walk.specs.Walk.{part, memberAt, membersOf, itemAt, itemsOf}
-use Rattle.walk.specs.Part.{Whole, treeOf}
+use Rattle.walk.specs.Part.{Whole, partTree}
 use Rattle.walk.proofs.Places.{Spelt, ItemSpelt, found-member, found-item}
 use Rattle.walk.proofs.Folds.{each, memberSteps, itemSteps}
 use Rattle.walk.proofs.Wholes.{whole-tree}
@@ -51,28 +51,28 @@ module _ {p : List ℕ} {at : ℕ} {m : Member} {text : List ℕ} {x : Json} (s 
       omega (arith, ap length (w .splits), length-append (w .part) (0x22 ∷ drop (m .«name_end» + 1) p), length-drop (m .name) p, length-drop (m .«name_end» + 1) p) in
       ap (Strings.decoded paired 0) (ap (take (m .«name_end» - m .name)) (w .splits) ∙ take-at (w .part) _ (m .«name_end» - m .name) n) ∙ w .decodes
 
-  pub spelt-tree : treeOf (valueOf p m) ≡ x
+  pub spelt-tree : partTree (valueOf p m) ≡ x
   spelt-tree = whole-tree spelt-value
 
 module _ {p : List ℕ} {at : ℕ} {m : Item} {x : Json} (s : ItemSpelt p at m x) where
   pub item-value : Whole (itemOf p m) x
   item-value = let k = s .placed in cut-whole p (m .value) (m .«value_end») x (k .value) (omega arith) (s .reads)
 
-  pub item-tree : treeOf (itemOf p m) ≡ x
+  pub item-tree : partTree (itemOf p m) ≡ x
   item-tree = whole-tree item-value
 
 -- whatever a step found
 module _ (p : List ℕ) where
-  pub member-whole : (at : ℕ) (m : Member) → memberAt p at ≡ members.Found m → Whole (valueOf p m) (treeOf (valueOf p m))
+  pub member-whole : (at : ℕ) (m : Member) → memberAt p at ≡ members.Found m → Whole (valueOf p m) (partTree (valueOf p m))
   member-whole at m e = let f = found-member p at m e in subst (Whole (valueOf p m)) (sym (spelt-tree (f .spelt))) (spelt-value (f .spelt))
 
-  pub item-whole : (at : ℕ) (m : Item) → itemAt p at ≡ items.Found m → Whole (itemOf p m) (treeOf (itemOf p m))
+  pub item-whole : (at : ℕ) (m : Item) → itemAt p at ≡ items.Found m → Whole (itemOf p m) (partTree (itemOf p m))
   item-whole at m e = let f = found-item p at m e in subst (Whole (itemOf p m)) (sym (item-tree (f .spelt))) (item-value (f .spelt))
 
-  pub members-whole : (m : Member) → List·Memᴰ m (membersOf p) → Whole (valueOf p m) (treeOf (valueOf p m))
+  pub members-whole : (m : Member) → List·Memᴰ m (membersOf p) → Whole (valueOf p m) (partTree (valueOf p m))
   unfolding membersOf
-  members-whole = each (memberSteps p) (λ m. Whole (valueOf p m) (treeOf (valueOf p m))) member-whole (length p) 1
+  members-whole = each (memberSteps p) (λ m. Whole (valueOf p m) (partTree (valueOf p m))) member-whole (length p) 1
 
-  pub items-whole : (m : Item) → List·Memᴰ m (itemsOf p) → Whole (itemOf p m) (treeOf (itemOf p m))
+  pub items-whole : (m : Item) → List·Memᴰ m (itemsOf p) → Whole (itemOf p m) (partTree (itemOf p m))
   unfolding itemsOf
-  items-whole = each (itemSteps p) (λ m. Whole (itemOf p m) (treeOf (itemOf p m))) item-whole (length p) 1
+  items-whole = each (itemSteps p) (λ m. Whole (itemOf p m) (partTree (itemOf p m))) item-whole (length p) 1

@@ -11,7 +11,7 @@ use Rattle.limits.specs.Ceilings.{depth}
 use Rattle.lexeme.specs.Read.Read.{done}
 use Rattle.lexeme.specs.Character.{paired, byte, within}
 use Rattle.lexeme.specs.Numbers.{digit}
-use Rattle.lexeme.specs.Strings as Strings
+use Rattle.lexeme.specs.Strings
 use Rattle.lexeme.specs.Tokens.{blanks}
 use Rattle.lexeme.specs.inner.Start.{Start, start}
 use Rattle.lexeme.proofs.NumberParts.{equal-inside}
@@ -30,7 +30,7 @@ use Rattle.walk.specs.declared.NameStep.the-variants as names
 use Rattle.walk.specs.declared.MemberStep.{MemberStep}
 use Rattle.walk.specs.declared.MemberStep.the-variants as members
 use Rattle.walk.specs.declared.ItemStep.the-variants as items
-use Rattle.walk.specs.Walk.{place, onward, memberAt}
+use Rattle.walk.specs.Walk.{offsetOf, onward, memberAt}
 use Rattle.walk.specs.inner.Skip.{quoted, skipped}
 use Rattle.walk.specs.inner.Along.{Placed, NamePlaced, ItemPlaced, ItemPassed, MemberPassed, frontOf, NamePassed}
 use Rattle.walk.proofs.Rests.{Rest, rest-drop, rest-read, rest-inside, rest-there}
@@ -47,7 +47,7 @@ use Rattle.walk.proofs.Along.{along-item, along-member}
 pub placed-next : (p : List ℕ) (e n : ℕ) → e ≤ length p → n ≡ onward p (blanks (drop e p)) → (e ≤ n) × (n ≤ length p)
 placed-next p e n h k =
     let o = onward-later p (drop e p) (omega (arith, length-drop e p)) in
-    let z : e ≡ place p (drop e p) = place-at p e h in
+    let z : e ≡ offsetOf p (drop e p) = place-at p e h in
     rw k (omega (arith, o .0), o .1)
 
 -- blanks are passed forwards
@@ -66,8 +66,8 @@ member-as p at {r} m e h = let same : r ≡ m = cc in subst (Placed p at) same h
 
 -- a value that is read at i and skipped to e
 module _ (p : List ℕ) (i e : ℕ) (v : e ≡ length p - length (skipped (drop i p))) (x : Json) (t : List ℕ) (r : value paired depth (drop i p) ≡ done x t) where
-  ends-there : e ≡ place p t
-  ends-there = v ∙ ap (place p) (skip-value depth x (drop i p) t r)
+  ends-there : e ≡ offsetOf p t
+  ends-there = v ∙ ap (offsetOf p) (skip-value depth x (drop i p) t r)
 
   rest : Rest p t
   rest = rest-read (value paired depth) (value-takes paired depth) (drop i p) t x r (rest-drop i)
@@ -87,7 +87,7 @@ module _ (p : List ℕ) (i e : ℕ) (v : e ≡ length p - length (skipped (drop 
 -- where no value begins, nothing is skipped
 skips-none : (p : List ℕ) (i e c : ℕ) (q : List ℕ) → start c ≡ Start.other → drop i p ≡ c ∷ q → e ≡ length p - length (skipped (drop i p)) → i ≤ length p → e ≡ i
 skips-none p i e c q o h v k =
-    v ∙ ap (place p) (skipped-none (drop i p) (ap (λ (l : List ℕ). start (byte l 0)) h ∙ o)) ∙ sym (place-at p i k)
+    v ∙ ap (offsetOf p) (skipped-none (drop i p) (ap (λ (l : List ℕ). start (byte l 0)) h ∙ o)) ∙ sym (place-at p i k)
 
 module _ (p : List ℕ) (at i : ℕ) (k : Skipped p at i) (e : ℕ) (v : e ≡ length p - length (skipped (drop i p))) where
   pub item-unpassed : e ≤ i → ItemPassed p at items.End

@@ -9,7 +9,7 @@ use lib.Dec.{eqb}
 use Rattle.limits.specs.Ceilings.{depth}
 use Rattle.lexeme.specs.Read.Read.{done}
 use Rattle.lexeme.specs.Character.{paired}
-use Rattle.lexeme.specs.Strings as Strings
+use Rattle.lexeme.specs.Strings
 use Rattle.lexeme.specs.Tokens.{blanks}
 use Rattle.lexeme.proofs.Steps.{by-test}
 use Rattle.lexeme.proofs.Shrinks.{blanks-shrinks}
@@ -21,7 +21,7 @@ use Rattle.walk.specs.declared.Member.{Member}
 use Rattle.walk.specs.declared.Item.{Item}
 use Rattle.walk.specs.declared.MemberStep.the-variants as members
 use Rattle.walk.specs.declared.ItemStep.the-variants as items
-use Rattle.walk.specs.Walk.{place, onward, memberAt, itemAt}
+use Rattle.walk.specs.Walk.{offsetOf, onward, memberAt, itemAt}
 pub use Rattle.walk.specs.inner.Along.{Placed, ItemPlaced}
 use Rattle.walk.proofs.Rests.{Rest, rest-drop, rest-next, rest-blanks, rest-read, rest-inside, rest-there}
 use Rattle.walk.proofs.Steps.{expect-done, onward-end, onward-comma, onward-other, Reads, memberOf, itemOf, member-from, item-from}
@@ -38,10 +38,10 @@ pub record ItemSpelt (p : List ℕ) (at : ℕ) (m : Item) (x : Json) : Type 0 wh
   pub reads : value paired depth (drop (m .value) p) ≡ done x (drop (m .«value_end») p)
 
 -- the next element is looked for at the end of this one or later
-pub onward-later : (p t : List ℕ) → length t ≤ length p → (place p t ≤ onward p (blanks t)) × (onward p (blanks t) ≤ length p)
+pub onward-later : (p t : List ℕ) → length t ≤ length p → (offsetOf p t ≤ onward p (blanks t)) × (onward p (blanks t) ≤ length p)
 onward-later p t h = go (blanks t) refl
   where
-    go : (l : List ℕ) → blanks t ≡ l → (place p t ≤ onward p (blanks t)) × (onward p (blanks t) ≤ length p)
+    go : (l : List ℕ) → blanks t ≡ l → (offsetOf p t ≤ onward p (blanks t)) × (onward p (blanks t) ≤ length p)
     go [] e = rw (onward-end p e) (omega arith, omega arith)
     go (b ∷ r) e =
         let n : length (b ∷ r) ≤ length t = rw e at (blanks-shrinks t) in
@@ -90,7 +90,7 @@ module _ (p : List ℕ) (at : ℕ) where
       let o = onward-later p t (rest-inside st) in
       let front : length l ≤ length p - at = subst (λ (m : ℕ). length l ≤ m) (length-drop at p) (blanks-shrinks (drop at p)) in
       let colon : length (blanks u) < length q = omega (arith, ap length (b .1), blanks-shrinks q, blanks-shrinks u) in
-      let v : place p (blanks (drop 1 (blanks q))) ≡ place p (blanks u) = ap (λ (z : List ℕ). place p (blanks (drop 1 z))) (b .1) in
+      let v : offsetOf p (blanks (drop 1 (blanks q))) ≡ offsetOf p (blanks u) = ap (λ (z : List ℕ). offsetOf p (blanks (drop 1 z))) (b .1) in
       let k =
       order (length p) at (length l) (length w) (length q) (length (blanks u)) (length t) front (rest-inside sl) (ap length (a .1))
       (string-eats paired 0 w q text (a .2)) colon (value-eats paired depth (blanks u) t x (b .2)) in

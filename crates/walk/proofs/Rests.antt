@@ -11,7 +11,7 @@ use Rattle.lexeme.specs.Tokens.{blanks}
 use Rattle.lexeme.proofs.Reading.{Takes}
 use Rattle.lexeme.proofs.Takes.{blanks-of}
 use Rattle.json.proofs.Takes.{joins}
-use Rattle.walk.specs.Walk.{place}
+use Rattle.walk.specs.Walk.{offsetOf}
 
 pub record Rest (p l : List ℕ) : Type 0 where
   pub front : List ℕ
@@ -37,7 +37,7 @@ module _ {p : List ℕ} where
   pub rest-inside : {l : List ℕ} → Rest p l → length l ≤ length p
   rest-inside {l} s = omega (arith, ap length (s .splits), length-append (s .front) l)
 
-  pub rest-there : {l : List ℕ} → Rest p l → drop (place p l) p ≡ l
+  pub rest-there : {l : List ℕ} → Rest p l → drop (offsetOf p l) p ≡ l
   rest-there {l} s =
       let n : length (s .front) ≡ length p - length l = omega (arith, ap length (s .splits), length-append (s .front) l) in
-      ap (drop (place p l)) (s .splits) ∙ drop-at (s .front) l (place p l) n
+      ap (drop (offsetOf p l)) (s .splits) ∙ drop-at (s .front) l (offsetOf p l) n

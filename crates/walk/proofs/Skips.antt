@@ -21,7 +21,7 @@ use Rattle.lexeme.proofs.Steps.{by-test, bad-done, done-rest, made-done, then-d
 use Rattle.lexeme.proofs.Takes.{both-done}
 use Rattle.lexeme.proofs.Starts.{string-byte, array-byte, object-byte}
 use Rattle.lexeme.proofs.Spells.{literal-spells}
-use Rattle.json.specs.Tree.{Json, itemsOf, membersOf}
+use Rattle.json.specs.Tree.{Json, asItems, asMembers}
 use Rattle.json.specs.Text.{expect, contents, bracketed, member, valueBy, value}
 use Rattle.json.specs.Text.After.{closed, more}
 use Rattle.json.proofs.Steps.{contents-end, contents-none, contents-some, member-then, named, valueAt, value-start}
@@ -322,10 +322,10 @@ value-passes (suc d) =
     let eats = value-eats paired d in
     value-by-passes _ _
     (λ l r x e.
-    let m = made-done (λ xs. Json.array (itemsOf xs)) (bracketed 0x5d (value paired d) l) x r e in
+    let m = made-done (λ xs. Json.array (asItems xs)) (bracketed 0x5d (value paired d) l) x r e in
     bracketed-closed 0x5d eats ih (λ n q. unfold enclosed either in refl) l r (m .0) (m .1))
     (λ l r x e.
-    let m = made-done (λ ms. Json.object (membersOf ms)) (bracketed 0x7d (member paired (value paired d)) l) x r e in
+    let m = made-done (λ ms. Json.object (asMembers ms)) (bracketed 0x7d (member paired (value paired d)) l) x r e in
     bracketed-closed 0x7d (member-eats paired (value paired d) eats) (member-crosses ih) (λ n q. unfold enclosed either in refl) l r (m .0) (m .1))
 
 -- The theorem: behind a value that is read stands what is left.

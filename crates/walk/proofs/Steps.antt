@@ -11,7 +11,7 @@ use Rattle.limits.specs.Ceilings.{depth}
 use Rattle.lexeme.specs.Read.{Read}
 use Rattle.lexeme.specs.Read.Read.{done, bad}
 use Rattle.lexeme.specs.Character.{paired}
-use Rattle.lexeme.specs.Strings as Strings
+use Rattle.lexeme.specs.Strings
 use Rattle.lexeme.specs.Tokens.{blanks}
 use Rattle.lexeme.proofs.Steps.{by-test, bad-done}
 use Rattle.json.specs.Tree.{Json}
@@ -23,7 +23,7 @@ use Rattle.walk.specs.declared.MemberStep.{MemberStep}
 use Rattle.walk.specs.declared.ItemStep.{ItemStep}
 use Rattle.walk.specs.declared.MemberStep.the-variants as members
 use Rattle.walk.specs.declared.ItemStep.the-variants as items
-use Rattle.walk.specs.Walk.{place, onward, memberIn, itemIn}
+use Rattle.walk.specs.Walk.{offsetOf, onward, memberIn, itemIn}
 
 -- a byte that stood where it must
 pub expect-done : {A : Type 0} (c : ℕ) (f : List ℕ → Read A) (l r : List ℕ) (x : A) → expect c f l ≡ done x r
@@ -40,11 +40,11 @@ module _ (p : List ℕ) {l : List ℕ} where
   onward-end e = rw e
 
   module _ (b : ℕ) (r : List ℕ) (e : l ≡ b ∷ r) where
-    pub onward-comma : eqb b 0x2c ≡ true → onward p l ≡ place p r
+    pub onward-comma : eqb b 0x2c ≡ true → onward p l ≡ offsetOf p r
     unfolding onward
     onward-comma h = rw (e, onward, h)
 
-    pub onward-other : eqb b 0x2c ≡ false → onward p l ≡ place p (b ∷ r)
+    pub onward-other : eqb b 0x2c ≡ false → onward p l ≡ offsetOf p (b ∷ r)
     unfolding onward
     onward-other h = rw (e, onward, h)
 
@@ -57,15 +57,15 @@ pub record Reads (l name : List ℕ) (x : Json) (q t : List ℕ) : Type 0 where
 abbrev pub memberOf : List ℕ → List ℕ → List ℕ → List ℕ → Member
 memberOf p l q t =
     record {
-      name = place p l + 1;
-      «name_end» = place p q - 1;
-      value = place p (blanks (drop 1 (blanks q)));
-      «value_end» = place p t;
+      name = offsetOf p l + 1;
+      «name_end» = offsetOf p q - 1;
+      value = offsetOf p (blanks (drop 1 (blanks q)));
+      «value_end» = offsetOf p t;
       next = onward p (blanks t);
     }
 
 abbrev pub itemOf : List ℕ → List ℕ → List ℕ → Item
-itemOf p l t = record { value = place p l; «value_end» = place p t; next = onward p (blanks t) }
+itemOf p l t = record { value = offsetOf p l; «value_end» = offsetOf p t; next = onward p (blanks t) }
 
 module _ (p l : List ℕ) where
   pub member-unnamed : {k : ℕ} {r : List ℕ} → expect 0x22 (Strings.string paired 0) l ≡ bad k r → memberIn p l ≡ members.End

@@ -22,7 +22,7 @@ use Rattle.json.specs.Spelling.{Plain, Nested}
 use Rattle.json.proofs.Local.{value-local}
 use Rattle.json.proofs.Spellings.{value-spells}
 use Rattle.walk.specs.declared.ValueKind.the-variants as kind
-use Rattle.walk.specs.Walk.{place}
+use Rattle.walk.specs.Walk.{offsetOf}
 use Rattle.walk.specs.Part.{Whole, kindOf, kindFrom, kindAt}
 use Rattle.walk.specs.inner.Tail.{Tail}
 use Rattle.walk.proofs.Wholes.{whole-kind, whole-some}
@@ -81,15 +81,15 @@ module _ (s : List ℕ) (at : ℕ) (x : Json) (t : List ℕ) (reads : value pair
       let b : getD v 0 0 ≡ 0x7b = sym (List·getD-append v t 0 0 (whole-some w)) ∙ ap (λ (l : List ℕ). getD l 0 0) (sym e) ∙ brace in
       sym (whole-kind w) ∙ ap (λ (c : ℕ). kindFrom (start c)) b
 
-  pub object-tail : blanks t ≡ [] → Tail s (place s t)
+  pub object-tail : blanks t ≡ [] → Tail s (offsetOf s t)
   unfolding blank either
   object-tail empty =
       let (v, e, k) = value-spells depth x (drop at s) t reads in
       let (w, f) = closes k (kind-there v e) in
       let l : drop at s ≡ w ++ (0x7d ∷ t) = e ∙ ap (λ (z : List ℕ). z ++ t) f ∙ append-assoc w (0x7d ∷ []) t in
       let n : length s - at ≡ length w + suc (length t) = sym (length-drop at s) ∙ ap length l ∙ length-append w (0x7d ∷ t) in
-      let here : place s t - 1 ≡ at + length w = omega (arith, n) in
-      let last : getD s (place s t - 1) 0 ≡ 0x7d =
+      let here : offsetOf s t - 1 ≡ at + length w = omega (arith, n) in
+      let last : getD s (offsetOf s t - 1) 0 ≡ 0x7d =
       ap (λ (k : ℕ). getD s k 0) here ∙ sym (getD-drop at s (length w) 0) ∙ ap (λ (z : List ℕ). getD z (length w) 0) l ∙ getD-append-seam w 0x7d t 0 in
       record {
         inside = omega arith;

@@ -12,14 +12,14 @@ use Rattle.limits.specs.Ceilings.{depth}
 use Rattle.lexeme.specs.Read.{Read, made}
 use Rattle.lexeme.specs.Read.Read.{done}
 use Rattle.lexeme.specs.Character.{paired, within}
-use Rattle.lexeme.specs.Strings as Strings
+use Rattle.lexeme.specs.Strings
 use Rattle.lexeme.specs.Numbers.{digit}
 use Rattle.lexeme.specs.Tokens.{blanks}
 use Rattle.lexeme.specs.inner.Start.{start}
 use Rattle.lexeme.proofs.Reading.{Eats, Ok, Takes}
 use Rattle.lexeme.proofs.Steps.{by-test, bad-done, done-what, made-done, then-done, blanks-stop}
 use Rattle.lexeme.proofs.Takes.{solid-first}
-use Rattle.json.specs.Tree as Tree
+use Rattle.json.specs.Tree
 use Rattle.json.specs.Tree.{Json}
 use Rattle.json.specs.Text.{expect, contents, bracketed, member, value}
 use Rattle.json.specs.Text.After.{closed, more}
@@ -31,8 +31,8 @@ use Rattle.json.proofs.Values.{value-none}
 use Rattle.walk.specs.declared.Member.{Member}
 use Rattle.walk.specs.declared.MemberStep.the-variants as members
 use Rattle.walk.specs.declared.ItemStep.the-variants as items
-use Rattle.walk.specs.Walk.{place, onward, memberAt, membersOf, itemAt, itemsOf}
-use Rattle.walk.specs.Part.{Whole, treeOf}
+use Rattle.walk.specs.Walk.{offsetOf, onward, memberAt, membersOf, itemAt, itemsOf}
+use Rattle.walk.specs.Part.{Whole, partTree}
 use Rattle.walk.proofs.Rests.{Rest, rest-drop, rest-next, rest-blanks, rest-read, rest-there}
 use Rattle.walk.proofs.Steps.{expect-done, onward-comma, onward-other, Reads, memberOf, member-unnamed, member-found, item-none, item-found}
 use Rattle.walk.proofs.Places.{member-spelt, item-spelt}
@@ -55,7 +55,7 @@ module _ (p : List ℕ) (close : ℕ) where
       let z : b ≡ close = eqb-true b close h in
       let other : eqb b 0x2c ≡ false = ap (λ (c : ℕ). eqb c 0x2c) z ∙ apart in
       let there : drop at p ≡ b ∷ q =
-      ap (λ (c : ℕ). drop c p) (n ∙ onward-other p b q i other ∙ ap (place p) (sym i)) ∙ rest-there (rest-blanks r s) ∙ i in
+      ap (λ (c : ℕ). drop c p) (n ∙ onward-other p b q i other ∙ ap (offsetOf p) (sym i)) ∙ rest-there (rest-blanks r s) ∙ i in
       ap blanks there ∙ blanks-stop b q (solid-first r b q i) ∙ ap (λ (c : ℕ). c ∷ q) z
 
   pub next-begins : (at : ℕ) (r q : List ℕ) → Rest p r → Follows close r (more q) → at ≡ onward p (blanks r) → blanks (drop at p) ≡ q
@@ -116,7 +116,7 @@ deepen d h l r x e = ends-too (value-goes-depth paired h l) e
 -- items
 module _ (p : List ℕ) where
   pub item-meets : (d : ℕ) → d ≤ depth → (at : ℕ) (x : Json) (r : List ℕ) → value paired d (blanks (drop at p)) ≡ done x r
-      → Meets p (itemSteps p) (λ m. treeOf (itemOf p m)) at x r
+      → Meets p (itemSteps p) (λ m. partTree (itemOf p m)) at x r
   unfolding itemAt
   item-meets d h at x r e =
       let l = blanks (drop at p) in
@@ -127,19 +127,19 @@ module _ (p : List ℕ) where
   unfolding itemAt start digit within
   item-stops at q e = item-none p (blanks (drop at p)) (ap (value paired depth) e ∙ value-none depth (0x5d ∷ q) refl)
 
-  pub array-parts : {is : Tree.Items} → Whole p (Json.array is) → is ≡ Tree.itemsOf (map (λ m. treeOf (itemOf p m)) (itemsOf p))
+  pub array-parts : {is : Tree.Items} → Whole p (Json.array is) → is ≡ Tree.asItems (map (λ m. partTree (itemOf p m)) (itemsOf p))
   unfolding itemsOf
   array-parts w =
       let o = whole-array w in
       let d = o .levels in
       let h : d ≤ depth = omega (arith, o .less) in
-      sym (ap Tree.itemsOf (bracketed-met p (itemSteps p) (λ m. treeOf (itemOf p m)) 0x5d (value paired d) (value-eats paired d) (value-takes paired d)
+      sym (ap Tree.asItems (bracketed-met p (itemSteps p) (λ m. partTree (itemOf p m)) 0x5d (value paired d) (value-eats paired d) (value-takes paired d)
       (item-meets d h) item-stops refl 1 (o .elements) [] (o .reads)) ∙ o .is)
 
 -- members
 module _ (p : List ℕ) where
   abbrev pub memberTree : Member → List ℕ × Json
-  memberTree m = (nameOf p m, treeOf (valueOf p m))
+  memberTree m = (nameOf p m, partTree (valueOf p m))
 
   -- a member as reading has it, and as a step has it
   pub member-reads : (d : ℕ) → d ≤ depth → (l r : List ℕ) (y : List ℕ × Json) → member paired (value paired d) l ≡ done y r → (q : List ℕ) × Reads l (y .0) (y .1) q r
@@ -167,7 +167,7 @@ module _ (p : List ℕ) where
       record {
         what = m;
         finds = member-found p l (g .1);
-        is = ap (λ (z : List ℕ). (z, treeOf (valueOf p m))) (spelt-name s) ∙ ap (λ (z : Json). (y .0, z)) (spelt-tree s);
+        is = ap (λ (z : List ℕ). (z, partTree (valueOf p m))) (spelt-name s) ∙ ap (λ (z : Json). (y .0, z)) (spelt-tree s);
         next = refl;
       }
 
@@ -175,7 +175,7 @@ module _ (p : List ℕ) where
   unfolding memberAt
   member-stops at q e = member-unnamed p (blanks (drop at p)) (ap (expect 0x22 (Strings.string paired 0)) e ∙ expect-other 0x22 _ 0x7d q refl)
 
-  pub object-parts : {ms : Tree.Members} → Whole p (Json.object ms) → ms ≡ Tree.membersOf (map memberTree (membersOf p))
+  pub object-parts : {ms : Tree.Members} → Whole p (Json.object ms) → ms ≡ Tree.asMembers (map memberTree (membersOf p))
   unfolding membersOf
   object-parts w =
       let o = whole-object w in
@@ -183,5 +183,5 @@ module _ (p : List ℕ) where
       let h : d ≤ depth = omega (arith, o .less) in
       let eats = member-eats paired (value paired d) (value-eats paired d) in
       let takes = member-takes paired (value paired d) (value-eats paired d) (value-takes paired d) in
-      sym (ap Tree.membersOf (bracketed-met p (memberSteps p) memberTree 0x7d (member paired (value paired d)) eats takes
+      sym (ap Tree.asMembers (bracketed-met p (memberSteps p) memberTree 0x7d (member paired (value paired d)) eats takes
       (member-meets d h) member-stops refl 1 (o .elements) [] (o .reads)) ∙ o .is)

@@ -13,17 +13,17 @@ use Rattle.notation.specs.Ascii.{bytes}
 use Rattle.lexeme.specs.Read.{Read, made}
 use Rattle.lexeme.specs.Read.Read.{done, bad}
 use Rattle.lexeme.specs.Character.{paired, byte}
-use Rattle.lexeme.specs.Strings as Strings
-use Rattle.lexeme.specs.Numbers as Numbers
+use Rattle.lexeme.specs.Strings
+use Rattle.lexeme.specs.Numbers
 use Rattle.lexeme.specs.inner.Start.{Start, start}
 use Rattle.lexeme.proofs.Steps.{bad-done, made-done}
 use Rattle.lexeme.proofs.Takes.{string-spelled, string-eats}
 use Rattle.lexeme.proofs.Spells.{number-spells, literal-spells}
-use Rattle.json.specs.Tree as Tree
+use Rattle.json.specs.Tree
 use Rattle.json.specs.Tree.{Json}
 use Rattle.json.specs.Text.{bracketed, member, valueBy, value}
 use Rattle.json.proofs.Takes.{value-eats}
-use Rattle.walk.specs.Part.{Whole, treeOf, kindOf, kindFrom, kindAt, inside}
+use Rattle.walk.specs.Part.{Whole, partTree, kindOf, kindFrom, kindAt, inside}
 use Rattle.json.proofs.Steps.{valueAt, value-start}
 
 -- elements between brackets, read with a level less than d
@@ -35,10 +35,10 @@ pub record Opened {A B : Type 0} (d close : ℕ) (element : ℕ → List ℕ →
   pub is : of elements ≡ x
 
 abbrev pub OpenedArray : ℕ → List ℕ → List ℕ → Tree.Items → Type 0
-OpenedArray d p r is = Opened d 0x5d (value paired) Tree.itemsOf p r is
+OpenedArray d p r is = Opened d 0x5d (value paired) Tree.asItems p r is
 
 abbrev pub OpenedObject : ℕ → List ℕ → List ℕ → Tree.Members → Type 0
-OpenedObject d p r ms = Opened d 0x7d (λ e. member paired (value paired e)) Tree.membersOf p r ms
+OpenedObject d p r ms = Opened d 0x7d (λ e. member paired (value paired e)) Tree.asMembers p r ms
 
 -- the words of the two truths
 abbrev pub wordOf : Bool → List ℕ
@@ -71,15 +71,15 @@ unfolding value
 brackets zero = record { arrays = bad _; objects = bad _; by = λ l. refl; array = λ p r x e. bad-done e; object = λ p r x e. bad-done e }
 brackets (suc d) =
     record {
-      arrays = λ t. made (λ xs. Json.array (Tree.itemsOf xs)) (bracketed 0x5d (value paired d) (drop 1 t));
-      objects = λ t. made (λ ms. Json.object (Tree.membersOf ms)) (bracketed 0x7d (member paired (value paired d)) (drop 1 t));
+      arrays = λ t. made (λ xs. Json.array (Tree.asItems xs)) (bracketed 0x5d (value paired d) (drop 1 t));
+      objects = λ t. made (λ ms. Json.object (Tree.asMembers ms)) (bracketed 0x7d (member paired (value paired d)) (drop 1 t));
       by = λ l. refl;
       array = λ p r x e.
-          let k = made-done (λ xs. Json.array (Tree.itemsOf xs)) (bracketed 0x5d (value paired d) (drop 1 p)) x r e in
-          (Tree.itemsOf (k .0), record { levels = d; less = refl; elements = k .0; reads = k .1; is = refl }, k .2);
+          let k = made-done (λ xs. Json.array (Tree.asItems xs)) (bracketed 0x5d (value paired d) (drop 1 p)) x r e in
+          (Tree.asItems (k .0), record { levels = d; less = refl; elements = k .0; reads = k .1; is = refl }, k .2);
       object = λ p r x e.
-          let k = made-done (λ ms. Json.object (Tree.membersOf ms)) (bracketed 0x7d (member paired (value paired d)) (drop 1 p)) x r e in
-          (Tree.membersOf (k .0), record { levels = d; less = refl; elements = k .0; reads = k .1; is = refl }, k .2);
+          let k = made-done (λ ms. Json.object (Tree.asMembers ms)) (bracketed 0x7d (member paired (value paired d)) (drop 1 p)) x r e in
+          (Tree.asMembers (k .0), record { levels = d; less = refl; elements = k .0; reads = k .1; is = refl }, k .2);
     }
 
 origin : (d : ℕ) (p r : List ℕ) (x : Json) → value paired d p ≡ done x r → Origin d p r x
@@ -114,9 +114,9 @@ origin d (b ∷ l) r x e = go (start b) refl
 
 -- the laws
 module _ {p : List ℕ} {x : Json} (w : Whole p x) where
-  pub whole-tree : treeOf p ≡ x
-  unfolding treeOf
-  whole-tree = rw (treeOf, w .reads)
+  pub whole-tree : partTree p ≡ x
+  unfolding partTree
+  whole-tree = rw (partTree, w .reads)
 
   pub whole-some : 0 < length p
   whole-some = omega (arith, value-eats paired depth p [] x (w .reads))

@@ -13,12 +13,12 @@ use Rattle.walk.specs.declared.Item.{Item}
 use Rattle.walk.specs.declared.ValueKind.{ValueKind}
 use Rattle.walk.specs.declared.ValueKind.the-variants as kind
 use Rattle.walk.specs.Walk.{part, onward, memberIn, memberAt, membersFrom, membersOf, itemIn, itemAt, itemsFrom, itemsOf}
-use Rattle.walk.specs.Part.{treeOf, kindAt, inside}
+use Rattle.walk.specs.Part.{partTree, kindAt, inside}
 use Rattle.walk.specs.inner.Skip.{quoted, enclosed, numbered, skipped}
 
 -- opens every definition of this layer
 unfoldable pub walking : Unit {0}
-unfolding reading onward memberIn memberAt membersFrom membersOf itemIn itemAt itemsFrom itemsOf treeOf start kindAt quoted enclosed numbered skipped
+unfolding reading onward memberIn memberAt membersFrom membersOf itemIn itemAt itemsFrom itemsOf partTree start kindAt quoted enclosed numbered skipped
 walking = tt
 
 abbrev at : ℕ → ℕ → ℕ → ℕ → ℕ → Member
@@ -53,7 +53,7 @@ arrays-answered : Answers itemsOf arrays
 unfolding walking
 arrays-answered = refl
 
-value-in-its-part : treeOf (part (bytes "{\"a\":false}") 5 10) ≡ Json.boolean false
+value-in-its-part : partTree (part (bytes "{\"a\":false}") 5 10) ≡ Json.boolean false
 unfolding walking
 value-in-its-part = refl
 

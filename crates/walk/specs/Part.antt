@@ -17,8 +17,8 @@ pub record Whole (p : List ℕ) (x : Json) : Type 0 where
   pub reads : value paired depth p ≡ done x []
 
 -- its tree; null where p is no value
-unfoldable pub treeOf : List ℕ → Json
-treeOf p = elim (value paired depth p) [ done x r ↦ x | bad k r ↦ Json.null ]
+unfoldable pub partTree : List ℕ → Json
+partTree p = elim (value paired depth p) [ done x r ↦ x | bad k r ↦ Json.null ]
 
 -- the kind of a tree, and the kind that a value's first byte says
 abbrev pub kindOf : Json → ValueKind

@@ -8,7 +8,7 @@ use Rattle.limits.specs.Ceilings.{depth}
 use Rattle.notation.specs.Choice.{_⇒_else_}
 use Rattle.lexeme.specs.Read.Read.{done, bad}
 use Rattle.lexeme.specs.Character.{paired}
-use Rattle.lexeme.specs.Strings as Strings
+use Rattle.lexeme.specs.Strings
 use Rattle.lexeme.specs.Tokens.{blanks}
 use Rattle.json.specs.Text.{expect, value}
 use Rattle.walk.specs.declared.Member.{Member}
@@ -19,8 +19,8 @@ use Rattle.walk.specs.declared.MemberStep.the-variants as members
 use Rattle.walk.specs.declared.ItemStep.the-variants as items
 
 -- where the rest l of p begins
-abbrev pub place : List ℕ → List ℕ → ℕ
-place p l = length p - length l
+abbrev pub offsetOf : List ℕ → List ℕ → ℕ
+offsetOf p l = length p - length l
 
 -- the bytes of p from a place up to another
 abbrev pub part : List ℕ → ℕ → ℕ → List ℕ
@@ -29,7 +29,7 @@ part p from upto = take (upto - from) (drop from p)
 -- where the next element is looked for: after a comma, or where none stands
 unfoldable pub onward : List ℕ → List ℕ → ℕ
 onward p [] = length p
-onward p (b ∷ r) = eqb b 0x2c ⇒ place p r else place p (b ∷ r)
+onward p (b ∷ r) = eqb b 0x2c ⇒ offsetOf p r else offsetOf p (b ∷ r)
 
 -- the member that begins at the rest l of p
 unfoldable pub memberIn : List ℕ → List ℕ → MemberStep
@@ -41,10 +41,10 @@ memberIn p l =
             | bad k r ↦ members.End
             | done x t ↦
                 members.Found (record {
-                  name = place p l + 1;
-                  «name_end» = place p q - 1;
-                  value = place p (blanks (drop 1 (blanks q)));
-                  «value_end» = place p t;
+                  name = offsetOf p l + 1;
+                  «name_end» = offsetOf p q - 1;
+                  value = offsetOf p (blanks (drop 1 (blanks q)));
+                  «value_end» = offsetOf p t;
                   next = onward p (blanks t);
                 })
           ]
@@ -58,7 +58,7 @@ unfoldable pub itemIn : List ℕ → List ℕ → ItemStep
 itemIn p l =
     elim (value paired depth l) [
       | bad k r ↦ items.End
-      | done x t ↦ items.Found (record { value = place p l; «value_end» = place p t; next = onward p (blanks t) })
+      | done x t ↦ items.Found (record { value = offsetOf p l; «value_end» = offsetOf p t; next = onward p (blanks t) })
     ]
 
 unfoldable pub itemAt : List ℕ → ℕ → ItemStep

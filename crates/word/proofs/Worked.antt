@@ -1,7 +1,7 @@
 -- Words at each limit of the rule, written and read back, and bytes that are no word, computed. Document 01's own words (k) and (l) stand in the table of
 -- its readings.
 use mathlib.Core.List.{List, [], _∷_}
-use mathlib.Core.Path.{_≡_, refl}
+use mathlib.Core.Path.{refl}
 use Prim.Native.Nat.{ℕ}
 use Prim.Native.String.{String}
 use Rattle.notation.specs.Case.{Case, Answers}

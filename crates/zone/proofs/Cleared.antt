@@ -9,28 +9,29 @@ use Rattle.limits.specs.Ceilings as ceiling
 use Rattle.notation.specs.Ascii.{bytes}
 use Rattle.json.specs.Tree.{Json}
 use Rattle.walk.specs.declared.Item.{Item}
-use Rattle.walk.specs.Part.{Whole, treeOf}
+use Rattle.walk.specs.Part.{Whole, partTree}
 use Rattle.walk.proofs.Wholes.{whole-tree}
 use Rattle.walk.proofs.Parts.{itemOf}
 use Rattle.schema.specs.Shape as shape
 use Rattle.schema.specs.Shape.{Shape, Rows}
 use Rattle.schema.specs.Table23.{zone, coordinates}
-use Rattle.schema.specs.Pick.{Picked, PickedItems, bare, items, slots, pick, listOf}
+use Rattle.schema.specs.Pick.{Picked, PickedItems, bare, items, slots, pick, listOf, elements}
 use Rattle.word.specs.Kinds.{tooMany, badRing}
 use Rattle.scalar.specs.Scalars.{unless}
-use Rattle.rings.specs.Rings.{Found, at, count, ring, ringFound, ringsFound, position, isRingCount, polygon, polygonsRings, polygonsFound, areZoneCounts, coordinatesFound}
+use Rattle.rings.specs.Rings.{Found, foundAt, count, ring, ringFound, ringsFound, position, isRingCount, polygon, itemTotal, polygonsFound, areZoneCounts, coordinatesFound}
 use Rattle.rings.specs.inner.Parts.{ringShape, polygonShape, picked, partsOf, Outlined}
 use Rattle.rings.specs.declared.RingPoints.{RingPoints}
 use Rattle.geometry.specs.inner.Shifted.{InRange, points}
 use Rattle.rings.proofs.Picked.{Listed, items-parts}
 use Rattle.judge.specs.declared.Place.{Place}
 use Rattle.judge.specs.Faults.{faulty, numbered, faultsBy, faults}
-use Rattle.document.specs.Document.{Maybe, none, some, elements, elementsOf, field, along}
+use Rattle.document.specs.Document.{Maybe, none, some, elementsOf, field, along}
 use Rattle.document.proofs.Fields.{none-some}
+use Rattle.document.proofs.Ways.{Requires, here, below, lists, Leads, arrived, into}
 use Rattle.fields.specs.inner.Values.{memberOf}
 use Rattle.fields.proofs.Sizes.{part-short, member-short, array-short}
 use Rattle.fields.proofs.Values.{Holds, member-holds}
-use Rattle.clean.proofs.Faultless.{Requires, here, below, lists, Demands, arrived, into, demands-there}
+use Rattle.clean.proofs.Faultless.{demands-there}
 use Rattle.zone.specs.inner.Clean.{CleanRing, CleanItems, CleanZone}
 use Rattle.zone.proofs.Fields.{member-listing}
 use Rattle.zone.proofs.Zoned.{polygonBytes, propertyBytes, zone-polygons}
@@ -40,7 +41,7 @@ cons-nil e = let z : _≡_ {A = ℕ} 0 1 = cc in absurd (omega arith)
 
 -- what is no array is of a wrong type
 ring-items : (n : ℕ) (x : Picked) → ring n x ≡ [] → (is : PickedItems) × (x ≡ items is) × (ringFound n (listOf is) ≡ [])
-unfolding at
+unfolding foundAt
 ring-items n (items is) e = (is, refl, e)
 ring-items n (bare x) e = cons-nil e
 ring-items n (slots ss) e = cons-nil e
@@ -55,11 +56,11 @@ points-most (x ∷ xs) (y ∷ ys) = let h = points-most xs ys in (omega arith, o
 -- the points of a ring, where the code's promise has them
 module _ {p : List ℕ} (c : CleanRing p) {r : RingPoints}
     (f : (x : Json) (is : PickedItems) (n : ℕ) → Whole p x → pick ringShape x ≡ items is → ringFound n (listOf is) ≡ [] → Outlined (listOf is) r) where
-  abbrev ring-is : (is : PickedItems) × (pick ringShape (treeOf p) ≡ items is) × (ringFound (c .first) (listOf is) ≡ [])
-  ring-is = ring-items (c .first) (pick ringShape (treeOf p)) (c .clear)
+  abbrev ring-is : (is : PickedItems) × (pick ringShape (partTree p) ≡ items is) × (ringFound (c .first) (listOf is) ≡ [])
+  ring-is = ring-items (c .first) (pick ringShape (partTree p)) (c .clear)
 
   ring-outlined : Outlined (listOf (ring-is .0)) r
-  ring-outlined = f (treeOf p) (ring-is .0) (c .first) (c .whole) (ring-is .1) (ring-is .2)
+  ring-outlined = f (partTree p) (ring-is .0) (c .first) (c .whole) (ring-is .1) (ring-is .2)
 
   outlined-most : r .count ≤ length (points (take (r .count) (r .lons)) (take (r .count) (r .lats)))
   outlined-most = let o = ring-outlined in omega (arith, o .count, ap length (o .points), length-map (listOf (ring-is .0)) position)
@@ -78,12 +79,12 @@ module _ {p : List ℕ} (c : CleanRing p) {r : RingPoints}
   pub ring-range : InRange (take (r .count) (r .lons)) (take (r .count) (r .lats))
   ring-range = ring-outlined .range
 
-  pub ring-points : points (take (r .count) (r .lons)) (take (r .count) (r .lats)) ≡ map position (elements (pick ringShape (treeOf p)))
+  pub ring-points : points (take (r .count) (r .lons)) (take (r .count) (r .lats)) ≡ map position (elements (pick ringShape (partTree p)))
   ring-points = ring-outlined .points ∙ ap (λ x. map position (elements x)) (sym (ring-is .1))
 
 polygon-items : (n : ℕ) (x : Picked) → polygon n x ≡ [] → (is : PickedItems) × (x ≡ items is) × (ringsFound n (listOf is) ≡ [])
-unfolding at
-polygon-items n (items is) e = (is, refl, append-eq-nil-iff {p = at n (unless (isRingCount (count is)) badRing)} .0 e .1)
+unfolding foundAt
+polygon-items n (items is) e = (is, refl, append-eq-nil-iff {p = foundAt n (unless (isRingCount (count is)) badRing)} .0 e .1)
 polygon-items n (bare x) e = cons-nil e
 polygon-items n (slots ss) e = cons-nil e
 
@@ -95,7 +96,7 @@ numbered-none p field (x ∷ l) e = cons-nil e
 coordinates-clear : (p : Place) (field : ℕ) (x : Picked) → faults coordinates p field x ≡ [] → polygonsFound 1 (elements x) ≡ []
 unfolding coordinates faultsBy faulty coordinatesFound
 coordinates-clear p field (items is) e =
-    let many = at 0 (unless (areZoneCounts (count is) (polygonsRings (listOf is))) tooMany) in
+    let many = foundAt 0 (unless (areZoneCounts (count is) (itemTotal (listOf is))) tooMany) in
     append-eq-nil-iff {p = many} .0 (numbered-none p field (coordinatesFound is) e) .1
 coordinates-clear p field (bare x) e = cons-nil e
 coordinates-clear p field (slots ss) e = cons-nil e
@@ -104,7 +105,7 @@ coordinates-clear p field (slots ss) e = cons-nil e
 pub item-short : (p : List ℕ) (m : Item) → length p ≤ ceiling.fileBytes → length (itemOf p m) ≤ ceiling.fileBytes
 item-short p m h = omega (arith, part-short p (m .value) (m .«value_end»))
 
-module _ (p : List ℕ) (m : Item) (short : length p ≤ ceiling.fileBytes) (w : Whole (itemOf p m) (treeOf (itemOf p m))) (l : List Picked) where
+module _ (p : List ℕ) (m : Item) (short : length p ≤ ceiling.fileBytes) (w : Whole (itemOf p m) (partTree (itemOf p m))) (l : List Picked) where
   pub ring-clean : (n : ℕ) × (ringsFound n (picked ringShape p m ∷ l) ≡ []) → CleanRing (itemOf p m)
   unfolding ringsFound
   ring-clean (n, e) = record { short = item-short p m short; whole = w; first = n; clear = append-eq-nil-iff {p = ring n (picked ringShape p m)} .0 e .0 }
@@ -115,7 +116,7 @@ module _ (p : List ℕ) (m : Item) (short : length p ≤ ceiling.fileBytes) (w :
     polygon-is = polygon-items (f .0) (picked polygonShape p m) (append-eq-nil-iff {p = polygon (f .0) (picked polygonShape p m)} .0 (f .1) .0)
 
     rings-are : Listed ringShape (itemOf p m) (listOf (polygon-is .0))
-    rings-are = items-parts shape.positions ceiling.rings ringShape (treeOf (itemOf p m)) (polygon-is .0) w (polygon-is .1)
+    rings-are = items-parts shape.positions ceiling.rings ringShape (partTree (itemOf p m)) (polygon-is .0) w (polygon-is .1)
 
     pub polygon-rings : partsOf ringShape (itemOf p m) ≡ elements (picked polygonShape p m)
     polygon-rings = sym (ap elements (polygon-is .1) ∙ rings-are .parts)
@@ -130,27 +131,27 @@ module _ (p : List ℕ) (m : Item) (short : length p ≤ ceiling.fileBytes) (w :
         }
 
 -- a member that the zone must have is there
-given-whole : (σ : Shape) {q : List ℕ} {y : Picked} (o : Maybe Picked) → Holds σ q o → elim o [ none ↦ none | some z ↦ some z ] ≡ some y → Whole q (treeOf q)
+given-whole : (σ : Shape) {q : List ℕ} {y : Picked} (o : Maybe Picked) → Holds σ q o → elim o [ none ↦ none | some z ↦ some z ] ≡ some y → Whole q (partTree q)
 given-whole σ none h e = none-some e
 given-whole σ {q} (some z) h e = subst (Whole q) (sym (whole-tree (h .1))) (h .1)
 
-required-whole : {f : ℕ} {name : List ℕ} {σ : Shape} {rows : Rows} → Requires f name σ rows → {p : List ℕ} → Whole p (treeOf p) → (q : Place) (φ : ℕ)
-    → faults (shape.object rows) q φ (pick (shape.object rows) (treeOf p)) ≡ [] → Whole (memberOf p name) (treeOf (memberOf p name))
+required-whole : {f : ℕ} {name : List ℕ} {σ : Shape} {rows : Rows} → Requires f name σ rows → {p : List ℕ} → Whole p (partTree p) → (q : Place) (φ : ℕ)
+    → faults (shape.object rows) q φ (pick (shape.object rows) (partTree p)) ≡ [] → Whole (memberOf p name) (partTree (memberOf p name))
 unfolding along
 required-whole {f} {σ = σ} {rows = rows} r {p} w q φ e =
-    given-whole σ (field f (pick (shape.object rows) (treeOf p))) (member-holds (lists r) p (treeOf p) w) (demands-there (into r arrived) q φ (treeOf p) e .2)
+    given-whole σ (field f (pick (shape.object rows) (partTree p))) (member-holds (lists r) p (partTree p) w) (demands-there (into r arrived) q φ (partTree p) e .2)
 
 module _ {p : List ℕ} (c : CleanZone p) where
-  pub geometry-whole : Whole (memberOf p (bytes "geometry")) (treeOf (memberOf p (bytes "geometry")))
+  pub geometry-whole : Whole (memberOf p (bytes "geometry")) (partTree (memberOf p (bytes "geometry")))
   unfolding zone
   geometry-whole = required-whole {f = 71} (below refl here) (c .whole) (c .clear .place) (c .clear .field) (c .clear .clear)
 
-  pub properties-whole : Whole (propertyBytes p) (treeOf (propertyBytes p))
+  pub properties-whole : Whole (propertyBytes p) (partTree (propertyBytes p))
   unfolding zone
   properties-whole = required-whole {f = 74} (below refl (below refl here)) (c .whole) (c .clear .place) (c .clear .field) (c .clear .clear)
 
 -- the coordinates of a zone
-coordinates-demanded : Demands zone (71 ∷ 73 ∷ []) coordinates
+coordinates-demanded : Leads zone (record { field = 71; name = bytes "geometry" } ∷ record { field = 73; name = bytes "coordinates" } ∷ []) coordinates
 unfolding zone
 coordinates-demanded = into (below refl here) (into (below refl here) arrived)
 
@@ -158,7 +159,7 @@ pub zone-clean : (p : List ℕ) → CleanZone p → CleanItems polygonShape poly
 zone-clean p c =
     let inner = memberOf p (bytes "geometry") in
     let deep = memberOf inner (bytes "coordinates") in
-    let d = demands-there coordinates-demanded (c .clear .place) (c .clear .field) (treeOf p) (c .clear .clear) in
+    let d = demands-there coordinates-demanded (c .clear .place) (c .clear .field) (partTree p) (c .clear .clear) in
     record {
       short = omega (arith, array-short deep, member-short inner (bytes "coordinates"), member-short p (bytes "geometry"), c .short);
       listing = member-listing inner (bytes "coordinates");

@@ -8,7 +8,7 @@ use native.Mathlib.Omega.{arith}
 use Rattle.schema.specs.Pick.{Picked}
 use Rattle.geometry.specs.Ring.{Point}
 use Rattle.document.specs.Document.{Maybe, none, some, spelling, truth, given}
-use Rattle.clean.specs.declared.Cleanness.the-variants.{Clean}
+use Rattle.clean.specs.declared.Outcome.the-variants.{Unbroken}
 use Rattle.clean.specs.Clean.{cleanOf}
 use Rattle.zone.specs.Zone.{rulesAt, otherwise, firstGiven}
 use Rattle.zone.specs.Answer.{ruleOf, values, found, onMap, ofRules, rulingOf}
@@ -104,7 +104,7 @@ any-order x l k n m h =
     ∙ ap values (sym (append-assoc (x ∷ l) n m))
     ∙ sym (values-out ((x ∷ l) ++ n) k m (nothing-new (x ∷ l) k n h)))
 
-answered : (s : List ℕ) (q : Point) (type : List ℕ) (moment : ℕ) → onMap q ≡ true → cleanOf 6 s ≡ Clean
+answered : (s : List ℕ) (q : Point) (type : List ℕ) (moment : ℕ) → onMap q ≡ true → cleanOf 6 s ≡ Unbroken
     → rulingOf s q type moment ≡ ofRules (rulesAt s q type moment)
 unfolding rulingOf
 answered s q type moment h c = rw (h, c)

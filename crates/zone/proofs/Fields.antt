@@ -16,9 +16,9 @@ use Rattle.walk.proofs.Wholes.{whole-some}
 use Rattle.schema.specs.Shape as shape
 use Rattle.schema.specs.Shape.{Shape, Rows, Sort, Numbering}
 use Rattle.schema.specs.Table23 as table
-use Rattle.schema.specs.Pick.{Picked, pick}
+use Rattle.schema.specs.Pick.{Picked, pick, elements}
 use Rattle.rings.specs.inner.Parts.{Listing, partsOf}
-use Rattle.document.specs.Document.{Maybe, none, some, along, elements, elementsOf, field, fieldItems, textIn}
+use Rattle.document.specs.Document.{Maybe, none, some, along, elementsOf, field, fieldItems, textIn}
 use Rattle.document.proofs.Fields.{Lists}
 use Rattle.document.proofs.Records.{pickedItems}
 use Rattle.fields.specs.inner.Values.{memberOf, textBy, arrayBy, isId}

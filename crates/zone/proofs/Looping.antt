@@ -9,7 +9,7 @@ use Rattle.walk.specs.declared.Item.{Item}
 use Rattle.walk.specs.declared.ItemStep.{ItemStep}
 use Rattle.walk.specs.declared.ItemStep.the-variants as step
 use Rattle.walk.specs.Walk.{itemsOf}
-use Rattle.walk.specs.Part.{Whole, treeOf}
+use Rattle.walk.specs.Part.{Whole, partTree}
 use Rattle.walk.specs.inner.Along.{AlongItems, ItemPassed}
 use Rattle.walk.proofs.Parts.{itemOf}
 use Rattle.schema.specs.Shape.{Shape}
@@ -55,7 +55,7 @@ module _ {S R : Type 0} (g : Loop S R) (p : List ℕ) where
       onward = left-more (g .shape) p at (w .left) (w .items) f m e
 
       -- the item, and it with those after it
-      pub loop-whole : Whole (itemOf p m) (treeOf (itemOf p m))
+      pub loop-whole : Whole (itemOf p m) (partTree (itemOf p m))
       loop-whole = onward .whole
 
       pub loop-fit : (l : List Picked) × g .Fit (picked (g .shape) p m ∷ l)

@@ -5,14 +5,14 @@ use mathlib.Core.Path.{_≡_, refl}
 use Prim.Native.Nat.{ℕ, _+_}
 use native.Mathlib.Omega.{arith}
 use Rattle.schema.specs.Table23 as table
-use Rattle.schema.specs.Pick.{Picked}
+use Rattle.schema.specs.Pick.{Picked, elements}
 use Rattle.geometry.specs.Ring.{Point}
 use Rattle.geometry.specs.inner.Shifted.{stands}
 use Rattle.geometry.specs.declared.Standing.the-variants.{Edge, Is}
 use Rattle.geometry.proofs.Holed.{heldFrom, from-none, from-edge, from-next, from-first}
-use Rattle.rings.specs.Rings.{ring, ringPositions, ringsFound, polygon, polygonPositions, polygonsFound}
+use Rattle.rings.specs.Rings.{ring, itemCount, ringsFound, polygon, polygonPositions, polygonsFound}
 use Rattle.rings.specs.inner.Parts.{ringShape, polygonShape}
-use Rattle.document.specs.Document.{Maybe, none, some, elements, textIn}
+use Rattle.document.specs.Document.{Maybe, none, some, textIn}
 use Rattle.fields.specs.inner.Values.{isId}
 use Rattle.zone.specs.declared.Given.{Given}
 use Rattle.zone.specs.Zone.{outline, ringsHold, polygonsHoldBy, polygonsHold, anyText, rules}
@@ -58,7 +58,7 @@ unasked = record { first = true; held = false }
 module _ (q : Point) where
   pub rings-rest : (x : Picked) (l : List Picked) → (n : ℕ) × (ringsFound n (x ∷ l) ≡ []) → (n : ℕ) × (ringsFound n l ≡ [])
   unfolding ringsFound
-  rings-rest x l (n, e) = (n + ringPositions x, append-eq-nil-iff {p = ring n x} .0 e .1)
+  rings-rest x l (n, e) = (n + itemCount x, append-eq-nil-iff {p = ring n x} .0 e .1)
 
   abbrev pub rings : Loop Asked Bool
   rings =

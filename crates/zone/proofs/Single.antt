@@ -14,16 +14,17 @@ use Rattle.json.specs.Tree.{Json}
 use Rattle.schema.specs.Shape as shape
 use Rattle.schema.specs.Shape.{fileShape}
 use Rattle.schema.specs.Table23.{table23, written23, coordinates, zone}
-use Rattle.schema.specs.Pick.{Picked, pick}
+use Rattle.schema.specs.Records.{located}
+use Rattle.schema.specs.Pick.{Picked, pick, elements}
 use Rattle.geometry.specs.Ring.{Point}
 use Rattle.geometry.specs.Held.{holds, polygonHolds}
 use Rattle.geometry.proofs.Polygon.{polygons}
-use Rattle.rings.specs.Rings.{count, polygonRings, coordinatesFound}
+use Rattle.rings.specs.Rings.{count, itemCount, coordinatesFound}
 use Rattle.rings.specs.OneRing.{coordinatesOfOne, OneRingAtMost}
 use Rattle.rings.proofs.OneRing.{coordinates-one}
 use Rattle.judge.specs.Faults.{top, numbered, faultsBy, fileFaultsBy}
-use Rattle.document.specs.Document.{Maybe, none, some, elements, elementsOf, along, field, fieldItems}
-use Rattle.clean.specs.declared.Cleanness.{Cleanness}
+use Rattle.document.specs.Document.{Maybe, none, some, elementsOf, along, field, fieldItems}
+use Rattle.clean.specs.declared.Outcome.{Outcome}
 use Rattle.clean.specs.Clean.{treeOf, recordsOf, cleanOf}
 use Rattle.clean.proofs.Alike.{plain, Way, arrived, into, here, below, Same, plain-same, way-same, records-same, clean-alike}
 use Rattle.zone.specs.Zone.{outline, counts, ringsHold, polygonsHoldBy, polygonsHold, polygonsOf, zoneHolds, zoneRulesBy, rulesBy, applicable, zonesOf, rulesAt}
@@ -43,7 +44,7 @@ module _ (q : Point) where
   one-ring (r ∷ []) e = polygons .alone (outline r) q ∙ either-false (holds (outline r) q)
   one-ring (r ∷ s ∷ rs) e = absurd (omega arith)
 
-  one-polygon : (p : Picked) → polygonRings p ≤ 1 → ringsHold (elements p) q ≡ ringsHoldOfOne (elements p) q
+  one-polygon : (p : Picked) → itemCount p ≤ 1 → ringsHold (elements p) q ≡ ringsHoldOfOne (elements p) q
   unfolding count
   one-polygon (Picked.items is) e = one-ring _ e
   one-polygon (Picked.bare x) e = one-ring [] (omega arith)
@@ -94,7 +95,7 @@ unfolding fileShape written23 plain
 to-zones = into (below refl refl (below refl refl (below refl refl (here refl)))) (into (here refl) (into (below refl refl (here refl)) arrived))
 
 zones-along : (s : List ℕ) → zonesOf s ≡ elementsOf (along (4 ∷ 5 ∷ 7 ∷ []) (pick (fileShape table23 6) (treeOf s)))
-unfolding recordsOf
+unfolding located recordsOf
 zones-along s = refl
 
 zone-alike : (x : Json) → OneRingAtMost (polygonsOf (pick zone x)) → Alike zone (pick zone x)
@@ -135,7 +136,7 @@ clean-one file s one = clean-alike _ _ file s (faults-one file s one)
 answered : (s : List ℕ) (q : Point) (type : List ℕ) (moment : ℕ) → WithoutHoles s → rulingOf s q type moment ≡ rulingOfOne s q type moment
 unfolding rulingOf rulesAt
 answered s q type moment one =
-    ap₂ (λ (c : Cleanness) (l : List Picked). onMap q ⇒ ofClean c (ofRules (applicable l type)) else refused 8 noParts) (clean-one 6 s (λ e. one))
+    ap₂ (λ (c : Outcome) (l : List Picked). onMap q ⇒ ofClean c (ofRules (applicable l type)) else refused 8 noParts) (clean-one 6 s (λ e. one))
     (zones-same q moment (zonesOf s) one)
 
 pub single : Single

@@ -11,7 +11,7 @@ use Rattle.notation.specs.Ascii.{bytes}
 use Rattle.walk.specs.Part.{kindAt}
 use Rattle.document.specs.Document.{none, some}
 use Rattle.fields.specs.Values.{integerIn}
-use Rattle.fields.specs.inner.Values.{code, truthBy, spelledBy, memberOf}
+use Rattle.fields.specs.inner.Values.{kindCode, truthBy, spelledBy, memberOf}
 use Rattle.fields.proofs.Ways.{spelled-none, spelled-some}
 use Rattle.zone.specs.declared.Flag.the-variants as flag
 use Rattle.zone.specs.declared.Limit.the-variants as limit
@@ -19,7 +19,7 @@ use Rattle.zone.specs.Zone.{integer, begun, unended}
 use Rattle.zone.specs.inner.Values.{countsBy, flagOf, limitOf}
 
 -- by the kind of q
-module _ (q : List ℕ) (n : ℕ) (e : n ≡ code (kindAt q)) where
+module _ (q : List ℕ) (n : ℕ) (e : n ≡ kindCode (kindAt q)) where
   truth-none : (n ≡ 1 → ⊥) → truthBy q ≡ none
   unfolding truthBy
   truth-none h = rw (← e, ne-eqb n 1 h)

@@ -12,8 +12,8 @@ use Rattle.schema.specs.Pick.{Picked}
 use Rattle.geometry.specs.Ring.{Point}
 use Rattle.document.specs.Document.{Maybe, none, some, spelling, truth, given}
 use Rattle.fields.specs.Values.{integerIn}
-use Rattle.clean.specs.declared.Cleanness.{Cleanness}
-use Rattle.clean.specs.declared.Cleanness.the-variants.{Clean, Broken}
+use Rattle.clean.specs.declared.Outcome.{Outcome}
+use Rattle.clean.specs.declared.Outcome.the-variants.{Unbroken, Broken}
 use Rattle.clean.specs.Clean.{cleanOf}
 use Rattle.zone.specs.declared.Rule.{Rule}
 use Rattle.zone.specs.declared.Ruling.{Ruling}
@@ -76,8 +76,8 @@ abbrev pub ofRules : List Picked → Answer
 ofRules [] = refused 9 noParts
 ofRules (r ∷ rs) = found (values (r ∷ rs))
 
-abbrev pub ofClean : Cleanness → Answer → Answer
-ofClean Clean next = next
+abbrev pub ofClean : Outcome → Answer → Answer
+ofClean Unbroken next = next
 ofClean (Broken p) next = refused 5 p
 
 -- of the bytes s of file 6, a point, a type and a moment

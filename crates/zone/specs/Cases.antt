@@ -1,7 +1,7 @@
 -- The zone rule on files, computed, where a rule is easy to get wrong. Document 01's own reading (j) stands in the table of all of them.
 use mathlib.Core.Bool.{Bool, true, false}
 use mathlib.Core.List.{List, [], _∷_, _++_}
-use mathlib.Core.Path.{_≡_, refl}
+use mathlib.Core.Path.{refl}
 use Prim.Native.Nat.{ℕ, _*_}
 use Prim.Native.String.{String}
 use lib.Dec.{eqb}
@@ -21,7 +21,7 @@ use Rattle.zone.specs.Answer.{Answer, refused, found, values, onMap, rul
 
 -- opens every definition of this layer
 unfoldable pub ruled : Unit {0}
-unfolding judging identified pick.at document.field document.fieldItems document.along document.text document.spelling document.truth clean.treeOf clean.recordsOf clean.usedBefore clean.repeatedId clean.repeatsFrom clean.repeats clean.cleanBy counts ringsHold polygonsHoldBy anyText applies zoneRulesBy rulesBy applicable rulesAt firstGiven values onMap rulingOf
+unfolding judging identified pick.slotOf document.field document.fieldItems document.along document.text document.spelling document.truth clean.treeOf clean.recordsOf clean.usedBefore clean.repeatedId clean.repeatsFrom clean.repeats clean.cleanBy counts ringsHold polygonsHoldBy anyText applies zoneRulesBy rulesBy applicable rulesAt firstGiven values onMap rulingOf
 ruled = tt
 
 -- a file of these zones; a zone of these polygons, and of this one ring, with these other properties and these rules

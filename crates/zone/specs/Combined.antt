@@ -7,7 +7,7 @@ use Prim.Native.Nat.{ℕ}
 use Rattle.schema.specs.Pick.{Picked}
 use Rattle.geometry.specs.Ring.{Point}
 use Rattle.document.specs.Document.{Maybe, spelling, truth, given}
-use Rattle.clean.specs.declared.Cleanness.the-variants.{Clean}
+use Rattle.clean.specs.declared.Outcome.the-variants.{Unbroken}
 use Rattle.clean.specs.Clean.{cleanOf}
 use Rattle.zone.specs.declared.Rule.{Rule}
 use Rattle.zone.specs.Zone.{rulesAt, firstGiven}
@@ -35,7 +35,7 @@ pub record NothingNew (l k : List Picked) : Type 0 where
 
 pub record Combining : Type 0 where
   -- a clean file answers with what the rules that apply give
-  pub answered : (s : List ℕ) (q : Point) (type : List ℕ) (moment : ℕ) → onMap q ≡ true → cleanOf 6 s ≡ Clean
+  pub answered : (s : List ℕ) (q : Point) (type : List ℕ) (moment : ℕ) → onMap q ≡ true → cleanOf 6 s ≡ Unbroken
       → rulingOf s q type moment ≡ ofRules (rulesAt s q type moment)
   -- of one rule alone the values are its own
   pub oneRule : (x : Picked) → ofRules (x ∷ []) ≡ found (own x)

@@ -6,13 +6,12 @@ use mathlib.Core.Path.{_≡_}
 use Prim.Native.Nat.{ℕ, _≤_}
 use Rattle.notation.specs.Choice.{_⇒_else_}
 use Rattle.word.specs.Word.{noParts}
-use Rattle.schema.specs.Pick.{Picked}
+use Rattle.schema.specs.Pick.{Picked, elements}
 use Rattle.geometry.specs.Ring.{Point}
 use Rattle.geometry.specs.Held.{holds}
-use Rattle.rings.specs.Rings.{polygonRings}
+use Rattle.rings.specs.Rings.{itemCount}
 use Rattle.rings.specs.OneRing.{coordinatesOfOne, OneRingAtMost}
-use Rattle.document.specs.Document.{elements}
-use Rattle.clean.specs.declared.Cleanness.{Cleanness}
+use Rattle.clean.specs.declared.Outcome.{Outcome}
 use Rattle.clean.specs.Clean.{cleanBy, cleanOf}
 use Rattle.zone.specs.Zone.{outline, ringsHold, polygonsHoldBy, polygonsOf, zoneHolds, rulesBy, applicable, zonesOf}
 use Rattle.zone.specs.Answer.{Answer, refused, onMap, ofRules, ofClean, rulingOf}
@@ -23,7 +22,7 @@ WithoutHoles s = (zone : Picked) → List·Memᴰ zone (zonesOf s) → OneRingAt
 
 -- document 01's own: a file is clean by its rules on polygons, a polygon holds what a ring of it does, a zone what a polygon of it does; and the answer by
 -- these
-abbrev pub cleanOfOne : ℕ → List ℕ → Cleanness
+abbrev pub cleanOfOne : ℕ → List ℕ → Outcome
 cleanOfOne = cleanBy coordinatesOfOne
 
 unfoldable pub ringsHoldOfOne : List Picked → Point → Bool
@@ -41,7 +40,7 @@ rulingOfOne s q type moment =
     onMap q ⇒ ofClean (cleanOfOne 6 s) (ofRules (applicable (rulesBy zoneHoldsOfOne (zonesOf s) q moment) type)) else refused 8 noParts
 
 pub record Single : Type 0 where
-  pub polygon : (p : Picked) (q : Point) → polygonRings p ≤ 1 → ringsHold (elements p) q ≡ ringsHoldOfOne (elements p) q
+  pub polygon : (p : Picked) (q : Point) → itemCount p ≤ 1 → ringsHold (elements p) q ≡ ringsHoldOfOne (elements p) q
   pub zone : (z : Picked) (q : Point) → OneRingAtMost (polygonsOf z) → zoneHolds z q ≡ zoneHoldsOfOne z q
   -- any file judged alone; only file 6 has polygons
   pub clean : (file : ℕ) (s : List ℕ) → (file ≡ 6 → WithoutHoles s) → cleanOf file s ≡ cleanOfOne file s

@@ -7,11 +7,11 @@ use Rattle.notation.specs.Choice.{_⇒_else_, _and_}
 use Rattle.text.specs.Text.{same}
 use Rattle.schema.specs.Shape.{fileShape}
 use Rattle.schema.specs.Table23.{table23}
-use Rattle.schema.specs.Pick.{Picked, pick}
+use Rattle.schema.specs.Pick.{Picked, pick, elements}
 use Rattle.geometry.specs.Ring.{Point}
 use Rattle.geometry.specs.Held.{sideOf, polygonHolds}
 use Rattle.rings.specs.Rings.{position}
-use Rattle.document.specs.Document.{Maybe, none, some, along, elements, elementsOf, field, fieldItems, spelling, textIn}
+use Rattle.document.specs.Document.{Maybe, none, some, along, elementsOf, field, fieldItems, spelling, textIn}
 use Rattle.fields.specs.Values.{integerIn}
 use Rattle.clean.specs.Clean.{treeOf, recordsOf}
 

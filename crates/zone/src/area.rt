@@ -8,7 +8,7 @@ use rings::ring::ring_points;
 use walk::ItemStep;
 use walk::pass_item;
 ghost use mathlib.Core.Path.{_≡_};
-ghost use Rattle.walk.specs.Part.{treeOf};
+ghost use Rattle.walk.specs.Part.{partTree};
 ghost use Rattle.schema.specs.Pick.{pick};
 ghost use Rattle.schema.specs.Table23.{zone};
 ghost use Rattle.geometry.specs.inner.Shifted.{OnMap, point, stands};
@@ -20,7 +20,7 @@ ghost use Rattle.zone.specs.inner.Clean.{CleanRing, CleanItems, CleanZon
 // Where the point stands to a polygon's rings once the ring `p` was asked too.
 fn stand_to(p: &[u8], q: Position, first: bool, held: bool) -> Standing
     requires { ⌜ CleanRing (now p) × OnMap q ⌝ }
-    ensures { λ r. ⌜ r ≡ stands first held (outline (pick ringShape (treeOf (now (p .entry))))) (point q) ⌝ }
+    ensures { λ r. ⌜ r ≡ stands first held (outline (pick ringShape (partTree (now (p .entry))))) (point q) ⌝ }
 {
     let ring = ring_points(p);
     let count = ring.count as usize;
@@ -86,7 +86,7 @@ fn polygons_hold(p: &[u8], q: Position) -> bool
 // Whether the zone `p` does.
 pub fn zone_holds(p: &[u8], q: Position) -> bool
     requires { ⌜ CleanZone (now p) × OnMap q ⌝ }
-    ensures { λ r. ⌜ r ≡ zoneHolds (pick zone (treeOf (now (p .entry)))) (point q) ⌝ }
+    ensures { λ r. ⌜ r ≡ zoneHolds (pick zone (partTree (now (p .entry)))) (point q) ⌝ }
 {
     polygons_hold(array_in(member(member(p, b"geometry"), b"coordinates")), q)
 }

@@ -2,7 +2,7 @@
 use crate::point::on_map;
 use crate::point::raised;
 use crate::zones::rule_in;
-use clean::Cleanness;
+use clean::Outcome;
 use clean::check_clean;
 use geometry::Position;
 use word::Parts;
@@ -68,14 +68,14 @@ pub fn zone_rule(s: &[u8], lon: i64, lat: i64, type_id: &[u8], moment: u64) -> R
         return Ruling::OffMap;
     }
     match check_clean(Ruling::FILE, s) {
-        Cleanness::Clean => {
+        Outcome::Unbroken => {
             let q = Position {
                 lon: raised(lon, 180_000_000),
                 lat: raised(lat, 90_000_000),
             };
             return rule_in(s, q, type_id, moment);
         }
-        Cleanness::Broken(p) => {
+        Outcome::Broken(p) => {
             return Ruling::NotClean(p);
         }
     }

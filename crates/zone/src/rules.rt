@@ -11,7 +11,7 @@ use fields::member;
 use walk::ItemStep;
 use walk::pass_item;
 ghost use mathlib.Core.Path.{_≡_};
-ghost use Rattle.walk.specs.Part.{Whole, treeOf};
+ghost use Rattle.walk.specs.Part.{Whole, partTree};
 ghost use Rattle.schema.specs.Pick.{pick};
 ghost use Rattle.schema.specs.Table23.{rule};
 ghost use Rattle.rings.specs.inner.Parts.{Listing, partsOf};
@@ -47,7 +47,7 @@ fn limit_in(q: &[u8]) -> Limit
 
 // What the rule `p` gives.
 fn given_in(p: &[u8]) -> Given
-    requires { ⌜ Whole (now p) (treeOf (now p)) ⌝ }
+    requires { ⌜ Whole (now p) (partTree (now p)) ⌝ }
     ensures { λ r. ⌜ r ≡ givenBy (now (p .entry)) ⌝ }
 {
     Given {
@@ -84,8 +84,8 @@ fn names_type(p: &[u8], type_id: &[u8]) -> bool
 
 // Whether the rule `p` is for a type: it names the type, or has no ids. An empty array names nobody.
 fn applies(p: &[u8], type_id: &[u8]) -> bool
-    requires { ⌜ Whole (now p) (treeOf (now p)) ⌝ }
-    ensures { λ r. ⌜ r ≡ appliesTo (pick rule (treeOf (now (p .entry)))) (now («type_id» .entry)) ⌝ }
+    requires { ⌜ Whole (now p) (partTree (now p)) ⌝ }
+    ensures { λ r. ⌜ r ≡ appliesTo (pick rule (partTree (now (p .entry)))) (now («type_id» .entry)) ⌝ }
 {
     let ids = member(p, b"vehicle_type_id");
     if ids.len() == 0 {
@@ -96,8 +96,8 @@ fn applies(p: &[u8], type_id: &[u8]) -> bool
 
 // What is given so far, joined by what the rule `p` gives where it is for a type.
 fn with_rule(p: &[u8], type_id: &[u8], start: Given) -> Given
-    requires { ⌜ Whole (now p) (treeOf (now p)) ⌝ }
-    ensures { λ r. ⌜ r ≡ withRule (now («type_id» .entry)) start (pick rule (treeOf (now (p .entry)))) ⌝ }
+    requires { ⌜ Whole (now p) (partTree (now p)) ⌝ }
+    ensures { λ r. ⌜ r ≡ withRule (now («type_id» .entry)) start (pick rule (partTree (now (p .entry)))) ⌝ }
 {
     if !applies(p, type_id) {
         return start;

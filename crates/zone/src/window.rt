@@ -4,7 +4,7 @@ use fields::code_of;
 use fields::integer_in;
 use fields::member;
 ghost use mathlib.Core.Path.{_≡_};
-ghost use Rattle.walk.specs.Part.{Whole, treeOf};
+ghost use Rattle.walk.specs.Part.{Whole, partTree};
 ghost use Rattle.fields.specs.inner.Values.{spelledBy};
 ghost use Rattle.zone.specs.Zone.{integer, begun as begunAt, unended as unendedAt};
 ghost use Rattle.zone.specs.inner.Values.{countsBy};
@@ -31,7 +31,7 @@ fn unended(q: &[u8], moment: u64) -> bool
 
 // Whether a zone of the properties `p` counts at a moment.
 pub fn counts(p: &[u8], moment: u64) -> bool
-    requires { ⌜ Whole (now p) (treeOf (now p)) ⌝ }
+    requires { ⌜ Whole (now p) (partTree (now p)) ⌝ }
     ensures { λ r. ⌜ r ≡ countsBy (now (p .entry)) moment ⌝ }
 {
     if !begun(member(p, b"start"), moment) {

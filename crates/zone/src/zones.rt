@@ -11,12 +11,12 @@ use geometry::Position;
 use walk::ItemStep;
 use walk::pass_item;
 ghost use mathlib.Core.Path.{_≡_};
-ghost use Rattle.walk.specs.Part.{treeOf};
+ghost use Rattle.walk.specs.Part.{partTree};
 ghost use Rattle.schema.specs.Table23.{zone};
 ghost use Rattle.schema.specs.Pick.{pick};
 ghost use Rattle.geometry.specs.inner.Shifted.{OnMap, point};
 ghost use Rattle.rings.specs.inner.Parts.{partsOf};
-ghost use Rattle.clean.specs.declared.Cleanness.the-variants.{Clean};
+ghost use Rattle.clean.specs.declared.Outcome.the-variants.{Unbroken};
 ghost use Rattle.clean.specs.Clean.{cleanOf};
 ghost use Rattle.zone.specs.Zone.{zoneRules, rules, applicable, rulesAt};
 ghost use Rattle.zone.specs.Answer.{answer, ofRules};
@@ -26,7 +26,7 @@ ghost use Rattle.zone.specs.inner.Clean.{CleanZone, CleanZones};
 // What is given so far, joined by what the rules of the zone `p` give for a type, where the zone counts at the moment and holds the point.
 fn with_zone(p: &[u8], q: Position, type_id: &[u8], moment: u64, start: Given) -> Given
     requires { ⌜ CleanZone (now p) × OnMap q ⌝ }
-    ensures { λ r. ⌜ r ≡ orGiven start (allGiven (applicable (zoneRules (pick zone (treeOf (now (p .entry)))) (point q) moment) (now («type_id» .entry)))) ⌝ }
+    ensures { λ r. ⌜ r ≡ orGiven start (allGiven (applicable (zoneRules (pick zone (partTree (now (p .entry)))) (point q) moment) (now («type_id» .entry)))) ⌝ }
 {
     let properties = member(p, b"properties");
     if !counts(properties, moment) {
@@ -65,7 +65,7 @@ fn given_by_zones(p: &[u8], q: Position, type_id: &[u8], moment: u64) -> Given
 
 // The answer by a clean file; an absent one has no zones.
 pub fn rule_in(s: &[u8], q: Position, type_id: &[u8], moment: u64) -> Ruling
-    requires { ⌜ (cleanOf 6 (now s) ≡ Clean) × OnMap q ⌝ }
+    requires { ⌜ (cleanOf 6 (now s) ≡ Unbroken) × OnMap q ⌝ }
     ensures { λ r. ⌜ answer r ≡ ofRules (rulesAt (now (s .entry)) (point q) (now («type_id» .entry)) moment) ⌝ }
 {
     if s.len() == 0 {

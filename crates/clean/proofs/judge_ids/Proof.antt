@@ -8,8 +8,8 @@ use Rattle.fault.specs.declared.Least.{Least}
 use Rattle.fault.specs.Fault.{fault}
 use Rattle.ids.specs.inner.Ids.{idField}
 use Rattle.ids.proofs.Picked.{id-field}
-use Rattle.clean.specs.declared.Cleanness.the-variants.{Clean, Broken}
-use Rattle.clean.specs.Clean.{place, broken}
+use Rattle.clean.specs.declared.Outcome.the-variants.{Unbroken, Broken}
+use Rattle.clean.specs.Clean.{faultParts, broken}
 use Rattle.clean.proofs.Repeated.{repeats-none}
 use Rattle.clean.proofs.Judged.{ids-clean, ids-broken}
 use Rattle.clean.proofs.judge_ids.Statement.{statement}
@@ -18,7 +18,7 @@ use Rattle.clean.proofs.judge_ids.Tie as tie
 returns : tie.Need-returns
 returns c =
     let f = c .before in let g = f .before .before in let e : idField (g .args .file) ≡ 0 = sym (f .id-field .ensures) ∙ c .if1 .taken in
-    ap (λ (z : Least). broken (g .args .file) z Clean) (sym (repeats-none (g .args .file) (λ h i. omega (arith, id-field (g .args .file) i, e)) _))
+    ap (λ (z : Least). broken (g .args .file) z Unbroken) (sym (repeats-none (g .args .file) (λ h i. omega (arith, id-field (g .args .file) i, e)) _))
 
 repeat-of-requires : tie.Need-repeat-of-requires
 repeat-of-requires c κs =
@@ -32,7 +32,7 @@ returns-2 c =
 returns-3 : tie.Need-returns-3
 returns-3 c =
     let r = c .before in let f = r .before .before in let file = f .before .before .args .file in let n = r .repeat-of .result in
-    ap (λ (φ : ℕ). Broken (place file (fault n φ 0 idTwice))) (f .id-field .ensures) ∙ ids-broken file n _ (r .repeat-of .ensures) (c .if2 .left)
+    ap (λ (φ : ℕ). Broken (faultParts file (fault n φ 0 idTwice))) (f .id-field .ensures) ∙ ids-broken file n _ (r .repeat-of .ensures) (c .if2 .left)
 
 pub judge-ids-spec : {M : Type 1} → statement M
 judge-ids-spec = tie.close (tie.spec (λ c κs. search needs) returns repeat-of-requires returns-2 returns-3)

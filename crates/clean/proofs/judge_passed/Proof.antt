@@ -3,7 +3,7 @@ use borrow.Author.Needs.{needs}
 use mathlib.Core.Path.{_≡_, sym, ap, _∙_}
 use native.Mathlib.Omega.{arith}
 use Rattle.judge.proofs.Fits.{first-fits}
-use Rattle.clean.specs.declared.Cleanness.the-variants.{Broken}
+use Rattle.clean.specs.declared.Outcome.the-variants.{Broken}
 use Rattle.clean.proofs.Judged.{judged-on, judged-broken}
 use Rattle.clean.proofs.judge_passed.Statement.{statement}
 use Rattle.clean.proofs.judge_passed.Tie as tie

@@ -2,7 +2,7 @@
 use borrow.Author.Needs.{needs}
 use mathlib.Core.Path.{_≡_, sym, ap, _∙_}
 use native.Mathlib.Omega.{arith}
-use Rattle.clean.specs.declared.Cleanness.the-variants.{Clean, Broken}
+use Rattle.clean.specs.declared.Outcome.the-variants.{Unbroken, Broken}
 use Rattle.clean.specs.Show.{ofSpan, shownOf}
 use Rattle.clean.proofs.Judged.{shown-none, shown-of}
 use Rattle.clean.proofs.Shows.{listed}
@@ -27,7 +27,7 @@ cleanly c =
     let t = c .before in let k = t .before .before in let a = k .before .before .before .before .args in
     let e = sym (t .enum-told .given .1) ∙ k .check-clean .ensures in
     ap ofSpan (c .record-span .ensures (listed (a .file) (a .s .now) (omega arith) (omega arith) (sym e)))
-    ∙ shown-of (a .file) (a .«record») (a .s .now) (omega arith) (omega arith) Clean e
+    ∙ shown-of (a .file) (a .«record») (a .s .now) (omega arith) (omega arith) Unbroken e
 
 returns-4 : tie.Need-returns-4
 returns-4 c = let r = c .before .before in ap ofSpan (sym (c .enum-told2 .given .1)) ∙ cleanly r

@@ -11,7 +11,7 @@ use Rattle.json.specs.Tree as tree
 use Rattle.json.specs.Tree.{Members}
 use Rattle.walk.specs.declared.Item.{Item}
 use Rattle.walk.specs.Walk.{itemsOf}
-use Rattle.walk.specs.Part.{Whole, treeOf}
+use Rattle.walk.specs.Part.{Whole, partTree}
 use Rattle.walk.proofs.Parts.{itemOf}
 use Rattle.schema.specs.Table23.{available}
 use Rattle.schema.specs.Records.{recordShape}
@@ -26,14 +26,14 @@ use Rattle.judge.specs.Faults.{faulty}
 use Rattle.document.proofs.Records.{pickedItems}
 use Rattle.fields.specs.Values.{integerIn}
 use Rattle.fields.specs.inner.Values.{Standing, foundBytes, textBy, thereBy, arrayBy, spelledBy}
-use Rattle.references.specs.References.{when, roomy, driven, named, refers, demanded}
+use Rattle.references.specs.References.{kindIf, hasCapacity, motorized, named, refers, demanded}
 use Rattle.references.specs.inner.Known.{Searchable}
-use Rattle.cross.specs.Cross.{File, Files, at, sumOf, availableFaults}
+use Rattle.cross.specs.Cross.{File, Files, recordPlace, sumOf, availableFaults}
 use Rattle.cross.specs.Stage.{Feeds, bytesOf}
 
 -- every record of the array is an object
 abbrev pub Objects : List ℕ → Type 0
-Objects p = (m : Item) → List·Memᴰ m (itemsOf p) → (ms : Members) × (treeOf (itemOf p m) ≡ tree.object ms)
+Objects p = (m : Item) → List·Memᴰ m (itemsOf p) → (ms : Members) × (partTree (itemOf p m) ≡ tree.object ms)
 
 -- the bytes are an object's
 abbrev pub Object : List ℕ → Type 0
@@ -82,17 +82,17 @@ positionBy place station lat lon =
 abbrev pub vehicleBy : Place → (types : File) (type range : List ℕ) → List Fault
 vehicleBy place types type range =
     faulty place 45 (demanded (types .here) (thereBy type) ++ refers (textBy type) 10 (types .records)) ++
-    faulty place 46 (demanded (named driven 10 (types .records) (textBy type)) (thereBy range))
+    faulty place 46 (demanded (named motorized 10 (types .records) (textBy type)) (thereBy range))
 
 abbrev pub stationBy : Place → (stations : File) (station docks : List ℕ) → List Fault
 stationBy place stations station docks =
     faulty place 30 (refers (textBy station) 20 (stations .records)) ++
-    faulty place 32 (demanded (named roomy 20 (stations .records) (textBy station)) (thereBy docks))
+    faulty place 32 (demanded (named hasCapacity 20 (stations .records) (textBy station)) (thereBy docks))
 
 abbrev pub countsBy : ℕ → (types : File) (counts bikes : List ℕ) → List Fault
 countsBy n types counts bikes =
     let items = pickedItems available (arrayBy counts) in
-    faulty (at n 0) 37 (demanded (types .here) (thereBy counts) ++ when (thereBy counts and not (eqb (sumOf items) (integerIn (spelledBy bikes)))) sumDiffers) ++
+    faulty (recordPlace n 0) 37 (demanded (types .here) (thereBy counts) ++ kindIf (thereBy counts and not (eqb (sumOf items) (integerIn (spelledBy bikes)))) sumDiffers) ++
     availableFaults (types .records) n 1 items
 
 -- p is an object, and r the least of the rules that it breaks as a record of a file

@@ -9,8 +9,8 @@ use Rattle.schema.specs.Shape.{fileShape}
 use Rattle.schema.specs.Table23.{table23}
 use Rattle.fault.specs.Fault.{least}
 use Rattle.judge.specs.Faults.{fileFaults}
-use Rattle.clean.specs.declared.Cleanness.{Cleanness}
-use Rattle.clean.specs.declared.Cleanness.the-variants.{Clean}
+use Rattle.clean.specs.declared.Outcome.{Outcome}
+use Rattle.clean.specs.declared.Outcome.the-variants.{Unbroken}
 use Rattle.clean.specs.Clean.{treeOf, broken}
 use Rattle.cross.specs.Cross.{Files, crossFaults}
 use Rattle.cross.specs.Stage.{Feeds, fileCount, bytesOf}
@@ -21,12 +21,12 @@ onward step none file zero = none
 onward step none file (suc left) = step file (onward step none (file + 1) left)
 
 -- the first file that is not clean
-abbrev pub firstOf : (ℕ → Cleanness → Cleanness) → Cleanness
-firstOf judge = onward judge Clean 1 fileCount
+abbrev pub firstOf : (ℕ → Outcome → Outcome) → Outcome
+firstOf judge = onward judge Unbroken 1 fileCount
 
 -- stage C
-unfoldable pub stageC : Files → Cleanness
-stageC s = firstOf (λ file next. broken file (least (crossFaults s file)) next)
+unfoldable pub firstC : Files → Outcome
+firstC s = firstOf (λ file next. broken file (least (crossFaults s file)) next)
 
 -- a file is through stages A and B
 pub record Through (n : ℕ) (s : List ℕ) : Type 0 where

@@ -17,13 +17,13 @@ use Rattle.judge.specs.Faults.{top, faulty}
 use Rattle.document.proofs.Records.{pickedItems}
 use Rattle.ids.specs.inner.Ids.{idField, recordBytes, firstRepeat}
 use Rattle.clean.specs.inner.Blamed.{blamed}
-use Rattle.references.specs.References.{when}
+use Rattle.references.specs.References.{kindIf}
 use Rattle.references.specs.inner.Known.{Searchable}
 use Rattle.cross.specs.declared.records.Findings.{Findings}
 use Rattle.cross.specs.declared.stage.Named.{Named}
 use Rattle.cross.specs.declared.stage.Crossed.{Crossed}
 use Rattle.cross.specs.declared.stage.Crossed.the-variants.{Nothing, At}
-use Rattle.cross.specs.Cross.{each, faultsOf, absentees}
+use Rattle.cross.specs.Cross.{eachRecord, faultsOf, absentees}
 use Rattle.cross.specs.Stage.{Feeds, fileCount, bytesOf}
 use Rattle.cross.specs.inner.Judged.{Objects, filesBy, Known}
 use Rattle.cross.specs.inner.Stage.{onward}
@@ -50,7 +50,7 @@ module _ (rs : Feeds) where
   -- what is found of the records p of a file: the first that repeats an id, and the least of the rules that they break otherwise
   pub record Finds (file : ℕ) (p : List ℕ) (found : Findings) : Type 0 where
     pub repeats : found .repeat ≡ repeatOf file p
-    pub breaks : found .least ≡ least (each (faultsOf (filesBy rs) file) 1 (pickedItems (recordShape file) p))
+    pub breaks : found .least ≡ least (eachRecord (faultsOf (filesBy rs) file) 1 (pickedItems (recordShape file) p))
 
   abbrev pub Found : ℕ → Findings → Type 0
   Found file found = Finds file (bytesOf rs file) found
@@ -58,8 +58,8 @@ module _ (rs : Feeds) where
   -- the least of a file
   unfoldable pub fileLeast : ℕ → Least
   fileLeast file =
-      lesser (least (faulty top 0 (when (absentees (filesBy rs) file) condition)))
-      (lesser (idsLeast file (bytesOf rs file)) (least (each (faultsOf (filesBy rs) file) 1 (filesBy rs file .records))))
+      lesser (least (faulty top 0 (kindIf (absentees (filesBy rs) file) condition)))
+      (lesser (idsLeast file (bytesOf rs file)) (least (eachRecord (faultsOf (filesBy rs) file) 1 (filesBy rs file .records))))
 
   -- what is known when types are judged
   pub record Others (stationNotes planNotes : List ℕ) : Type 0 where

@@ -6,7 +6,7 @@ use native.Mathlib.Omega.{arith}
 use lib.ListN.{length}
 use Rattle.notation.specs.Ascii.{bytes}
 use Rattle.schema.specs.Records.{wayTo, located}
-use Rattle.document.specs.Spans.{memberAt, topSpan}
+use Rattle.document.specs.Spans.{memberSpan, topSpan}
 use Rattle.document.proofs.Cuts.{part-length}
 use Rattle.document.proofs.Along.{along-two, along-three, along-none}
 use Rattle.document.proofs.Rests.{Begins, begins-top, begins-member, records-begin, no-records}
@@ -15,7 +15,7 @@ use Rattle.document.proofs.records_from.Tie as tie
 
 -- what `data` holds
 in-data : (c : tie.After-value-from) → let s = c .before .before .before .before .before .args .s .now in
-    Begins s (memberAt s (bytes "data") (topSpan s)) (c .value-from .result .now)
+    Begins s (memberSpan s (bytes "data") (topSpan s)) (c .value-from .result .now)
 in-data c =
     let k = c .before .before .before in let s = k .before .before .args .s .now in
     begins-member s (bytes "data") (topSpan s) _ _ (begins-top s (k .skip-blanks .result) (k .skip-blanks .ensures)) (c .value-from .ensures)

@@ -6,7 +6,7 @@ use native.Mathlib.Omega.{arith}
 use lib.ListN.{length}
 use Rattle.notation.specs.Choice.{_⇒_else_}
 use Rattle.walk.specs.Walk.{part}
-use Rattle.walk.specs.Part.{treeOf}
+use Rattle.walk.specs.Part.{partTree}
 use Rattle.slots.specs.inner.Blank.{blankText}
 use Rattle.fields.specs.inner.Values.{foundBytes, Standing}
 use Rattle.fields.proofs.Sizes.{part-short}
@@ -23,8 +23,8 @@ returns-2 c =
     let t = c .before in let f = t .before .before in
     let p = f .before .before .before .args .p .now in let from = f .found .given .0 .0 in let upto = f .found .given .0 .1 .0 in (
       λ w.
-          c .unless-blank .ensures .0 (treeOf (part p from upto)) (rw (t .cut .ensures) (subst (Standing p) (f .found .given .1) w))
-          ∙ ap (λ z. blankText (treeOf (part p from upto)) ⇒ [] else z) (t .cut .ensures)
+          c .unless-blank .ensures .0 (partTree (part p from upto)) (rw (t .cut .ensures) (subst (Standing p) (f .found .given .1) w))
+          ∙ ap (λ z. blankText (partTree (part p from upto)) ⇒ [] else z) (t .cut .ensures)
           ∙ sym (ap (foundBytes p) (f .found .given .1)),
       omega (arith, c .unless-blank .ensures .1, ap length (t .cut .ensures), part-short p from upto),
     )

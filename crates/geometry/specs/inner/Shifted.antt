@@ -45,8 +45,8 @@ points (x ∷ xs) (y ∷ ys) = shifted x y ∷ points xs ys
 abbrev pub value : Balance → ℤ
 value b = difference (b .plus) (b .minus)
 
-abbrev pub none : Balance
-none = record { plus = 0; minus = 0 }
+abbrev pub noBalance : Balance
+noBalance = record { plus = 0; minus = 0 }
 
 -- with the edge from a to b: x·y′ − x′·y of the moved coordinates
 abbrev pub added : Balance → Position → Position → Balance
@@ -63,18 +63,18 @@ pub record OnMap (p : Position) : Type 0 where
   pub north : p .lat ≤ 180_000_000
 
 -- the point at an index; past the end it is 0
-abbrev pub at : List ℕ → List ℕ → ℕ → Position
-at xs ys k = record { lon = getD xs k 0; lat = getD ys k 0 }
+abbrev pub positionAt : List ℕ → List ℕ → ℕ → Position
+positionAt xs ys k = record { lon = getD xs k 0; lat = getD ys k 0 }
 
 -- a ring that code is asked about: it need not close
 pub record InRange (xs ys : List ℕ) : Type 0 where
   pub same : length ys ≡ length xs
   pub most : length xs ≤ positions
-  pub map : (k : ℕ) → OnMap (at xs ys k)
+  pub map : (k : ℕ) → OnMap (positionAt xs ys k)
 
 -- where a point lies to a ring, whichever way round that goes
-unfoldable pub place : List Point → Point → Place
-place l q = onRing l q ⇒ Edge else odd l q ⇒ Inside else Outside
+unfoldable pub placeOf : List Point → Point → Place
+placeOf l q = onRing l q ⇒ Edge else odd l q ⇒ Inside else Outside
 
 -- where it stands to a polygon's rings once this one was asked too: an edge settles it; the first ring holds its side, and a further one takes its inside away
 unfoldable pub stands : (first held : Bool) → List Point → Point → Standing

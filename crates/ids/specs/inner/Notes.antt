@@ -6,12 +6,12 @@ use mathlib.Core.Path.{_≡_}
 use Prim.Native.Nat.{ℕ, zero, suc, _+_, _*_, _%_, _≤_, _<_}
 use lib.Dec.{eqb}
 use lib.ListN.{length, getD, set}
-use Rattle.limits.specs.Ceilings.{records}
+use Rattle.limits.specs.Ceilings.{records, fileBytes}
 use Rattle.notation.specs.Choice.{_⇒_else_}
 use Rattle.text.specs.inner.Digest as text
 use Rattle.walk.specs.Walk.{part}
 use Rattle.document.specs.Document.{none, some}
-use Rattle.ids.specs.inner.Ids.{idOf, Unmet, recordBytes}
+use Rattle.ids.specs.inner.Ids.{idOf, idValue, Unmet, recordBytes}
 
 -- as many buckets; all numbers
 abbrev pub buckets : ℕ
@@ -31,8 +31,8 @@ startAt notes j = getD notes (records + j) 0
 abbrev pub endAt : List ℕ → ℕ → ℕ
 endAt notes j = getD notes (2 * records + j) 0
 
-abbrev pub memberAt : List ℕ → ℕ → ℕ
-memberAt notes j = getD notes (3 * records + j) 0
+abbrev pub memberStart : List ℕ → ℕ → ℕ
+memberStart notes j = getD notes (3 * records + j) 0
 
 abbrev pub linkAt : List ℕ → ℕ → ℕ
 linkAt notes j = getD notes (4 * records + j) 0
@@ -59,8 +59,18 @@ kept file q = elim (idOf file q) [ none ↦ [] | some id ↦ q ]
 -- the entry j tells where the j-th record of p is, where the member of its id is looked for, and the digest of its id
 pub record Entry (file : ℕ) (p notes : List ℕ) (j : ℕ) : Type 0 where
   pub there : part p (startAt notes j) (endAt notes j) ≡ kept file (getD (recordBytes p) j [])
-  pub unmet : Unmet file (part p (startAt notes j) (endAt notes j)) (memberAt notes j)
+  pub unmet : Unmet file (part p (startAt notes j) (endAt notes j)) (memberStart notes j)
   pub digested : (id : List ℕ) → idOf file (getD (recordBytes p) j []) ≡ some id → digestAt notes j ≡ text.digest id
+
+-- the record between two places of p is the one behind n others; the member of its id is looked for at `member`, and the id is this value
+pub record Next (file : ℕ) (p : List ℕ) (n from upto member : ℕ) (value : List ℕ) : Type 0 where
+  pub room : n < records
+  pub starts : from ≤ fileBytes
+  pub ends : upto ≤ fileBytes
+  pub looked : member ≤ fileBytes
+  pub unmet : Unmet file (part p from upto) member
+  pub is : part p from upto ≡ getD (recordBytes p) n []
+  pub holds : value ≡ idValue file (part p from upto)
 
 -- the first n records of p are noted, and in chains
 pub record Noted (file : ℕ) (p : List ℕ) (n : ℕ) (notes : List ℕ) : Type 0 where

@@ -1,7 +1,7 @@
 -- `check_syntax` tests the length and judges by where the text's reading ended.
 use borrow.Author.Needs.{needs}
 use mathlib.Core.Path.{sym, _∙_}
-use Rattle.json.specs.Text.{verdictOf}
+use Rattle.json.specs.Text.{syntaxBy}
 use Rattle.json.proofs.Texts.{too-long, judged}
 use Rattle.json.proofs.check_syntax.Statement.{statement}
 use Rattle.json.proofs.check_syntax.Tie as tie
@@ -10,13 +10,13 @@ returns : tie.Need-returns
 returns c = too-long (c .before .before .args .file .now) (c .if1 .taken)
 
 returns-2 : tie.Need-returns-2
-unfolding verdictOf
+unfolding syntaxBy
 returns-2 c =
     let r = c .before .before in let l = r .before in
     judged (l .before .before .args .file .now) _ (l .if1 .left) (sym (c .enum-told .given .1) ∙ r .read-text .ensures)
 
 returns-3 : tie.Need-returns-3
-unfolding verdictOf
+unfolding syntaxBy
 returns-3 c =
     let r = c .before .before .before in let l = r .before in
     judged (l .before .before .args .file .now) _ (l .if1 .left) (sym (c .before .kind .given .1) ∙ r .read-text .ensures)

@@ -1,7 +1,7 @@
 -- `quote_clean` looks the plan up in the file's rest from its records on, and the plan at its place is the picked one.
 use borrow.Author.Needs.{needs}
 use mathlib.Core.Path.{sym, ap, subst, _∙_}
-use Rattle.walk.specs.Part.{treeOf}
+use Rattle.walk.specs.Part.{partTree}
 use Rattle.schema.specs.Pick.{pick}
 use Rattle.schema.specs.Table23.{plan}
 use Rattle.document.specs.Document.{some}
@@ -40,7 +40,7 @@ quote-plan-requires c κs =
 returns-3 : tie.Need-returns-3
 returns-3 c =
     let t = c .before in let d = t .before .before in let f = d .before .before in let r = f .before in let a = r .before .before .before .before .args in
-    c .quote-plan .ensures ∙ ap (λ p. planQuote (a .seconds) (a .metres) (some (pick plan (treeOf p)))) (t .cut .ensures)
+    c .quote-plan .ensures ∙ ap (λ p. planQuote (a .seconds) (a .metres) (some (pick plan (partTree p)))) (t .cut .ensures)
     ∙ quote-some (sound (r .before)) (r .records-from .ensures) (a .id .now) (d .start .given .0 .0) (d .start .given .0 .1 .0)
     (sym (f .find-plan .ensures) ∙ d .start .given .1) (a .seconds) (a .metres)
 

@@ -3,7 +3,7 @@ use borrow.Author.Needs.{needs}
 use borrow.Author.Tests.{not-true, not-false}
 use mathlib.Core.Bool.{true}
 use mathlib.Core.Path.{_≡_, sym, _∙_}
-use Rattle.clean.specs.declared.Cleanness.the-variants.{Clean, Broken}
+use Rattle.clean.specs.declared.Outcome.the-variants.{Unbroken, Broken}
 use Rattle.quote.specs.Quote.{short}
 use Rattle.quote.proofs.Files.{short-both, quote-long, quote-of}
 use Rattle.quote.proofs.quote_trip.Statement.{statement}
@@ -33,7 +33,7 @@ returns-3 : tie.Need-returns-3
 returns-3 c =
     let t = c .before in let k = t .before .before in let a = k .before .before .before .before .before .args in
     c .quote-clean .ensures
-    ∙ quote-of (a .s .now) (a .id .now) (a .seconds) (a .metres) (is-short (k .before)) Clean (sym (t .enum-told .given .1) ∙ k .check-clean .ensures)
+    ∙ quote-of (a .s .now) (a .id .now) (a .seconds) (a .metres) (is-short (k .before)) Unbroken (sym (t .enum-told .given .1) ∙ k .check-clean .ensures)
 
 pub quote-trip-spec : {M : Type 1} → statement M
 quote-trip-spec =

@@ -7,7 +7,7 @@ use lib.ListN.{length}
 use Rattle.limits.specs.Ceilings.{segments}
 use Rattle.walk.specs.declared.Item.{Item}
 use Rattle.walk.specs.Walk.{part, itemsOf}
-use Rattle.walk.specs.Part.{Whole, treeOf}
+use Rattle.walk.specs.Part.{Whole, partTree}
 use Rattle.schema.specs.Shape as shape
 use Rattle.schema.specs.Shape.{Shape, Sort}
 use Rattle.schema.specs.Table23 as table
@@ -16,10 +16,10 @@ use Rattle.judge.specs.declared.Place.{Place}
 use Rattle.judge.specs.Faults.{faults}
 
 pub record Clear (σ : Shape) (p : List ℕ) : Type 0 where
-  pub whole : Whole p (treeOf p)
+  pub whole : Whole p (partTree p)
   pub place : Place
   pub field : ℕ
-  pub clear : faults σ place field (pick σ (treeOf p)) ≡ []
+  pub clear : faults σ place field (pick σ (partTree p)) ≡ []
 
 -- a single value of a sort; a plan; a segment, whatever its fields' numbers
 abbrev pub ClearValue : Sort → List ℕ → Type 0

@@ -5,7 +5,7 @@ use Prim.Native.Nat.{ℕ}
 use Rattle.notation.specs.Choice.{_⇒_else_}
 use Rattle.walk.specs.declared.Item.{Item}
 use Rattle.walk.specs.Walk.{part, itemsOf}
-use Rattle.walk.specs.Part.{treeOf}
+use Rattle.walk.specs.Part.{partTree}
 use Rattle.schema.specs.Pick.{Picked, pick}
 use Rattle.schema.specs.Table23.{plan}
 use Rattle.document.specs.Document.{text}
@@ -21,7 +21,7 @@ isPlan id x = isId id (text 50 x)
 unfoldable pub lookupIn : (p id : List ℕ) → List Item → Lookup
 lookupIn p id [] = Nothing
 lookupIn p id (m ∷ l) =
-    isPlan id (pick plan (treeOf (part p (m .value) (m .«value_end»)))) ⇒ Plan (m .value) (m .«value_end») else lookupIn p id l
+    isPlan id (pick plan (partTree (part p (m .value) (m .«value_end»)))) ⇒ Plan (m .value) (m .«value_end») else lookupIn p id l
 
 unfoldable pub lookup : (p id : List ℕ) → Lookup
 lookup p id = lookupIn p id (itemsOf p)

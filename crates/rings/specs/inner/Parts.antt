@@ -14,22 +14,22 @@ use Rattle.walk.specs.declared.Item.{Item}
 use Rattle.walk.specs.declared.ValueKind.{ValueKind}
 use Rattle.walk.specs.declared.ValueKind.the-variants as kind
 use Rattle.walk.specs.Walk.{part, itemsFrom, itemsOf}
-use Rattle.walk.specs.Part.{Whole, treeOf}
+use Rattle.walk.specs.Part.{Whole, partTree}
 use Rattle.walk.specs.inner.Along.{AlongItems}
 use Rattle.decimal.specs.Decimals.{numberOf}
-use Rattle.decimal.specs.Exact.{within}
+use Rattle.decimal.specs.Exact.{inRange}
 use Rattle.geometry.specs.Ring.{Point, sound}
 use Rattle.geometry.specs.inner.Shifted.{OnMap, InRange, point, points}
 use Rattle.schema.specs.Shape as shape
 use Rattle.schema.specs.Shape.{Shape}
 use Rattle.schema.specs.Pick.{Picked, bare, items, slots, pick}
 use Rattle.scalar.specs.Scalars.{unless, formed}
-use Rattle.rings.specs.Rings.{Found, at, ordinate, ordinateKinds, numberKinds, position, allSound, positionsFound, ringsFound, ringsPositions, polygon, polygonPositions, polygonRings, polygonsRings, polygonsFound}
+use Rattle.rings.specs.Rings.{Found, foundAt, coordinate, coordinateKinds, coordinatesKinds, position, allSound, positionsFound, ringsFound, itemTotal, polygon, polygonPositions, itemCount, polygonsFound}
 use Rattle.rings.specs.inner.Least.{leastFound}
 use Rattle.rings.specs.declared.LeastFound.{LeastFound}
 use Rattle.rings.specs.declared.LeastFound.the-variants.{None, At}
-use Rattle.rings.specs.declared.Ordinate.{Ordinate}
-use Rattle.rings.specs.declared.Spot.{Spot}
+use Rattle.rings.specs.declared.CoordinateFound.{CoordinateFound}
+use Rattle.rings.specs.declared.PositionFound.{PositionFound}
 use Rattle.rings.specs.declared.RingPoints.{RingPoints}
 use Rattle.rings.specs.declared.Judged.{Judged}
 use Rattle.rings.specs.declared.PolygonTally.{PolygonTally}
@@ -37,7 +37,7 @@ use Rattle.rings.specs.declared.ZoneTally.{ZoneTally}
 
 -- the shapes inside field 73
 abbrev pub numberShape : Shape
-numberShape = shape.scalar shape.ordinate
+numberShape = shape.scalar shape.coordinate
 
 abbrev pub positionShape : Shape
 positionShape = shape.array shape.positions 3 numberShape
@@ -54,7 +54,7 @@ pub record Listing (p : List ℕ) : Type 0 where
 
 -- an item of the array p, picked; all of them; and those that are left where a walk along the array has come to a place
 abbrev pub picked : Shape → List ℕ → Item → Picked
-picked σ p m = pick σ (treeOf (part p (m .value) (m .«value_end»)))
+picked σ p m = pick σ (partTree (part p (m .value) (m .«value_end»)))
 
 unfoldable pub partsOf : Shape → List ℕ → List Picked
 partsOf σ p = map (picked σ p) (itemsOf p)
@@ -86,7 +86,7 @@ isNumber kind.Object = false
 abbrev pub rangeKinds : ℕ → Picked → List ℕ
 rangeKinds k (bare tree.null) = wrongType ∷ []
 rangeKinds k (bare (tree.boolean b)) = wrongType ∷ []
-rangeKinds k (bare (tree.number s)) = formed (within k) (numberOf s)
+rangeKinds k (bare (tree.number s)) = formed (inRange k) (numberOf s)
 rangeKinds k (bare (tree.string s)) = wrongType ∷ []
 rangeKinds k (bare (tree.array is)) = wrongType ∷ []
 rangeKinds k (bare (tree.object ms)) = wrongType ∷ []
@@ -94,22 +94,22 @@ rangeKinds k (items is) = wrongType ∷ []
 rangeKinds k (slots ss) = wrongType ∷ []
 
 -- where it is sound, its millionths, moved up by k degrees
-pub record Measured (k n : ℕ) (x : Picked) (o : Ordinate) : Type 0 where
-  pub least : o .least ≡ leastFound (at n (rangeKinds k x))
-  pub value : o .least ≡ None → difference (o .value) (k * 1_000_000) ≡ ordinate x
+pub record FindsCoordinate (k n : ℕ) (x : Picked) (o : CoordinateFound) : Type 0 where
+  pub least : o .least ≡ leastFound (foundAt n (rangeKinds k x))
+  pub value : o .least ≡ None → difference (o .value) (k * 1_000_000) ≡ coordinate x
 
 -- the items of a position; and those behind lon and lat
 unfoldable pub listKinds : List Picked → List ℕ
-listKinds l = unless (leb 2 (length l) and leb (length l) 3) badRing ++ numberKinds l
+listKinds l = unless (leb 2 (length l) and leb (length l) 3) badRing ++ coordinatesKinds l
 
 unfoldable pub restKinds : List Picked → List ℕ
 restKinds [] = []
-restKinds (z ∷ []) = ordinateKinds shape.ordinate z
-restKinds (z ∷ w ∷ l) = badRing ∷ ordinateKinds shape.ordinate z
+restKinds (z ∷ []) = coordinateKinds shape.coordinate z
+restKinds (z ∷ w ∷ l) = badRing ∷ coordinateKinds shape.coordinate z
 
 -- a position at the number n: its kinds, and where it is sound its point
-pub record Spotted (n : ℕ) (kinds : List ℕ) (q : Point) (s : Spot) : Type 0 where
-  pub least : s .least ≡ leastFound (at n kinds)
+pub record FindsPosition (n : ℕ) (kinds : List ℕ) (q : Point) (s : PositionFound) : Type 0 where
+  pub least : s .least ≡ leastFound (foundAt n kinds)
   pub point : s .least ≡ None → point (s .point) ≡ q
 
 -- a value in which that much is found, with its positions
@@ -120,17 +120,17 @@ pub record Tells (found : List Found) (count : ℕ) (r : Judged) : Type 0 where
 -- the rings of a polygon, the first position with the number n; a polygon; and the polygons of a zone
 pub record TellsRings (n : ℕ) (l : List Picked) (r : PolygonTally) : Type 0 where
   pub rings : r .rings ≡ length l
-  pub positions : r .positions ≡ ringsPositions l
+  pub positions : r .positions ≡ itemTotal l
   pub least : r .least ≡ leastFound (ringsFound n l)
 
 pub record TellsPolygon (n : ℕ) (x : Picked) (r : PolygonTally) : Type 0 where
-  pub rings : r .rings ≡ polygonRings x
+  pub rings : r .rings ≡ itemCount x
   pub positions : r .positions ≡ polygonPositions x
   pub least : r .least ≡ leastFound (polygon n x)
 
 pub record TellsPolygons (n : ℕ) (l : List Picked) (r : ZoneTally) : Type 0 where
   pub polygons : r .polygons ≡ length l
-  pub rings : r .rings ≡ polygonsRings l
+  pub rings : r .rings ≡ itemTotal l
   pub least : r .least ≡ leastFound (polygonsFound n l)
 
 -- what is counted in any bytes: no more than there are bytes
@@ -171,4 +171,4 @@ unfoldable pub areaLeast : ℕ → RingPoints → LeastFound
 areaLeast n r =
     onlySound (r .least)
     (leb (r .count) ceiling.positions ⇒
-    leastFound (at n (unless (sound (points (take (r .count) (r .lons)) (take (r .count) (r .lats)))) badRing)) else None)
+    leastFound (foundAt n (unless (sound (points (take (r .count) (r .lons)) (take (r .count) (r .lats)))) badRing)) else None)

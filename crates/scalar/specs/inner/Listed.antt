@@ -3,7 +3,7 @@ use mathlib.Core.Bool.{Bool}
 use mathlib.Core.List.{List, [], _∷_}
 use Prim.Native.Nat.{ℕ, zero, suc}
 use Rattle.decimal.specs.declared.Decimal.{Decimal}
-use Rattle.decimal.specs.Exact.{natural, portion, within}
+use Rattle.decimal.specs.Exact.{natural, portion, inRange}
 use Rattle.scalar.specs.declared.numbers.Bounds.{Bounds}
 use Rattle.scalar.specs.declared.numbers.Bounds.the-variants as bounds
 use Rattle.scalar.specs.Scalars.{anyMoney, priceMoney}
@@ -16,6 +16,6 @@ listed (suc k) = suc k ∷ []
 unfoldable pub inBounds : Bounds → Decimal → Bool
 inBounds bounds.Natural d = natural d
 inBounds bounds.Portion d = portion d
-inBounds (bounds.Degrees k) d = within k d
+inBounds (bounds.Degrees k) d = inRange k d
 inBounds bounds.Money d = anyMoney d
 inBounds bounds.Price d = priceMoney d

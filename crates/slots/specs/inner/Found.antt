@@ -3,7 +3,7 @@ use mathlib.Core.List.{List}
 use Prim.Native.Nat.{ℕ, _≤_, _<_}
 use Rattle.json.specs.Tree.{Json}
 use Rattle.walk.specs.Walk.{part}
-use Rattle.walk.specs.Part.{treeOf}
+use Rattle.walk.specs.Part.{partTree}
 use Rattle.schema.specs.Pick.{Slot, missing, once, twice}
 use Rattle.slots.specs.declared.Found.{Found}
 use Rattle.slots.specs.declared.Found.the-variants.{Missing, Once, Twice}
@@ -11,7 +11,7 @@ use Rattle.slots.specs.declared.Found.the-variants.{Missing, Once, Twice
 -- the tree that stands there
 abbrev pub treeIn : List ℕ → Found → Slot Json
 treeIn p Missing = missing
-treeIn p (Once from upto) = once (treeOf (part p from upto))
+treeIn p (Once from upto) = once (partTree (part p from upto))
 treeIn p Twice = twice
 
 -- its places are within n bytes

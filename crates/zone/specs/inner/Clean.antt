@@ -5,7 +5,7 @@ use mathlib.Core.Path.{_≡_}
 use Prim.Native.Nat.{ℕ, _≤_}
 use lib.ListN.{length}
 use Rattle.limits.specs.Ceilings.{fileBytes}
-use Rattle.walk.specs.Part.{Whole, treeOf}
+use Rattle.walk.specs.Part.{Whole, partTree}
 use Rattle.walk.specs.inner.Along.{AlongItems}
 use Rattle.schema.specs.Shape.{Shape}
 use Rattle.schema.specs.Table23.{zone}
@@ -18,9 +18,9 @@ use Rattle.judge.specs.Faults.{faults}
 -- the bytes of a ring
 pub record CleanRing (p : List ℕ) : Type 0 where
   pub short : length p ≤ fileBytes
-  pub whole : Whole p (treeOf p)
+  pub whole : Whole p (partTree p)
   pub first : ℕ
-  pub clear : ring first (pick ringShape (treeOf p)) ≡ []
+  pub clear : ring first (pick ringShape (partTree p)) ≡ []
 
 -- those of an array of rings or polygons, with what tells what is found in them
 pub record CleanItems (σ : Shape) (found : ℕ → List Picked → List Found) (p : List ℕ) : Type 0 where
@@ -37,8 +37,8 @@ pub record Faultless (x : Picked) : Type 0 where
 
 pub record CleanZone (p : List ℕ) : Type 0 where
   pub short : length p ≤ fileBytes
-  pub whole : Whole p (treeOf p)
-  pub clear : Faultless (pick zone (treeOf p))
+  pub whole : Whole p (partTree p)
+  pub clear : Faultless (pick zone (partTree p))
 
 -- those of the zones, an array and what follows it
 pub record CleanZones (p : List ℕ) : Type 0 where

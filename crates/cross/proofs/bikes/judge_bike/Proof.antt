@@ -10,7 +10,7 @@ use Rattle.document.proofs.Records.{pickedItems}
 use Rattle.fields.specs.inner.Values.{textBy}
 use Rattle.ids.specs.inner.Ids.{idField}
 use Rattle.references.specs.References.{refers as refersTo}
-use Rattle.cross.specs.Cross.{at}
+use Rattle.cross.specs.Cross.{recordPlace}
 use Rattle.cross.specs.inner.Judged.{fileBy, filesBy, vehicleBy}
 use Rattle.cross.proofs.Numbers.{searchable-by}
 use Rattle.cross.proofs.Joined.{both, breaks}
@@ -39,7 +39,7 @@ returns c ms w =
     let l₂ = c .before in let l = l₂ .before in let b₂ = l .before in let r₂ = b₂ .before in let f₃ = r₂ .before .before in let v₆ = f₃ .before in
     let b = v₆ .before in let r = b .before in let f₂ = r .before .before in let j = f₂ .before in let f = j .before .before in let v₅ = f .before in
     let v₄ = v₅ .before in let i = v₄ .before in let v₃ = i .before in let v₂ = v₃ .before in let v = v₂ .before in
-    let s = v .before .before in let a = s .args in let place = at (a .n) 0 in
+    let s = v .before .before in let a = s .args in let place = recordPlace (a .n) 0 in
     both _ _ (c .lesser3 .ensures)
     (both _ _ (l .lesser .ensures) (i .judge-position .ensures)
     (j .judge-vehicle .ensures

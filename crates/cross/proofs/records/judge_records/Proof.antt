@@ -9,7 +9,7 @@ use lib.ListN.{length}
 use Rattle.limits.specs.Ceilings.{records, fileBytes}
 use Rattle.json.specs.Tree as tree
 use Rattle.json.specs.Tree.{Members}
-use Rattle.walk.specs.Part.{Whole, treeOf}
+use Rattle.walk.specs.Part.{Whole, partTree}
 use Rattle.walk.specs.inner.Along.{ItemPlaced}
 use Rattle.walk.proofs.Parts.{itemOf}
 use Rattle.schema.specs.Records.{recordShape}
@@ -60,7 +60,7 @@ room : (c : Met) → c .before .before .before .loop .n < records
 room c = let t = c .before .before in noting-room (t .before .loop .inv .0) (t .pass-item .ensures) _ (c .item .given .1) (start c .pre .1 .few)
 
 -- an object
-object : (c : Met) → (ms : Members) × (treeOf (itemOf (start c .args .p .now) (c .item .given .0 .0)) ≡ tree.object ms)
+object : (c : Met) → (ms : Members) × (partTree (itemOf (start c .args .p .now) (c .item .given .0 .0)) ≡ tree.object ms)
 object c =
     let t = c .before .before in let s = start c in let m = c .item .given .0 .0 in
     s .pre .1 .objects m (left-among (recordShape (s .args .file)) (s .args .p .now) _ (t .before .loop .inv .1) (t .pass-item .ensures) m (c .item .given .1))
@@ -77,14 +77,16 @@ note-record-requires : tie.Need-note-record-requires Inv-loop μ-loop
 note-record-requires c κs =
     let i = c .before in let v = i .before in let g = v .before .before .before .before .before in let d = g .before .before .before in let t = d .before .before in let l = t .before in let s = start d in
     let m = placed d in let h = s .pre .1 .short in (
-      omega arith,
-      omega arith,
-      i .id-place .ensures .0,
-      room d,
-      i .id-place .ensures .1 _ (whole d) .unmet,
-      noting-record (l .loop .inv .0) (t .pass-item .ensures) _ (d .item .given .1),
+      record {
+        room = room d;
+        starts = omega arith;
+        ends = omega arith;
+        looked = i .id-place .ensures .0;
+        unmet = i .id-place .ensures .1 _ (whole d) .unmet;
+        is = noting-record (l .loop .inv .0) (t .pass-item .ensures) _ (d .item .given .1);
+        holds = id-slot (whole d) (s .args .file) (s .pre .0) (g .gather-record .ensures) (v .value-in .ensures .0);
+      },
       l .loop .inv .0 .noted,
-      id-slot (whole d) (s .args .file) (s .pre .0) (g .gather-record .ensures) (v .value-in .ensures .0),
     )
 
 judge-record-requires : tie.Need-judge-record-requires Inv-loop μ-loop

@@ -7,7 +7,7 @@ use native.Mathlib.Omega.{arith}
 use Rattle.schema.specs.Records.{recordShape}
 use Rattle.fault.specs.Fault.{least}
 use Rattle.document.proofs.Records.{pickedItems}
-use Rattle.cross.specs.Cross.{zoneFaults, each, faultsOf}
+use Rattle.cross.specs.Cross.{zoneFaults, eachRecord, faultsOf}
 use Rattle.cross.specs.inner.Staged.{Recorded, repeatOf}
 use Rattle.cross.proofs.Numbers.{searchable-by}
 use Rattle.cross.proofs.stage.judge_last.Statement.{statement}
@@ -25,7 +25,7 @@ returns c =
     record {
       repeats = refl;
       breaks = c .judge-zones .ensures
-          ∙ ap₂ (λ (q p : List ℕ). least (each (zoneFaults (pickedItems (recordShape 1) q)) 1 (pickedItems (recordShape 6) p))) (t .file-in2 .ensures) (t .before .file-in .ensures);
+          ∙ ap₂ (λ (q p : List ℕ). least (eachRecord (zoneFaults (pickedItems (recordShape 1) q)) 1 (pickedItems (recordShape 6) p))) (t .file-in2 .ensures) (t .before .file-in .ensures);
     }
 
 pub judge-last-spec : {M : Type 1} → statement M

@@ -4,7 +4,7 @@ use mathlib.Core.List.{List, [], _∷_, map}
 use mathlib.Core.Path.{_≡_, sym, ap, _∙_}
 use Prim.Native.Nat.{ℕ}
 use native.Mathlib.Omega.{arith}
-use Rattle.clean.specs.declared.Cleanness.the-variants.{Broken}
+use Rattle.clean.specs.declared.Outcome.the-variants.{Broken}
 use Rattle.document.specs.inner.Spans.{RecordsFrom}
 use Rattle.cross.specs.Stage.{bytesOf}
 use Rattle.cross.proofs.Numbers.{by-number}

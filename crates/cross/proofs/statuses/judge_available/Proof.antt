@@ -15,7 +15,7 @@ use Rattle.fields.specs.Values.{integerIn}
 use Rattle.fields.specs.inner.Values.{textBy, spelledBy}
 use Rattle.ids.specs.inner.Ids.{idField}
 use Rattle.references.specs.References.{refers as refersTo}
-use Rattle.cross.specs.Cross.{at as placeAt}
+use Rattle.cross.specs.Cross.{recordPlace as placeAt}
 use Rattle.cross.proofs.Joined.{breaks}
 use Rattle.cross.proofs.Walked.{Goes, goes-start, goes-end, goes-more, Sums, sums-start, sums-end, sums-more, left-whole}
 use Rattle.cross.proofs.Fielded.{availableItem, available-each, available-text, available-count, count-small}

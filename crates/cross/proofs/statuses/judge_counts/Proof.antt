@@ -17,8 +17,8 @@ use Rattle.document.proofs.Records.{pickedItems}
 use Rattle.fields.specs.Values.{integerIn}
 use Rattle.fields.specs.inner.Values.{thereBy, arrayBy, spelledBy}
 use Rattle.fields.proofs.Sizes.{array-short}
-use Rattle.references.specs.References.{when}
-use Rattle.cross.specs.Cross.{at, sumOf, availableFaults}
+use Rattle.references.specs.References.{kindIf}
+use Rattle.cross.specs.Cross.{recordPlace, sumOf, availableFaults}
 use Rattle.cross.proofs.Joined.{both, breaks, joined}
 use Rattle.cross.proofs.statuses.judge_counts.Statement.{statement}
 use Rattle.cross.proofs.statuses.judge_counts.Tie as tie
@@ -35,14 +35,14 @@ returns : tie.Need-returns
 returns c =
     let l = c .before in let b = l .before in let k = b .before in let b₁ = k .before in let d = b₁ .before in let j = d .before in let r = j .before in
     let a = r .before .before .before .before .args in
-    let types = pickedItems (recordShape 1) (a .types .now) in let place = at (a .n) 0 in
+    let types = pickedItems (recordShape 1) (a .types .now) in let place = recordPlace (a .n) 0 in
     let sum : j .judge-available .result .sum ≡ sumOf (pickedItems available (arrayBy (a .available .now))) =
     j .judge-available .ensures .sums ∙ ap (λ q. sumOf (pickedItems available q)) (r .array-in .ensures) in
     both _ _ (c .lesser2 .ensures)
     (joined place 37 _ _ (l .lesser .ensures)
     (breaks place 37 (d .demanded .result) (b₁ .broken .ensures) (d .demanded .ensures))
     (breaks place 37 (k .sum-kind .result) (b .broken2 .ensures)
-    (k .sum-kind .ensures ∙ ap (λ (x : ℕ). when (thereBy (a .available .now) and not (eqb x (integerIn (spelledBy (a .bikes .now))))) sumDiffers) sum)))
+    (k .sum-kind .ensures ∙ ap (λ (x : ℕ). kindIf (thereBy (a .available .now) and not (eqb x (integerIn (spelledBy (a .bikes .now))))) sumDiffers) sum)))
     (j .judge-available .ensures .breaks ∙ ap (λ q. least (availableFaults types (a .n) 1 (pickedItems available q))) (r .array-in .ensures))
 
 pub judge-counts-spec : {M : Type 1} → statement M

@@ -6,7 +6,7 @@ use Prim.Native.Nat.{ℕ}
 use native.Mathlib.Omega.{arith}
 use Rattle.schema.specs.Records.{located}
 use Rattle.fault.specs.Fault.{least}
-use Rattle.cross.specs.Cross.{at}
+use Rattle.cross.specs.Cross.{recordPlace}
 use Rattle.cross.specs.inner.Judged.{fileBy, filesBy, stationBy, countsBy}
 use Rattle.cross.proofs.Numbers.{searchable-by}
 use Rattle.cross.proofs.Joined.{both}
@@ -33,7 +33,7 @@ returns c ms w =
     let v₂ = f .before in let v = v₂ .before in let s = v .before .before in let a = s .args in
     both _ _ (c .lesser .ensures)
     (i .judge-station .ensures
-    ∙ ap (λ (q : List ℕ). least (stationBy (at (a .n) 0) (fileBy 2 q) (v .value-in .result .now) (v₂ .value-in2 .result .now))) (f .file-in .ensures))
+    ∙ ap (λ (q : List ℕ). least (stationBy (recordPlace (a .n) 0) (fileBy 2 q) (v .value-in .result .now) (v₂ .value-in2 .result .now))) (f .file-in .ensures))
     (j .judge-counts .ensures
     ∙ ap (λ (q : List ℕ). least (countsBy (a .n) (fileBy 1 q) (v₃ .value-in3 .result .now) (v₄ .value-in4 .result .now))) (f₂ .file-in2 .ensures))
     ∙ ap least

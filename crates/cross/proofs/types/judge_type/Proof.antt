@@ -11,7 +11,7 @@ use Rattle.document.proofs.Records.{pickedItems}
 use Rattle.fields.specs.inner.Values.{textBy, thereBy}
 use Rattle.ids.specs.inner.Ids.{idField}
 use Rattle.references.specs.References.{demanded as demandedOf, refers as refersTo}
-use Rattle.cross.specs.Cross.{at}
+use Rattle.cross.specs.Cross.{recordPlace}
 use Rattle.cross.specs.inner.Judged.{filesBy}
 use Rattle.cross.proofs.Numbers.{searchable-by}
 use Rattle.cross.proofs.Joined.{both, breaks, joined}
@@ -29,10 +29,10 @@ unfolding identified idField
 returns c ms w =
     let l = c .before in let b₃ = l .before in let r = b₃ .before in let b₂ = r .before .before in let d₂ = b₂ .before in let b = d₂ .before in let d = b .before in
     let v₃ = d .before in let v₂ = v₃ .before in let i = v₂ .before in let v = i .before in let f = v .before in
-    let s = f .before .before in let a = s .args in let place = at (a .n) 0 in let plan = v₂ .value-in2 .result .now in
+    let s = f .before .before in let a = s .args in let place = recordPlace (a .n) 0 in let plan = v₂ .value-in2 .result .now in
     both _ _ (c .lesser2 .ensures)
     (breaks place 13 (d .demanded .result) (b .broken .ensures)
-    (d .demanded .ensures ∙ ap (λ t. demandedOf t (thereBy (v₃ .value-in3 .result .now))) (i .is-driven .ensures)))
+    (d .demanded .ensures ∙ ap (λ t. demandedOf t (thereBy (v₃ .value-in3 .result .now))) (i .is-motorized .ensures)))
     (joined place 14 _ _ (l .lesser .ensures)
     (breaks place 14 (d₂ .demanded2 .result) (b₂ .broken2 .ensures)
     (d₂ .demanded2 .ensures ∙ ap (λ (q : List ℕ). demandedOf (ltb 0 (length q)) (thereBy plan)) (f .file-in .ensures)))

@@ -7,7 +7,7 @@ use Prim.Native.Nat.{ℕ, _+_, _-_, _<_}
 use native.Mathlib.Omega.{arith}
 use lib.ListN.{length}
 use Rattle.notation.specs.Ascii.{bytes}
-use Rattle.walk.specs.Part.{Whole, treeOf}
+use Rattle.walk.specs.Part.{Whole, partTree}
 use Rattle.walk.specs.inner.Along.{AlongItems, ItemPlaced}
 use Rattle.walk.proofs.Parts.{itemOf}
 use Rattle.schema.specs.Shape.{Sort, scalar}
@@ -49,7 +49,7 @@ placed c = c .before .before .before .pass-item .ensures .placed _ (c .before .i
 
 -- the rule is whole, and its ids are the array under their name
 whole : (c : tie.After-item Inv-loop μ-loop) →
-    let p = c .before .before .before .before .before .before .args .p .now in Whole (itemOf p (c .item .given .0 .0)) (treeOf (itemOf p (c .item .given .0 .0)))
+    let p = c .before .before .before .before .before .before .args .p .now in Whole (itemOf p (c .item .given .0 .0)) (partTree (itemOf p (c .item .given .0 .0)))
 whole c =
     let t = c .before .before in let l = t .before in
     left-whole rule (l .before .before .before .args .p .now) _ (l .loop .inv .1) (t .pass-item .ensures) (c .item .given .0 .0) (c .item .given .1)

@@ -5,7 +5,7 @@ use mathlib.Core.Path.{sym, ap, subst, _∙_}
 use Prim.Native.Nat.{_+_, _-_, _<_}
 use native.Mathlib.Omega.{arith}
 use lib.ListN.{length}
-use Rattle.walk.specs.Part.{Whole, treeOf}
+use Rattle.walk.specs.Part.{Whole, partTree}
 use Rattle.walk.specs.inner.Along.{ItemPlaced}
 use Rattle.walk.proofs.Parts.{itemOf}
 use Rattle.schema.specs.Records.{recordShape}
@@ -43,7 +43,7 @@ placed : (c : Met) → ItemPlaced (start c .args .p .now) (c .before .before .be
 placed c = c .before .before .pass-item .ensures .placed _ (c .item .given .1)
 
 -- it is whole
-whole : (c : Met) → let p = start c .args .p .now in Whole (itemOf p (c .item .given .0 .0)) (treeOf (itemOf p (c .item .given .0 .0)))
+whole : (c : Met) → let p = start c .args .p .now in Whole (itemOf p (c .item .given .0 .0)) (partTree (itemOf p (c .item .given .0 .0)))
 whole c =
     let t = c .before .before in
     left-whole (recordShape 6) (start c .args .p .now) _ (t .before .loop .inv .1) (t .pass-item .ensures) (c .item .given .0 .0) (c .item .given .1)

@@ -9,7 +9,7 @@ use Rattle.signed.specs.Signed.{signed}
 use Rattle.signed.specs.inner.Difference.{difference}
 use Rattle.signed.proofs.Gap.{gap, gap-neg, gap-pos, gap-same, signed-size}
 use Rattle.decimal.specs.declared.Decimal.{Decimal}
-use Rattle.decimal.specs.Exact.{within, millionths}
+use Rattle.decimal.specs.Exact.{inRange, millionths}
 use Rattle.decimal.proofs.Millionths.{millionths-within}
 use Rattle.decimal.proofs.Decimal.rounded.Reads as rounded-reads
 use Rattle.decimal.proofs.Decimal.coordinate.Lts as lts
@@ -19,7 +19,7 @@ use Rattle.decimal.proofs.Decimal.coordinate.Tie as tie
 
 -- the rounded size is at most k degrees
 module _ (d : Decimal) (k n : ℕ) (e : signed (d .negative) n ≡ millionths d) where
-  small : within k d ≡ true → n ≤ k * 1_000_000
+  small : inRange k d ≡ true → n ≤ k * 1_000_000
   small h = let q : natAbs (millionths d) ≡ n = ap natAbs (sym e) ∙ signed-size (d .negative) n in omega (arith, millionths-within k d h, q)
 
   below : d .negative ≡ true → n ≤ k * 1_000_000 → difference (k * 1_000_000 - n) (k * 1_000_000) ≡ millionths d

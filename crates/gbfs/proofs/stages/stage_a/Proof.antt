@@ -2,7 +2,7 @@
 use borrow.Author.Needs.{needs}
 use mathlib.Core.Path.{sym, ap, _∙_}
 use native.Mathlib.Omega.{arith}
-use Rattle.clean.specs.declared.Cleanness.the-variants.{Clean}
+use Rattle.clean.specs.declared.Outcome.the-variants.{Unbroken}
 use Rattle.clean.proofs.Judged.{offset-fits}
 use Rattle.gbfs.specs.inner.Stages.{malformed}
 use Rattle.gbfs.proofs.Staging.{read-absent, read-present}
@@ -18,12 +18,12 @@ cast-t9 c = let d = c .before in let k = d .before .before in let o = offset-fit
 returns-2 : tie.Need-returns-2
 returns-2 c =
     let k = c .before .before in let i = k .before in let a = i .before .before .args in
-    ap (λ x. malformed (a .file) x Clean) (sym (c .enum-told .given .1) ∙ k .check-syntax .ensures) ∙ read-present (a .file) (a .s .now) (i .if1 .left)
+    ap (λ x. malformed (a .file) x Unbroken) (sym (c .enum-told .given .1) ∙ k .check-syntax .ensures) ∙ read-present (a .file) (a .s .now) (i .if1 .left)
 
 returns-3 : tie.Need-returns-3
 returns-3 c =
     let d = c .before in let k = d .before .before in let i = k .before in let a = i .before .before .args in
-    ap (λ x. malformed (a .file) x Clean) (sym (d .kind .given .1) ∙ k .check-syntax .ensures) ∙ read-present (a .file) (a .s .now) (i .if1 .left)
+    ap (λ x. malformed (a .file) x Unbroken) (sym (d .kind .given .1) ∙ k .check-syntax .ensures) ∙ read-present (a .file) (a .s .now) (i .if1 .left)
 
 pub stage-a-spec : {M : Type 1} → statement M
 stage-a-spec =

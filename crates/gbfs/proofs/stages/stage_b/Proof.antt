@@ -3,7 +3,7 @@ use borrow.Author.Needs.{needs}
 use mathlib.Core.Path.{sym, ap, _∙_}
 use native.Mathlib.Omega.{arith}
 use Rattle.judge.proofs.Fits.{first-fits}
-use Rattle.clean.specs.declared.Cleanness.the-variants.{Broken}
+use Rattle.clean.specs.declared.Outcome.the-variants.{Broken}
 use Rattle.gbfs.proofs.Staging.{faults-absent, faults-found}
 use Rattle.gbfs.proofs.stages.stage_b.Statement.{statement}
 use Rattle.gbfs.proofs.stages.stage_b.Tie as tie

@@ -7,13 +7,13 @@ use Rattle.json.specs.Tree as tree
 use Rattle.json.specs.Tree.{Members}
 use Rattle.walk.specs.Part.{Whole, kindAt}
 use Rattle.walk.proofs.Wholes.{whole-kind}
-use Rattle.fields.specs.inner.Values.{code}
+use Rattle.fields.specs.inner.Values.{kindCode}
 use Rattle.ids.proofs.Single.{passed-end, passed-found, value-end, value-here}
 use Rattle.ids.proofs.id.id_value.Statement.{statement}
 use Rattle.ids.proofs.id.id_value.Tie as tie
 
-object : {q : List ℕ} {ms : Members} → Whole q (tree.object ms) → 5 ≡ code (kindAt q)
-object w = sym (ap code (whole-kind w))
+object : {q : List ℕ} {ms : Members} → Whole q (tree.object ms) → 5 ≡ kindCode (kindAt q)
+object w = sym (ap kindCode (whole-kind w))
 
 returns : tie.Need-returns
 returns c file ms w l once =

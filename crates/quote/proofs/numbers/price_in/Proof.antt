@@ -6,17 +6,17 @@ use Rattle.walk.specs.Part.{kindAt}
 use Rattle.decimal.specs.Decimals.{priceOf}
 use Rattle.decimal.specs.inner.Formed.{IsPrice}
 use Rattle.decimal.proofs.Formed.{number-formed, price-formed}
-use Rattle.fields.specs.inner.Values.{code}
+use Rattle.fields.specs.inner.Values.{kindCode}
 use Rattle.quote.proofs.Cleared.{price-number-clear, price-text-clear}
 use Rattle.quote.proofs.Ways.{price-read, price-text-read}
 use Rattle.quote.proofs.numbers.price_in.Statement.{statement}
 use Rattle.quote.proofs.numbers.price_in.Tie as tie
 
 -- its kind, by the test
-string : (c : tie.Then1) → code (kindAt (c .before .before .before .args .q .now)) ≡ 3
+string : (c : tie.Then1) → kindCode (kindAt (c .before .before .before .args .q .now)) ≡ 3
 string c = sym (c .before .code-of .ensures) ∙ c .if1 .taken
 
-no-string : (c : tie.Else1) → code (kindAt (c .before .before .before .args .q .now)) ≡ 3 → ⊥
+no-string : (c : tie.Else1) → kindCode (kindAt (c .before .before .before .args .q .now)) ≡ 3 → ⊥
 no-string c e = c .if1 .left (c .before .code-of .ensures ∙ e)
 
 formed-price-requires : tie.Need-formed-price-requires

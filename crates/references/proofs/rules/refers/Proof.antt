@@ -9,7 +9,7 @@ use Rattle.fields.specs.inner.Values.{textBy}
 use Rattle.fields.proofs.Ways.{text-none, text-some}
 use Rattle.document.proofs.Records.{pickedItems}
 use Rattle.ids.specs.inner.Ids.{idField}
-use Rattle.references.specs.References.{when, any, anyWith, refers}
+use Rattle.references.specs.References.{kindIf, any, anyWith, refers}
 use Rattle.references.proofs.rules.refers.Statement.{statement}
 use Rattle.references.proofs.rules.refers.Tie as tie
 
@@ -21,18 +21,18 @@ returns c =
 -- where the record was searched for
 searched : (c : tie.After-meets) →
     let a = c .before .before .before .before .before .before .args in
-    when (not (c .meets .result)) dangling ≡ refers (textBy (a .value .now)) (idField (a .file)) (pickedItems (recordShape (a .file)) (a .p .now))
+    kindIf (not (c .meets .result)) dangling ≡ refers (textBy (a .value .now)) (idField (a .file)) (pickedItems (recordShape (a .file)) (a .p .now))
 searched c =
     let u = c .before in let i = u .before in let k = i .before in let a = k .before .before .before .args in
     let l = pickedItems (recordShape (a .file)) (a .p .now) in
-    ap (λ (t : Bool). when (not t) dangling) (c .meets .ensures ∙ ap (λ q. anyWith any (idField (a .file)) l (textOf q)) (u .unquoted .ensures))
+    ap (λ (t : Bool). kindIf (not t) dangling) (c .meets .ensures ∙ ap (λ q. anyWith any (idField (a .file)) l (textOf q)) (u .unquoted .ensures))
     ∙ sym (ap (λ o. refers o (idField (a .file)) l) (text-some (a .value .now) _ (k .code-of .ensures) (i .if1 .left)))
 
 returns-2 : tie.Need-returns-2
-returns-2 c = sym (ap (λ (t : Bool). when (not t) dangling) (c .if2 .taken)) ∙ searched (c .before)
+returns-2 c = sym (ap (λ (t : Bool). kindIf (not t) dangling) (c .if2 .taken)) ∙ searched (c .before)
 
 returns-3 : tie.Need-returns-3
-returns-3 c = sym (ap (λ (t : Bool). when (not t) dangling) (c .if2 .left)) ∙ searched (c .before)
+returns-3 c = sym (ap (λ (t : Bool). kindIf (not t) dangling) (c .if2 .left)) ∙ searched (c .before)
 
 pub refers-spec : {M : Type 1} → statement M
 refers-spec =

@@ -12,7 +12,7 @@ use Rattle.references.proofs.search.passes.Tie as tie
 returns : tie.Need-returns
 returns c =
     let m = c .before .before .before in let g = m .before .before in
-    c .is-driven .ensures ∙ ap (λ q. notHuman (textBy q)) (c .before .member .ensures _ (g .pre)) ∙ ap (λ (f : ℕ). passing f (g .args .q .now)) (sym (m .match .keys1))
+    c .is-motorized .ensures ∙ ap (λ q. notHuman (textBy q)) (c .before .member .ensures _ (g .pre)) ∙ ap (λ (f : ℕ). passing f (g .args .q .now)) (sym (m .match .keys1))
 
 returns-2 : tie.Need-returns-2
 returns-2 c =

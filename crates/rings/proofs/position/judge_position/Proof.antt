@@ -2,20 +2,20 @@
 use mathlib.Core.Path.{sym, _∙_}
 use borrow.Author.Needs.{needs}
 use borrow.Author.Tests.{not-true, not-false}
-use Rattle.rings.proofs.Positions.{spotted-array, spotted-other, broken-map}
+use Rattle.rings.proofs.Positions.{finds-position-array, finds-position-other, broken-map}
 use Rattle.rings.proofs.position.judge_position.Statement.{statement}
 use Rattle.rings.proofs.position.judge_position.Tie as tie
 
 returns : tie.Need-returns
 returns c = (
   broken-map _ _ (c .broken .ensures),
-  λ x w. spotted-other w _ _ (sym (c .before .before .is-array .ensures) ∙ not-true _ (c .before .if1 .taken)) (c .broken .ensures),
+  λ x w. finds-position-other w _ _ (sym (c .before .before .is-array .ensures) ∙ not-true _ (c .before .if1 .taken)) (c .broken .ensures),
 )
 
 returns-2 : tie.Need-returns-2
 returns-2 c = (
   c .judge-numbers .ensures .0,
-  λ x w. spotted-array w _ _ (sym (c .before .before .is-array .ensures) ∙ not-false _ (c .before .if1 .left)) (c .judge-numbers .ensures .1),
+  λ x w. finds-position-array w _ _ (sym (c .before .before .is-array .ensures) ∙ not-false _ (c .before .if1 .left)) (c .judge-numbers .ensures .1),
 )
 
 pub judge-position-spec : {M : Type 1} → statement M

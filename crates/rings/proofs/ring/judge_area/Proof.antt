@@ -3,7 +3,7 @@ use mathlib.Core.Path.{ap, _∙_}
 use borrow.Author.Needs.{needs}
 use Rattle.word.specs.Kinds.{badRing}
 use Rattle.scalar.specs.Scalars.{unless}
-use Rattle.rings.specs.Rings.{at}
+use Rattle.rings.specs.Rings.{foundAt}
 use Rattle.rings.specs.inner.Least.{leastFound}
 use Rattle.rings.proofs.Areas.{area-faulty, area-many, area-asked, filled, filled-size}
 use Rattle.rings.proofs.ring.judge_area.Statement.{statement}
@@ -26,7 +26,7 @@ sound-requires c κs = filled _ _ _ (c .before .before .before .before .before .
 
 returns-3 : tie.Need-returns-3
 returns-3 c =
-    c .unless .ensures ∙ ap (λ t. leastFound (at (c .before .before .before .before .before .before .before .before .before .before .before .args .n) (unless t badRing))) (c .before .sound .ensures)
+    c .unless .ensures ∙ ap (λ t. leastFound (foundAt (c .before .before .before .before .before .before .before .before .before .before .before .args .n) (unless t badRing))) (c .before .sound .ensures)
     ∙ area-asked _ _ (c .before .before .before .before .before .before .before .before .before .enum-told .given .1) (c .before .before .before .before .before .before .before .if1 .left)
 
 pub judge-area-spec : {M : Type 1} → statement M

@@ -9,20 +9,20 @@ use Rattle.walk.specs.inner.Along.{ItemPlaced}
 use Rattle.rings.specs.inner.Parts.{positionShape, Listing, partsOf, Charted}
 use Rattle.rings.proofs.Going.{Room, Passed, passed-start, passed-within, passed-room, passed-more, Going, going-start, going-whole, going-next}
 use Rattle.rings.proofs.Charts.{charted-start, charted-stored, Drawn, drawn-start, drawn-more}
-use Rattle.rings.proofs.Areas.{spotFound, single, ring-read}
+use Rattle.rings.proofs.Areas.{positionFound, single, ring-read}
 use Rattle.rings.proofs.ring.read_ring.Statement.{statement}
 use Rattle.rings.proofs.ring.read_ring.Tie as tie
 
 abbrev Inv-loop : tie.InvT-loop
 Inv-loop p n lons₀ lats₀ count₀ least₀ at₀ lons lats count least at =
     Passed p at count count × Charted lons lats
-    × (Listing p → (g : Going spotFound single positionShape n p at count count least) × Drawn lons lats count least (g .left) (partsOf positionShape p))
+    × (Listing p → (g : Going positionFound single positionShape n p at count count least) × Drawn lons lats count least (g .left) (partsOf positionShape p))
 
 abbrev μ-loop : tie.MeasureT-loop
 μ-loop p n lons₀ lats₀ count₀ least₀ at₀ lons lats count least at = length p + 1 - at
 
 loop-holds : tie.Need-loop-holds Inv-loop μ-loop
-loop-holds c = (passed-start _, charted-start, λ w. (going-start spotFound single positionShape _ _ w, drawn-start _))
+loop-holds c = (passed-start _, charted-start, λ w. (going-start positionFound single positionShape _ _ w, drawn-start _))
 
 returns : tie.Need-returns Inv-loop μ-loop
 returns c =
@@ -62,8 +62,8 @@ loop-again c =
       charted-stored _ _ (l .count) _ _ _ (l .inv .1) (r .0) east north,
       λ w.
           let (g, drawn) = l .inv .2 w in
-          let spotted = r .1 _ (going-whole spotFound single positionShape _ _ g f _ h) in
-          let o = going-next spotFound single positionShape _ _ g f _ h _ _ 1 (spotted .least) next refl in
+          let spotted = r .1 _ (going-whole positionFound single positionShape _ _ g f _ h) in
+          let o = going-next positionFound single positionShape _ _ g f _ h _ _ 1 (spotted .least) next refl in
           (o .0, drawn-more drawn (l .inv .1) _ _ _ _ _ _ _ (o .1) spotted next east north),
     )
 

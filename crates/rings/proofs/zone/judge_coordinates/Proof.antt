@@ -4,7 +4,7 @@ use mathlib.Core.Path.{ap, _∙_}
 use borrow.Author.Needs.{needs}
 use Rattle.word.specs.Kinds.{tooMany}
 use Rattle.scalar.specs.Scalars.{unless}
-use Rattle.rings.specs.Rings.{at}
+use Rattle.rings.specs.Rings.{foundAt}
 use Rattle.rings.specs.inner.Least.{lesser, leastFound}
 use Rattle.rings.specs.declared.LeastFound.{LeastFound}
 use Rattle.rings.proofs.Zones.{coordinates-found}
@@ -15,7 +15,7 @@ returns : tie.Need-returns
 returns c x is w e =
     let q = c .before .before in let r = q .before .judge-polygons in
     c .lesser .ensures
-    ∙ ap (λ (z : LeastFound). lesser z (r .result .least)) (c .before .unless .ensures ∙ ap (λ (b : Bool). leastFound (at 0 (unless b tooMany))) (q .are-zone-counts .ensures))
+    ∙ ap (λ (z : LeastFound). lesser z (r .result .least)) (c .before .unless .ensures ∙ ap (λ (b : Bool). leastFound (foundAt 0 (unless b tooMany))) (q .are-zone-counts .ensures))
     ∙ coordinates-found (r .result) (r .ensures) x is w e
 
 pub judge-coordinates-spec : {M : Type 1} → statement M

@@ -6,7 +6,7 @@ use borrow.Author.Needs.{needs}
 use borrow.Author.Tests.{not-true, not-false}
 use Rattle.word.specs.Kinds.{badRing}
 use Rattle.scalar.specs.Scalars.{unless}
-use Rattle.rings.specs.Rings.{at}
+use Rattle.rings.specs.Rings.{foundAt}
 use Rattle.rings.specs.inner.Least.{lesser, leastFound}
 use Rattle.rings.specs.declared.LeastFound.{LeastFound}
 use Rattle.rings.proofs.Zones.{polygon-array, polygon-other}
@@ -20,7 +20,7 @@ returns-2 : tie.Need-returns-2
 returns-2 c =
     let q = c .before .before in let r = q .before .judge-rings in let o = q .before .before in
     let n = o .before .before .before .args .n in
-    let counted = c .before .unless .ensures ∙ ap (λ (t : Bool). leastFound (at n (unless t badRing))) (q .is-ring-count .ensures) in (
+    let counted = c .before .unless .ensures ∙ ap (λ (t : Bool). leastFound (foundAt n (unless t badRing))) (q .is-ring-count .ensures) in (
       record { rings = r .ensures .0 .rings; positions = r .ensures .0 .positions },
       λ x w.
           polygon-array w _ (r .result) _ (sym (o .before .is-array .ensures) ∙ not-false _ (o .if1 .left)) (r .ensures .1)

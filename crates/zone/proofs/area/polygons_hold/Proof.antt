@@ -5,9 +5,9 @@ use Prim.Native.Nat.{_-_}
 use native.Mathlib.Omega.{arith}
 use lib.ListN.{length}
 use Rattle.walk.specs.inner.Along.{ItemPlaced}
+use Rattle.schema.specs.Pick.{elements}
 use Rattle.geometry.specs.inner.Shifted.{point}
 use Rattle.rings.specs.inner.Parts.{polygonShape, picked, partsOf}
-use Rattle.document.specs.Document.{elements}
 use Rattle.zone.specs.Zone.{ringsHold, polygonsHold}
 use Rattle.zone.proofs.Cleared.{polygon-rings, polygon-clean}
 use Rattle.zone.proofs.Looping.{Loops, loop-start, loop-end, loop-whole, loop-fit, loop-here, loop-more}

@@ -2,7 +2,7 @@
 use borrow.Author.Needs.{needs}
 use mathlib.Core.Path.{_≡_, sym, ap, subst, _∙_}
 use Rattle.notation.specs.Ascii.{bytes}
-use Rattle.walk.specs.Part.{Whole, treeOf}
+use Rattle.walk.specs.Part.{Whole, partTree}
 use Rattle.geometry.specs.inner.Shifted.{point}
 use Rattle.rings.specs.Rings.{polygonsFound}
 use Rattle.rings.specs.inner.Parts.{polygonShape, partsOf}
@@ -20,7 +20,7 @@ found c =
     let m = c .before .before .before in let s = m .before .before .before in
     let e = m .member .ensures _ (s .pre .0 .whole) in
     c .array-in .ensures
-    ∙ ap arrayBy (c .before .member2 .ensures _ (subst (λ q. Whole q (treeOf q)) (sym e) (geometry-whole (s .pre .0))) ∙ ap (λ q. memberOf q (bytes "coordinates")) e)
+    ∙ ap arrayBy (c .before .member2 .ensures _ (subst (λ q. Whole q (partTree q)) (sym e) (geometry-whole (s .pre .0))) ∙ ap (λ q. memberOf q (bytes "coordinates")) e)
 
 polygons-hold-requires : tie.Need-polygons-hold-requires
 polygons-hold-requires c κs =

@@ -4,7 +4,7 @@ use borrow.Author.Tests.{not-true, not-false}
 use mathlib.Core.Path.{_≡_, sym, ap, subst, _∙_}
 use mathlib.Core.Bool.{true}
 use Rattle.notation.specs.Ascii.{bytes}
-use Rattle.walk.specs.Part.{Whole, treeOf}
+use Rattle.walk.specs.Part.{Whole, partTree}
 use Rattle.schema.specs.Table23.{rule}
 use Rattle.geometry.specs.inner.Shifted.{point}
 use Rattle.rings.specs.inner.Parts.{Listing, partsOf}
@@ -21,8 +21,8 @@ use Rattle.zone.proofs.zones.with_zone.Tie as tie
 properties-are : (c : tie.After-member) → c .member .result .now ≡ propertyBytes (c .before .before .before .before .args .p .now)
 properties-are c = c .member .ensures _ (c .before .before .before .before .pre .0 .whole)
 
-whole : (c : tie.After-member) → Whole (c .member .result .now) (treeOf (c .member .result .now))
-whole c = subst (λ q. Whole q (treeOf q)) (sym (properties-are c)) (properties-whole (c .before .before .before .before .pre .0))
+whole : (c : tie.After-member) → Whole (c .member .result .now) (partTree (c .member .result .now))
+whole c = subst (λ q. Whole q (partTree q)) (sym (properties-are c)) (properties-whole (c .before .before .before .before .pre .0))
 
 -- what was asked of the window
 asked : (c : tie.After-counts) → let s = c .before .before .before .before .before in

@@ -1,7 +1,7 @@
 -- The origin stands in for the point.
 use borrow.Author.Needs.{needs}
-use Rattle.rings.proofs.Spot.broken.Statement.{statement}
-use Rattle.rings.proofs.Spot.broken.Tie as tie
+use Rattle.rings.proofs.PositionFound.broken.Statement.{statement}
+use Rattle.rings.proofs.PositionFound.broken.Tie as tie
 
 returns : tie.Need-returns
 returns c = rw (c .origin .ensures)

@@ -6,21 +6,21 @@ use borrow.Author.Needs.{needs}
 use borrow.Author.Tests.{not-true, not-false}
 use Rattle.word.specs.Kinds.{wrongType, numberForm, outOfRange}
 use Rattle.decimal.proofs.Formed.{number-formed}
-use Rattle.rings.specs.declared.Ordinate.{Ordinate}
+use Rattle.rings.specs.declared.CoordinateFound.{CoordinateFound}
 use Rattle.rings.proofs.Numbers.{measured-broken, no-number, inside-upto, unformed-kinds, outside-kinds, measured-inside}
-use Rattle.rings.proofs.position.read_ordinate.Statement.{statement}
-use Rattle.rings.proofs.position.read_ordinate.Tie as tie
+use Rattle.rings.proofs.position.read_coordinate.Statement.{statement}
+use Rattle.rings.proofs.position.read_coordinate.Tie as tie
 
 returns : tie.Need-returns
 returns c = (
-  let e = ap (λ (o : Ordinate). o .value) (c .broken .ensures) in omega arith,
+  let e = ap (λ (o : CoordinateFound). o .value) (c .broken .ensures) in omega arith,
   λ x w.
       measured-broken _ _ wrongType _ _ (no-number _ w (sym (c .before .before .is-number .ensures) ∙ not-true _ (c .before .if1 .taken))) (c .broken .ensures),
 )
 
 returns-2 : tie.Need-returns-2
 returns-2 c = (
-  let e = ap (λ (o : Ordinate). o .value) (c .broken2 .ensures) in omega arith,
+  let e = ap (λ (o : CoordinateFound). o .value) (c .broken2 .ensures) in omega arith,
   λ x w.
       measured-broken _ _ numberForm _ _
       (unformed-kinds _ w (sym (c .before .before .before .before .before .is-number .ensures) ∙ not-false _ (c .before .before .before .before .if1 .left))
@@ -33,7 +33,7 @@ within-requires c κs = number-formed _ _ (sym (c .before .before .before .read-
 
 returns-3 : tie.Need-returns-3
 returns-3 c = (
-  let e = ap (λ (o : Ordinate). o .value) (c .broken3 .ensures) in omega arith,
+  let e = ap (λ (o : CoordinateFound). o .value) (c .broken3 .ensures) in omega arith,
   λ x w.
       measured-broken _ _ outOfRange _ _
       (outside-kinds _ w (sym (c .before .before .before .before .before .before .before .before .is-number .ensures) ∙ not-false _ (c .before .before .before .before .before .before .before .if1 .left)) _
@@ -53,8 +53,8 @@ returns-4 c = (
       (sym (c .before .before .before .before .before .before .read-decimal .ensures) ∙ c .before .before .before .before .d .given .1) _ _ (sym (c .before .before .within .ensures) ∙ not-false _ (c .before .if2 .left)) (c .coordinate .ensures),
 )
 
-pub read-ordinate-spec : {M : Type 1} → statement M
-read-ordinate-spec =
+pub read-coordinate-spec : {M : Type 1} → statement M
+read-coordinate-spec =
     tie.close
     (tie.spec (λ c κs. search needs) (λ c κs. search needs) returns (λ c κs. search needs) (λ c. search needs) (λ c. search needs) (λ c κs. search needs)
     returns-2 within-requires (λ c κs. search needs) returns-3 coordinate-requires returns-4)

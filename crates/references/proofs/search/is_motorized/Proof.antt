@@ -6,8 +6,8 @@ use Rattle.notation.specs.Ascii.{bytes}
 use Rattle.text.specs.Text.{textOf, sameWord}
 use Rattle.fields.proofs.Ways.{text-none, text-some}
 use Rattle.references.specs.References.{notHuman}
-use Rattle.references.proofs.search.is_driven.Statement.{statement}
-use Rattle.references.proofs.search.is_driven.Tie as tie
+use Rattle.references.proofs.search.is_motorized.Statement.{statement}
+use Rattle.references.proofs.search.is_motorized.Tie as tie
 
 returns : tie.Need-returns
 returns c = let a = c .before .before .before .args in sym (ap notHuman (text-none (a .value .now) _ (c .before .code-of .ensures) (c .if1 .taken)))
@@ -18,6 +18,6 @@ returns-2 c =
     ap not (c .word-is .ensures ∙ ap (λ q. sameWord (textOf q) (bytes "human")) (u .unquoted .ensures))
     ∙ sym (ap notHuman (text-some (a .value .now) _ (i .before .code-of .ensures) (i .if1 .left)))
 
-pub is-driven-spec : {M : Type 1} → statement M
-is-driven-spec =
+pub is-motorized-spec : {M : Type 1} → statement M
+is-motorized-spec =
     tie.close (tie.spec (λ c κs. search needs) returns (λ c κs. search needs) (λ c. search needs) (λ c κs. search needs) returns-2)
