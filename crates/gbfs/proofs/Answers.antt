@@ -13,7 +13,8 @@ use Rattle.word.specs.Word.{wordOf}
 use Rattle.word.proofs.Laws.{full1}
 use Rattle.clean.specs.declared.Outcome.{Outcome}
 use Rattle.gbfs.specs.declared.Acceptance.the-variants.{NoRoom}
-use Rattle.gbfs.specs.Verdict.{Feeds, verdictOf, said, accepts, verdictNumber, bufferOf, number}
+use Rattle.cross.specs.Stage.{Feeds}
+use Rattle.gbfs.specs.Verdict.{verdictOf, said, accepts, verdictNumber, bufferOf, number}
 
 pub word-length : (p : Parts) → length (wordOf form1 p) ≡ 8
 unfolding wordOf

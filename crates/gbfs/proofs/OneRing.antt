@@ -2,7 +2,7 @@
 -- rules are equal, and with them all that is told of their first.
 use mathlib.Core.Bool.{Bool}
 use mathlib.Core.List.{List, [], _∷_, _++_, map}
-use mathlib.Core.Path.{_≡_, refl, ap}
+use mathlib.Core.Path.{_≡_, refl, sym, ap, subst}
 use Prim.Native.Nat.{ℕ, zero, suc, _≤_}
 use native.Mathlib.Omega.{arith}
 use lib.Dec.{leb, ltb}
@@ -24,7 +24,8 @@ use Rattle.quote.specs.Quote as quote
 use Rattle.quote.specs.Quote.{short, cleanQuote, quoteOf}
 use Rattle.zone.specs.Single.{WithoutHoles, cleanOfOne}
 use Rattle.zone.proofs.Single.{faults-one, single}
-use Rattle.gbfs.specs.Verdict.{Feeds, bytesOf, faultsBBy, stageA, stageBBy, stageC, orElse, brokenRulesBy, first, verdictOf, said, accepts, verdictNumber, bufferOf}
+use Rattle.cross.specs.Stage.{Feeds, bytesOf}
+use Rattle.gbfs.specs.Verdict.{faultsBBy, stageA, stageBBy, stageC, orElse, brokenRulesBy, first, verdictOf, said, accepts, verdictNumber, bufferOf}
 use Rattle.gbfs.specs.OneRing.{verdictOfOne, OneRing}
 use Rattle.gbfs.proofs.Every.{every-same}
 
@@ -32,10 +33,9 @@ file-same : (file : ℕ) (s : List ℕ) → (file ≡ 6 → WithoutHoles s) → 
 file-same file [] one = refl
 file-same file (b ∷ s) one = faults-one file (b ∷ s) one
 
-module _ (s : Feeds) (one : WithoutHoles (s .zones)) where
+module _ (s : Feeds) (one : WithoutHoles (bytesOf s 6)) where
   zones-one : (file : ℕ) → file ≡ 6 → WithoutHoles (bytesOf s file)
-  unfolding bytesOf
-  zones-one file e = rw (e) one
+  zones-one file e = subst (λ (k : ℕ). WithoutHoles (bytesOf s k)) (sym e) one
 
   stage-same : stageBBy coordinatesFound s ≡ stageBBy coordinatesOfOne s
   unfolding stageBBy

@@ -3,8 +3,7 @@
 use mathlib.Core.Bool.{Bool, true, false}
 use mathlib.Core.List.{List, [], _∷_}
 use mathlib.Core.Path.{_≡_, refl, sym, ap, subst}
-use Prim.Native.Nat.{ℕ, zero, suc, _≤_}
-use native.Mathlib.Omega.{arith}
+use Prim.Native.Nat.{ℕ, _≤_}
 use Rattle.notation.specs.Ascii.{bytes}
 use Rattle.notation.specs.Choice.{_⇒_else_}
 use Rattle.word.specs.Kinds.{outOfRange}
@@ -21,6 +20,8 @@ use Rattle.fault.specs.Fault.{fault}
 use Rattle.fault.proofs.Order.{by-test}
 use Rattle.scalar.specs.Scalars.{kindsOf, sortKinds}
 use Rattle.judge.specs.Faults.{top, faulty, faultsBy, rowFaultsBy, rowFaults, fileFaultsBy, fileFaults}
+use Rattle.cross.specs.Stage.{fileCount}
+use Rattle.cross.proofs.Numbers.{by-number}
 use Rattle.gbfs.specs.Demand3.{Holds, here, later, Outdated, outdated}
 
 -- the slot of a name under which a string is held: that string once, or twice whatever
@@ -57,16 +58,11 @@ record Headed (σ : Shape) : Type 0 where
   rows : Rows
   is : σ ≡ headed rows
 
-file-headed : (file : ℕ) → 1 ≤ file → file ≤ 6 → Headed (fileShape table23 file)
+file-headed : (file : ℕ) → 1 ≤ file → file ≤ fileCount → Headed (fileShape table23 file)
 unfolding fileShape written23
-file-headed zero h i = absurd (omega arith)
-file-headed (suc zero) h i = record { rows = _; is = refl }
-file-headed (suc (suc zero)) h i = record { rows = _; is = refl }
-file-headed (suc (suc (suc zero))) h i = record { rows = _; is = refl }
-file-headed (suc (suc (suc (suc zero)))) h i = record { rows = _; is = refl }
-file-headed (suc (suc (suc (suc (suc zero))))) h i = record { rows = _; is = refl }
-file-headed (suc (suc (suc (suc (suc (suc zero)))))) h i = record { rows = _; is = refl }
-file-headed (suc (suc (suc (suc (suc (suc (suc file))))))) h i = absurd (omega arith)
+file-headed =
+    by-number (λ file. Headed (fileShape table23 file)) (record { rows = _; is = refl }) (record { rows = _; is = refl }) (record { rows = _; is = refl })
+    (record { rows = _; is = refl }) (record { rows = _; is = refl }) (record { rows = _; is = refl })
 
 -- a list of faults that begins at field 1 of the header
 pub record Opening (l : List Fault) : Type 0 where
@@ -97,7 +93,7 @@ opening-object v rows ms s e = opening-slot rows (pickRows rows ms) s e
 not-same : (x y : List ℕ) → (x ≡ y → ⊥) → same x y ≡ false
 not-same x y n = by-test (same x y) (λ t. absurd (n (same-true x y t))) (λ f. f)
 
-pub opening : (file : ℕ) → 1 ≤ file → file ≤ 6 → (x : Json) → Outdated x → Opening (fileFaults (fileShape table23 file) x)
+pub opening : (file : ℕ) → 1 ≤ file → file ≤ fileCount → (x : Json) → Outdated x → Opening (fileFaults (fileShape table23 file) x)
 opening file h i x (outdated {v} {ms} holds other) =
     let r = file-headed file h i in
     subst Opening (ap (λ (σ : Shape). fileFaults σ (tree.object ms)) (sym (r .is)))

@@ -29,7 +29,8 @@ use Rattle.quote.specs.Quote.{mostSeconds, mostMetres, quoteOf}
 use Rattle.zone.specs.Zone.{outline, counts, polygonsOf, applies, zonesOf}
 use Rattle.zone.specs.Answer as zone
 use Rattle.zone.specs.Answer.{ruleOf, onMap, rulingOf}
-use Rattle.gbfs.specs.Verdict.{Feeds, brokenRules, before, verdictNumber, bufferOf}
+use Rattle.cross.specs.Stage.{Feeds}
+use Rattle.gbfs.specs.Verdict.{brokenRules, before, verdictNumber, bufferOf}
 
 -- The verdict: p is among the rules, and none of them comes before it.
 pub record First (p : Parts) (l : List Parts) : Type 0 where

@@ -20,7 +20,8 @@ use Rattle.quote.specs.Quote as quote
 use Rattle.quote.specs.Quote.{short, cleanQuote, quoteOf}
 use Rattle.zone.specs.Answer.{rulingOf}
 use Rattle.zone.specs.Single.{WithoutHoles, cleanOfOne, rulingOfOne}
-use Rattle.gbfs.specs.Verdict.{Feeds, brokenRulesBy, first, verdictOf, said, accepts, verdictNumber, bufferOf}
+use Rattle.cross.specs.Stage.{Feeds, bytesOf}
+use Rattle.gbfs.specs.Verdict.{brokenRulesBy, first, verdictOf, said, accepts, verdictNumber, bufferOf}
 
 -- the verdict before W13: the first broken rule of a set, where polygons of one ring are asked for
 abbrev pub verdictOfOne : Feeds → Outcome
@@ -28,10 +29,10 @@ verdictOfOne s = first (brokenRulesBy coordinatesOfOne s)
 
 pub record OneRing : Type 0 where
   -- the verdict, and so the number and the buffer of its question
-  pub verdict : (s : Feeds) → WithoutHoles (s .zones) → verdictOf s ≡ verdictOfOne s
-  pub number : (s : Feeds) (buffer : List ℕ) → WithoutHoles (s .zones)
+  pub verdict : (s : Feeds) → WithoutHoles (bytesOf s 6) → verdictOf s ≡ verdictOfOne s
+  pub number : (s : Feeds) (buffer : List ℕ) → WithoutHoles (bytesOf s 6)
       → verdictNumber s buffer ≡ (ltb (length buffer) 8 ⇒ 2 else accepts (verdictOfOne s) ⇒ 0 else 1)
-  pub buffer : (s : Feeds) (buffer : List ℕ) → WithoutHoles (s .zones)
+  pub buffer : (s : Feeds) (buffer : List ℕ) → WithoutHoles (bytesOf s 6)
       → bufferOf s buffer ≡ (ltb (length buffer) 8 ⇒ buffer else wordOf form1 (said (verdictOfOne s)) ++ drop 8 buffer)
   -- the zone rule, number 5 included
   pub ruling : (s : List ℕ) (q : Point) (type : List ℕ) (moment : ℕ) → WithoutHoles s → rulingOf s q type moment ≡ rulingOfOne s q type moment

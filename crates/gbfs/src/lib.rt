@@ -3,13 +3,13 @@ use crate::stages::judge;
 use clean::Outcome;
 use word::Parts;
 use word::Word;
-ghost use mathlib.Core.List.{_++_};
+ghost use mathlib.Core.List.{[], _∷_, _++_};
 ghost use mathlib.Core.Path.{_≡_};
 ghost use Prim.Native.Nat.{_≤_};
 ghost use lib.ListN.{length, drop};
 ghost use Rattle.word.specs.Form.{form1};
 ghost use Rattle.word.specs.Word.{Fits, wordOf};
-ghost use Rattle.gbfs.specs.Verdict.{feeds, said, number, verdictNumber, bufferOf};
+ghost use Rattle.gbfs.specs.Verdict.{said, number, verdictNumber, bufferOf};
 
 mod stages;
 
@@ -71,16 +71,16 @@ pub fn verdict<'a>(
     buffer: &mut [u8],
 ) -> Acceptance
     ensures { λ r. ⌜ (number r ≡ verdictNumber
-        (feeds (now (types .entry)) (now (stations .entry)) (now (statuses .entry)) (now (bikes .entry)) (now (plans .entry)) (now (zones .entry)))
+        (now (types .entry) ∷ now (stations .entry) ∷ now (statuses .entry) ∷ now (bikes .entry) ∷ now (plans .entry) ∷ now (zones .entry) ∷ [])
         (now (buffer .entry)))
         × (now (buffer .exit) ≡ bufferOf
-        (feeds (now (types .entry)) (now (stations .entry)) (now (statuses .entry)) (now (bikes .entry)) (now (plans .entry)) (now (zones .entry)))
+        (now (types .entry) ∷ now (stations .entry) ∷ now (statuses .entry) ∷ now (bikes .entry) ∷ now (plans .entry) ∷ now (zones .entry) ∷ [])
         (now (buffer .entry))) ⌝ }
 {
     if buffer.len() < Word::SIZE {
         return Acceptance::NoRoom;
     }
-    let c = judge(types, stations, statuses, bikes, plans, zones);
+    let c = judge([types, stations, statuses, bikes, plans, zones]);
     put(parts_in(c), buffer);
     match c {
         Outcome::Unbroken => Acceptance::Accepted,

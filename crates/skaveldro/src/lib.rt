@@ -3,8 +3,9 @@
 // the number is 2; one that is longer keeps its other bytes.
 use crate::encode::give;
 use word::Word;
+ghost use mathlib.Core.List.{[], _∷_};
 ghost use mathlib.Core.Path.{_≡_};
-ghost use Rattle.gbfs.specs.Verdict.{feeds, verdictNumber, bufferOf};
+ghost use Rattle.gbfs.specs.Verdict.{verdictNumber, bufferOf};
 ghost use Rattle.skaveldro.specs.Encoding.{filled};
 ghost use Rattle.skaveldro.specs.Answers.{wordAnswer, quoteAnswer, zoneAnswer, shownAnswer, told};
 
@@ -26,10 +27,10 @@ pub extern "C" fn skaveldro_verdict<'a>(
     buffer: &mut [u8],
 ) -> u8
     ensures { λ r. ⌜ r ≡ verdictNumber
-        (feeds (now (types .entry)) (now (stations .entry)) (now (statuses .entry)) (now (bikes .entry)) (now (plans .entry)) (now (zones .entry)))
+        (now (types .entry) ∷ now (stations .entry) ∷ now (statuses .entry) ∷ now (bikes .entry) ∷ now (plans .entry) ∷ now (zones .entry) ∷ [])
         (now (buffer .entry)) ⌝ }
     ensures { λ _. ⌜ now (buffer .exit) ≡ bufferOf
-        (feeds (now (types .entry)) (now (stations .entry)) (now (statuses .entry)) (now (bikes .entry)) (now (plans .entry)) (now (zones .entry)))
+        (now (types .entry) ∷ now (stations .entry) ∷ now (statuses .entry) ∷ now (bikes .entry) ∷ now (plans .entry) ∷ now (zones .entry) ∷ [])
         (now (buffer .entry)) ⌝ }
 {
     gbfs::verdict(types, stations, statuses, bikes, plans, zones, buffer).number()

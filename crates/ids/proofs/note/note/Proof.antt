@@ -77,14 +77,16 @@ value-is c =
 note-record-requires : tie.Need-note-record-requires Inv-loop μ-loop
 note-record-requires c κs =
     let v = c .before in let i = v .before in let d = i .before .before .before in let t = d .before .before in let l = t .before in let m = placed d in let h = start d .pre .0 in (
-      omega arith,
-      omega arith,
-      i .id-place .ensures .0,
-      room d,
-      place i .unmet,
-      noting-record (l .loop .inv) (t .pass-item .ensures) _ (d .m .given .1),
+      record {
+        room = room d;
+        starts = omega arith;
+        ends = omega arith;
+        looked = i .id-place .ensures .0;
+        unmet = place i .unmet;
+        is = noting-record (l .loop .inv) (t .pass-item .ensures) _ (d .m .given .1);
+        holds = value-is v;
+      },
       l .loop .inv .noted,
-      value-is v,
     )
 
 loop-again : tie.Need-loop-again Inv-loop μ-loop
