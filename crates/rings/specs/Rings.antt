@@ -16,6 +16,8 @@ use Rattle.decimal.specs.Exact.{millionths}
 use Rattle.geometry.specs.Ring.{Point, sound}
 use Rattle.schema.specs.Shape as sort
 use Rattle.schema.specs.Pick.{Picked, PickedItems, bare, items, slots, listOf, elements, byValue}
+use Rattle.fault.specs.declared.Fault.{Fault}
+use Rattle.fault.specs.Fault.{fault}
 use Rattle.scalar.specs.Scalars.{unless, kindsOf}
 
 -- what is found at a position's number: its kind
@@ -26,6 +28,11 @@ pub record Found : Type 0 where
 unfoldable pub foundAt : ℕ → List ℕ → List Found
 foundAt n [] = []
 foundAt n (k ∷ ks) = record { number = n; kind = k } ∷ foundAt n ks
+
+-- faults of a field, each at its position's number
+unfoldable pub numbered : (rec field : ℕ) → List Found → List Fault
+numbered rec field [] = []
+numbered rec field (x ∷ l) = fault rec field (x .number) (x .kind) ∷ numbered rec field l
 
 -- how many items
 unfoldable pub count : PickedItems → ℕ

@@ -20,13 +20,14 @@ use Rattle.schema.specs.Table23.{zone, coordinates}
 use Rattle.schema.specs.Pick.{Picked, PickedItems, bare, items, slots, pick, listOf, elements}
 use Rattle.word.specs.Kinds.{tooMany, badRing}
 use Rattle.scalar.specs.Scalars.{unless}
-use Rattle.rings.specs.Rings.{Found, foundAt, count, ring, ringFound, ringsFound, position, isRingCount, itemCount, polygon, polygonPositions, itemTotal, polygonsFound, areZoneCounts, coordinatesFound}
+use Rattle.rings.specs.Rings.{foundAt, count, ring, ringFound, ringsFound, position, isRingCount, itemCount, polygon, polygonPositions, itemTotal, polygonsFound, areZoneCounts, coordinatesFound}
+use Rattle.rings.proofs.Found.{numbered-none}
 use Rattle.rings.specs.inner.Parts.{ringShape, polygonShape, picked, partsOf, Outlined}
 use Rattle.rings.specs.declared.RingPoints.{RingPoints}
 use Rattle.geometry.specs.inner.Shifted.{InRange, points}
 use Rattle.rings.proofs.Picked.{Listed, items-parts}
 use Rattle.judge.specs.declared.Place.{Place}
-use Rattle.judge.specs.Faults.{faulty, numbered, faultsBy, faults}
+use Rattle.judge.specs.Faults.{faulty, faultsBy, faults}
 use Rattle.document.specs.Document.{Maybe, none, some, elementsOf, field, along}
 use Rattle.document.proofs.Fields.{none-some}
 use Rattle.document.proofs.Ways.{Requires, here, below, lists, Leads, arrived, into}
@@ -90,16 +91,11 @@ polygon-items n (items is) e = (is, refl, append-eq-nil-iff {p = foundAt n (unle
 polygon-items n (bare x) e = cons-nil e
 polygon-items n (slots ss) e = cons-nil e
 
-numbered-none : (p : Place) (field : ℕ) (l : List Found) → numbered p field l ≡ [] → l ≡ []
-unfolding numbered
-numbered-none p field [] e = refl
-numbered-none p field (x ∷ l) e = cons-nil e
-
 coordinates-clear : (p : Place) (field : ℕ) (x : Picked) → faults coordinates p field x ≡ [] → polygonsFound 1 (elements x) ≡ []
 unfolding coordinates faultsBy faulty coordinatesFound
 coordinates-clear p field (items is) e =
     let many = foundAt 0 (unless (areZoneCounts (count is) (itemTotal (listOf is))) tooMany) in
-    append-eq-nil-iff {p = many} .0 (numbered-none p field (coordinatesFound is) e) .1
+    append-eq-nil-iff {p = many} .0 (numbered-none (p .«record») field (coordinatesFound is) e) .1
 coordinates-clear p field (bare x) e = cons-nil e
 coordinates-clear p field (slots ss) e = cons-nil e
 

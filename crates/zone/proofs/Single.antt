@@ -19,10 +19,10 @@ use Rattle.schema.specs.Pick.{Picked, pick, elements}
 use Rattle.geometry.specs.Ring.{Point}
 use Rattle.geometry.specs.Held.{holds, polygonHolds}
 use Rattle.geometry.proofs.Polygon.{polygons}
-use Rattle.rings.specs.Rings.{count, itemCount, coordinatesFound}
+use Rattle.rings.specs.Rings.{numbered, count, itemCount, coordinatesFound}
 use Rattle.rings.specs.OneRing.{coordinatesOfOne, OneRingAtMost}
 use Rattle.rings.proofs.OneRing.{coordinates-one}
-use Rattle.judge.specs.Faults.{top, numbered, faultsBy, fileFaultsBy}
+use Rattle.judge.specs.Faults.{top, faultsBy, fileFaultsBy}
 use Rattle.document.specs.Document.{Maybe, none, some, elementsOf, along, field, fieldItems}
 use Rattle.clean.specs.declared.Outcome.{Outcome}
 use Rattle.clean.specs.Clean.{treeOf, recordsOf, cleanOf}
@@ -79,7 +79,7 @@ Alike = Same coordinatesFound coordinatesOfOne
 
 coordinates-same : (x : Json) → OneRingAtMost (elements (pick coordinates x)) → Alike coordinates (pick coordinates x)
 unfolding coordinates faultsBy pick
-coordinates-same (tree.array is) one p φ = ap (numbered p φ) (coordinates-one _ one)
+coordinates-same (tree.array is) one p φ = ap (numbered (p .«record») φ) (coordinates-one _ one)
 coordinates-same tree.null one p φ = refl
 coordinates-same (tree.boolean b) one p φ = refl
 coordinates-same (tree.number s) one p φ = refl
