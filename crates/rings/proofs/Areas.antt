@@ -23,7 +23,7 @@ use Rattle.fault.specs.declared.Least.{Least}
 use Rattle.fault.specs.declared.Least.the-variants.{None, Is}
 use Rattle.fault.specs.Fault.{fault, lesser}
 use Rattle.fault.proofs.Order.{later-kind}
-use Rattle.fault.proofs.Leasts.{none-is, lesser-first, lesser-none, lesser-assoc, both-none}
+use Rattle.fault.proofs.Leasts.{none-is, lesser-first, lesser-none, lesser-assoc}
 use Rattle.scalar.specs.Scalars.{unless}
 use Rattle.rings.specs.Rings.{Found, foundAt, positionKinds, position, noKinds, allSound, positionsFound, ringFound}
 use Rattle.rings.specs.inner.Parts.{faultAt, leastFound, positionShape, partsOf, Charted, RingRead, RingRoom, Outlined, areaLeast, Tells}

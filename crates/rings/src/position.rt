@@ -104,9 +104,16 @@ impl PositionFound {
 }
 
 // Lat and what follows it, behind lon.
-fn judge_behind(p: &[u8], at: usize, lon: CoordinateFound, field: Field, number: u32) -> PositionFound
+fn judge_behind(
+    p: &[u8],
+    at: usize,
+    lon: CoordinateFound,
+    field: Field,
+    number: u32,
+) -> PositionFound
     requires { ⌜ lon .value ≤ 180 * 2_000_000 ⌝ }
-    ensures { λ r. ⌜ OnMap (r .point) × ((x : Picked) (l : List Picked) → FindsCoordinate field 180 number x lon → Left numberShape (now (p .entry)) at l → FindsPosition field number (listKinds (x ∷ l)) (pointOf (x ∷ l)) r) ⌝ }
+    ensures { λ r. ⌜ OnMap (r .point) ×
+        ((x : Picked) (l : List Picked) → FindsCoordinate field 180 number x lon → Left numberShape (now (p .entry)) at l → FindsPosition field number (listKinds (x ∷ l)) (pointOf (x ∷ l)) r) ⌝ }
 {
     let east = lon.least;
     let ItemStep::Found(second) = pass_item(p, at) else {
@@ -127,7 +134,8 @@ fn judge_behind(p: &[u8], at: usize, lon: CoordinateFound, field: Field, number:
 }
 
 fn judge_numbers(p: &[u8], field: Field, number: u32) -> PositionFound
-    ensures { λ r. ⌜ OnMap (r .point) × (Listing (now (p .entry)) → FindsPosition field number (listKinds (partsOf numberShape (now (p .entry)))) (pointOf (partsOf numberShape (now (p .entry)))) r) ⌝ }
+    ensures { λ r. ⌜ OnMap (r .point) ×
+        (Listing (now (p .entry)) → FindsPosition field number (listKinds (partsOf numberShape (now (p .entry)))) (pointOf (partsOf numberShape (now (p .entry)))) r) ⌝ }
 {
     let ItemStep::Found(first) = pass_item(p, 1) else {
         return PositionFound::broken(field.broken(number, Kind::BAD_RING));

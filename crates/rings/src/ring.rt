@@ -70,7 +70,14 @@ pub fn ring_points(p: &[u8]) -> RingPoints
     requires { ⌜ length (now p) ≤ fileBytes ⌝ }
     ensures { λ r. ⌜ ((x : Json) (is : PickedItems) (n : ℕ) → Whole (now (p .entry)) x → pick ringShape x ≡ itemsAre is → ringFound n (listOf is) ≡ [] → Outlined (listOf is) r) ⌝ }
 {
-    read_ring(p, Field { record: 0, field: 0 }, 0)
+    read_ring(
+        p,
+        Field {
+            record: 0,
+            field: 0,
+        },
+        0,
+    )
 }
 
 // The area of a ring is asked for where its positions are all sound and there is room for them. With more of them kind 10 stands
@@ -94,7 +101,8 @@ fn judge_area(r: RingPoints, field: Field, n: u32) -> Least
 
 fn judge_positions(p: &[u8], field: Field, n: u32) -> Judged
     requires { ⌜ n + length (now p) < 2 ^ 32 ⌝ }
-    ensures { λ r. ⌜ (r .positions ≤ length (now (p .entry))) × (Listing (now (p .entry)) → Tells field (ringFound n (partsOf positionShape (now (p .entry)))) (length (partsOf positionShape (now (p .entry)))) r) ⌝ }
+    ensures { λ r. ⌜ (r .positions ≤ length (now (p .entry))) ×
+        (Listing (now (p .entry)) → Tells field (ringFound n (partsOf positionShape (now (p .entry)))) (length (partsOf positionShape (now (p .entry)))) r) ⌝ }
 {
     let r = read_ring(p, field, n);
     let count = r.count;

@@ -76,7 +76,10 @@ fn judge_polygon(p: &[u8], field: Field, n: u32) -> PolygonTally
     PolygonTally {
         rings: tally.rings,
         positions: tally.positions,
-        least: lesser(field.unless(is_ring_count(tally.rings), n, Kind::BAD_RING), found),
+        least: lesser(
+            field.unless(is_ring_count(tally.rings), n, Kind::BAD_RING),
+            found,
+        ),
     }
 }
 
