@@ -7,8 +7,8 @@ pub fn error() {
 }
 
 // The number that an answer begins with.
-pub fn first(n: u64) {
-    number(n);
+pub fn first(n: u8) {
+    number(n as u64);
 }
 
 // A number after others.
@@ -43,12 +43,6 @@ pub fn nothing() {
 
 pub fn end() {
     put(b"\n");
-}
-
-// The answer that a file is not clean, with what its word says.
-pub fn not_clean(p: Parts) {
-    first(5);
-    parts(p);
 }
 
 // What a word says, after the answer's number.

@@ -39,22 +39,17 @@ fn ask(file: &[u8], id: &[u8], seconds: &[u8], metres: &[u8]) -> bool {
 }
 
 fn print_quote(q: Quote) {
+    print::first(q.number());
     match q {
-        Quote::TooLong => {
-            print::first(4);
-        }
         Quote::NotClean(p) => {
-            print::not_clean(p);
-        }
-        Quote::NoPlan => {
-            print::first(6);
+            print::parts(p);
         }
         Quote::Fare(amount, past_minutes, past_kilometres) => {
-            print::first(0);
             print::amount(amount);
             print::mark(past_minutes);
             print::mark(past_kilometres);
         }
+        _ => {}
     }
     print::end();
 }

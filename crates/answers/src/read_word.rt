@@ -18,14 +18,9 @@ pub fn answer(line: &[u8], bytes: &mut [u8]) -> bool {
 }
 
 fn print_reading(r: Reading) {
-    match r {
-        Reading::NoWord => {
-            print::first(3);
-        }
-        Reading::Word(p) => {
-            print::first(0);
-            print::parts(p);
-        }
+    print::first(r.number());
+    if let Reading::Word(p) = r {
+        print::parts(p);
     }
     print::end();
 }

@@ -26,21 +26,16 @@ pub fn answer(line: &[u8], bytes: &mut [u8]) -> bool {
 }
 
 fn print_shown(s: Shown) {
+    print::first(s.number());
     match s {
-        Shown::NoFile => {
-            print::first(10);
-        }
         Shown::NotClean(p) => {
-            print::not_clean(p);
-        }
-        Shown::NoRecord => {
-            print::first(10);
+            print::parts(p);
         }
         Shown::Record(from, upto) => {
-            print::first(0);
             print::next(from as u64);
             print::next(upto as u64);
         }
+        _ => {}
     }
     print::end();
 }

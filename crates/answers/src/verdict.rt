@@ -50,16 +50,10 @@ fn verdict_on(bytes: &[u8], ends: &[usize; 6], buffer: &mut [u8]) -> Acceptance 
 }
 
 fn print_answer(r: Acceptance, room: &[u8; MOST]) {
+    print::first(r.number());
     match r {
-        Acceptance::NoRoom => {
-            print::first(2);
-        }
-        Acceptance::Accepted => {
-            print::first(0);
-            print::word(room);
-        }
-        Acceptance::NotAccepted => {
-            print::first(1);
+        Acceptance::NoRoom => {}
+        _ => {
             print::word(room);
         }
     }

@@ -44,26 +44,21 @@ fn ask(file: &[u8], type_id: &[u8], rest: &[u8]) -> bool {
 }
 
 fn print_ruling(r: Ruling) {
+    print::first(r.number());
     match r {
-        Ruling::OffMap => {
-            print::first(8);
-        }
         Ruling::NotClean(p) => {
-            print::not_clean(p);
-        }
-        Ruling::NoRule => {
-            print::first(9);
+            print::parts(p);
         }
         Ruling::Is(rule) => {
             print_rule(rule);
         }
+        _ => {}
     }
     print::end();
 }
 
 // The four values, a minus sign for one that no rule gives.
 fn print_rule(r: Rule) {
-    print::first(0);
     print::mark(r.ride);
     print::mark(r.through);
     if r.limited {

@@ -16,7 +16,7 @@ use Rattle.json.specs.Tree.{Json, Items, Members}
 use Rattle.schema.specs.Shape as shape
 use Rattle.schema.specs.Shape.{Shape, Rows, Need, Numbering, fileShape}
 use Rattle.schema.specs.Table23.{table23}
-use Rattle.schema.specs.Pick.{Picked, PickedItems, Slots, Slot, missing, once, twice, filled, put, pickItems, pick, pickRows, find, listOf, elements}
+use Rattle.schema.specs.Pick.{Picked, PickedItems, Slots, Slot, missing, once, twice, unlessBlank, put, pickItems, pick, pickRows, find, listOf, elements}
 use Rattle.schema.proofs.Tests.{and-left, and-right}
 use Rattle.fault.specs.declared.Fault.{Fault}
 use Rattle.fault.specs.Fault.{least}
@@ -58,9 +58,9 @@ lists (here p) = fields.here
 lists (below e p o) = fields.below e (lists o)
 
 -- such rows that lead on
-pub data Way : Shape → List ℕ → Shape → Type 0 where
-  arrived : {σ : Shape} → Way σ [] σ
-  into : {f : ℕ} {name : List ℕ} {σ τ : Shape} {rows : Rows} {fs : List ℕ} → Only f name σ rows → Way σ fs τ → Way (shape.object rows) (f ∷ fs) τ
+pub data Route : Shape → List ℕ → Shape → Type 0 where
+  arrived : {σ : Shape} → Route σ [] σ
+  into : {f : ℕ} {name : List ℕ} {σ τ : Shape} {rows : Rows} {fs : List ℕ} → Only f name σ rows → Route σ fs τ → Route (shape.object rows) (f ∷ fs) τ
 
 module _ (f g : PickedItems → List Found) where
   -- the same is found in a value
@@ -98,12 +98,12 @@ module _ (f g : PickedItems → List Found) where
   slot-same h need name σ rows twice ss k r p = ap (λ (l : List Fault). faulty p h (nameTwice ∷ []) ++ l) (r p)
 
   rows-same : {h : ℕ} {name : List ℕ} {σ : Shape} {rows : Rows} → Only h name σ rows → (ms : Members)
-      → ((z : Json) → filled (find name ms) ≡ once z → Same σ (pick σ z)) → SameRows rows (pickRows rows ms)
+      → ((z : Json) → unlessBlank (find name ms) ≡ once z → Same σ (pick σ z)) → SameRows rows (pickRows rows ms)
   unfolding pickRows
   rows-same {h} {name} {σ} (here {need = need} {rows = rows} e) ms k =
-      slot-same h need name σ rows (filled (find name ms)) (pickRows rows ms) k (plain-rows-same rows e (pickRows rows ms))
+      slot-same h need name σ rows (unlessBlank (find name ms)) (pickRows rows ms) k (plain-rows-same rows e (pickRows rows ms))
   rows-same (below {g = j} {need = need} {n = n} {τ = τ} {rows = rows} d e o) ms k =
-      slot-same j need n τ rows (filled (find n ms)) (pickRows rows ms) (λ z i. plain-same τ e (pick τ z)) (rows-same o ms k)
+      slot-same j need n τ rows (unlessBlank (find n ms)) (pickRows rows ms) (λ z i. plain-same τ e (pick τ z)) (rows-same o ms k)
 
   object-same : {h : ℕ} {name : List ℕ} {σ : Shape} {rows : Rows} → Only h name σ rows → (x : Json)
       → ((z : Json) → field h (pick (shape.object rows) x) ≡ some (pick σ z) → Same σ (pick σ z)) → Same (shape.object rows) (pick (shape.object rows) x)
@@ -116,7 +116,7 @@ module _ (f g : PickedItems → List Found) where
   object-same o (tree.string s) k p φ = refl
   object-same o (tree.array is) k p φ = refl
 
-  pub way-same : {σ τ : Shape} {fs : List ℕ} → Way σ fs τ → (x : Json) → ((z : Json) → along fs (pick σ x) ≡ some (pick τ z) → Same τ (pick τ z)) → Same σ (pick σ x)
+  pub way-same : {σ τ : Shape} {fs : List ℕ} → Route σ fs τ → (x : Json) → ((z : Json) → along fs (pick σ x) ≡ some (pick τ z) → Same τ (pick τ z)) → Same σ (pick σ x)
   unfolding along
   way-same arrived x k = k x refl
   way-same (into o w) x k = object-same o x (λ z e. way-same w z (λ y h. k y (rw (along, e) h)))

@@ -15,7 +15,7 @@ use Rattle.json.specs.Tree.{Json, Members}
 use Rattle.schema.specs.Shape as shape
 use Rattle.schema.specs.Shape.{Shape, Rows, Need, Numbering}
 use Rattle.schema.specs.Records.{Key}
-use Rattle.schema.specs.Pick.{Picked, PickedItems, items, noItem, item, Slots, Slot, missing, once, twice, filled, put, pickItems, pick, pickRows, find, listOf}
+use Rattle.schema.specs.Pick.{Picked, PickedItems, items, noItem, item, Slots, Slot, missing, once, twice, unlessBlank, put, pickItems, pick, pickRows, find, listOf}
 use Rattle.fault.specs.declared.Fault.{Fault}
 use Rattle.scalar.specs.Scalars.{unless}
 use Rattle.rings.specs.Rings as rings
@@ -57,12 +57,12 @@ slot-once judge p φ rest g (once z) ss e = (z, refl, none-left (judge p φ (g z
 slot-once judge p φ rest g twice ss e = none-faulty p φ _ _ (none-left _ (rest p ss) e)
 
 pub required-there : {f : ℕ} {name : List ℕ} {σ : Shape} {rows : Rows} → Requires f name σ rows → (p : Place) (ms : Members) → rowFaults rows p (pickRows rows ms) ≡ []
-    → (z : Json) × (filled (find name ms) ≡ once z) × (faults σ p f (pick σ z) ≡ [])
+    → (z : Json) × (unlessBlank (find name ms) ≡ once z) × (faults σ p f (pick σ z) ≡ [])
 unfolding rowFaultsBy pickRows
 required-there {f} {name} {σ} (here {rows = rows}) p ms e =
-    slot-once (λ q g y. faults σ q g y) p f (λ q rest. rowFaults rows q rest) (λ y. pick σ y) (filled (find name ms)) (pickRows rows ms) e
+    slot-once (λ q g y. faults σ q g y) p f (λ q rest. rowFaults rows q rest) (λ y. pick σ y) (unlessBlank (find name ms)) (pickRows rows ms) e
 required-there (below {g = g} {need = need} {n = n} {τ = τ} {rows = rows} i r) p ms e =
-    required-there r p ms (slot-rest (λ q h y. faults τ q h y) need p g (λ q rest. rowFaults rows q rest) (λ y. pick τ y) (filled (find n ms)) (pickRows rows ms) e)
+    required-there r p ms (slot-rest (λ q h y. faults τ q h y) need p g (λ q rest. rowFaults rows q rest) (λ y. pick τ y) (unlessBlank (find n ms)) (pickRows rows ms) e)
 
 module _ (p : Place) (φ : ℕ) where
   pub object-there : (rows : Rows) (x : Json) → faults (shape.object rows) p φ (pick (shape.object rows) x) ≡ []
@@ -116,12 +116,12 @@ slot-sound judge need p φ rest g (once z) ss e = inr (z, refl, none-left (judge
 slot-sound judge need p φ rest g twice ss e = none-faulty p φ _ _ (none-left _ (rest p ss) e)
 
 pub row-sound : {f : ℕ} {name : List ℕ} {σ : Shape} {rows : Rows} → Lists f name σ rows → (p : Place) (ms : Members) → rowFaults rows p (pickRows rows ms) ≡ []
-    → (filled (find name ms) ≡ missing) ⊎ ((z : Json) × (filled (find name ms) ≡ once z) × (faults σ p f (pick σ z) ≡ []))
+    → (unlessBlank (find name ms) ≡ missing) ⊎ ((z : Json) × (unlessBlank (find name ms) ≡ once z) × (faults σ p f (pick σ z) ≡ []))
 unfolding rowFaultsBy pickRows
 row-sound {f} {name} {σ} (fields.here {need = need} {rows = rows}) p ms e =
-    slot-sound (λ q g y. faults σ q g y) need p f (λ q rest. rowFaults rows q rest) (λ y. pick σ y) (filled (find name ms)) (pickRows rows ms) e
+    slot-sound (λ q g y. faults σ q g y) need p f (λ q rest. rowFaults rows q rest) (λ y. pick σ y) (unlessBlank (find name ms)) (pickRows rows ms) e
 row-sound (fields.below {g = g} {need = need} {n = n} {τ = τ} {rows = rows} i r) p ms e =
-    row-sound r p ms (slot-rest (λ q h y. faults τ q h y) need p g (λ q rest. rowFaults rows q rest) (λ y. pick τ y) (filled (find n ms)) (pickRows rows ms) e)
+    row-sound r p ms (slot-rest (λ q h y. faults τ q h y) need p g (λ q rest. rowFaults rows q rest) (λ y. pick τ y) (unlessBlank (find n ms)) (pickRows rows ms) e)
 
 -- so its field is not there, or holds such a value
 module _ {f : ℕ} {name : List ℕ} {rows : Rows} (p : Place) (φ : ℕ) (x : Json) (e : faults (shape.object rows) p φ (pick (shape.object rows) x) ≡ []) where
@@ -130,7 +130,7 @@ module _ {f : ℕ} {name : List ℕ} {rows : Rows} (p : Place) (φ : ℕ) (x : J
   unfolding field pick
   field-sound {σ} l =
       let o = object-there p φ rows x e in
-      let is : (s : Slot Json) → filled (find name (o .0)) ≡ s → field f (pick (shape.object rows) x) ≡ onceOnly (over (pick σ) s) =
+      let is : (s : Slot Json) → unlessBlank (find name (o .0)) ≡ s → field f (pick (shape.object rows) x) ≡ onceOnly (over (pick σ) s) =
       λ s k. ap (λ (y : Json). field f (pick (shape.object rows) y)) (o .1) ∙ ap onceOnly (at-row l (o .0)) ∙ ap (λ (t : Slot Json). onceOnly (over (pick σ) t)) k in
       ⊎-elim (λ k. inl (is missing k)) (λ k. inr (k .0, is (once (k .0)) (k .1), k .2)) (row-sound l p (o .0) (o .2))
 
@@ -144,7 +144,7 @@ module _ {f : ℕ} {name : List ℕ} {rows : Rows} (p : Place) (φ : ℕ) (x : J
       (field-sound l)
 
 -- the field of a required row
-pub field-there : {f : ℕ} {name : List ℕ} {σ : Shape} {rows : Rows} → Requires f name σ rows → (ms : Members) (z : Json) → filled (find name ms) ≡ once z
+pub field-there : {f : ℕ} {name : List ℕ} {σ : Shape} {rows : Rows} → Requires f name σ rows → (ms : Members) (z : Json) → unlessBlank (find name ms) ≡ once z
     → field f (pick (shape.object rows) (tree.object ms)) ≡ some (pick σ z)
 unfolding field pick
 field-there {σ = σ} r ms z e = ap onceOnly (at-row (lists r) ms) ∙ ap (λ (o : Slot Json). onceOnly (over (pick σ) o)) e

@@ -47,7 +47,7 @@ use Rattle.ids.specs.inner.Ids.{idField, idOf, Singles, recordBytes, anyHas, re
 use Rattle.ids.proofs.Passing.{repeated-none, repeated-some}
 use Rattle.ids.proofs.Picked.{Identified, id-of, id-picked, no-id}
 use Rattle.clean.specs.Clean as clean
-use Rattle.clean.specs.Clean.{recordsOf, usedBefore, repeatedId, repeatsFrom, repeats}
+use Rattle.clean.specs.Clean.{recordsOf, usedBefore, repeatedId, repeatsFrom, repeatsIn, repeats}
 use Rattle.clean.specs.inner.Blamed.{blamed}
 use Rattle.clean.proofs.Faultless.{array-there, items-there, demands-there}
 use Rattle.clean.proofs.Singles.{single-id}
@@ -169,12 +169,12 @@ held n h i s t e =
 -- Files whose records have no ids of their own, and numbers of no file.
 pub repeats-none : (n : ℕ) → (1 ≤ n → n ≤ 5 → ⊥) → (x : Picked) → least (repeats n x) ≡ None
 unfolding repeats
-repeats-none n h x = let none = no-id n h in rw (repeats, none) (none-least [] refl)
+repeats-none n h x = let none = no-id n h in rw (repeats, repeatsIn, none) (none-least [] refl)
 
 -- and the others
 repeats-some : (n : ℕ) → Identified n → (x : Picked) → repeats n x ≡ repeatsFrom (idField n) 1 [] (recordsOf n x)
 unfolding repeats idField
-repeats-some n d x = rw (repeats, idField, d .is)
+repeats-some n d x = rw (repeats, repeatsIn, idField, d .is)
 
 pub tree-is : (s : List ℕ) (t : Passed s) → clean.treeOf s ≡ t .tree
 unfolding clean.treeOf

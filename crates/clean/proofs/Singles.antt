@@ -6,7 +6,7 @@ use native.Mathlib.Omega.{arith}
 use Rattle.walk.specs.Part.{Whole, partTree}
 use Rattle.schema.specs.Shape.{Shape}
 use Rattle.schema.specs.Records.{recordShape}
-use Rattle.schema.specs.Pick.{once, twice, filled, pick}
+use Rattle.schema.specs.Pick.{once, twice, unlessBlank, pick}
 use Rattle.slots.specs.inner.Found.{treeIn}
 use Rattle.slots.proofs.Finds.{find-found}
 use Rattle.judge.specs.declared.Place.{Place}
@@ -24,6 +24,6 @@ single-id n h i {q} w p φ e =
     record {
       object = (o .0, o .1);
       once = λ t.
-          let k : twice ≡ once (r .0) = sym (ap filled (find-found q (idName n) (subst (Whole q) (o .1) w) ∙ ap (treeIn q) t)) ∙ r .1 in
+          let k : twice ≡ once (r .0) = sym (ap unlessBlank (find-found q (idName n) (subst (Whole q) (o .1) w) ∙ ap (treeIn q) t)) ∙ r .1 in
           let z : _≡_ {A = ℕ} 0 1 = cc in omega arith;
     }

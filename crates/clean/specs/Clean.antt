@@ -53,8 +53,12 @@ unfoldable pub repeatsFrom : ℕ → ℕ → List Picked → List Picked → Lis
 repeatsFrom f n passed [] = []
 repeatsFrom f n passed (x ∷ l) = repeatedId f n passed x ++ repeatsFrom f (n + 1) (x ∷ passed) l
 
+-- of a file's records, and of a picked file
+abbrev pub repeatsIn : ℕ → List Picked → List Fault
+repeatsIn file l = elim (idKey file) [ none ↦ [] | some k ↦ repeatsFrom (k .field) 1 [] l ]
+
 unfoldable pub repeats : ℕ → Picked → List Fault
-repeats file x = elim (idKey file) [ none ↦ [] | some k ↦ repeatsFrom (k .field) 1 [] (recordsOf file x) ]
+repeats file x = repeatsIn file (recordsOf file x)
 
 -- the parts of a word for a fault of a file
 abbrev pub faultParts : ℕ → Fault → Parts

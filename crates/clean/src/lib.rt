@@ -1,6 +1,5 @@
 // Whether one file is clean, judged alone; and the record that a question asks to see.
 use document::Span;
-use document::cut;
 use document::record_span;
 use document::top_span;
 use fault::Fault;
@@ -10,6 +9,7 @@ use json::Syntax;
 use json::check_syntax;
 use judge::judge_file;
 use repeats::repeat_of;
+use walk::cut;
 use word::Parts;
 use word::kind::Kind;
 ghost use mathlib.Core.Path.{_≡_};
@@ -41,6 +41,33 @@ pub enum Shown {
     NotClean(Parts),
     NoRecord,
     Record(usize, usize),
+}
+
+impl Shown {
+    // The number of the answer.
+    // Shut out: a record told of a file that is not clean.
+    pub fn number(self) -> u8
+        ensures { λ n. ⌜ n ≡ answer self .number ⌝ }
+    {
+        match self {
+            Shown::NoFile => 10,
+            Shown::NotClean(_) => 5,
+            Shown::NoRecord => 10,
+            Shown::Record(_, _) => 0,
+        }
+    }
+
+    // The parts of its word, none but where the file is not clean.
+    pub fn word_parts(self) -> Parts
+        ensures { λ p. ⌜ p ≡ answer self .parts ⌝ }
+    {
+        match self {
+            Shown::NoFile => Parts::NONE,
+            Shown::NotClean(p) => p,
+            Shown::NoRecord => Parts::NONE,
+            Shown::Record(_, _) => Parts::NONE,
+        }
+    }
 }
 
 // The parts of a word for a fault of a file.

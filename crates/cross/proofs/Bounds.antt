@@ -3,7 +3,7 @@ use mathlib.Core.Bool.{Bool, true, false, not}
 use mathlib.Core.List.{List, [], _∷_, map, List·Memᴰ, List·Memᴰ·head, List·Memᴰ·tail}
 use mathlib.Core.Logic.{_⊎_, inl, inr, ⊎-elim}
 use mathlib.Core.Path.{_≡_, refl}
-use Prim.Native.Nat.{ℕ, zero, suc, _+_, _*_, _≤_}
+use Prim.Native.Nat.{ℕ, _+_, _*_, _≤_}
 use native.Mathlib.Omega.{arith}
 use lib.Dec.{eqb, ltb}
 use lib.ListN.{length, length-map}
@@ -35,9 +35,10 @@ use Rattle.ids.proofs.Picked.{id-field}
 use Rattle.clean.specs.inner.Blamed.{blamed}
 use Rattle.clean.proofs.Faultless.{field-sound, items-few}
 use Rattle.references.specs.References.{kindIf, anyWith, any, hasCapacity, motorized, named, refers, demanded}
-use Rattle.cross.specs.Cross.{Files, recordPlace, absentees, sumOf, availableFaults, idFaults, ruleFaults, typeFaults, statusFaults, bikeFaults, zoneFaults, eachRecord, faultsOf, fileIn, crossFaults}
-use Rattle.cross.specs.Stage.{fileOf}
+use Rattle.cross.specs.Cross.{Files, recordPlace, absentees, sumOf, availableFaults, idFaults, ruleFaults, typeFaults, statusFaults, bikeFaults, zoneFaults, eachRecord, faultsOf, crossFaults}
+use Rattle.cross.specs.Stage.{fileCount, fileOf}
 use Rattle.cross.specs.inner.Staged.{repeatOf, idsLeast}
+use Rattle.cross.proofs.Numbers.{by-number}
 use Rattle.cross.proofs.Files.{InBytes}
 
 -- the kinds of stage C
@@ -91,37 +92,37 @@ module _ (n : ℕ) (h : n ≤ greatest) where
   rules-fit types sub [] i = none
   rules-fit types sub (x ∷ l) i = all-append (ids-fit types sub (omega arith) (fieldItems 78 x)) (rules-fit types (sub + 1) l (omega arith))
 
-  type-fits : (planned : Bool) (plans : List Picked) (x : Picked) → All Fitting (typeFaults planned plans n x)
+  type-fits : (s : Files) (x : Picked) → All Fitting (typeFaults s n x)
   unfolding typeFaults
-  type-fits planned plans x =
+  type-fits s x =
       all-append (own-fits 13 (omega arith) (demanded-kinds (motorized x) (given (field 13 x))))
-      (own-fits 14 (omega arith) (all-append (demanded-kinds planned (given (field 14 x))) (refers-kinds (text 14 x) 50 plans)))
+      (own-fits 14 (omega arith) (all-append (demanded-kinds (s 5 .here) (given (field 14 x))) (refers-kinds (text 14 x) 50 (s 5 .records))))
 
-  status-fits : (typed : Bool) (types stations : List Picked) (x : Picked) → length (fieldItems 37 x) ≤ greatest → All Fitting (statusFaults typed types stations n x)
+  status-fits : (s : Files) (x : Picked) → length (fieldItems 37 x) ≤ greatest → All Fitting (statusFaults s n x)
   unfolding statusFaults
-  status-fits typed types stations x i =
+  status-fits s x i =
       let differs = given (field 37 x) and not (eqb (sumOf (fieldItems 37 x)) (integerIn (spelling 31 x))) in
       all-append
       (all-append
-      (all-append (own-fits 30 (omega arith) (refers-kinds (text 30 x) 20 stations))
-      (own-fits 32 (omega arith) (demanded-kinds (named hasCapacity 20 stations (text 30 x)) (given (field 32 x)))))
+      (all-append (own-fits 30 (omega arith) (refers-kinds (text 30 x) 20 (s 2 .records)))
+      (own-fits 32 (omega arith) (demanded-kinds (named hasCapacity 20 (s 2 .records) (text 30 x)) (given (field 32 x)))))
       (own-fits 37 (omega arith)
-      (all-append (demanded-kinds typed (given (field 37 x))) (when-kinds differs sumDiffers (record { least = omega arith; most = omega arith })))))
-      (available-fit types 1 (fieldItems 37 x) (omega arith))
+      (all-append (demanded-kinds (s 1 .here) (given (field 37 x))) (when-kinds differs sumDiffers (record { least = omega arith; most = omega arith })))))
+      (available-fit (s 1 .records) 1 (fieldItems 37 x) (omega arith))
 
-  bike-fits : (typed : Bool) (types stations plans : List Picked) (x : Picked) → All Fitting (bikeFaults typed types stations plans n x)
+  bike-fits : (s : Files) (x : Picked) → All Fitting (bikeFaults s n x)
   unfolding bikeFaults
-  bike-fits typed types stations plans x =
+  bike-fits s x =
       let free = not (given (field 47 x)) in
       all-append
       (all-append
       (all-append
       (all-append
       (all-append (own-fits 41 (omega arith) (demanded-kinds free (given (field 41 x)))) (own-fits 42 (omega arith) (demanded-kinds free (given (field 42 x)))))
-      (own-fits 45 (omega arith) (all-append (demanded-kinds typed (given (field 45 x))) (refers-kinds (text 45 x) 10 types))))
-      (own-fits 46 (omega arith) (demanded-kinds (named motorized 10 types (text 45 x)) (given (field 46 x)))))
-      (own-fits 47 (omega arith) (refers-kinds (text 47 x) 20 stations)))
-      (own-fits 48 (omega arith) (refers-kinds (text 48 x) 50 plans))
+      (own-fits 45 (omega arith) (all-append (demanded-kinds (s 1 .here) (given (field 45 x))) (refers-kinds (text 45 x) 10 (s 1 .records)))))
+      (own-fits 46 (omega arith) (demanded-kinds (named motorized 10 (s 1 .records) (text 45 x)) (given (field 46 x)))))
+      (own-fits 47 (omega arith) (refers-kinds (text 47 x) 20 (s 2 .records))))
+      (own-fits 48 (omega arith) (refers-kinds (text 48 x) 50 (s 5 .records)))
 
   zone-in : (types : List Picked) (y : Picked) → (field 74 y ≡ document.none) ⊎ ((z : Picked) × (field 74 y ≡ document.some z) × (length (fieldItems 77 z) ≤ greatest))
       → All Fitting (zoneFaults types n y)
@@ -130,26 +131,26 @@ module _ (n : ℕ) (h : n ≤ greatest) where
   zone-in types y (inr k) = rw (zoneFaults, k .1) (rules-fit types 1 _ (omega (arith, k .2)))
 
   -- where nothing is found in it by stage B
-  module _ (typed planned : Bool) (types stations plans : List Picked) (x : Json) (q : Place) (φ : ℕ) where
-    zone-fits : faults zone q φ (pick zone x) ≡ [] → All Fitting (zoneFaults types n (pick zone x))
+  module _ (s : Files) (x : Json) (q : Place) (φ : ℕ) where
+    zone-fits : faults zone q φ (pick zone x) ≡ [] → All Fitting (zoneFaults (s 1 .records) n (pick zone x))
     unfolding zone rowOf
     zone-fits e =
-        zone-in types (pick zone x)
+        zone-in (s 1 .records) (pick zone x)
         (⊎-elim inl
         (λ k. inr (_, k .1, omega (arith, items-few q 74 (k .0) (k .2) (listed {f = 77} refl) (λ a b. refl))))
         (field-sound q φ x e (listed {f = 74} refl)))
 
-    record-fits : (file : ℕ) → 1 ≤ file → file ≤ 6 → faults (recordShape file) q φ (pick (recordShape file) x) ≡ []
-        → All Fitting (faultsOf typed planned types stations plans file n (pick (recordShape file) x))
+    record-fits : (file : ℕ) → 1 ≤ file → file ≤ fileCount → faults (recordShape file) q φ (pick (recordShape file) x) ≡ []
+        → All Fitting (faultsOf s file n (pick (recordShape file) x))
     unfolding faultsOf located status rowOf
-    record-fits zero i j e = absurd (omega arith)
-    record-fits (suc zero) i j e = type-fits planned plans _
-    record-fits (suc (suc zero)) i j e = none
-    record-fits (suc (suc (suc zero))) i j e = status-fits typed types stations _ (omega (arith, items-few q φ x e (listed {f = 37} refl) (λ a b. refl)))
-    record-fits (suc (suc (suc (suc zero)))) i j e = bike-fits typed types stations plans _
-    record-fits (suc (suc (suc (suc (suc zero))))) i j e = none
-    record-fits (suc (suc (suc (suc (suc (suc zero)))))) i j e = zone-fits e
-    record-fits (suc (suc (suc (suc (suc (suc (suc file))))))) i j e = absurd (omega arith)
+    record-fits =
+        by-number (λ file. faults (recordShape file) q φ (pick (recordShape file) x) ≡ [] → All Fitting (faultsOf s file n (pick (recordShape file) x)))
+        (λ e. type-fits s _)
+        (λ e. none)
+        (λ e. status-fits s _ (omega (arith, items-few q φ x e (listed {f = 37} refl) (λ a b. refl))))
+        (λ e. bike-fits s _)
+        (λ e. none)
+        zone-fits
 
 -- Records one after another.
 each-fits : (faults′ : ℕ → Picked → List Fault) (g : Item → Picked) (n : ℕ) (ms : List Item) → n + length ms ≤ greatest + 1
@@ -181,17 +182,17 @@ ids-least-fits n p h =
     (blamed-fits (n * 10) (firstRepeat n (recordBytes p)) (omega arith) (omega (arith, repeat-few n 0 [] (recordBytes p), length-map (itemsOf p) (itemOf p)))))
 
 -- One file.
-module _ (files : Files) (file : ℕ) (h : 1 ≤ file) (i : file ≤ 6) {s p : List ℕ} (e : fileIn files file ≡ fileOf file s) (b : InBytes file s p) where
+module _ (files : Files) (file : ℕ) (h : 1 ≤ file) (i : file ≤ fileCount) {s p : List ℕ} (e : files file ≡ fileOf file s) (b : InBytes file s p) where
   file-holds : Holds Fitting (least (crossFaults files file))
   unfolding crossFaults
   file-holds =
       let kinds = when-kinds (absentees files file) condition (record { least = omega arith; most = omega arith }) in
       let presence = own-fits 0 (omega arith) 0 (omega arith) kinds in
       let few = b .recorded .few in
-      rw (crossFaults, e, b .picked)
+      rw (crossFaults, e, b .is)
       (holds-append _ _ (holds-append _ _ (holds-least presence) (rw (b .repeated) (ids-least-fits file p few)))
       (holds-least (each-fits _ (λ m. pick (recordShape file) (partTree (itemOf p m))) 1 (itemsOf p) (omega arith) (λ m j k l.
-      let y = b .sound m j in record-fits k l _ _ _ _ _ _ (y .0) (y .1) file h i (y .2)))))
+      let y = b .sound m j in record-fits k l files _ (y .0) (y .1) file h i (y .2)))))
 
   pub cross-fits : (f : Fault) → least (crossFaults files file) ≡ Is f → Fitting f
   cross-fits f k = holds-is file-holds k

@@ -33,7 +33,7 @@ use Rattle.fields.specs.inner.Values.{memberOf, spelledBy, textBy, arrayBy}
 use Rattle.fields.proofs.Values.{Holds, member-holds, holds-text, holds-items}
 use Rattle.fields.proofs.Fields.{field-spelled, field-text, field-items, rowOf, listed}
 use Rattle.references.specs.References.{kindIf, refers}
-use Rattle.cross.specs.Cross.{recordPlace, eachRecord, availableFaults, idFaults, ruleFaults, zoneFaults, faultsOf}
+use Rattle.cross.specs.Cross.{Files, recordPlace, eachRecord, availableFaults, idFaults, ruleFaults, zoneFaults, faultsOf}
 
 -- no bytes, no value
 pub none-there : (n : ℕ) → eqb n 0 ≡ not (ltb 0 n)
@@ -147,9 +147,6 @@ module _ (types : List Picked) (n : ℕ) where
       ∙ ap (ruleFaults types n 1) (ap (λ q. pickedItems rule (arrayBy (memberOf q (bytes "rules")))) e ∙ nothing-in rule (bytes "rules"))
 
 -- records of other files than 1, 3, 4 and 6 break nothing
-pub breaks-nothing : (typed planned : Bool) (types stations plans : List Picked) (file n : ℕ)
-    → (file ≡ 1 → ⊥) → (file ≡ 3 → ⊥) → (file ≡ 4 → ⊥) → (file ≡ 6 → ⊥)
-    → (x : Picked) → faultsOf typed planned types stations plans file n x ≡ []
+pub breaks-nothing : (s : Files) (file n : ℕ) → (file ≡ 1 → ⊥) → (file ≡ 3 → ⊥) → (file ≡ 4 → ⊥) → (file ≡ 6 → ⊥) → (x : Picked) → faultsOf s file n x ≡ []
 unfolding faultsOf
-breaks-nothing typed planned types stations plans file n a b c d x =
-    rw (faultsOf, ne-eqb file 1 a, ne-eqb file 3 b, ne-eqb file 4 c, ne-eqb file 6 d)
+breaks-nothing s file n a b c d x = rw (faultsOf, ne-eqb file 1 a, ne-eqb file 3 b, ne-eqb file 4 c, ne-eqb file 6 d)

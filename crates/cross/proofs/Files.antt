@@ -2,11 +2,12 @@
 -- id that repeats there is the least of its repeats. An absent file has no records either way.
 use mathlib.Core.List.{List, [], _∷_, List·Memᴰ, List·Memᴰ·not-nil, Memᴰ·map}
 use mathlib.Core.Path.{_≡_, refl, sym, ap, subst, _∙_}
-use Prim.Native.Nat.{ℕ, zero, suc, _≤_}
+use Prim.Native.Nat.{ℕ, _-_, _≤_, _<_}
 use native.Mathlib.Omega.{arith}
 use lib.Dec.{ltb}
-use lib.ListN.{length, length-map}
-use borrow.Author.Tests.{ltb-true, ltb-false}
+use lib.ListN.{length, drop, length-map, length-take}
+use borrow.Author.Tests.{ltb-true, ltb-false, lt-ltb}
+use Rattle.notation.specs.Maybe.{Maybe, none, some}
 use Rattle.lexeme.proofs.Steps.{by-test}
 use Rattle.json.specs.declared.Syntax.the-variants.{Sound}
 use Rattle.json.specs.Text.{syntaxOf}
@@ -16,12 +17,14 @@ use Rattle.walk.specs.declared.Item.{Item}
 use Rattle.walk.specs.Walk.{itemsFrom, itemsOf}
 use Rattle.walk.specs.Part.{partTree}
 use Rattle.walk.proofs.Parts.{itemOf}
+use Rattle.walk.proofs.Wholes.{whole-some}
 use Rattle.walk.proofs.Files.{passed}
 use Rattle.schema.specs.Shape as shape
 use Rattle.schema.specs.Shape.{Shape, Rows, fileShape}
 use Rattle.schema.specs.Table23.{table23}
-use Rattle.schema.specs.Records.{recordShape}
+use Rattle.schema.specs.Records.{Key, recordShape, idKey}
 use Rattle.schema.specs.Pick.{Picked, pick}
+use Rattle.fault.specs.declared.Least.the-variants.{None}
 use Rattle.fault.specs.Fault.{least}
 use Rattle.fault.proofs.Leasts.{none-least}
 use Rattle.judge.specs.declared.Place.{Place}
@@ -29,40 +32,48 @@ use Rattle.judge.specs.Faults.{faults, fileFaults}
 use Rattle.document.specs.inner.Spans.{RecordsFrom}
 use Rattle.document.proofs.Ways.{records-of}
 use Rattle.document.proofs.Records.{pickedItems}
-use Rattle.document.proofs.Rests.{none-from, rest-along, rest-picked}
+use Rattle.document.proofs.Rests.{none-from, rest-is, rest-along, rest-picked}
 use Rattle.ids.specs.inner.Ids.{Singles, recordBytes, repeatFrom, firstRepeat}
 use Rattle.clean.specs.Clean as clean
-use Rattle.clean.specs.Clean.{repeats}
+use Rattle.clean.specs.Clean.{recordsOf, repeatsFrom, repeatsIn, repeats}
 use Rattle.clean.specs.inner.Blamed.{blamed}
 use Rattle.clean.proofs.Faultless.{object-there}
 use Rattle.clean.proofs.Repeated.{Held, held, tree-is, repeats-none, repeats-are}
-use Rattle.cross.specs.Cross.{recordsIn, repeatsIn}
-use Rattle.cross.specs.Stage.{fileOf}
+use Rattle.cross.specs.Stage.{fileCount, fileOf}
+use Rattle.cross.specs.inner.Judged.{fileBy}
 use Rattle.cross.specs.inner.Stage.{Through}
 use Rattle.cross.specs.inner.Staged.{Recorded, repeatOf, idsLeast}
 
 -- what is picked of the file s of number n, by the rest p from its records on
 pub record InBytes (n : ℕ) (s p : List ℕ) : Type 0 where
   pub recorded : Recorded p
-  pub picked : recordsIn n (fileOf n s) ≡ pickedItems (recordShape n) p
-  pub repeated : least (repeatsIn n (fileOf n s)) ≡ idsLeast n p
+  pub is : fileOf n s ≡ fileBy n p
+  pub repeated : least (repeatsIn n (pickedItems (recordShape n) p)) ≡ idsLeast n p
   pub singles : n ≤ 5 → Singles n p
   pub sound : (m : Item) → List·Memᴰ m (itemsOf p)
       → (q : Place) × (φ : ℕ) × (faults (recordShape n) q φ (pick (recordShape n) (partTree (itemOf p m))) ≡ [])
 
+no-repeats : (n : ℕ) → least (repeatsIn n []) ≡ None
+unfolding repeatsFrom
+no-repeats n = go (idKey n)
+  where
+    go : (o : Maybe Key) → least (elim o [ none ↦ [] | some k ↦ repeatsFrom (k .field) 1 [] [] ]) ≡ None
+    go none = none-least [] refl
+    go (some k) = none-least [] refl
+
 absent-bytes : (n : ℕ) → InBytes n [] []
-unfolding recordsIn repeatsIn idsLeast repeatOf firstRepeat repeatFrom recordBytes itemsOf itemsFrom
+unfolding repeatsFrom idsLeast repeatOf firstRepeat repeatFrom recordBytes itemsOf itemsFrom
 absent-bytes n =
     record {
       recorded = record { short = omega arith; objects = λ m i. absurd (List·Memᴰ·not-nil i); few = omega arith; along = λ h. absurd (omega arith) };
-      picked = refl;
-      repeated = by-test (ltb 5 n) (λ t. rw (idsLeast, repeatOf, t) (none-least [] refl)) (λ t. rw (idsLeast, repeatOf, t) (none-least [] refl));
+      is = refl;
+      repeated = no-repeats n ∙ by-test (ltb 5 n) (λ t. rw (idsLeast, repeatOf, t)) (λ t. rw (idsLeast, repeatOf, t));
       singles = λ h m i. absurd (List·Memᴰ·not-nil i);
       sound = λ m i. absurd (List·Memᴰ·not-nil i);
     }
 
 -- A file that is there, with the rest p from its records on.
-module _ (n : ℕ) (h : 1 ≤ n) (i : n ≤ 6) (b : ℕ) (r : List ℕ) (t : Through n (b ∷ r)) {p : List ℕ} (f : RecordsFrom n (b ∷ r) p) where
+module _ (n : ℕ) (h : 1 ≤ n) (i : n ≤ fileCount) (b : ℕ) (r : List ℕ) (t : Through n (b ∷ r)) {p : List ℕ} (f : RecordsFrom n (b ∷ r) p) where
   abbrev s : List ℕ
   s = b ∷ r
 
@@ -102,8 +113,17 @@ module _ (n : ℕ) (h : 1 ≤ n) (i : n ≤ 6) (b : ℕ) (r : List ℕ) (t : Thr
       let y = through .sound (pickedItem m) (subst (List·Memᴰ (pickedItem m)) (sym are-picked) (Memᴰ·map pickedItem j)) in
       (y .0, through .field, y .1)
 
+  -- there are bytes from the records on
+  rest-some : 0 < length p
+  rest-some =
+      let r = through .there in
+      omega (arith, ap length (rest-is f reads r), whole-some (r .there .whole), length-take (r .end - r .start) (drop (r .start) s))
+
+  records-are : recordsOf n (pick (fileShape table23 n) (clean.treeOf s)) ≡ pickedItems (recordShape n) p
+  records-are = through .are ∙ are-picked
+
   there-bytes : InBytes n s p
-  unfolding recordsIn repeatsIn
+  unfolding repeats
   there-bytes =
       record {
         recorded =
@@ -113,12 +133,12 @@ module _ (n : ℕ) (h : 1 ≤ n) (i : n ≤ 6) (b : ℕ) (r : List ℕ) (t : Thr
               few = omega (arith, through .few, ap length are-picked ∙ length-map (itemsOf p) pickedItem);
               along = λ k. rest-along f reads (through .there);
             };
-        picked = through .are ∙ are-picked;
-        repeated = repeated-is;
+        is = λ j. record { here = sym (lt-ltb 0 (length p) rest-some) j; records = records-are j };
+        repeated = ap (λ (l : List Picked). least (repeatsIn n l)) (sym records-are) ∙ repeated-is;
         singles = λ j. repeats-are n s reads (none-least _ (t .faultless (λ e. omega arith))) h j f .singles;
         sound = sound-item;
       }
 
-pub file-bytes : (n : ℕ) → 1 ≤ n → n ≤ 6 → (s : List ℕ) → Through n s → {p : List ℕ} → RecordsFrom n s p → InBytes n s p
+pub file-bytes : (n : ℕ) → 1 ≤ n → n ≤ fileCount → (s : List ℕ) → Through n s → {p : List ℕ} → RecordsFrom n s p → InBytes n s p
 file-bytes n h i [] t f = subst (InBytes n []) (sym (none-from f refl)) (absent-bytes n)
 file-bytes n h i (b ∷ r) t f = there-bytes n h i b r t f

@@ -30,24 +30,24 @@ use Rattle.fields.proofs.Arrays.{member-along}
 use Rattle.fields.proofs.Values.{member-holds, holds-there}
 use Rattle.fields.proofs.Fields.{field-text, field-given, field-spelled, field-items, rowOf, listed}
 use Rattle.references.specs.References.{kindIf, hasCapacity, motorized, notHuman, named, refers, demanded}
-use Rattle.cross.specs.Cross.{recordPlace, sumOf, availableFaults, typeFaults, statusFaults, bikeFaults}
+use Rattle.cross.specs.Cross.{Files, recordPlace, sumOf, availableFaults, typeFaults, statusFaults, bikeFaults}
 use Rattle.cross.specs.inner.Judged.{Reads}
 use Rattle.cross.proofs.Layouts.{slot-member, type-layout, status-layout, bike-layout}
 
 -- a vehicle type
-module _ (planned : Bool) (plans : List Picked) (n : ℕ) where
+module _ (f : Files) (n : ℕ) where
   abbrev typeOf : (motor : Maybe (List ℕ)) (range : Bool) (plan : Maybe (List ℕ)) (priced : Bool) → List Fault
   typeOf motor range plan priced =
-      faulty (recordPlace n 0) 13 (demanded (notHuman motor) range) ++ faulty (recordPlace n 0) 14 (demanded planned priced ++ refers plan 50 plans)
+      faulty (recordPlace n 0) 13 (demanded (notHuman motor) range) ++ faulty (recordPlace n 0) 14 (demanded (f 5 .here) priced ++ refers plan 50 (f 5 .records))
 
-  same-type : {a b e f : Maybe (List ℕ)} {c d g h : Bool} → a ≡ b → c ≡ d → e ≡ f → g ≡ h → typeOf a c e g ≡ typeOf b d f h
+  same-type : {a b e o : Maybe (List ℕ)} {c d g h : Bool} → a ≡ b → c ≡ d → e ≡ o → g ≡ h → typeOf a c e g ≡ typeOf b d o h
   same-type i j k l = rw (i, j, k, l)
 
   abbrev pub typeBy : (motor range plan : List ℕ) → List Fault
   typeBy motor range plan = typeOf (textBy motor) (thereBy range) (textBy plan) (thereBy plan)
 
   pub type-is : {p : List ℕ} {s : Slots} → Gathered p 5 5 s → {motor range plan : List ℕ} → Reads p s 2 motor → Reads p s 3 range → Reads p s 4 plan
-      → {ms : Members} → Whole p (tree.object ms) → typeBy motor range plan ≡ typeFaults planned plans n (pick vehicleType (tree.object ms))
+      → {ms : Members} → Whole p (tree.object ms) → typeBy motor range plan ≡ typeFaults f n (pick vehicleType (tree.object ms))
   unfolding typeFaults vehicleType rowOf namesIn
   type-is g a b c w =
       let plan = slot-member g type-layout 4 (omega arith) c w in
@@ -56,15 +56,15 @@ module _ (planned : Bool) (plans : List Picked) (n : ℕ) where
       (ap textBy plan ∙ field-text (listed refl) w) (ap thereBy plan ∙ field-given (listed refl) w)
 
 -- a status
-module _ (typed : Bool) (types stations : List Picked) (n : ℕ) where
+module _ (f : Files) (n : ℕ) where
   abbrev statusOf : (station : Maybe (List ℕ)) (docks there : Bool) (counts : List Picked) (bikes : Maybe (List ℕ)) → List Fault
   statusOf station docks there counts bikes =
-      (faulty (recordPlace n 0) 30 (refers station 20 stations) ++ faulty (recordPlace n 0) 32 (demanded (named hasCapacity 20 stations station) docks)) ++
-      (faulty (recordPlace n 0) 37 (demanded typed there ++ kindIf (there and not (eqb (sumOf counts) (integerIn bikes))) sumDiffers) ++
-      availableFaults types n 1 counts)
+      (faulty (recordPlace n 0) 30 (refers station 20 (f 2 .records)) ++ faulty (recordPlace n 0) 32 (demanded (named hasCapacity 20 (f 2 .records) station) docks)) ++
+      (faulty (recordPlace n 0) 37 (demanded (f 1 .here) there ++ kindIf (there and not (eqb (sumOf counts) (integerIn bikes))) sumDiffers) ++
+      availableFaults (f 1 .records) n 1 counts)
 
-  same-status : {a b i j : Maybe (List ℕ)} {c d e f : Bool} {g h : List Picked}
-      → a ≡ b → c ≡ d → e ≡ f → g ≡ h → i ≡ j → statusOf a c e g i ≡ statusOf b d f h j
+  same-status : {a b i j : Maybe (List ℕ)} {c d e r : Bool} {g h : List Picked}
+      → a ≡ b → c ≡ d → e ≡ r → g ≡ h → i ≡ j → statusOf a c e g i ≡ statusOf b d r h j
   same-status k l m o q = rw (k, l, m, o, q)
 
   abbrev pub statusBy : (station docks counts bikes : List ℕ) → List Fault
@@ -72,7 +72,7 @@ module _ (typed : Bool) (types stations : List Picked) (n : ℕ) where
 
   pub status-is : {p : List ℕ} {s : Slots} → Gathered p 25 10 s → {station docks counts bikes : List ℕ}
       → Reads p s 0 station → Reads p s 2 docks → Reads p s 7 counts → Reads p s 1 bikes → {ms : Members} → Whole p (tree.object ms)
-      → statusBy station docks counts bikes ≡ statusFaults typed types stations n (pick status (tree.object ms))
+      → statusBy station docks counts bikes ≡ statusFaults f n (pick status (tree.object ms))
   unfolding statusFaults status rowOf namesIn
   status-is {p} g {station} {docks} {counts} {bikes} a b c d {ms} w =
       let listing = slot-member g status-layout 7 (omega arith) c w in let x = pick status (tree.object ms) in
@@ -92,17 +92,18 @@ counts-along g c w =
     subst (λ (q : List ℕ). 0 < length (arrayBy q) → AlongItems (arrayBy q) 1) (sym (slot-member g status-layout 7 (omega arith) c w)) (member-along _ _)
 
 -- a bike
-module _ (typed : Bool) (types stations plans : List Picked) (n : ℕ) where
+module _ (f : Files) (n : ℕ) where
   abbrev bikeOf : (lat lon : Bool) (type : Maybe (List ℕ)) (typeGiven range : Bool) (station : Maybe (List ℕ)) (docked : Bool) (plan : Maybe (List ℕ))
       → List Fault
   bikeOf lat lon type typeGiven range station docked plan =
       ((faulty (recordPlace n 0) 41 (demanded (not docked) lat) ++ faulty (recordPlace n 0) 42 (demanded (not docked) lon)) ++
-      (faulty (recordPlace n 0) 45 (demanded typed typeGiven ++ refers type 10 types) ++ faulty (recordPlace n 0) 46 (demanded (named motorized 10 types type) range))) ++
-      (faulty (recordPlace n 0) 47 (refers station 20 stations) ++ faulty (recordPlace n 0) 48 (refers plan 50 plans))
+      (faulty (recordPlace n 0) 45 (demanded (f 1 .here) typeGiven ++ refers type 10 (f 1 .records)) ++
+      faulty (recordPlace n 0) 46 (demanded (named motorized 10 (f 1 .records) type) range))) ++
+      (faulty (recordPlace n 0) 47 (refers station 20 (f 2 .records)) ++ faulty (recordPlace n 0) 48 (refers plan 50 (f 5 .records)))
 
-  same-bike : {a b c d i j k l o q : Bool} {e f g h u v : Maybe (List ℕ)} → a ≡ b → c ≡ d → e ≡ f → i ≡ j → k ≡ l → g ≡ h → o ≡ q → u ≡ v
-      → bikeOf a c e i k g o u ≡ bikeOf b d f j l h q v
-  same-bike r s t w x y z m = rw (r, s, t, w, x, y, z, m)
+  same-bike : {a b c d i j k l o q : Bool} {e m g h u v : Maybe (List ℕ)} → a ≡ b → c ≡ d → e ≡ m → i ≡ j → k ≡ l → g ≡ h → o ≡ q → u ≡ v
+      → bikeOf a c e i k g o u ≡ bikeOf b d m j l h q v
+  same-bike p r s t w x y z = rw (p, r, s, t, w, x, y, z)
 
   abbrev pub bikeBy : (lat lon type range station plan : List ℕ) → List Fault
   bikeBy lat lon type range station plan =
@@ -111,9 +112,9 @@ module _ (typed : Bool) (types stations plans : List Picked) (n : ℕ) where
   pub bike-is : {p : List ℕ} {s : Slots} → Gathered p 40 10 s → {lat lon type range station plan : List ℕ}
       → Reads p s 1 lat → Reads p s 2 lon → Reads p s 5 type → Reads p s 6 range → Reads p s 7 station → Reads p s 8 plan
       → {ms : Members} → Whole p (tree.object ms)
-      → bikeBy lat lon type range station plan ≡ bikeFaults typed types stations plans n (pick bike (tree.object ms))
+      → bikeBy lat lon type range station plan ≡ bikeFaults f n (pick bike (tree.object ms))
   unfolding bikeFaults bike rowOf namesIn
-  bike-is g {lat} {lon} {type} {range} {station} {plan} a b c d e f {ms} w =
+  bike-is g {lat} {lon} {type} {range} {station} {plan} a b c d e h {ms} w =
       let kind = slot-member g bike-layout 5 (omega arith) c w in let dock = slot-member g bike-layout 7 (omega arith) e w in
       let x = pick bike (tree.object ms) in
       let i : bikeBy lat lon type range station plan ≡
@@ -123,5 +124,5 @@ module _ (typed : Bool) (types stations plans : List Picked) (n : ℕ) where
       (ap textBy kind ∙ field-text (listed refl) w) (ap thereBy kind ∙ field-given (listed refl) w)
       (ap thereBy (slot-member g bike-layout 6 (omega arith) d w) ∙ field-given (listed refl) w)
       (ap textBy dock ∙ field-text (listed refl) w) (ap thereBy dock ∙ field-given (listed refl) w)
-      (ap textBy (slot-member g bike-layout 8 (omega arith) f w) ∙ field-text (listed refl) w) in
+      (ap textBy (slot-member g bike-layout 8 (omega arith) h w) ∙ field-text (listed refl) w) in
       i ∙ simp append-assoc

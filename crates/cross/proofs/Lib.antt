@@ -1,3 +1,5 @@
+pub mod Onward
+pub mod Numbers
 pub mod Joined
 pub mod Layouts
 pub mod Fielded

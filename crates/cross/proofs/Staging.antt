@@ -1,12 +1,11 @@
--- The steps of stage C in bytes: what one file is asked, by its number, and the first file that breaks a rule.
+-- The steps of stage C in bytes: what one file is asked, and the first file that breaks a rule.
 use mathlib.Core.Bool.{false}
 use mathlib.Core.List.{List, [], _∷_}
-use mathlib.Core.Path.{_≡_, refl, sym, ap, _∙_}
-use Prim.Native.Nat.{ℕ, zero, suc, _+_, _-_, _≤_, _<_}
+use mathlib.Core.Path.{_≡_, refl, sym, ap, subst, _∙_}
+use Prim.Native.Nat.{ℕ, zero, suc, _+_, _≤_, _<_}
 use native.Mathlib.Omega.{arith}
 use borrow.Author.Tests.{ne-eqb, le-ltb}
 use Rattle.word.specs.Kinds.{condition}
-use Rattle.walk.specs.Walk.{itemsFrom, itemsOf}
 use Rattle.schema.specs.Pick.{Picked}
 use Rattle.fault.specs.declared.Fault.{Fault}
 use Rattle.fault.specs.declared.Least.{Least}
@@ -15,29 +14,28 @@ use Rattle.fault.specs.Fault.{least, lesser}
 use Rattle.fault.proofs.Leasts.{none-least}
 use Rattle.judge.specs.Faults.{top, faulty}
 use Rattle.ids.specs.inner.Ids.{idField, recordBytes, firstRepeat}
-use Rattle.ids.specs.inner.Notes.{Blank}
-use Rattle.ids.proofs.Entering.{noted-none}
 use Rattle.clean.specs.inner.Blamed.{blamed}
-use Rattle.references.specs.declared.Set.{Set}
 use Rattle.references.specs.References.{kindIf}
-use Rattle.references.specs.inner.Known.{Searchable}
 use Rattle.cross.specs.declared.records.Findings.{Findings}
 use Rattle.cross.specs.declared.stage.Crossed.{Crossed}
 use Rattle.cross.specs.declared.stage.Crossed.the-variants.{Nothing, At}
-use Rattle.cross.specs.Cross.{eachRecord, faultsOf}
-use Rattle.cross.specs.inner.Judged.{broken}
-use Rattle.cross.specs.inner.Staged.{Finds, calledFor, repeatOf, idsLeast, fileLeast, numberedLeast, crossing, firstFrom}
+use Rattle.cross.specs.Cross.{Files, eachRecord, faultsOf, absentees}
+use Rattle.cross.specs.Stage.{Feeds, fileCount, bytesOf}
+use Rattle.cross.specs.inner.Judged.{filesBy}
+use Rattle.cross.specs.inner.Stage.{onward}
+use Rattle.cross.specs.inner.Staged.{Finds, Found, repeatOf, idsLeast, fileLeast, crossing, crossed}
+use Rattle.cross.proofs.Onward.{ahead, ahead-end, ahead-next}
 use Rattle.cross.proofs.Fielded.{breaks-nothing}
 
 -- What one file is asked.
 
 -- most files are called for by none
-pub called-else : (file : ℕ) (set : Set) → (file ≡ 2 → ⊥) → (file ≡ 3 → ⊥) → (file ≡ 4 → ⊥) → false ≡ calledFor file set
-unfolding calledFor
-called-else file set h i j = rw (calledFor, ne-eqb file 2 h, ne-eqb file 3 i, ne-eqb file 4 j)
+pub called-else : (s : Files) (file : ℕ) → (file ≡ 2 → ⊥) → (file ≡ 3 → ⊥) → (file ≡ 4 → ⊥) → false ≡ absentees s file
+unfolding absentees
+called-else s file h i j = rw (absentees, ne-eqb file 2 h, ne-eqb file 3 i, ne-eqb file 4 j)
 
 -- the parts of a file's judgement
-pub lesser-both : {a b c d : Least} → a ≡ c → b ≡ d → lesser a b ≡ lesser c d
+lesser-both : {a b c d : Least} → a ≡ c → b ≡ d → lesser a b ≡ lesser c d
 lesser-both {b = b} {c = c} e k = ap (λ (x : Least). lesser x b) e ∙ ap (lesser c) k
 
 -- records of files up to 5 have ids
@@ -46,73 +44,55 @@ unfolding repeatOf
 repeat-is file h p = rw (repeatOf, le-ltb 5 file h)
 
 -- a file by what is found of its records
-module _ (set : Set) (types stations plans : List ℕ) where
-  pub file-is : {file : ℕ} {p : List ℕ} {found : Findings} → Finds set types stations plans file p found
-      → lesser (least (faulty top 0 (kindIf (calledFor file set) condition))) (lesser (blamed (idField file) (found .repeat)) (found .least)) ≡ fileLeast set types stations plans file p
-  unfolding fileLeast idsLeast
-  file-is {file} f = lesser-both refl (lesser-both (ap (blamed (idField file)) (f .repeats)) (f .breaks))
+pub file-is : (rs : Feeds) (file : ℕ) {found : Findings} → Found rs file found
+    → {a b : Least} → a ≡ least (faulty top 0 (kindIf (absentees (filesBy rs) file) condition)) → b ≡ blamed (idField file) (found .repeat)
+    → lesser a (lesser b (found .least)) ≡ fileLeast rs file
+unfolding fileLeast idsLeast
+file-is rs file f e h = lesser-both e (lesser-both (h ∙ ap (blamed (idField file)) (f .repeats)) (f .breaks))
 
-  -- records of other files than 1, 3, 4 and 6 break nothing
-  each-nothing : (file : ℕ) → (file ≡ 1 → ⊥) → (file ≡ 3 → ⊥) → (file ≡ 4 → ⊥) → (file ≡ 6 → ⊥)
-      → (n : ℕ) (l : List Picked) → eachRecord (broken set types stations plans file) n l ≡ []
+-- what is found by a number, and of the bytes that a function was handed
+pub found-at : {rs : Feeds} {file number : ℕ} {found : Findings} → file ≡ number → Found rs number found → Found rs file found
+found-at {rs} {found = found} e f = subst (λ (k : ℕ). Found rs k found) (sym e) f
+
+pub found-in : {rs : Feeds} {file : ℕ} {p : List ℕ} {found : Findings} → p ≡ bytesOf rs file → Finds rs file p found → Found rs file found
+found-in {rs} {file} {found = found} e f = subst (λ (q : List ℕ). Finds rs file q found) e f
+
+-- records of other files than 1, 3, 4 and 6 break nothing
+module _ (s : Files) (file : ℕ) (a : file ≡ 1 → ⊥) (b : file ≡ 3 → ⊥) (c : file ≡ 4 → ⊥) (d : file ≡ 6 → ⊥) where
+  each-nothing : (n : ℕ) (l : List Picked) → eachRecord (faultsOf s file) n l ≡ []
   unfolding eachRecord
-  each-nothing file a b c d n [] = refl
-  each-nothing file a b c d n (x ∷ l) = rw (eachRecord, breaks-nothing _ _ _ _ _ file n a b c d x) (each-nothing file a b c d (n + 1) l)
+  each-nothing n [] = refl
+  each-nothing n (x ∷ l) = rw (eachRecord, breaks-nothing s file n a b c d x) (each-nothing (n + 1) l)
 
-  pub records-none : (file : ℕ) → (file ≡ 1 → ⊥) → (file ≡ 3 → ⊥) → (file ≡ 4 → ⊥) → (file ≡ 6 → ⊥)
-      → (l : List Picked) → None ≡ least (eachRecord (broken set types stations plans file) 1 l)
-  records-none file a b c d l = sym (none-least _ (each-nothing file a b c d 1 l))
-
--- of no records all are noted
-pub none-searchable : (file : ℕ) → 1 ≤ file → file ≤ 5 → {notes : List ℕ} → Blank notes → Searchable file [] notes
-unfolding itemsOf itemsFrom
-none-searchable file h i z = record { least = h; most = i; noted = noted-none z }
-
--- types may name plans and nothing else
-pub types-alone : (set : Set) (types other stations plans : List ℕ) {p : List ℕ} {found : Findings}
-    → Finds set other stations plans 1 p found → Finds set types stations plans 1 p found
-unfolding faultsOf
-types-alone set types other stations plans f = record { repeats = f .repeats; breaks = f .breaks }
-
--- the last file has every number that no other has
-pub numbered-else : (set : Set) (types stations plans statuses bikes zones : List ℕ) (file : ℕ)
-    → (file ≡ 1 → ⊥) → (file ≡ 2 → ⊥) → (file ≡ 3 → ⊥) → (file ≡ 4 → ⊥) → (file ≡ 5 → ⊥)
-    → fileLeast set types stations plans 6 zones ≡ numberedLeast set types stations plans statuses bikes zones file
-unfolding numberedLeast
-numbered-else set types stations plans statuses bikes zones file h i j k l =
-    rw (numberedLeast, ne-eqb file 1 h, ne-eqb file 2 i, ne-eqb file 3 j, ne-eqb file 4 k, ne-eqb file 5 l)
+  pub records-none : (l : List Picked) → None ≡ least (eachRecord (faultsOf s file) 1 l)
+  records-none l = sym (none-least _ (each-nothing 1 l))
 
 -- The first of the files.
+module _ (rs : Feeds) where
+  abbrev step : ℕ → Crossed → Crossed
+  step file next = crossing file (fileLeast rs file) next
 
--- from a file on, of six
-module _ (least′ : ℕ → Least) where
-  abbrev pub firstOn : ℕ → Crossed
-  firstOn file = firstFrom least′ file (7 - file)
+  -- from a file on
+  abbrev pub crossedFrom : ℕ → Crossed
+  crossedFrom = ahead step Nothing
 
-  pub first-end : (file : ℕ) → 7 ≤ file → firstOn file ≡ Nothing
-  unfolding firstFrom
-  first-end file h = let z : 7 - file ≡ 0 = omega arith in ap (firstFrom least′ file) z
+  pub crossed-end : (file : ℕ) → fileCount < file → crossedFrom file ≡ Nothing
+  crossed-end = ahead-end step Nothing
 
-  first-on : (file : ℕ) → file ≤ 6 → (x : Least) → least′ file ≡ x → firstOn file ≡ crossing file x (firstOn (file + 1))
-  unfolding firstFrom
-  first-on file h x e =
-      let z : 7 - file ≡ suc (7 - (file + 1)) = omega arith in
-      ap (firstFrom least′ file) z ∙ ap (λ (y : Least). crossing file y (firstOn (file + 1))) e
-
-  pub first-here : (file : ℕ) → file ≤ 6 → (f : Fault) → least′ file ≡ Is f → firstOn file ≡ At file f
-  first-here file h f e = first-on file h (Is f) e
-
-  pub first-later : (file : ℕ) → file ≤ 6 → least′ file ≡ None → firstOn (file + 1) ≡ firstOn file
-  first-later file h e = sym (first-on file h None e)
+  pub crossed-next : (file : ℕ) → file ≤ fileCount → {x : Least} → x ≡ fileLeast rs file → crossedFrom file ≡ crossing file x (crossedFrom (file + 1))
+  crossed-next file h e = ahead-next step Nothing file h ∙ ap (λ (y : Least). crossing file y (crossedFrom (file + 1))) (sym e)
 
   -- a file that is named breaks the rule that is named
-  pub first-at : (n start file : ℕ) (f : Fault) → firstFrom least′ start n ≡ At file f → (start ≤ file) × (file < start + n) × (least′ file ≡ Is f)
-  unfolding firstFrom
-  first-at zero start file f e = let z : _≡_ {A = ℕ} 0 1 = cc in absurd (omega arith)
-  first-at (suc n) start file f e = go (least′ start) refl e (first-at n (start + 1) file f)
+  named-from : (left start file : ℕ) (f : Fault) → onward step Nothing start left ≡ At file f → (start ≤ file) × (file < start + left) × (fileLeast rs file ≡ Is f)
+  unfolding onward
+  named-from zero start file f e = let z : _≡_ {A = ℕ} 0 1 = cc in absurd (omega arith)
+  named-from (suc left) start file f e = go (fileLeast rs start) refl e (named-from left (start + 1) file f)
     where
-      go : (x : Least) → least′ start ≡ x → crossing start x (firstFrom least′ (start + 1) n) ≡ At file f
-          → (firstFrom least′ (start + 1) n ≡ At file f → (start + 1 ≤ file) × (file < start + 1 + n) × (least′ file ≡ Is f))
-          → (start ≤ file) × (file < start + suc n) × (least′ file ≡ Is f)
+      go : (x : Least) → fileLeast rs start ≡ x → crossing start x (onward step Nothing (start + 1) left) ≡ At file f
+          → (onward step Nothing (start + 1) left ≡ At file f → (start + 1 ≤ file) × (file < start + 1 + left) × (fileLeast rs file ≡ Is f))
+          → (start ≤ file) × (file < start + suc left) × (fileLeast rs file ≡ Is f)
       go None h k ih = let t = ih k in let a = t .0 in let b = t .1 in (omega arith, omega arith, t .2)
-      go (Is g) h k ih = let a : start ≡ file = cc in let b : g ≡ f = cc in (omega arith, omega arith, ap least′ (sym a) ∙ h ∙ ap Is b)
+      go (Is g) h k ih = let a : start ≡ file = cc in let b : g ≡ f = cc in (omega arith, omega arith, ap (fileLeast rs) (sym a) ∙ h ∙ ap Is b)
+
+  pub crossed-at : (file : ℕ) (f : Fault) → crossed rs ≡ At file f → (1 ≤ file) × (file ≤ fileCount) × (fileLeast rs file ≡ Is f)
+  crossed-at file f e = let t = named-from fileCount 1 file f e in let b = t .1 in (t .0, omega arith, t .2)

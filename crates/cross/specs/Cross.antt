@@ -1,6 +1,6 @@
--- Stage C: document 01, "Stage C", with the conditions, references and sums of the field table. All broken rules of a set of six picked files that are
--- through stage B; kind 12 is `repeats`, as for a file that is judged alone.
-use mathlib.Core.Bool.{Bool, true, false, not}
+-- Stage C: document 01, "Stage C", with the conditions, references and sums of the field table. All broken rules of a set of files that are
+-- through stage B; kind 12 is `repeatsIn`, as for a file that is judged alone.
+use mathlib.Core.Bool.{Bool, false, not}
 use mathlib.Core.List.{List, [], _∷_, _++_}
 use Prim.Native.Nat.{ℕ, _+_}
 use lib.Dec.{eqb}
@@ -12,35 +12,17 @@ use Rattle.judge.specs.declared.Place.{Place}
 use Rattle.judge.specs.Faults.{top, faulty}
 use Rattle.document.specs.Document.{none, some, fieldItems, field, text, textIn, spelling, given}
 use Rattle.fields.specs.Values.{integerIn}
-use Rattle.clean.specs.Clean.{recordsOf, repeats}
+use Rattle.clean.specs.Clean.{repeatsIn}
 use Rattle.references.specs.References.{kindIf, hasCapacity, motorized, named, refers, demanded}
 
--- a file of the set: absent, or present with what is picked of it
-pub data File : Type 0 where
-  absent : File
-  present : Picked → File
+-- what a set has of a file: whether it is there, and its records
+pub record File : Type 0 where
+  pub here : Bool
+  pub records : List Picked
 
-pub record Files : Type 0 where
-  pub vehicleTypes : File
-  pub stations : File
-  pub statuses : File
-  pub bikes : File
-  pub plans : File
-  pub zones : File
-
-abbrev pub here : File → Bool
-here absent = false
-here (present x) = true
-
--- the records of a file, by its number
-unfoldable pub recordsIn : ℕ → File → List Picked
-recordsIn file absent = []
-recordsIn file (present x) = recordsOf file x
-
--- ids of a file used before in it
-unfoldable pub repeatsIn : ℕ → File → List Fault
-repeatsIn file absent = []
-repeatsIn file (present x) = repeats file x
+-- the files of a set by their numbers: 1 vehicle types, 2 stations, 3 statuses, 4 bikes, 5 plans, 6 zones
+abbrev pub Files : Type 0
+Files = ℕ → File
 
 -- the place of a record, and of an item or a rule in it
 abbrev pub recordPlace : ℕ → ℕ → Place
@@ -67,28 +49,28 @@ ruleFaults types n sub [] = []
 ruleFaults types n sub (x ∷ l) = idFaults types n sub (fieldItems 78 x) ++ ruleFaults types n (sub + 1) l
 
 -- the n-th record of a file
-unfoldable pub typeFaults : Bool → List Picked → ℕ → Picked → List Fault
-typeFaults planned plans n x =
+unfoldable pub typeFaults : Files → ℕ → Picked → List Fault
+typeFaults s n x =
     faulty (recordPlace n 0) 13 (demanded (motorized x) (given (field 13 x))) ++
-    faulty (recordPlace n 0) 14 (demanded planned (given (field 14 x)) ++ refers (text 14 x) 50 plans)
+    faulty (recordPlace n 0) 14 (demanded (s 5 .here) (given (field 14 x)) ++ refers (text 14 x) 50 (s 5 .records))
 
-unfoldable pub statusFaults : Bool → List Picked → List Picked → ℕ → Picked → List Fault
-statusFaults typed types stations n x =
-    faulty (recordPlace n 0) 30 (refers (text 30 x) 20 stations) ++
-    faulty (recordPlace n 0) 32 (demanded (named hasCapacity 20 stations (text 30 x)) (given (field 32 x))) ++
+unfoldable pub statusFaults : Files → ℕ → Picked → List Fault
+statusFaults s n x =
+    faulty (recordPlace n 0) 30 (refers (text 30 x) 20 (s 2 .records)) ++
+    faulty (recordPlace n 0) 32 (demanded (named hasCapacity 20 (s 2 .records) (text 30 x)) (given (field 32 x))) ++
     faulty (recordPlace n 0) 37
-    (demanded typed (given (field 37 x)) ++
+    (demanded (s 1 .here) (given (field 37 x)) ++
     kindIf (given (field 37 x) and not (eqb (sumOf (fieldItems 37 x)) (integerIn (spelling 31 x)))) sumDiffers) ++
-    availableFaults types n 1 (fieldItems 37 x)
+    availableFaults (s 1 .records) n 1 (fieldItems 37 x)
 
-unfoldable pub bikeFaults : Bool → List Picked → List Picked → List Picked → ℕ → Picked → List Fault
-bikeFaults typed types stations plans n x =
+unfoldable pub bikeFaults : Files → ℕ → Picked → List Fault
+bikeFaults s n x =
     faulty (recordPlace n 0) 41 (demanded (not (given (field 47 x))) (given (field 41 x))) ++
     faulty (recordPlace n 0) 42 (demanded (not (given (field 47 x))) (given (field 42 x))) ++
-    faulty (recordPlace n 0) 45 (demanded typed (given (field 45 x)) ++ refers (text 45 x) 10 types) ++
-    faulty (recordPlace n 0) 46 (demanded (named motorized 10 types (text 45 x)) (given (field 46 x))) ++
-    faulty (recordPlace n 0) 47 (refers (text 47 x) 20 stations) ++
-    faulty (recordPlace n 0) 48 (refers (text 48 x) 50 plans)
+    faulty (recordPlace n 0) 45 (demanded (s 1 .here) (given (field 45 x)) ++ refers (text 45 x) 10 (s 1 .records)) ++
+    faulty (recordPlace n 0) 46 (demanded (named motorized 10 (s 1 .records) (text 45 x)) (given (field 46 x))) ++
+    faulty (recordPlace n 0) 47 (refers (text 47 x) 20 (s 2 .records)) ++
+    faulty (recordPlace n 0) 48 (refers (text 48 x) 50 (s 5 .records))
 
 unfoldable pub zoneFaults : List Picked → ℕ → Picked → List Fault
 zoneFaults types n x = elim (field 74 x) [ none ↦ [] | some p ↦ ruleFaults types n 1 (fieldItems 77 p) ]
@@ -98,35 +80,24 @@ unfoldable pub eachRecord : (ℕ → Picked → List Fault) → ℕ → List Pic
 eachRecord faults n [] = []
 eachRecord faults n (x ∷ l) = faults n x ++ eachRecord faults (n + 1) l
 
--- conditions, references and sums of the n-th record of a file, with what is there of the other files
-unfoldable pub faultsOf : (typed planned : Bool) (types stations plans : List Picked) (file n : ℕ) → Picked → List Fault
-faultsOf typed planned types stations plans file n x =
-    eqb file 1 ⇒ typeFaults planned plans n x else
-    eqb file 3 ⇒ statusFaults typed types stations n x else
-    eqb file 4 ⇒ bikeFaults typed types stations plans n x else
-    eqb file 6 ⇒ zoneFaults types n x else []
+-- conditions, references and sums of the n-th record of a file
+unfoldable pub faultsOf : Files → (file n : ℕ) → Picked → List Fault
+faultsOf s file n x =
+    eqb file 1 ⇒ typeFaults s n x else
+    eqb file 3 ⇒ statusFaults s n x else
+    eqb file 4 ⇒ bikeFaults s n x else
+    eqb file 6 ⇒ zoneFaults (s 1 .records) n x else []
 
 -- a file that another one calls for: stations and statuses go together, and there are stations or bikes
 unfoldable pub absentees : Files → ℕ → Bool
 absentees s file =
-    eqb file 2 ⇒ here (s .statuses) and not (here (s .stations)) else
-    eqb file 3 ⇒ here (s .stations) and not (here (s .statuses)) else
-    eqb file 4 ⇒ not (here (s .stations)) and not (here (s .bikes)) else false
-
-unfoldable pub fileIn : Files → ℕ → File
-fileIn s file =
-    eqb file 1 ⇒ s .vehicleTypes else
-    eqb file 2 ⇒ s .stations else
-    eqb file 3 ⇒ s .statuses else
-    eqb file 4 ⇒ s .bikes else
-    eqb file 5 ⇒ s .plans else
-    eqb file 6 ⇒ s .zones else absent
+    eqb file 2 ⇒ s 3 .here and not (s 2 .here) else
+    eqb file 3 ⇒ s 2 .here and not (s 3 .here) else
+    eqb file 4 ⇒ not (s 2 .here) and not (s 4 .here) else false
 
 -- all of one file
 unfoldable pub crossFaults : Files → ℕ → List Fault
 crossFaults s file =
     faulty top 0 (kindIf (absentees s file) condition) ++
-    repeatsIn file (fileIn s file) ++
-    eachRecord
-    (faultsOf (here (s .vehicleTypes)) (here (s .plans)) (recordsIn 1 (s .vehicleTypes)) (recordsIn 2 (s .stations)) (recordsIn 5 (s .plans)) file) 1
-    (recordsIn file (fileIn s file))
+    repeatsIn file (s file .records) ++
+    eachRecord (faultsOf s file) 1 (s file .records)

@@ -1,24 +1,31 @@
 -- The files of a set, by their bytes: document 01, "The feed set".
+use mathlib.Core.Bool.{true, false}
 use mathlib.Core.List.{List, [], _∷_}
 use Prim.Native.Nat.{ℕ}
+use lib.ListN.{getD}
+use Rattle.word.specs.Form.{form1}
 use Rattle.schema.specs.Shape.{fileShape}
 use Rattle.schema.specs.Table23.{table23}
 use Rattle.schema.specs.Pick.{pick}
-use Rattle.clean.specs.Clean.{treeOf}
-use Rattle.cross.specs.Cross.{File, absent, present, Files}
+use Rattle.clean.specs.Clean.{treeOf, recordsOf}
+use Rattle.cross.specs.Cross.{File, Files}
 
--- a file by its bytes: without any it is absent
+-- the byte strings of a set, in the order of their numbers
+abbrev pub Feeds : Type 0
+Feeds = List (List ℕ)
+
+-- how many files there are: the greatest number that a verdict word has for one
+abbrev pub fileCount : ℕ
+fileCount = form1 .files
+
+-- the file with this number
+abbrev pub bytesOf : Feeds → ℕ → List ℕ
+bytesOf s file = getD ([] ∷ s) file []
+
+-- what a file has, by its bytes: without any it is absent
 abbrev pub fileOf : ℕ → List ℕ → File
-fileOf n [] = absent
-fileOf n (b ∷ s) = present (pick (fileShape table23 n) (treeOf (b ∷ s)))
+fileOf file [] = record { here = false; records = [] }
+fileOf file (b ∷ s) = record { here = true; records = recordsOf file (pick (fileShape table23 file) (treeOf (b ∷ s))) }
 
-abbrev pub filesOf : (types stations statuses bikes plans zones : List ℕ) → Files
-filesOf types stations statuses bikes plans zones =
-    record {
-      vehicleTypes = fileOf 1 types;
-      stations = fileOf 2 stations;
-      statuses = fileOf 3 statuses;
-      bikes = fileOf 4 bikes;
-      plans = fileOf 5 plans;
-      zones = fileOf 6 zones;
-    }
+abbrev pub picked : Feeds → Files
+picked s file = fileOf file (bytesOf s file)

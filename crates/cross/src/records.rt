@@ -1,5 +1,7 @@
 // The records of files 1, 3 and 4, which have ids and refer to other records: noted and judged in one walk.
 use crate::bikes::judge_bike;
+use crate::set::FILES;
+use crate::set::NAMED;
 use crate::slotted::value_in;
 use crate::statuses::judge_status;
 use crate::types::judge_type;
@@ -9,18 +11,19 @@ use ids::Notes;
 use ids::id::id_place;
 use ids::note::first_of;
 use ids::note::note_record;
-use references::Set;
 use slots::Slots;
 use slots::gather;
 use walk::ItemStep;
 use walk::pass_item;
+ghost use mathlib.Core.List.{map};
 ghost use Prim.Native.Nat.{_≤_};
 ghost use lib.ListN.{length};
 ghost use Rattle.limits.specs.Ceilings.{fileBytes};
-ghost use Rattle.walk.specs.Walk.{itemsOf};
 ghost use Rattle.slots.specs.inner.Slots.{slotsOf, Gathered};
-ghost use Rattle.ids.specs.inner.Notes.{Noted, Blank};
-ghost use Rattle.cross.specs.inner.Judged.{Object, Known, broken, Judges, Referring, firstLine, lineCount};
+ghost use Rattle.ids.specs.inner.Notes.{Blank};
+ghost use Rattle.references.specs.inner.Known.{Searchable};
+ghost use Rattle.cross.specs.Cross.{faultsOf};
+ghost use Rattle.cross.specs.inner.Judged.{Object, filesBy, Known, Referring, firstLine, lineCount, Slotted, Judges};
 ghost use Rattle.cross.specs.inner.Staged.{Recorded, Finds};
 
 // What is found of a file's records: the number of the first whose id one before it has, or 0, and the first rule that one breaks otherwise.
@@ -41,72 +44,38 @@ fn gather_record(file: u8, p: &[u8]) -> Slots
 }
 
 // The n-th record `p` of a file by its slots.
-fn judge_record<'s>(
+fn judge_record<'a, 'n, 's>(
     file: u8,
     p: &[u8],
     state: &'s [u8; Slots::ROWS],
     from: &'s [usize; Slots::ROWS],
     upto: &'s [usize; Slots::ROWS],
     n: u32,
-    set: Set,
-    types: &[u8],
-    stations: &[u8],
-    plans: &[u8],
-    type_notes: &[u32; Notes::SIZE],
-    station_notes: &[u32; Notes::SIZE],
-    plan_notes: &[u32; Notes::SIZE],
+    records: [&'a [u8]; FILES],
+    notes: [&'n [u32; Notes::SIZE]; NAMED],
 ) -> Least
-    requires { ⌜ Referring file × Gathered (now p) (firstLine file) (lineCount file) (slotsOf (now state) (now from) (now upto)) × Known (now types) (now stations) (now plans) (now «type_notes») (now «station_notes») (now «plan_notes») × (length (now p) ≤ fileBytes) × Object (now p) ⌝ }
-    ensures { λ r. ⌜ Judges file (broken set (now (types .entry)) (now (stations .entry)) (now (plans .entry)) file n) (now (p .entry)) r ⌝ }
+    requires { ⌜ Referring file × Slotted file (now p) (slotsOf (now state) (now from) (now upto)) × Known file (map now records) (map now notes) × (length (now p) ≤ fileBytes) × Object (now p) ⌝ }
+    ensures { λ r. ⌜ Judges file (faultsOf (filesBy (map now (records .entry))) file n) (now (p .entry)) r ⌝ }
 {
     match file {
-        1 => judge_type(p, state, from, upto, n, set.plans_here, plans, plan_notes),
-        3 => judge_status(
-            p,
-            state,
-            from,
-            upto,
-            n,
-            set.types_here,
-            types,
-            stations,
-            type_notes,
-            station_notes,
-        ),
-        _ => judge_bike(
-            p,
-            state,
-            from,
-            upto,
-            n,
-            set.types_here,
-            types,
-            stations,
-            plans,
-            type_notes,
-            station_notes,
-            plan_notes,
-        ),
+        1 => judge_type(p, state, from, upto, n, records, notes),
+        3 => judge_status(p, state, from, upto, n, records, notes),
+        _ => judge_bike(p, state, from, upto, n, records, notes),
     }
 }
 
 // All records of the array `p`, numbered from 1. Each is gathered once, for its id and for its rules.
 // Shut out: the first broken rule in the order of the bytes; one that stops at a record which breaks nothing; a record left out of the notes because it
 // breaks a rule.
-pub fn judge_records(
+pub fn judge_records<'a, 'n>(
     file: u8,
     p: &[u8],
-    notes: &mut [u32; Notes::SIZE],
-    set: Set,
-    types: &[u8],
-    stations: &[u8],
-    plans: &[u8],
-    type_notes: &[u32; Notes::SIZE],
-    station_notes: &[u32; Notes::SIZE],
-    plan_notes: &[u32; Notes::SIZE],
+    noted: &mut [u32; Notes::SIZE],
+    records: [&'a [u8]; FILES],
+    notes: [&'n [u32; Notes::SIZE]; NAMED],
 ) -> Findings
-    requires { ⌜ Referring file × Recorded (now p) × Blank (now notes) × Known (now types) (now stations) (now plans) (now «type_notes») (now «station_notes») (now «plan_notes») ⌝ }
-    ensures { λ r. ⌜ Finds set (now (types .entry)) (now (stations .entry)) (now (plans .entry)) file (now (p .entry)) r × Noted file (now (p .entry)) (length (itemsOf (now (p .entry)))) (now (notes .exit)) ⌝ }
+    requires { ⌜ Referring file × Recorded (now p) × Blank (now noted) × Known file (map now records) (map now notes) ⌝ }
+    ensures { λ r. ⌜ Finds (map now (records .entry)) file (now (p .entry)) r × Searchable file (now (p .entry)) (now (noted .exit)) ⌝ }
 {
     let mut repeat: u16 = 0;
     let mut least = Least::None;
@@ -122,7 +91,7 @@ pub fn judge_records(
         let slots = gather_record(file, q);
         let id = value_in(q, &slots.state, &slots.from, &slots.upto, 0);
         let member = id_place(file, q);
-        let repeats = note_record(file, p, start, end, member, id, n, notes);
+        let repeats = note_record(file, p, start, end, member, id, n, noted);
         repeat = first_of(repeat, repeats, n);
         n += 1;
         let broken = judge_record(
@@ -132,13 +101,8 @@ pub fn judge_records(
             &slots.from,
             &slots.upto,
             n as u32,
-            set,
-            types,
-            stations,
-            plans,
-            type_notes,
-            station_notes,
-            plan_notes,
+            records,
+            notes,
         );
         least = lesser(least, broken);
         at = item.next;

@@ -1,6 +1,11 @@
 // Stage C of a set: file by file whether it is called for, which id repeats, and what its records demand.
 use crate::records::Findings;
 use crate::records::judge_records;
+use crate::set::FILES;
+use crate::set::NAMED;
+use crate::set::file_in;
+use crate::set::is_here;
+use crate::set::notes_in;
 use crate::zones::judge_zones;
 use clean::Outcome;
 use clean::parts_of;
@@ -12,9 +17,9 @@ use ids::Notes;
 use ids::id::id_field;
 use ids::note::note;
 use judge::Place;
-use references::Set;
 use word::kind::Kind;
 ghost use mathlib.Core.Bool.{not};
+ghost use mathlib.Core.List.{map};
 ghost use mathlib.Core.Path.{_≡_};
 ghost use Prim.Native.Nat.{_≤_};
 ghost use lib.ListN.{length};
@@ -22,17 +27,19 @@ ghost use Rattle.notation.specs.Choice.{_and_};
 ghost use Rattle.word.specs.Kinds.{condition};
 ghost use Rattle.walk.specs.Walk.{itemsOf};
 ghost use Rattle.fault.specs.declared.Least.the-variants.{None};
-ghost use Rattle.fault.specs.Fault.{least, lesser as lesserOf};
+ghost use Rattle.fault.specs.Fault.{least};
 ghost use Rattle.judge.specs.Faults.{top, faulty};
+ghost use Rattle.document.specs.inner.Spans.{RecordsFrom};
 ghost use Rattle.ids.specs.inner.Ids.{idField, Singles};
 ghost use Rattle.ids.specs.inner.Notes.{Noted, Blank};
 ghost use Rattle.clean.specs.inner.Blamed.{blamed};
 ghost use Rattle.references.specs.References.{kindIf};
 ghost use Rattle.references.specs.inner.Known.{Searchable};
-ghost use Rattle.cross.specs.inner.Judged.{Known, Referring};
-ghost use Rattle.cross.specs.Stage.{filesOf};
-ghost use Rattle.cross.specs.inner.Stage.{Through, firstC};
-ghost use Rattle.cross.specs.inner.Staged.{Recorded, Finds, calledFor, repeatOf, numberedLeast, firstFrom};
+ghost use Rattle.cross.specs.Cross.{absentees};
+ghost use Rattle.cross.specs.Stage.{fileCount, bytesOf, picked};
+ghost use Rattle.cross.specs.inner.Judged.{filesBy, Known, Referring};
+ghost use Rattle.cross.specs.inner.Stage.{AllThrough, firstC};
+ghost use Rattle.cross.specs.inner.Staged.{Recorded, AllRecorded, Others, Found, Ready, repeatOf, fileLeast, crossed};
 
 // The first broken rule of stage C, with its file; or none.
 pub enum Crossed {
@@ -41,10 +48,10 @@ pub enum Crossed {
 }
 
 // What is found of the records of each file that references name.
-struct Named {
-    types: Findings,
-    stations: Findings,
-    plans: Findings,
+pub struct Named {
+    pub types: Findings,
+    pub stations: Findings,
+    pub plans: Findings,
 }
 
 // Whether a file that is needed is lacking.
@@ -58,23 +65,23 @@ fn is_lacking(needed: bool, here: bool) -> bool
 }
 
 // Another file calls for this one, and it is not there.
-fn is_called_for(file: u8, set: Set) -> bool
-    ensures { λ r. ⌜ r ≡ calledFor file set ⌝ }
+fn is_called_for<'a>(file: u8, records: [&'a [u8]; FILES]) -> bool
+    ensures { λ r. ⌜ r ≡ absentees (filesBy (map now (records .entry))) file ⌝ }
 {
     match file {
-        2 => is_lacking(set.statuses_here, set.stations_here),
-        3 => is_lacking(set.stations_here, set.statuses_here),
-        4 => is_lacking(!set.stations_here, set.bikes_here),
+        2 => is_lacking(is_here(records, 3), is_here(records, 2)),
+        3 => is_lacking(is_here(records, 2), is_here(records, 3)),
+        4 => is_lacking(!is_here(records, 2), is_here(records, 4)),
         _ => false,
     }
 }
 
 // The rule that a file breaks which is called for and not there; it stands in the header.
-fn judge_presence(file: u8, set: Set) -> Least
-    ensures { λ r. ⌜ r ≡ least (faulty top 0 (kindIf (calledFor file set) condition)) ⌝ }
+fn judge_presence<'a>(file: u8, records: [&'a [u8]; FILES]) -> Least
+    ensures { λ r. ⌜ r ≡ least (faulty top 0 (kindIf (absentees (filesBy (map now (records .entry))) file) condition)) ⌝ }
 {
     let header = Place { record: 0, sub: 0 };
-    if is_called_for(file, set) {
+    if is_called_for(file, records) {
         return header.broken(0, Kind::CONDITION);
     }
     Least::None
@@ -97,10 +104,11 @@ fn judge_ids(file: u8, repeat: u16) -> Least
 }
 
 // One file of the set, by what is found of its records.
-fn judge_file(file: u8, found: Findings, set: Set) -> Least
-    ensures { λ r. ⌜ r ≡ lesserOf (least (faulty top 0 (kindIf (calledFor file set) condition))) (lesserOf (blamed (idField file) (found .repeat)) (found .least)) ⌝ }
+fn judge_file<'a>(file: u8, found: Findings, records: [&'a [u8]; FILES]) -> Least
+    requires { ⌜ Found (map now records) file found ⌝ }
+    ensures { λ r. ⌜ r ≡ fileLeast (map now (records .entry)) file ⌝ }
 {
-    let a = judge_presence(file, set);
+    let a = judge_presence(file, records);
     let b = judge_ids(file, found.repeat);
     let c = found.least;
     lesser(a, lesser(b, c))
@@ -117,160 +125,80 @@ fn note_records(file: u8, p: &[u8], notes: &mut [u32; Notes::SIZE]) -> Findings
     }
 }
 
-// The records of file 1. A type may name a plan and nothing else, so types are judged as they are noted, with no type known.
-fn judge_types(
-    types: &[u8],
-    notes: &mut [u32; Notes::SIZE],
-    set: Set,
-    stations: &[u8],
-    plans: &[u8],
-    station_notes: &[u32; Notes::SIZE],
-    plan_notes: &[u32; Notes::SIZE],
+// The records of file 1. A type may name a plan and nothing else, so types are judged as they are noted; the notes of types, which nobody asks for, are
+// those of the plans until then.
+fn judge_types<'a, 'n>(
+    records: [&'a [u8]; FILES],
+    noted: &mut [u32; Notes::SIZE],
+    station_notes: &'n [u32; Notes::SIZE],
+    plan_notes: &'n [u32; Notes::SIZE],
 ) -> Findings
-    requires { ⌜ Recorded (now types) × Blank (now notes) × Searchable 2 (now stations) (now «station_notes») × Searchable 5 (now plans) (now «plan_notes») ⌝ }
-    ensures { λ r. ⌜ Finds set (now (types .entry)) (now (stations .entry)) (now (plans .entry)) 1 (now (types .entry)) r × Noted 1 (now (types .entry)) (length (itemsOf (now (types .entry)))) (now (notes .exit)) ⌝ }
+    requires { ⌜ Recorded (bytesOf (map now records) 1) × Blank (now noted) × Others (map now records) (now «station_notes») (now «plan_notes») ⌝ }
+    ensures { λ r. ⌜ Found (map now (records .entry)) 1 r × Searchable 1 (bytesOf (map now (records .entry)) 1) (now (noted .exit)) ⌝ }
 {
-    let no_notes: [u32; Notes::SIZE] = [0; Notes::SIZE];
-    judge_records(
-        1,
-        types,
-        notes,
-        set,
-        b"",
-        stations,
-        plans,
-        &no_notes,
-        station_notes,
-        plan_notes,
-    )
+    let notes = [plan_notes, station_notes, plan_notes];
+    judge_records(1, file_in(records, 1), noted, records, notes)
 }
 
 // The records of file 3 or 4, which no reference names: they are noted for their repeats alone.
-fn judge_unnamed(
+fn judge_unnamed<'a, 'n>(
     file: u8,
-    p: &[u8],
-    set: Set,
-    types: &[u8],
-    stations: &[u8],
-    plans: &[u8],
-    type_notes: &[u32; Notes::SIZE],
-    station_notes: &[u32; Notes::SIZE],
-    plan_notes: &[u32; Notes::SIZE],
+    records: [&'a [u8]; FILES],
+    notes: [&'n [u32; Notes::SIZE]; NAMED],
 ) -> Findings
-    requires { ⌜ Referring file × Recorded (now p) × Known (now types) (now stations) (now plans) (now «type_notes») (now «station_notes») (now «plan_notes») ⌝ }
-    ensures { λ r. ⌜ Finds set (now (types .entry)) (now (stations .entry)) (now (plans .entry)) file (now (p .entry)) r ⌝ }
+    requires { ⌜ Referring file × Recorded (bytesOf (map now records) file) × Known file (map now records) (map now notes) ⌝ }
+    ensures { λ r. ⌜ Found (map now (records .entry)) file r ⌝ }
 {
-    let mut notes: [u32; Notes::SIZE] = [0; Notes::SIZE];
-    judge_records(
-        file,
-        p,
-        &mut notes,
-        set,
-        types,
-        stations,
-        plans,
-        type_notes,
-        station_notes,
-        plan_notes,
-    )
+    let mut noted: [u32; Notes::SIZE] = [0; Notes::SIZE];
+    judge_records(file, file_in(records, file), &mut noted, records, notes)
 }
 
-// The file with this number.
-fn judge_numbered(
+// The records of file 6, which have no ids.
+fn judge_last<'a, 'n>(
+    records: [&'a [u8]; FILES],
+    notes: [&'n [u32; Notes::SIZE]; NAMED],
+) -> Findings
+    requires { ⌜ Recorded (bytesOf (map now records) 6) × Known 6 (map now records) (map now notes) ⌝ }
+    ensures { λ r. ⌜ Found (map now (records .entry)) 6 r ⌝ }
+{
+    Findings {
+        repeat: 0,
+        least: judge_zones(file_in(records, 6), file_in(records, 1), notes_in(notes, 0)),
+    }
+}
+
+// What is found of the records of the file with this number.
+fn find<'a, 'n>(
     file: u8,
-    statuses: &[u8],
-    bikes: &[u8],
-    zones: &[u8],
     named: Named,
-    set: Set,
-    types: &[u8],
-    stations: &[u8],
-    plans: &[u8],
-    type_notes: &[u32; Notes::SIZE],
-    station_notes: &[u32; Notes::SIZE],
-    plan_notes: &[u32; Notes::SIZE],
-) -> Least
-    requires { ⌜ Known (now types) (now stations) (now plans) (now «type_notes») (now «station_notes») (now «plan_notes») × Finds set (now types) (now stations) (now plans) 1 (now types) (named .types) × Finds set (now types) (now stations) (now plans) 2 (now stations) (named .stations) × Finds set (now types) (now stations) (now plans) 5 (now plans) (named .plans) × Recorded (now statuses) × Recorded (now bikes) × Recorded (now zones) ⌝ }
-    ensures { λ r. ⌜ r ≡ numberedLeast set (now (types .entry)) (now (stations .entry)) (now (plans .entry)) (now (statuses .entry)) (now (bikes .entry)) (now (zones .entry)) file ⌝ }
+    records: [&'a [u8]; FILES],
+    notes: [&'n [u32; Notes::SIZE]; NAMED],
+) -> Findings
+    requires { ⌜ (1 ≤ file) × (file ≤ fileCount) × Ready (map now records) (map now notes) named ⌝ }
+    ensures { λ r. ⌜ Found (map now (records .entry)) file r ⌝ }
 {
     match file {
-        1 => judge_file(1, named.types, set),
-        2 => judge_file(2, named.stations, set),
-        3 => judge_file(
-            3,
-            judge_unnamed(
-                3,
-                statuses,
-                set,
-                types,
-                stations,
-                plans,
-                type_notes,
-                station_notes,
-                plan_notes,
-            ),
-            set,
-        ),
-        4 => judge_file(
-            4,
-            judge_unnamed(
-                4,
-                bikes,
-                set,
-                types,
-                stations,
-                plans,
-                type_notes,
-                station_notes,
-                plan_notes,
-            ),
-            set,
-        ),
-        5 => judge_file(5, named.plans, set),
-        _ => judge_file(
-            6,
-            Findings {
-                repeat: 0,
-                least: judge_zones(zones, types, type_notes),
-            },
-            set,
-        ),
+        1 => named.types,
+        2 => named.stations,
+        5 => named.plans,
+        6 => judge_last(records, notes),
+        _ => judge_unnamed(file, records, notes),
     }
 }
 
 // The first file with a broken rule, where the records that references name are noted.
-fn judge_noted(
-    statuses: &[u8],
-    bikes: &[u8],
-    zones: &[u8],
+fn judge_noted<'a, 'n>(
     named: Named,
-    set: Set,
-    types: &[u8],
-    stations: &[u8],
-    plans: &[u8],
-    type_notes: &[u32; Notes::SIZE],
-    station_notes: &[u32; Notes::SIZE],
-    plan_notes: &[u32; Notes::SIZE],
+    records: [&'a [u8]; FILES],
+    notes: [&'n [u32; Notes::SIZE]; NAMED],
 ) -> Crossed
-    requires { ⌜ Known (now types) (now stations) (now plans) (now «type_notes») (now «station_notes») (now «plan_notes») × Finds set (now types) (now stations) (now plans) 1 (now types) (named .types) × Finds set (now types) (now stations) (now plans) 2 (now stations) (named .stations) × Finds set (now types) (now stations) (now plans) 5 (now plans) (named .plans) × Recorded (now statuses) × Recorded (now bikes) × Recorded (now zones) ⌝ }
-    ensures { λ r. ⌜ r ≡ firstFrom (numberedLeast set (now (types .entry)) (now (stations .entry)) (now (plans .entry)) (now (statuses .entry)) (now (bikes .entry)) (now (zones .entry))) 1 6 ⌝ }
+    requires { ⌜ Ready (map now records) (map now notes) named ⌝ }
+    ensures { λ r. ⌜ r ≡ crossed (map now (records .entry)) ⌝ }
 {
     let mut file: u8 = 1;
     while file <= 6 {
-        match judge_numbered(
-            file,
-            statuses,
-            bikes,
-            zones,
-            named,
-            set,
-            types,
-            stations,
-            plans,
-            type_notes,
-            station_notes,
-            plan_notes,
-        ) {
+        let found = find(file, named, records, notes);
+        match judge_file(file, found, records) {
             Least::Is(f) => {
                 return Crossed::At(file, f);
             }
@@ -282,75 +210,51 @@ fn judge_noted(
     Crossed::Nothing
 }
 
-// The same with nothing noted yet.
-fn judge_parts(
-    types: &[u8],
-    stations: &[u8],
-    statuses: &[u8],
-    bikes: &[u8],
-    plans: &[u8],
-    zones: &[u8],
-    set: Set,
-) -> Crossed
-    requires { ⌜ Recorded (now types) × Recorded (now stations) × Recorded (now statuses) × Recorded (now bikes) × Recorded (now plans) × Recorded (now zones) × Singles 2 (now stations) × Singles 5 (now plans) ⌝ }
-    ensures { λ r. ⌜ r ≡ firstFrom (numberedLeast set (now (types .entry)) (now (stations .entry)) (now (plans .entry)) (now (statuses .entry)) (now (bikes .entry)) (now (zones .entry))) 1 6 ⌝ }
+// The first file with a broken rule, where nothing is noted yet.
+fn judge_parts<'a>(records: [&'a [u8]; FILES]) -> Crossed
+    requires { ⌜ AllRecorded (map now records) × Singles 2 (bytesOf (map now records) 2) × Singles 5 (bytesOf (map now records) 5) ⌝ }
+    ensures { λ r. ⌜ r ≡ crossed (map now (records .entry)) ⌝ }
 {
     let mut type_notes: [u32; Notes::SIZE] = [0; Notes::SIZE];
     let mut station_notes: [u32; Notes::SIZE] = [0; Notes::SIZE];
     let mut plan_notes: [u32; Notes::SIZE] = [0; Notes::SIZE];
-    let stations_found = note_records(2, stations, &mut station_notes);
-    let plans_found = note_records(5, plans, &mut plan_notes);
-    let types_found = judge_types(
-        types,
-        &mut type_notes,
-        set,
-        stations,
-        plans,
-        &station_notes,
-        &plan_notes,
-    );
+    let stations = note_records(2, file_in(records, 2), &mut station_notes);
+    let plans = note_records(5, file_in(records, 5), &mut plan_notes);
+    let types = judge_types(records, &mut type_notes, &station_notes, &plan_notes);
     judge_noted(
-        statuses,
-        bikes,
-        zones,
         Named {
-            types: types_found,
-            stations: stations_found,
-            plans: plans_found,
+            types: types,
+            stations: stations,
+            plans: plans,
         },
-        set,
-        types,
-        stations,
-        plans,
-        &type_notes,
-        &station_notes,
-        &plan_notes,
+        records,
+        [&type_notes, &station_notes, &plan_notes],
     )
+}
+
+// The rest of a file from its records on.
+fn records_in<'a>(files: [&'a [u8]; FILES], file: u8) -> &'a [u8]
+    requires { ⌜ (1 ≤ file) × (file ≤ fileCount) ⌝ }
+    ensures { λ r. ⌜ RecordsFrom file (bytesOf (map now (files .entry)) file) (now r) ⌝ }
+{
+    records_from(file, file_in(files, file))
 }
 
 // Stage C of a set of files that are through stages A and B.
 // Shut out: a file passed over because a later one breaks a rule too; a rule of one file named in another.
-pub fn judge_set(
-    types: &[u8],
-    stations: &[u8],
-    statuses: &[u8],
-    bikes: &[u8],
-    plans: &[u8],
-    zones: &[u8],
-) -> Outcome
-    requires { ⌜ Through 1 (now types) × Through 2 (now stations) × Through 3 (now statuses) × Through 4 (now bikes) × Through 5 (now plans) × Through 6 (now zones) ⌝ }
-    ensures { λ r. ⌜ r ≡ firstC (filesOf (now (types .entry)) (now (stations .entry)) (now (statuses .entry)) (now (bikes .entry)) (now (plans .entry)) (now (zones .entry))) ⌝ }
+pub fn judge_set<'a>(files: [&'a [u8]; FILES]) -> Outcome
+    requires { ⌜ AllThrough (map now files) ⌝ }
+    ensures { λ r. ⌜ r ≡ firstC (picked (map now (files .entry))) ⌝ }
 {
-    let crossed = judge_parts(
-        records_from(1, types),
-        records_from(2, stations),
-        records_from(3, statuses),
-        records_from(4, bikes),
-        records_from(5, plans),
-        records_from(6, zones),
-        Set::of(types, stations, statuses, bikes, plans),
-    );
-    match crossed {
+    let records = [
+        records_in(files, 1),
+        records_in(files, 2),
+        records_in(files, 3),
+        records_in(files, 4),
+        records_in(files, 5),
+        records_in(files, 6),
+    ];
+    match judge_parts(records) {
         Crossed::Nothing => Outcome::Unbroken,
         Crossed::At(file, f) => Outcome::Broken(parts_of(file, f)),
     }

@@ -1,4 +1,8 @@
 // A record of file 3: its station, and the types that are available there.
+use crate::set::FILES;
+use crate::set::NAMED;
+use crate::set::file_in;
+use crate::set::notes_in;
 use crate::slotted::value_in;
 use fault::Least;
 use fault::lesser;
@@ -15,7 +19,7 @@ use walk::ItemStep;
 use walk::pass_item;
 use word::kind::Kind;
 ghost use mathlib.Core.Bool.{not};
-ghost use mathlib.Core.List.{_++_};
+ghost use mathlib.Core.List.{map};
 ghost use mathlib.Core.Path.{_≡_};
 ghost use Prim.Native.Nat.{_≤_, _<_};
 ghost use lib.ListN.{length};
@@ -28,26 +32,26 @@ ghost use Rattle.walk.specs.inner.Along.{AlongItems};
 ghost use Rattle.schema.specs.Table23.{available as availableShape};
 ghost use Rattle.schema.specs.Records.{recordShape};
 ghost use Rattle.fault.specs.Fault.{least};
-ghost use Rattle.judge.specs.Faults.{faulty};
 ghost use Rattle.slots.specs.inner.Slots.{slotsOf, Gathered};
 ghost use Rattle.document.proofs.Records.{pickedItems};
 ghost use Rattle.fields.specs.Values.{integerIn};
-ghost use Rattle.fields.specs.inner.Values.{textBy, thereBy, arrayBy, spelledBy};
-ghost use Rattle.references.specs.References.{kindIf, demanded as demandedOf, refers as refersTo, named as namedBy, hasCapacity as hasCapacityOf};
-ghost use Rattle.cross.specs.Cross.{recordPlace, sumOf, availableFaults, statusFaults};
+ghost use Rattle.fields.specs.inner.Values.{thereBy, arrayBy, spelledBy};
+ghost use Rattle.references.specs.References.{kindIf};
+ghost use Rattle.cross.specs.Cross.{statusFaults};
 ghost use Rattle.references.specs.inner.Known.{Searchable};
-ghost use Rattle.cross.specs.inner.Judged.{Object, Judges};
+ghost use Rattle.cross.specs.inner.Judged.{Object, fileBy, filesBy, Known, stationBy, countsBy, Judges};
+ghost use Rattle.cross.specs.inner.Tallied.{Tallies};
 
 // What the types tell that are available: the sum of their counts, and the first rule that one breaks.
-struct Tally {
-    sum: u64,
-    least: Least,
+pub struct Tally {
+    pub sum: u64,
+    pub least: Least,
 }
 
 // The types that are available, in the array `p`, item by item.
 fn judge_available(p: &[u8], n: u32, types: &[u8], type_notes: &[u32; Notes::SIZE]) -> Tally
     requires { ⌜ Searchable 1 (now types) (now «type_notes») × (length (now p) ≤ fileBytes) × ((0 < length (now p)) → AlongItems (now p) 1) ⌝ }
-    ensures { λ r. ⌜ (r .sum ≡ sumOf (pickedItems availableShape (now (p .entry)))) × (r .least ≡ least (availableFaults (pickedItems (recordShape 1) (now (types .entry))) n 1 (pickedItems availableShape (now (p .entry))))) ⌝ }
+    ensures { λ r. ⌜ Tallies n (pickedItems (recordShape 1) (now (types .entry))) (pickedItems availableShape (now (p .entry))) r ⌝ }
 {
     let mut sum: u64 = 0;
     let mut least = Least::None;
@@ -97,7 +101,7 @@ fn judge_station(
     station_notes: &[u32; Notes::SIZE],
 ) -> Least
     requires { ⌜ Searchable 2 (now stations) (now «station_notes») ⌝ }
-    ensures { λ r. ⌜ r ≡ least (faulty place 30 (refersTo (textBy (now (reference .entry))) 20 (pickedItems (recordShape 2) (now (stations .entry)))) ++ faulty place 32 (demandedOf (namedBy hasCapacityOf 20 (pickedItems (recordShape 2) (now (stations .entry))) (textBy (now (reference .entry)))) (thereBy (now (docks .entry))))) ⌝ }
+    ensures { λ r. ⌜ r ≡ least (stationBy place (fileBy 2 (now (stations .entry))) (now (reference .entry)) (now (docks .entry))) ⌝ }
 {
     let a = place.broken(30, refers(reference, 2, stations, station_notes));
     let b = place.broken(
@@ -112,52 +116,47 @@ fn judge_counts(
     available: &[u8],
     bikes: &[u8],
     n: u32,
-    typed: bool,
     types: &[u8],
     type_notes: &[u32; Notes::SIZE],
 ) -> Least
     requires { ⌜ Searchable 1 (now types) (now «type_notes») × (length (now available) ≤ fileBytes) × ((0 < length (arrayBy (now available))) → AlongItems (arrayBy (now available)) 1) ⌝ }
-    ensures { λ r. ⌜ r ≡ least (faulty (recordPlace n 0) 37 (demandedOf typed (thereBy (now (available .entry))) ++ kindIf (thereBy (now (available .entry)) and not (eqb (sumOf (pickedItems availableShape (arrayBy (now (available .entry))))) (integerIn (spelledBy (now (bikes .entry)))))) sumDiffers) ++ availableFaults (pickedItems (recordShape 1) (now (types .entry))) n 1 (pickedItems availableShape (arrayBy (now (available .entry))))) ⌝ }
+    ensures { λ r. ⌜ r ≡ least (countsBy n (fileBy 1 (now (types .entry))) (now (available .entry)) (now (bikes .entry))) ⌝ }
 {
     let place = Place { record: n, sub: 0 };
     let tally = judge_available(array_in(available), n, types, type_notes);
-    let a = place.broken(37, demanded(typed, available));
+    let a = place.broken(37, demanded(0 < types.len(), available));
     let b = place.broken(37, sum_kind(available, tally.sum, bikes));
     let c = tally.least;
     lesser(lesser(a, b), c)
 }
 
-// The n-th record `p` by its slots, where file 1 is there or not. Its rows begin at line 25 of the table.
-pub fn judge_status<'s>(
+// The n-th record `p` by its slots. Its rows begin at line 25 of the table.
+pub fn judge_status<'a, 'n, 's>(
     p: &[u8],
     state: &'s [u8; Slots::ROWS],
     from: &'s [usize; Slots::ROWS],
     upto: &'s [usize; Slots::ROWS],
     n: u32,
-    typed: bool,
-    types: &[u8],
-    stations: &[u8],
-    type_notes: &[u32; Notes::SIZE],
-    station_notes: &[u32; Notes::SIZE],
+    records: [&'a [u8]; FILES],
+    notes: [&'n [u32; Notes::SIZE]; NAMED],
 ) -> Least
-    requires { ⌜ Gathered (now p) 25 10 (slotsOf (now state) (now from) (now upto)) × Searchable 1 (now types) (now «type_notes») × Searchable 2 (now stations) (now «station_notes») × (length (now p) ≤ fileBytes) × Object (now p) ⌝ }
-    ensures { λ r. ⌜ Judges 3 (statusFaults typed (pickedItems (recordShape 1) (now (types .entry))) (pickedItems (recordShape 2) (now (stations .entry))) n) (now (p .entry)) r ⌝ }
+    requires { ⌜ Gathered (now p) 25 10 (slotsOf (now state) (now from) (now upto)) × Known 3 (map now records) (map now notes) × (length (now p) ≤ fileBytes) × Object (now p) ⌝ }
+    ensures { λ r. ⌜ Judges 3 (statusFaults (filesBy (map now (records .entry))) n) (now (p .entry)) r ⌝ }
 {
     let place = Place { record: n, sub: 0 };
     let a = judge_station(
         value_in(p, state, from, upto, 0),
         value_in(p, state, from, upto, 2),
         place,
-        stations,
-        station_notes,
+        file_in(records, 2),
+        notes_in(notes, 1),
     );
     let b = judge_counts(
         value_in(p, state, from, upto, 7),
         value_in(p, state, from, upto, 1),
         n,
-        typed,
-        types,
-        type_notes,
+        file_in(records, 1),
+        notes_in(notes, 0),
     );
     lesser(a, b)
 }

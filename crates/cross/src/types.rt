@@ -1,4 +1,8 @@
 // A record of file 1: a range unless a human drives, and a plan.
+use crate::set::FILES;
+use crate::set::NAMED;
+use crate::set::file_in;
+use crate::set::notes_in;
 use crate::slotted::value_in;
 use fault::Least;
 use fault::lesser;
@@ -8,32 +12,30 @@ use references::rules::demanded;
 use references::rules::refers;
 use references::search::is_motorized;
 use slots::Slots;
-ghost use Rattle.schema.specs.Records.{recordShape};
+ghost use mathlib.Core.List.{map};
 ghost use Rattle.slots.specs.inner.Slots.{slotsOf, Gathered};
-ghost use Rattle.document.proofs.Records.{pickedItems};
-ghost use Rattle.references.specs.inner.Known.{Searchable};
 ghost use Rattle.cross.specs.Cross.{typeFaults};
-ghost use Rattle.cross.specs.inner.Judged.{Judges};
+ghost use Rattle.cross.specs.inner.Judged.{filesBy, Known, Judges};
 
-// The n-th record `p` by its slots, where file 5 is there or not. Its rows begin at line 5 of the table.
-pub fn judge_type<'s>(
+// The n-th record `p` by its slots. Its rows begin at line 5 of the table.
+pub fn judge_type<'a, 'n, 's>(
     p: &[u8],
     state: &'s [u8; Slots::ROWS],
     from: &'s [usize; Slots::ROWS],
     upto: &'s [usize; Slots::ROWS],
     n: u32,
-    planned: bool,
-    plans: &[u8],
-    plan_notes: &[u32; Notes::SIZE],
+    records: [&'a [u8]; FILES],
+    notes: [&'n [u32; Notes::SIZE]; NAMED],
 ) -> Least
-    requires { ⌜ Gathered (now p) 5 5 (slotsOf (now state) (now from) (now upto)) × Searchable 5 (now plans) (now «plan_notes») ⌝ }
-    ensures { λ r. ⌜ Judges 1 (typeFaults planned (pickedItems (recordShape 5) (now (plans .entry))) n) (now (p .entry)) r ⌝ }
+    requires { ⌜ Gathered (now p) 5 5 (slotsOf (now state) (now from) (now upto)) × Known 1 (map now records) (map now notes) ⌝ }
+    ensures { λ r. ⌜ Judges 1 (typeFaults (filesBy (map now (records .entry))) n) (now (p .entry)) r ⌝ }
 {
     let place = Place { record: n, sub: 0 };
+    let plans = file_in(records, 5);
     let motorized = is_motorized(value_in(p, state, from, upto, 2));
     let reference = value_in(p, state, from, upto, 4);
     let a = place.broken(13, demanded(motorized, value_in(p, state, from, upto, 3)));
-    let b = place.broken(14, demanded(planned, reference));
-    let c = place.broken(14, refers(reference, 5, plans, plan_notes));
+    let b = place.broken(14, demanded(0 < plans.len(), reference));
+    let c = place.broken(14, refers(reference, 5, plans, notes_in(notes, 2)));
     lesser(a, lesser(b, c))
 }

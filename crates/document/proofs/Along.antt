@@ -15,17 +15,13 @@ use Rattle.lexeme.proofs.Rests.{place-at}
 use Rattle.json.specs.Tree.{Json}
 use Rattle.json.specs.Text.{value, valueBy}
 use Rattle.walk.specs.declared.Item.{Item}
-use Rattle.walk.specs.declared.ItemStep.the-variants as items
-use Rattle.walk.specs.Walk.{offsetOf, itemAt, itemsFrom, itemsOf}
-use Rattle.walk.specs.inner.Along.{AlongItems, ItemPassed}
+use Rattle.walk.specs.Walk.{offsetOf}
 use Rattle.walk.proofs.Rests.{rest-drop, rest-blanks, rest-there}
-use Rattle.walk.proofs.Folds.{itemSteps, one-more}
 use Rattle.walk.proofs.Finding.{valued-at}
 use Rattle.walk.proofs.Files.{passed}
 use Rattle.schema.specs.Table23.{table23}
 use Rattle.schema.specs.Records.{Way, wayIn, wayTo}
 use Rattle.schema.proofs.Computed.{no-file}
-use Rattle.document.specs.declared.Span.{Span}
 use Rattle.document.specs.declared.Span.the-variants.{None, Is}
 use Rattle.document.specs.Spans.{memberSpan, membersAlong, topSpan, recordsSpan, nth}
 use Rattle.document.specs.inner.Spans.{Readable}
@@ -97,35 +93,3 @@ pub nth-zero : (from : ℕ) (l : List Item) → nth from l 0 ≡ None
 unfolding nth
 nth-zero from [] = refl
 nth-zero from (m ∷ l) = refl
-
--- what is left to count comes to r
-abbrev pub Counts : List ℕ → ℕ → ℕ → ℕ → Span → Type 0
-Counts p from left at r = AlongItems p at × (k : ℕ) × (length p ≤ at + k) × (nth from (itemsFrom k p at) left ≡ r)
-
-module _ (p : List ℕ) (from : ℕ) where
-  pub counts-start : (n : ℕ) → AlongItems p 1 → Counts p from n 1 (nth from (itemsOf p) n)
-  unfolding itemsOf
-  counts-start n a = (a, length p, omega arith, refl)
-
-  module _ (left at : ℕ) (r : Span) (w : Counts p from left at r) where
-    pub counts-end : ItemPassed p at items.End → None ≡ r
-    counts-end f = sym (ap (λ (l : List Item). nth from l left) (itemSteps p .end (w .1) at (sym (f .same (w .0)))) ∙ nth-none from left) ∙ w .3
-
-    module _ (m : Item) (f : ItemPassed p at (items.Found m)) where
-      found : itemAt p at ≡ items.Found m
-      found = sym (f .same (w .0))
-
-      pub counts-here : left ≡ 1 → Is (from + m .value) (from + m .«value_end») ≡ r
-      counts-here e =
-          let j = one-more (itemSteps p) (w .1) at m found (w .2) in
-          sym (nth-here from m (itemsFrom (j .0) p (m .next))) ∙ ap (nth from (m ∷ itemsFrom (j .0) p (m .next))) (sym e)
-          ∙ ap (λ (l : List Item). nth from l left) (sym (j .2)) ∙ w .3
-
-      pub counts-later : 1 ≤ left → (left ≡ 1 → ⊥) → Counts p from (left - 1) (m .next) r
-      counts-later h i =
-          let j = one-more (itemSteps p) (w .1) at m found (w .2) in (
-            AlongItems.next (w .0) found,
-            j .0,
-            j .1,
-            sym (nth-later from m (itemsFrom (j .0) p (m .next)) left h i) ∙ ap (λ (l : List Item). nth from l left) (sym (j .2)) ∙ w .3,
-          )

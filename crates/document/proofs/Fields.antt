@@ -13,7 +13,7 @@ use Rattle.walk.specs.Walk.{part}
 use Rattle.walk.specs.Part.{Whole, partTree}
 use Rattle.schema.specs.Shape as shape
 use Rattle.schema.specs.Shape.{Shape, Rows, Need}
-use Rattle.schema.specs.Pick.{Picked, Slots, Slot, missing, once, twice, filled, put, pick, pickRows, find, slotOf}
+use Rattle.schema.specs.Pick.{Picked, Slots, Slot, missing, once, twice, unlessBlank, put, pick, pickRows, find, slotOf}
 use Rattle.slots.specs.declared.Found.{Found}
 use Rattle.slots.specs.declared.Found.the-variants.{Missing, Once, Twice}
 use Rattle.slots.specs.Found.{foundIn}
@@ -22,7 +22,7 @@ use Rattle.slots.proofs.Finds.{find-found, found-value}
 use Rattle.document.specs.declared.Span.the-variants.{Is}
 use Rattle.document.specs.Document.{Maybe, none, some, onceOnly, field}
 use Rattle.document.specs.Spans.{moved, memberSpan}
-use Rattle.document.proofs.Cuts.{part-part, part-inside}
+use Rattle.walk.proofs.Cuts.{part-part, part-inside}
 
 -- the first row of the field f has this name and shape
 pub data Lists (f : ℕ) (name : List ℕ) (σ : Shape) : Rows → Type 0 where
@@ -48,11 +48,11 @@ module _ (f : ℕ) (g : Json → Picked) where
   at-below h e twice rest = rw (slotOf, e)
 
 pub at-row : {f : ℕ} {name : List ℕ} {σ : Shape} {rows : Rows} → Lists f name σ rows → (ms : Members)
-    → slotOf f (pickRows rows ms) ≡ over (pick σ) (filled (find name ms))
+    → slotOf f (pickRows rows ms) ≡ over (pick σ) (unlessBlank (find name ms))
 unfolding pickRows
-at-row {f} {name} {σ} (here {rows = rows}) ms = at-here f (λ y. pick σ y) (filled (find name ms)) (pickRows rows ms)
+at-row {f} {name} {σ} (here {rows = rows}) ms = at-here f (λ y. pick σ y) (unlessBlank (find name ms)) (pickRows rows ms)
 at-row {f} (below {g = g} {n = n} {τ = τ} {rows = rows} e l) ms =
-    at-below f (λ y. pick τ y) g e (filled (find n ms)) (pickRows rows ms) ∙ at-row l ms
+    at-below f (λ y. pick τ y) g e (unlessBlank (find n ms)) (pickRows rows ms) ∙ at-row l ms
 
 -- no row of the field f
 pub data Lacks (f : ℕ) : Rows → Type 0 where
@@ -63,7 +63,7 @@ at-lacks : {f : ℕ} {rows : Rows} → Lacks f rows → (ms : Members) → slotO
 unfolding pickRows slotOf
 at-lacks noRow ms = refl
 at-lacks {f} (past {g = g} {n = n} {τ = τ} {rows = rows} e l) ms =
-    at-below f (λ y. pick τ y) g e (filled (find n ms)) (pickRows rows ms) ∙ at-lacks l ms
+    at-below f (λ y. pick τ y) g e (unlessBlank (find n ms)) (pickRows rows ms) ∙ at-lacks l ms
 
 pub field-lacks : {f : ℕ} {rows : Rows} → Lacks f rows → (x : Json) → field f (pick (shape.object rows) x) ≡ none
 unfolding field pick
@@ -89,7 +89,7 @@ pub record Held (name : List ℕ) (σ : Shape) (x : Json) (y : Picked) : Type 0 
   pub picked : pick σ value ≡ y
 
 module _ (σ : Shape) {y : Picked} where
-  from-given : (o : Slot Json) → onceOnly (over (pick σ) (filled o)) ≡ some y → (z : Json) × (o ≡ once z) × (pick σ z ≡ y)
+  from-given : (o : Slot Json) → onceOnly (over (pick σ) (unlessBlank o)) ≡ some y → (z : Json) × (o ≡ once z) × (pick σ z ≡ y)
   from-given missing e = none-some e
   from-given twice e = none-some e
   from-given (once tree.null) e = (tree.null, refl, some-some e)

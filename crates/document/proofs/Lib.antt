@@ -1,4 +1,3 @@
-pub mod Cuts
 pub mod Along
 pub mod Fields
 pub mod First

@@ -28,7 +28,7 @@ use Rattle.document.specs.Document.{Maybe, none, some, field, along}
 use Rattle.document.specs.Trees as trees
 use Rattle.document.specs.Trees.{numbered}
 use Rattle.document.specs.Spans.{membersAlong, topSpan, recordsSpan, nth, nthIn}
-use Rattle.document.proofs.Cuts.{part-part, part-inside}
+use Rattle.walk.proofs.Cuts.{part-part, part-inside}
 use Rattle.document.proofs.Along.{top-found, nth-zero}
 use Rattle.document.proofs.Fields.{none-some, some-some, field-held, Stands, reached}
 use Rattle.document.proofs.Ways.{lists, Leads, arrived, into, Recorded}

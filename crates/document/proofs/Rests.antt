@@ -30,7 +30,7 @@ use Rattle.document.specs.declared.Span.{Span}
 use Rattle.document.specs.declared.Span.the-variants.{None, Is}
 use Rattle.document.specs.Spans.{moved, memberSpan, membersAlong, topSpan, recordsSpan, nth, nthIn, recordSpan}
 use Rattle.document.specs.inner.Spans.{Listed, ValueFrom, RecordsFrom}
-use Rattle.document.proofs.Cuts.{part-rest}
+use Rattle.walk.proofs.Cuts.{part-rest}
 use Rattle.document.proofs.Fields.{Stands, stands-found}
 use Rattle.document.proofs.Records.{top-is, top-stands, pickedItems, open-items, Records}
 

@@ -4,7 +4,7 @@ use mathlib.Core.Bool.{Bool, true, false}
 use mathlib.Core.List.{List, [], _∷_}
 use Prim.Native.Nat.{ℕ}
 pub use Rattle.notation.specs.Maybe.{Maybe, none, some}
-use Rattle.schema.specs.Pick.{Picked, Slot, bare, items, slots, missing, once, twice, slotOf, elements, single}
+use Rattle.schema.specs.Pick.{Picked, Slot, bare, items, slots, missing, once, twice, slotOf, elements, byValue}
 
 abbrev pub onceOnly : {A : Type 0} → Slot A → Maybe A
 onceOnly missing = none
@@ -32,13 +32,13 @@ along (f ∷ fs) x = elim (field f x) [ none ↦ none | some y ↦ along fs y ]
 
 -- the text of a string, the spelling of a number, the truth of a boolean
 abbrev pub textIn : Picked → Maybe (List ℕ)
-textIn x = single (λ b. none) (λ n. none) (λ s. some s) none x
+textIn x = byValue (λ b. none) (λ n. none) (λ s. some s) none x
 
 abbrev pub spellingIn : Picked → Maybe (List ℕ)
-spellingIn x = single (λ b. none) (λ n. some n) (λ s. none) none x
+spellingIn x = byValue (λ b. none) (λ n. some n) (λ s. none) none x
 
 abbrev pub truthIn : Picked → Maybe Bool
-truthIn x = single (λ b. some b) (λ n. none) (λ s. none) none x
+truthIn x = byValue (λ b. some b) (λ n. none) (λ s. none) none x
 
 abbrev pub then : {A B : Type 0} → Maybe A → (A → Maybe B) → Maybe B
 then none f = none

@@ -18,6 +18,7 @@ use text::compare::text_is;
 use walk::ItemStep;
 use walk::MemberStep;
 use walk::NameStep;
+use walk::cut;
 use walk::pass_item;
 use walk::pass_member;
 use walk::pass_name;
@@ -28,23 +29,6 @@ use walk::tail::last_end;
 pub enum Span {
     None,
     Is(usize, usize),
-}
-
-// The bytes from one place up to another; those that are there, where the places are past the end.
-pub fn cut(s: &[u8], from: usize, upto: usize) -> &[u8]
-    ensures { λ r. ⌜ now r ≡ part (now (s .entry)) from upto ⌝ }
-{
-    let n = s.len();
-    if upto <= from {
-        return &s[n..];
-    }
-    if n <= from {
-        return &s[n..];
-    }
-    if n <= upto {
-        return &s[from..];
-    }
-    &s[from..upto]
 }
 
 // What was found, with one value more.

@@ -78,22 +78,26 @@ pub record First (a : Fault) (l : List Fault) : Type 0 where
   pub stands : List·Memᴰ a l
   pub first : (b : Fault) → List·Memᴰ b l → before b a ≡ false
 
-none-is : {A : Type 0} {a : Fault} → None ≡ Is a → A
+pub none-is : {A : Type 0} {a : Fault} → None ≡ Is a → A
 none-is e = let z : _≡_ {A = ℕ} 0 1 = cc in absurd (omega arith)
 
 -- there is but one
 pub first-only : (a b : Fault) (l : List Fault) → First a l → First b l → a ≡ b
 first-only a b l f g = before-even a b (g .first a (f .stands)) (f .first b (g .stands))
 
+-- a fault is never hidden
+some : {A : Type 0} (a : Fault) (y : Least) → lesser (Is a) y ≡ None → A
+some a None e = none-is (sym e ∙ lesser-none (Is a))
+some a (Is b) e = by-test (before b a) (λ t. none-is (sym e ∙ lesser-second a b t)) λ f. none-is (sym e ∙ lesser-first a b f)
+
+pub both-none : (x y : Least) → lesser x y ≡ None → (x ≡ None) × (y ≡ None)
+both-none None y e = (refl, sym (none-lesser y) ∙ e)
+both-none (Is a) y e = some a y e
+
 pub least-none : (l : List Fault) → least l ≡ None → l ≡ []
 unfolding least
 least-none [] e = refl
-least-none (a ∷ l) e = go (least l) e
-  where
-    go : (x : Least) → lesser (Is a) x ≡ None → a ∷ l ≡ []
-    go None h = none-is (sym h ∙ lesser-none (Is a))
-    go (Is b) h =
-        by-test (before b a) (λ t. none-is (sym h ∙ lesser-second a b t)) λ f. none-is (sym h ∙ lesser-first a b f)
+least-none (a ∷ l) e = some a (least l) e
 
 pub none-least : (l : List Fault) → l ≡ [] → least l ≡ None
 unfolding least

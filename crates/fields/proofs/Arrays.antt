@@ -2,9 +2,8 @@
 -- reading them finds, behind its last byte too.
 use mathlib.Core.Bool.{Bool, true, false}
 use mathlib.Core.List.{List, []}
-use mathlib.Core.Path.{_≡_, refl, sym, _∙_}
-use Prim.Native.Nat.{ℕ, _≤_, _<_}
-use native.Mathlib.Decide.{decLt}
+use mathlib.Core.Path.{_≡_, refl}
+use Prim.Native.Nat.{ℕ, _<_}
 use native.Mathlib.Omega.{arith}
 use lib.Dec.{eqb}
 use lib.ListN.{length}
@@ -13,13 +12,11 @@ use Rattle.lexeme.specs.Character.{within}
 use Rattle.lexeme.specs.Numbers.{digit}
 use Rattle.lexeme.specs.inner.Start.{start}
 use Rattle.json.specs.Tree.{Json, Items}
-use Rattle.walk.specs.declared.Item.{Item}
 use Rattle.walk.specs.declared.ItemStep.{ItemStep}
-use Rattle.walk.specs.declared.ItemStep.the-variants as step
 use Rattle.walk.specs.Walk.{part, itemAt}
 use Rattle.walk.specs.Part.{Whole, partTree, kindOf, kindAt}
-use Rattle.walk.specs.inner.Along.{AlongItems, ItemPlaced, ItemPassed}
-use Rattle.walk.proofs.Places.{item-placed}
+use Rattle.walk.specs.inner.Along.{AlongItems, ItemPassed}
+use Rattle.walk.proofs.Left
 use Rattle.walk.proofs.Wholes.{whole-kind}
 use Rattle.slots.specs.declared.Found.{Found}
 use Rattle.slots.specs.declared.Found.the-variants.{Missing, Once, Twice}
@@ -72,14 +69,5 @@ module _ (p name : List ℕ) where
   pub member-along : 0 < length (arrayBy (memberOf p name)) → AlongItems (arrayBy (memberOf p name)) 1
   member-along h = AlongItems.start (member-array h .1)
 
--- behind the last byte nothing is found
-behind : (p : List ℕ) (at : ℕ) → length p ≤ at → (s : ItemStep) → ((m : Item) → s ≡ step.Found m → ItemPlaced p at m) → s ≡ step.End
-behind p at n step.End g = refl
-behind p at n (step.Found m) g = let k = g m refl in absurd (omega (arith, k .later, k .value, k .next, k .inside))
-
 pub passed-read : (p : List ℕ) (at : ℕ) {s : ItemStep} → ItemPassed p at s → (at < length p → AlongItems p at) → s ≡ itemAt p at
-passed-read p at {s} f a = go (decLt at (length p))
-  where
-    go : Dec (at < length p) → s ≡ itemAt p at
-    go (yes i) = f .same (a i)
-    go (no n) = let i : length p ≤ at = omega (arith, n) in behind p at i s (f .placed) ∙ sym (behind p at i (itemAt p at) (item-placed p at))
+passed-read p at f a = Left.passed-read f a

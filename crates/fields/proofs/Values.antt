@@ -22,7 +22,7 @@ use Rattle.walk.proofs.Trees.{array-parts}
 use Rattle.text.specs.Text.{textOf}
 use Rattle.schema.specs.Shape as shape
 use Rattle.schema.specs.Shape.{Shape, Rows, Sort, Numbering}
-use Rattle.schema.specs.Pick.{Picked, missing, once, filled, pick, pickItems, emptied, bare, items, listOf}
+use Rattle.schema.specs.Pick.{Picked, missing, once, unlessBlank, pick, pickItems, emptied, bare, items, listOf}
 use Rattle.slots.specs.declared.Found.{Found}
 use Rattle.slots.specs.declared.Found.the-variants.{Missing, Once, Twice}
 use Rattle.slots.specs.Found.{foundIn}
@@ -57,7 +57,7 @@ module _ (σ : Shape) (p : List ℕ) where
   held-unless true q x w e = refl
   held-unless false q x w e = (x, w, refl)
 
-  held-found : (name : List ℕ) (o : Found) → foundIn p name ≡ o → Holds σ (foundBytes p o) (onceOnly (over (pick σ) (filled (treeIn p o))))
+  held-found : (name : List ℕ) (o : Found) → foundIn p name ≡ o → Holds σ (foundBytes p o) (onceOnly (over (pick σ) (unlessBlank (treeIn p o))))
   held-found name Missing e = refl
   held-found name (Once from upto) e =
       let q = part p from upto in

@@ -1,12 +1,12 @@
 // The values of an object's fields by their bytes. No bytes stand for a value that is missing, twice there or "".
 use decimal::Number;
 use decimal::spelling::read_decimal;
-use document::cut;
 use document::find;
 use slots::Found;
 use slots::is_blank_text;
 use text::compare::text_is;
 use walk::ValueKind;
+use walk::cut;
 use walk::value_kind;
 ghost use mathlib.Core.List.{[]};
 ghost use mathlib.Core.Path.{_≡_};

@@ -1,19 +1,19 @@
 -- The word that a verdict leaves in a buffer of eight bytes says the verdict.
-use mathlib.Core.List.{List}
+use mathlib.Core.List.{List, [], _∷_}
 use mathlib.Core.Path.{_≡_, sym, ap, _∙_}
 use Prim.Native.Nat.{ℕ, _≤_}
 use lib.ListN.{length, take}
 use lib.Seq.{take-all}
 use Rattle.word.specs.Word.{readWord}
-use Rattle.gbfs.specs.Verdict.{Feeds, feeds, said, verdictOf, bufferOf}
+use Rattle.gbfs.specs.Verdict.{said, verdictOf, bufferOf}
 use Rattle.gbfs.proofs.ReadBack.{verdict-read}
 
-pub parts-said : (s : Feeds) (before after : List ℕ) → 8 ≤ length before → length after ≤ 8 → after ≡ bufferOf s before
+pub parts-said : (s : List (List ℕ)) (before after : List ℕ) → 8 ≤ length before → length after ≤ 8 → after ≡ bufferOf s before
     → readWord after .parts ≡ said (verdictOf s)
 parts-said s before after room h e =
     ap (λ a. a .parts) (ap readWord (sym (take-all 8 after h)) ∙ ap (λ l. readWord (take 8 l)) e ∙ verdict-read s before room)
 
 -- the same files make the same set
 pub same-set : {t s u b p z t′ s′ u′ b′ p′ z′ : List ℕ} → t ≡ t′ → s ≡ s′ → u ≡ u′ → b ≡ b′ → p ≡ p′ → z ≡ z′
-    → feeds t s u b p z ≡ feeds t′ s′ u′ b′ p′ z′
+    → (t ∷ s ∷ u ∷ b ∷ p ∷ z ∷ []) ≡ (t′ ∷ s′ ∷ u′ ∷ b′ ∷ p′ ∷ z′ ∷ [])
 same-set e f g h i j = cc

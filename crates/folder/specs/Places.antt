@@ -1,10 +1,9 @@
 -- Where the files of a set stand in the buffer that they are read into: one behind the other, each from its place to the next one's.
-use mathlib.Core.List.{List}
+use mathlib.Core.List.{List, [], _∷_, map}
 use mathlib.Core.Path.{_≡_}
 use Prim.Native.Nat.{ℕ, _+_, _≤_, _<_}
 use lib.ListN.{length, getD, take}
 use Rattle.walk.specs.Walk.{part}
-use Rattle.gbfs.specs.Verdict.{Feeds, feeds}
 use Rattle.folder.specs.declared.reading.Taken.{Taken}
 use Rattle.folder.specs.declared.reading.Taken.the-variants as taken
 use Rattle.folder.specs.declared.reading.Turn.{Turn}
@@ -40,12 +39,5 @@ Placed size places (taken.To end) = InOrder 6 size places
 abbrev pub fileIn : (bytes places : List ℕ) (i : ℕ) → List ℕ
 fileIn bytes places i = part bytes (getD places i 0) (getD places (i + 1) 0)
 
-abbrev pub setIn : (bytes places : List ℕ) → Feeds
-setIn bytes places =
-    feeds
-    (fileIn bytes places 0)
-    (fileIn bytes places 1)
-    (fileIn bytes places 2)
-    (fileIn bytes places 3)
-    (fileIn bytes places 4)
-    (fileIn bytes places 5)
+abbrev pub setIn : (bytes places : List ℕ) → List (List ℕ)
+setIn bytes places = map (fileIn bytes places) (0 ∷ 1 ∷ 2 ∷ 3 ∷ 4 ∷ 5 ∷ [])

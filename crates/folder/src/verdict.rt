@@ -1,16 +1,14 @@
 // The verdict on the files that stand in a buffer.
 use gbfs::verdict;
 use word::Parts;
-use word::Reading;
 use word::Word;
 ghost use mathlib.Core.Path.{_≡_};
 ghost use Prim.Native.Nat.{_<_};
 ghost use lib.ListN.{length};
-ghost use Rattle.word.specs.Word.{readWord};
 ghost use Rattle.gbfs.specs.Verdict.{said, verdictOf};
 ghost use Rattle.folder.specs.Places.{InOrder, fileIn, setIn};
 
-// What the verdict's word says.
+// What the verdict's word says, which can be read.
 pub fn parts_of(bytes: &[u8], places: &[usize; 7]) -> Parts
     requires { ⌜ InOrder 6 (length (now bytes)) (now places) ⌝ }
     ensures { λ r. ⌜ r ≡ said (verdictOf (setIn (now (bytes .entry)) (now (places .entry)))) ⌝ }
@@ -25,7 +23,7 @@ pub fn parts_of(bytes: &[u8], places: &[usize; 7]) -> Parts
         file(bytes, places, 5),
         &mut word,
     );
-    read_back(&word)
+    Word::read(&word).word_parts()
 }
 
 // The bytes of a file, counted from 0.
@@ -36,21 +34,4 @@ fn file<'a>(bytes: &'a [u8], places: &[usize; 7], i: usize) -> &'a [u8]
     let from = places[i];
     let upto = places[i + 1];
     &bytes[from..upto]
-}
-
-// What the bytes of a word say. A verdict's word can be read.
-fn read_back(word: &[u8]) -> Parts
-    ensures { λ r. ⌜ r ≡ readWord (now (word .entry)) .parts ⌝ }
-{
-    match Word::read(word) {
-        Reading::Word(p) => p,
-        Reading::NoWord => Parts {
-            file: 0,
-            kind: 0,
-            field: 0,
-            record: 0,
-            sub: 0,
-            offset: 0,
-        },
-    }
 }

@@ -1,8 +1,8 @@
 -- The first of the broken rules may be looked for stage by stage and file by file: a rule of a lower file comes before those of all higher ones, and within a
 -- file the first is the least fault.
-use mathlib.Core.List.{List, [], _∷_, _++_, map, append-assoc}
+use mathlib.Core.List.{List, [], _∷_, _++_, map}
 use mathlib.Core.Path.{_≡_, refl, sym, ap, ap₂, _∙_}
-use Prim.Native.Nat.{ℕ, _<_}
+use Prim.Native.Nat.{ℕ, zero, suc, _+_, _<_}
 use native.Mathlib.Omega.{arith}
 use Rattle.word.specs.declared.Parts.{Parts}
 use Rattle.json.specs.declared.Syntax.{Syntax}
@@ -21,18 +21,15 @@ use Rattle.clean.specs.declared.Outcome.the-variants.{Unbroken, Broken}
 use Rattle.clean.specs.Clean.{faultParts, broken}
 use Rattle.cross.specs.Cross.{crossFaults}
 use Rattle.cross.specs.inner.Stage as cross
-use Rattle.cross.specs.inner.Stage.{firstOf}
-use Rattle.gbfs.specs.Verdict.{Feeds, bytesOf, picked, syntaxRules, rulesA, faultsB, everyFile, stageA, stageBBy, stageB, stageC, orElse, brokenRulesBy, earlier, first, verdictOf}
+use Rattle.cross.specs.inner.Stage.{onward, firstOf}
+use Rattle.cross.specs.Stage.{Feeds, fileCount, bytesOf, picked}
+use Rattle.gbfs.specs.Verdict.{syntaxRules, rulesA, faultsB, eachFrom, everyFile, stageA, stageBBy, stageB, stageC, orElse, brokenRulesBy, earlier, first, verdictOf}
 use Rattle.gbfs.specs.inner.Stages.{orNext, malformed, brokenA, firstA, firstB, staged}
 use Rattle.gbfs.proofs.Every.{all-at, all-map}
 use Rattle.gbfs.proofs.Order.{same-file, higher-file}
 use Rattle.gbfs.proofs.First.{earlier-named, earlier-first, earlier-second, first-broken}
 
 -- what is found first stays, whatever is next
-orNext-clean : (x : Outcome) → orNext x Unbroken ≡ x
-orNext-clean Unbroken = refl
-orNext-clean (Broken p) = refl
-
 named-next : (p : Parts) (x y : Outcome) → orNext (earlier p x) y ≡ earlier p x
 named-next p x y = let n = earlier-named p x in rw (n .is)
 
@@ -66,28 +63,22 @@ first-append file (p ∷ l) m (more h of) above =
     go Unbroken = earlier-above p m (rw h above)
     go (Broken q) = refl
 
--- The files from one on: all their rules are above the file before, and what comes first of them is this.
-record Onward (low : ℕ) (m : List Parts) (x : Outcome) : Type 0 where
-  above : Above low m
-  is : first m ≡ x
-
+-- The rules of the files from one on are above those before it.
 module _ (g : ℕ → List Parts) (of : (file : ℕ) → Of file (g file)) where
-  last : (low file : ℕ) → low < file → Onward low (g file) (orNext (first (g file)) Unbroken)
-  last low file h = record { above = all-map (λ p e. omega arith) (of file); is = sym (orNext-clean (first (g file))) }
+  from-above : (low file left : ℕ) → low < file → Above low (eachFrom g file left)
+  unfolding eachFrom
+  from-above low file zero h = none
+  from-above low file (suc left) h = all-append (all-map (λ p e. omega arith) (of file)) (from-above low (file + 1) left (omega arith))
 
-  next : (low file : ℕ) → low < file → {m : List Parts} {x : Outcome} → Onward file m x → Onward low (g file ++ m) (orNext (first (g file)) x)
-  next low file h {m} o =
-      record {
-        above = all-append (all-map (λ p e. omega arith) (of file)) (all-map (λ p e. omega arith) (o .above));
-        is = first-append file (g file) m (of file) (o .above) ∙ ap (orNext (first (g file))) (o .is);
-      }
+  first-from : (file left : ℕ) → first (eachFrom g file left) ≡ onward (λ k x. orNext (first (g k)) x) Unbroken file left
+  unfolding eachFrom onward first
+  first-from file zero = refl
+  first-from file (suc left) =
+      first-append file (g file) (eachFrom g (file + 1) left) (of file) (from-above file (file + 1) left (omega arith))
+      ∙ ap (orNext (first (g file))) (first-from (file + 1) left)
 
   first-files : first (everyFile g) ≡ firstOf (λ file x. orNext (first (g file)) x)
-  first-files =
-      ap first (simp append-assoc) ∙
-      next 0 1 (omega arith)
-      (next 1 2 (omega arith) (next 2 3 (omega arith) (next 3 4 (omega arith) (next 4 5 (omega arith) (last 5 6 (omega arith))))))
-      .is
+  first-files = first-from 1 fileCount
 
 -- Faults of one file, in the order of faults.
 place-earlier : (file : ℕ) (a : Fault) (x : Least) → earlier (faultParts file a) (broken file x Unbroken) ≡ broken file (lesser (Is a) x) Unbroken

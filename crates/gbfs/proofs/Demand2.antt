@@ -10,7 +10,8 @@ use Rattle.word.specs.Word.{IsWord, readWord}
 use Rattle.word.proofs.Laws.{full1, word-read, read-word, no-word}
 use Rattle.clean.specs.declared.Outcome.{Outcome}
 use Rattle.clean.specs.declared.Outcome.the-variants.{Unbroken, Broken}
-use Rattle.gbfs.specs.Verdict.{Feeds, brokenRules, verdictOf}
+use Rattle.cross.specs.Stage.{Feeds}
+use Rattle.gbfs.specs.Verdict.{brokenRules, verdictOf}
 use Rattle.gbfs.specs.Demand2.{First, Demand2}
 use Rattle.gbfs.proofs.First.{broken-parts, accepted, accepted-only, refused-first}
 use Rattle.gbfs.proofs.Only.{first-refused}

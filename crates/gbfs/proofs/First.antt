@@ -10,7 +10,8 @@ use Rattle.fault.proofs.Order.{by-test}
 use Rattle.judge.proofs.Holds.{All, none, more}
 use Rattle.clean.specs.declared.Outcome.{Outcome}
 use Rattle.clean.specs.declared.Outcome.the-variants.{Unbroken, Broken}
-use Rattle.gbfs.specs.Verdict.{Feeds, brokenRules, before, earlier, first, verdictOf}
+use Rattle.cross.specs.Stage.{Feeds}
+use Rattle.gbfs.specs.Verdict.{brokenRules, before, earlier, first, verdictOf}
 use Rattle.gbfs.specs.Demand2.{First}
 use Rattle.gbfs.proofs.Every.{all-at, all-of}
 use Rattle.gbfs.proofs.Order.{before-irrefl, before-asym, before-after}

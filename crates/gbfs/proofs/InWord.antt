@@ -2,7 +2,7 @@
 -- more items, than the word can number.
 use mathlib.Core.List.{List, [], _∷_}
 use mathlib.Core.Path.{_≡_, refl, ap}
-use Prim.Native.Nat.{ℕ, zero, suc, _≤_}
+use Prim.Native.Nat.{ℕ, _≤_}
 use native.Mathlib.Omega.{arith}
 use lib.ListN.{length, drop, length-drop}
 use Rattle.word.specs.Kinds.{nameTwice, sumDiffers}
@@ -16,12 +16,12 @@ use Rattle.document.specs.declared.Span.the-variants as span
 use Rattle.document.specs.Spans.{recordsSpan}
 use Rattle.document.specs.inner.Spans.{RecordsFrom}
 use Rattle.clean.specs.Clean.{treeOf}
-use Rattle.cross.specs.Cross.{fileIn, crossFaults}
-use Rattle.cross.specs.Stage.{fileOf}
-use Rattle.cross.specs.inner.Stage.{Through}
+use Rattle.cross.specs.Cross.{crossFaults}
+use Rattle.cross.specs.inner.Stage.{AllThrough}
 use Rattle.cross.proofs.Files.{file-bytes}
 use Rattle.cross.proofs.Bounds as cross
-use Rattle.gbfs.specs.Verdict.{Feeds, bytesOf, picked, faultsB}
+use Rattle.cross.specs.Stage.{Feeds, fileCount, bytesOf, picked}
+use Rattle.gbfs.specs.Verdict.{faultsB}
 
 -- a fault that the word can say
 pub record InWord (f : Fault) : Type 0 where
@@ -40,16 +40,6 @@ faults-fit file (b ∷ s) f e =
     record { rec = h .rec; field = h .field; sub = h .sub; low = k .least; high = omega arith }
 
 -- stage C
-picked-file : (s : Feeds) (file : ℕ) → 1 ≤ file → file ≤ 6 → fileIn (picked s) file ≡ fileOf file (bytesOf s file)
-unfolding fileIn bytesOf
-picked-file s zero h i = absurd (omega arith)
-picked-file s (suc zero) h i = refl
-picked-file s (suc (suc zero)) h i = refl
-picked-file s (suc (suc (suc zero))) h i = refl
-picked-file s (suc (suc (suc (suc zero)))) h i = refl
-picked-file s (suc (suc (suc (suc (suc zero))))) h i = refl
-picked-file s (suc (suc (suc (suc (suc (suc zero)))))) h i = refl
-picked-file s (suc (suc (suc (suc (suc (suc (suc file))))))) h i = absurd (omega arith)
 
 -- the rest of a file from its records on
 records-rest : (file : ℕ) (s : List ℕ) → (p : List ℕ) × RecordsFrom file s p
@@ -60,9 +50,9 @@ records-rest file s = go (recordsSpan file s) refl
     go (span.Is at end) e =
         (drop at s, record { inside = omega (arith, length-drop at s); starts = λ h from upto i. let z : at ≡ from = cc in ap (λ (k : ℕ). drop k s) z })
 
-pub cross-fits : (s : Feeds) → ((file : ℕ) → 1 ≤ file → file ≤ 6 → Through file (bytesOf s file))
-    → (file : ℕ) → 1 ≤ file → file ≤ 6 → (f : Fault) → least (crossFaults (picked s) file) ≡ Is f → InWord f
+pub cross-fits : (s : Feeds) → AllThrough s
+    → (file : ℕ) → 1 ≤ file → file ≤ fileCount → (f : Fault) → least (crossFaults (picked s) file) ≡ Is f → InWord f
 cross-fits s through file h i f e =
     let b = file-bytes file h i (bytesOf s file) (through file h i) (records-rest file (bytesOf s file) .1) in
-    let t = cross.cross-fits (picked s) file h i (picked-file s file h i) b f e in let k = t .kind in
+    let t = cross.cross-fits (picked s) file h i refl b f e in let k = t .kind in
     record { rec = t .rec; field = t .field; sub = t .sub; low = omega arith; high = k .most }

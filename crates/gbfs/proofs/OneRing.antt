@@ -2,7 +2,7 @@
 -- rules are equal, and with them all that is told of their first.
 use mathlib.Core.Bool.{Bool}
 use mathlib.Core.List.{List, [], _∷_, _++_, map}
-use mathlib.Core.Path.{_≡_, refl, ap}
+use mathlib.Core.Path.{_≡_, refl, sym, ap, subst}
 use Prim.Native.Nat.{ℕ, zero, suc, _≤_}
 use native.Mathlib.Omega.{arith}
 use lib.Dec.{leb, ltb}
@@ -11,15 +11,21 @@ use Rattle.notation.specs.Choice.{_⇒_else_, _and_}
 use Rattle.word.specs.declared.Parts.{Parts}
 use Rattle.word.specs.Form.{form1}
 use Rattle.word.specs.Word.{noParts, wordOf}
+use Rattle.schema.specs.Shape.{fileShape}
+use Rattle.schema.specs.Table23.{table23}
+use Rattle.schema.specs.Pick.{pick}
 use Rattle.rings.specs.Rings.{coordinatesFound}
 use Rattle.rings.specs.OneRing.{coordinatesOfOne}
 use Rattle.document.specs.Spans.{recordSpan}
 use Rattle.clean.specs.declared.Outcome.{Outcome}
-use Rattle.clean.specs.Clean.{faultParts}
+use Rattle.clean.specs.Clean.{treeOf, faultParts}
 use Rattle.clean.specs.Show.{ofSpan, ofClean, refused, shownOf}
+use Rattle.quote.specs.Quote as quote
+use Rattle.quote.specs.Quote.{short, cleanQuote, quoteOf}
 use Rattle.zone.specs.Single.{WithoutHoles, cleanOfOne}
 use Rattle.zone.proofs.Single.{faults-one, single}
-use Rattle.gbfs.specs.Verdict.{Feeds, bytesOf, faultsBBy, stageA, stageBBy, stageC, orElse, brokenRulesBy, first, verdictOf, said, accepts, numberOf, bufferOf}
+use Rattle.cross.specs.Stage.{Feeds, bytesOf}
+use Rattle.gbfs.specs.Verdict.{faultsBBy, stageA, stageBBy, stageC, orElse, brokenRulesBy, first, verdictOf, said, accepts, verdictNumber, bufferOf}
 use Rattle.gbfs.specs.OneRing.{verdictOfOne, OneRing}
 use Rattle.gbfs.proofs.Every.{every-same}
 
@@ -27,10 +33,9 @@ file-same : (file : ℕ) (s : List ℕ) → (file ≡ 6 → WithoutHoles s) → 
 file-same file [] one = refl
 file-same file (b ∷ s) one = faults-one file (b ∷ s) one
 
-module _ (s : Feeds) (one : WithoutHoles (s .zones)) where
+module _ (s : Feeds) (one : WithoutHoles (bytesOf s 6)) where
   zones-one : (file : ℕ) → file ≡ 6 → WithoutHoles (bytesOf s file)
-  unfolding bytesOf
-  zones-one file e = rw (e) one
+  zones-one file e = subst (λ (k : ℕ). WithoutHoles (bytesOf s k)) (sym e) one
 
   stage-same : stageBBy coordinatesFound s ≡ stageBBy coordinatesOfOne s
   unfolding stageBBy
@@ -41,8 +46,8 @@ module _ (s : Feeds) (one : WithoutHoles (s .zones)) where
   verdict-same = ap (λ (l : List Parts). first (orElse (stageA s) (orElse l (stageC s)))) stage-same
 
   module _ (b : List ℕ) where
-    number-same : numberOf s b ≡ (ltb (length b) 8 ⇒ 2 else accepts (verdictOfOne s) ⇒ 0 else 1)
-    unfolding numberOf
+    number-same : verdictNumber s b ≡ (ltb (length b) 8 ⇒ 2 else accepts (verdictOfOne s) ⇒ 0 else 1)
+    unfolding verdictNumber
     number-same = ap (λ (v : Outcome). ltb (length b) 8 ⇒ 2 else accepts v ⇒ 0 else 1) verdict-same
 
     buffer-same : bufferOf s b ≡ (ltb (length b) 8 ⇒ b else wordOf form1 (said (verdictOfOne s)) ++ drop 8 b)
@@ -55,6 +60,14 @@ unfolding shownOf
 shown-same file n s one =
     ap (λ (c : Outcome). leb 1 file and leb file 6 ⇒ ofClean c (ofSpan (recordSpan file s n)) else refused 10 noParts) (single .clean file s one)
 
+quoted-same : (s id : List ℕ) (seconds metres : ℕ)
+    → quoteOf s id seconds metres
+    ≡ (short seconds metres ⇒ quote.ofClean (cleanOfOne 5 s) (cleanQuote (pick (fileShape table23 5) (treeOf s)) id seconds metres) else quote.refused 4)
+unfolding quoteOf
+quoted-same s id seconds metres =
+    ap (λ (c : Outcome). short seconds metres ⇒ quote.ofClean c (cleanQuote (pick (fileShape table23 5) (treeOf s)) id seconds metres) else quote.refused 4)
+    (single .clean 5 s (λ e. absurd (omega arith)))
+
 pub one-ring : OneRing
 one-ring =
     record {
@@ -63,4 +76,5 @@ one-ring =
       buffer = λ s b one. buffer-same s one b;
       ruling = single .answer;
       shown = shown-same;
+      quoted = quoted-same;
     }

@@ -16,7 +16,8 @@ use Rattle.clean.specs.declared.Outcome.{Outcome}
 use Rattle.clean.specs.declared.Outcome.the-variants.{Unbroken, Broken}
 use Rattle.clean.specs.Clean.{faultParts}
 use Rattle.cross.specs.Cross.{crossFaults}
-use Rattle.gbfs.specs.Verdict.{Feeds, bytesOf, picked, syntaxRules, rulesA, faultsB, everyFile, stageA, stageBBy, stageB, stageC, orElse, brokenRulesBy, brokenRules, before, first, verdictOf}
+use Rattle.cross.specs.Stage.{Feeds, bytesOf, picked}
+use Rattle.gbfs.specs.Verdict.{syntaxRules, rulesA, faultsB, everyFile, stageA, stageBBy, stageB, stageC, orElse, brokenRulesBy, brokenRules, before, first, verdictOf}
 use Rattle.gbfs.specs.Demand2.{First}
 use Rattle.gbfs.proofs.Every.{all-at, every-all}
 use Rattle.gbfs.proofs.Order.{faultOf, same-file, not-before-file}

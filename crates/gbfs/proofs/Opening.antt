@@ -3,8 +3,7 @@
 use mathlib.Core.Bool.{Bool, true, false}
 use mathlib.Core.List.{List, [], _∷_}
 use mathlib.Core.Path.{_≡_, refl, sym, ap, subst}
-use Prim.Native.Nat.{ℕ, zero, suc, _≤_}
-use native.Mathlib.Omega.{arith}
+use Prim.Native.Nat.{ℕ, _≤_}
 use Rattle.notation.specs.Ascii.{bytes}
 use Rattle.notation.specs.Choice.{_⇒_else_}
 use Rattle.word.specs.Kinds.{outOfRange}
@@ -15,12 +14,14 @@ use Rattle.text.proofs.Laws.{same-refl, same-true}
 use Rattle.schema.specs.Shape as shape
 use Rattle.schema.specs.Shape.{Shape, Rows, fileShape}
 use Rattle.schema.specs.Table23.{table23, written23}
-use Rattle.schema.specs.Pick.{Slot, once, twice, missing, again, filled, put, find, Slots, pick, pickRows}
+use Rattle.schema.specs.Pick.{Slot, once, twice, missing, again, unlessBlank, put, find, Slots, pick, pickRows}
 use Rattle.fault.specs.declared.Fault.{Fault}
 use Rattle.fault.specs.Fault.{fault}
 use Rattle.fault.proofs.Order.{by-test}
 use Rattle.scalar.specs.Scalars.{kindsOf, sortKinds}
 use Rattle.judge.specs.Faults.{top, faulty, faultsBy, rowFaultsBy, rowFaults, fileFaultsBy, fileFaults}
+use Rattle.cross.specs.Stage.{fileCount}
+use Rattle.cross.proofs.Numbers.{by-number}
 use Rattle.gbfs.specs.Demand3.{Holds, here, later, Outdated, outdated}
 
 -- the slot of a name under which a string is held: that string once, or twice whatever
@@ -57,16 +58,11 @@ record Headed (σ : Shape) : Type 0 where
   rows : Rows
   is : σ ≡ headed rows
 
-file-headed : (file : ℕ) → 1 ≤ file → file ≤ 6 → Headed (fileShape table23 file)
+file-headed : (file : ℕ) → 1 ≤ file → file ≤ fileCount → Headed (fileShape table23 file)
 unfolding fileShape written23
-file-headed zero h i = absurd (omega arith)
-file-headed (suc zero) h i = record { rows = _; is = refl }
-file-headed (suc (suc zero)) h i = record { rows = _; is = refl }
-file-headed (suc (suc (suc zero))) h i = record { rows = _; is = refl }
-file-headed (suc (suc (suc (suc zero)))) h i = record { rows = _; is = refl }
-file-headed (suc (suc (suc (suc (suc zero))))) h i = record { rows = _; is = refl }
-file-headed (suc (suc (suc (suc (suc (suc zero)))))) h i = record { rows = _; is = refl }
-file-headed (suc (suc (suc (suc (suc (suc (suc file))))))) h i = absurd (omega arith)
+file-headed =
+    by-number (λ file. Headed (fileShape table23 file)) (record { rows = _; is = refl }) (record { rows = _; is = refl }) (record { rows = _; is = refl })
+    (record { rows = _; is = refl }) (record { rows = _; is = refl }) (record { rows = _; is = refl })
 
 -- a list of faults that begins at field 1 of the header
 pub record Opening (l : List Fault) : Type 0 where
@@ -77,7 +73,7 @@ pub record Opening (l : List Fault) : Type 0 where
 module _ (rows : Rows) (ss : Slots) where
   -- field 1, with this in its slot
   abbrev slotted : Slot Json → List Fault
-  slotted x = rowFaults (shape.row 1 shape.required (bytes "version") version rows) top (put 1 (λ y. pick version y) (filled x) ss)
+  slotted x = rowFaults (shape.row 1 shape.required (bytes "version") version rows) top (put 1 (λ y. pick version y) (unlessBlank x) ss)
 
   opening-alone : (v : List ℕ) → same v (bytes "2.3") ≡ false → Opening (slotted (once (tree.string v)))
   unfolding rowFaultsBy pick faulty kindsOf sortKinds
@@ -97,7 +93,7 @@ opening-object v rows ms s e = opening-slot rows (pickRows rows ms) s e
 not-same : (x y : List ℕ) → (x ≡ y → ⊥) → same x y ≡ false
 not-same x y n = by-test (same x y) (λ t. absurd (n (same-true x y t))) (λ f. f)
 
-pub opening : (file : ℕ) → 1 ≤ file → file ≤ 6 → (x : Json) → Outdated x → Opening (fileFaults (fileShape table23 file) x)
+pub opening : (file : ℕ) → 1 ≤ file → file ≤ fileCount → (x : Json) → Outdated x → Opening (fileFaults (fileShape table23 file) x)
 opening file h i x (outdated {v} {ms} holds other) =
     let r = file-headed file h i in
     subst Opening (ap (λ (σ : Shape). fileFaults σ (tree.object ms)) (sym (r .is)))

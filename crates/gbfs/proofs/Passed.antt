@@ -1,5 +1,6 @@
 -- What stage A leaves of a file. A rule that it finds broken is of the kinds 1 to 4; a file that it passes is there, and what later stages look at is
 -- what is picked of its tree.
+use mathlib.Core.Bool.{true}
 use mathlib.Core.List.{List, [], _∷_}
 use mathlib.Core.Logic.{⊎-elim}
 use mathlib.Core.Path.{_≡_, refl, ap}
@@ -23,8 +24,7 @@ use Rattle.schema.specs.Table23.{table23}
 use Rattle.schema.specs.Pick.{pick}
 use Rattle.fault.proofs.Order.{by-test}
 use Rattle.judge.specs.Faults.{fileFaults}
-use Rattle.clean.specs.Clean.{treeOf}
-use Rattle.cross.specs.Cross.{present}
+use Rattle.clean.specs.Clean.{treeOf, recordsOf}
 use Rattle.cross.specs.Stage.{fileOf}
 use Rattle.gbfs.specs.Verdict.{syntaxRules, rulesA, faultsB}
 
@@ -51,6 +51,6 @@ pub faults-there : (file : ℕ) (s : List ℕ) → syntaxOf s ≡ Sound → faul
 faults-there file [] e = absurd (there [] e refl)
 faults-there file (b ∷ s) e = refl
 
-pub file-there : (file : ℕ) (s : List ℕ) → syntaxOf s ≡ Sound → fileOf file s ≡ present (pick (fileShape table23 file) (treeOf s))
+pub file-there : (file : ℕ) (s : List ℕ) → syntaxOf s ≡ Sound → fileOf file s ≡ record { here = true; records = recordsOf file (pick (fileShape table23 file) (treeOf s)) }
 file-there file [] e = absurd (there [] e refl)
 file-there file (b ∷ s) e = refl

@@ -24,10 +24,11 @@ use Rattle.clean.specs.Clean.{faultParts, broken}
 use Rattle.clean.proofs.Judged.{offset-fits}
 use Rattle.cross.specs.Cross.{crossFaults}
 use Rattle.cross.specs.inner.Stage.{firstOf, firstC}
-use Rattle.gbfs.specs.Verdict.{Feeds, bytesOf, picked, faultsB, verdictOf, said, bufferOf}
+use Rattle.cross.specs.Stage.{Feeds, fileCount, bytesOf, picked}
+use Rattle.gbfs.specs.Verdict.{faultsB, verdictOf, said, bufferOf}
 use Rattle.gbfs.specs.inner.Stages.{orNext, malformed, brokenA, firstA, firstB, staged}
 use Rattle.gbfs.proofs.Passed.{syntax-kind}
-use Rattle.gbfs.proofs.Every.{files-all}
+use Rattle.cross.proofs.Onward.{onward-all}
 use Rattle.gbfs.proofs.ByFile.{verdict-staged}
 use Rattle.gbfs.proofs.Through.{all-through}
 use Rattle.gbfs.proofs.Answers.{word-room}
@@ -46,7 +47,7 @@ said-clean =
       kept = refl;
     }
 
-module _ (file : ℕ) (h : 1 ≤ file) (i : file ≤ 6) where
+module _ (file : ℕ) (h : 1 ≤ file) (i : file ≤ fileCount) where
   said-offset : (k o : ℕ) → 1 ≤ k → k ≤ 4 → o ≤ fileBytes → Said (record { file = file; kind = k; field = 0; «record» = 0; sub = 0; offset = o })
   said-offset k o a b c =
       record {
@@ -69,7 +70,7 @@ sayable-next : (x y : Outcome) → Sayable x → (x ≡ Unbroken → Sayable y) 
 sayable-next Unbroken y h k = k refl
 sayable-next (Broken p) y h k = h
 
-module _ (file : ℕ) (h : 1 ≤ file) (i : file ≤ 6) (next : Outcome) (n : Sayable next) where
+module _ (file : ℕ) (h : 1 ≤ file) (i : file ≤ fileCount) (next : Outcome) (n : Sayable next) where
   sayable-syntax : (s : List ℕ) (x : Syntax) → syntaxOf s ≡ x → Sayable (malformed file x next)
   sayable-syntax s syntax.Sound e = n
   sayable-syntax s (syntax.Fault k o) e = let b = syntax-kind s k o e in said-offset file h i k o (b .0) (b .1) (offset-fits s k o e)
@@ -82,15 +83,15 @@ module _ (file : ℕ) (h : 1 ≤ file) (i : file ≤ 6) (next : Outcome) (n : Sa
   sayable-broken None w = n
   sayable-broken (Is f) w = said-place file h i f (w f refl)
 
-sayable-faults : (faults : ℕ → List Fault) → ((file : ℕ) → 1 ≤ file → file ≤ 6 → (f : Fault) → least (faults file) ≡ Is f → InWord f)
+sayable-faults : (faults : ℕ → List Fault) → ((file : ℕ) → 1 ≤ file → file ≤ fileCount → (f : Fault) → least (faults file) ≡ Is f → InWord f)
     → Sayable (firstOf (λ file next. broken file (least (faults file)) next))
 sayable-faults faults w =
-    files-all Sayable (λ file next. broken file (least (faults file)) next) said-clean (λ file h i x n. sayable-broken file h i x n (least (faults file)) (w file h i))
+    onward-all Sayable (λ file next. broken file (least (faults file)) next) said-clean (λ file h i x n. sayable-broken file h i x n (least (faults file)) (w file h i))
 
 module _ (s : Feeds) where
   sayable-A : Sayable (firstA s)
   unfolding firstA
-  sayable-A = files-all Sayable (λ file next. brokenA file (bytesOf s file) next) said-clean (λ file h i x n. sayable-read file h i x n (bytesOf s file))
+  sayable-A = onward-all Sayable (λ file next. brokenA file (bytesOf s file) next) said-clean (λ file h i x n. sayable-read file h i x n (bytesOf s file))
 
   sayable-B : Sayable (firstB s)
   unfolding firstB

@@ -5,7 +5,8 @@ use Rattle.word.specs.Form.{form1}
 use Rattle.word.specs.Word as word
 use Rattle.word.specs.Word.{wordOf}
 use Rattle.clean.specs.declared.Outcome.{Outcome}
-use Rattle.gbfs.specs.Verdict.{Feeds, verdictOf, said}
+use Rattle.cross.specs.Stage.{Feeds}
+use Rattle.gbfs.specs.Verdict.{verdictOf, said}
 use Rattle.gbfs.specs.Demand2.{Says}
 use Rattle.gbfs.proofs.Answers.{told, number-room, word-room}
 use Rattle.gbfs.proofs.ReadBack.{verdict-read}

@@ -1,10 +1,9 @@
 -- A stage goes from file to file: what is found first from one file on is what is found in that file, or else from the next one on.
 use mathlib.Core.List.{List, [], _∷_}
 use mathlib.Core.Path.{_≡_, refl, sym, ap, _∙_}
-use Prim.Native.Nat.{ℕ, zero, suc, _+_, _-_, _≤_}
+use Prim.Native.Nat.{ℕ, _+_, _≤_}
 use native.Mathlib.Omega.{arith}
 use lib.ListN.{length}
-use Rattle.word.specs.declared.Parts.{Parts}
 use Rattle.json.specs.declared.Syntax.{Syntax}
 use Rattle.json.specs.declared.Syntax.the-variants as syntax
 use Rattle.json.specs.Text.{syntaxOf}
@@ -16,33 +15,18 @@ use Rattle.judge.specs.Faults.{fileFaults}
 use Rattle.clean.specs.declared.Outcome.{Outcome}
 use Rattle.clean.specs.declared.Outcome.the-variants.{Unbroken, Broken}
 use Rattle.clean.specs.Clean.{treeOf, broken}
-use Rattle.cross.specs.inner.Stage.{firstOf}
-use Rattle.gbfs.specs.Verdict.{Feeds, bytesOf, faultsB}
-use Rattle.gbfs.specs.inner.Stages.{orNext, malformed, brokenA, firstA, firstB}
+use Rattle.cross.specs.Stage.{Feeds, fileCount, bytesOf}
+use Rattle.cross.proofs.Onward.{ahead, ahead-next}
+use Rattle.gbfs.specs.Verdict.{faultsB}
+use Rattle.gbfs.specs.inner.Stages.{orNext, malformed, brokenA}
 use Rattle.gbfs.proofs.Passed.{faults-there}
 use Rattle.gbfs.proofs.ByFile.{broken-next}
 
--- what is found first in so many files, from one on
-module _ (found : ℕ → Outcome) where
-  unfoldable pub onward : ℕ → ℕ → Outcome
-  onward file zero = Unbroken
-  onward file (suc n) = orNext (found file) (onward (file + 1) n)
-
-  onward-next : (file : ℕ) → file ≤ 6 → onward file (7 - file) ≡ orNext (found file) (onward (file + 1) (7 - (file + 1)))
-  unfolding onward
-  onward-next file h = let z : 7 - file ≡ suc (7 - (file + 1)) = omega arith in ap (onward file) z
-
-  module _ (file : ℕ) {x : Outcome} (e : onward file (7 - file) ≡ x) where
-    pub onward-end : 7 ≤ file → Unbroken ≡ x
-    unfolding onward
-    onward-end h = let z : 0 ≡ 7 - file = omega arith in ap (onward file) z ∙ e
-
-    module _ (h : file ≤ 6) where
-      pub onward-here : {p : Parts} → found file ≡ Broken p → Broken p ≡ x
-      onward-here b = sym (onward-next file h ∙ ap (λ y. orNext y (onward (file + 1) (7 - (file + 1)))) b) ∙ e
-
-      pub onward-later : found file ≡ Unbroken → onward (file + 1) (7 - (file + 1)) ≡ x
-      onward-later c = sym (onward-next file h ∙ ap (λ y. orNext y (onward (file + 1) (7 - (file + 1)))) c) ∙ e
+-- a loop over the files whose steps hand on what comes next
+module _ (step : ℕ → Outcome → Outcome) (hands : (file : ℕ) (next : Outcome) → orNext (step file Unbroken) next ≡ step file next) where
+  pub ahead-found : (file : ℕ) → file ≤ fileCount → {r : Outcome} → r ≡ step file Unbroken → ahead step Unbroken file ≡ orNext r (ahead step Unbroken (file + 1))
+  ahead-found file h e =
+      ahead-next step Unbroken file h ∙ sym (hands file (ahead step Unbroken (file + 1))) ∙ ap (λ y. orNext y (ahead step Unbroken (file + 1))) (sym e)
 
 -- stage A of a file, absent or there
 syntax-next : (file : ℕ) (x : Syntax) (next : Outcome) → orNext (malformed file x Unbroken) next ≡ malformed file x next
@@ -73,16 +57,14 @@ faults-found file s x h e = ap (λ y. broken file y Unbroken) (e ∙ sym (ap lea
 
 -- of a set
 module _ (s : Feeds) where
-  abbrev pub foundA : ℕ → Outcome
-  foundA file = brokenA file (bytesOf s file) Unbroken
+  abbrev pub stepA : ℕ → Outcome → Outcome
+  stepA file next = brokenA file (bytesOf s file) next
 
-  abbrev pub foundB : ℕ → Outcome
-  foundB file = broken file (least (faultsB file (bytesOf s file))) Unbroken
+  abbrev pub stepB : ℕ → Outcome → Outcome
+  stepB file next = broken file (least (faultsB file (bytesOf s file))) next
 
-  pub onward-A : onward foundA 1 6 ≡ firstA s
-  unfolding firstA onward
-  onward-A = ap firstOf (λ i file next. read-next file (bytesOf s file) next i)
+  pub next-A : (file : ℕ) → file ≤ fileCount → {r : Outcome} → r ≡ stepA file Unbroken → ahead stepA Unbroken file ≡ orNext r (ahead stepA Unbroken (file + 1))
+  next-A = ahead-found stepA (λ file next. read-next file (bytesOf s file) next)
 
-  pub onward-B : onward foundB 1 6 ≡ firstB s
-  unfolding firstB onward
-  onward-B = ap firstOf (λ i file next. broken-next file (least (faultsB file (bytesOf s file))) next i)
+  pub next-B : (file : ℕ) → file ≤ fileCount → {r : Outcome} → r ≡ stepB file Unbroken → ahead stepB Unbroken file ≡ orNext r (ahead stepB Unbroken (file + 1))
+  next-B = ahead-found stepB (λ file next. broken-next file (least (faultsB file (bytesOf s file))) next)

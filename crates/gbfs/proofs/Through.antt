@@ -13,8 +13,9 @@ use Rattle.fault.specs.declared.Fault.{Fault}
 use Rattle.judge.specs.Faults.{fileFaults}
 use Rattle.clean.specs.declared.Outcome.the-variants.{Unbroken}
 use Rattle.clean.specs.Clean.{treeOf, faultParts}
-use Rattle.cross.specs.inner.Stage.{Through}
-use Rattle.gbfs.specs.Verdict.{Feeds, bytesOf, syntaxRules, rulesA, faultsB, stageA, stageBBy, stageB}
+use Rattle.cross.specs.inner.Stage.{AllThrough}
+use Rattle.cross.specs.Stage.{Feeds, fileCount, bytesOf}
+use Rattle.gbfs.specs.Verdict.{syntaxRules, rulesA, faultsB, stageA, stageBBy, stageB}
 use Rattle.gbfs.specs.inner.Stages.{firstA, firstB}
 use Rattle.gbfs.proofs.Every.{every-none}
 use Rattle.gbfs.proofs.First.{first-clean}
@@ -37,13 +38,13 @@ faultless : (file : ℕ) (s : List ℕ) → faultsB file s ≡ [] → (length s 
 faultless file [] e h = absurd (h refl)
 faultless file (b ∷ s) e h = e
 
--- all six
-pub all-read : (s : Feeds) → firstA s ≡ Unbroken → (file : ℕ) → 1 ≤ file → file ≤ 6 → (length (bytesOf s file) ≡ 0 → ⊥) → syntaxOf (bytesOf s file) ≡ syntax.Sound
+-- all files
+pub all-read : (s : Feeds) → firstA s ≡ Unbroken → (file : ℕ) → 1 ≤ file → file ≤ fileCount → (length (bytesOf s file) ≡ 0 → ⊥) → syntaxOf (bytesOf s file) ≡ syntax.Sound
 unfolding stageA
 all-read s a file h i =
     reads file (bytesOf s file) (every-none (λ n. rulesA n (bytesOf s n)) (first-clean (stageA s) (first-stageA s ∙ a)) file h i)
 
-pub all-through : (s : Feeds) → firstA s ≡ Unbroken → firstB s ≡ Unbroken → (file : ℕ) → 1 ≤ file → file ≤ 6 → Through file (bytesOf s file)
+pub all-through : (s : Feeds) → firstA s ≡ Unbroken → firstB s ≡ Unbroken → AllThrough s
 unfolding stageBBy
 all-through s a b file h i =
     let y = every-none (λ n. map (faultParts n) (faultsB n (bytesOf s n))) (first-clean (stageB s) (first-stageB s ∙ b)) file h i in

@@ -1,4 +1,5 @@
 -- Demand 3, the answers that stay: of a later file the same is picked, and past stage A every answer is a function of what is picked.
+use mathlib.Core.Bool.{true}
 use mathlib.Core.List.{List, map}
 use mathlib.Core.Path.{_≡_, refl, sym, ap, ap₂, _∙_}
 use Prim.Native.Nat.{ℕ, _≤_}
@@ -20,15 +21,17 @@ use Rattle.fault.specs.Fault.{least}
 use Rattle.judge.specs.Faults.{top, faults, fileFaultsBy}
 use Rattle.clean.specs.declared.Outcome.{Outcome}
 use Rattle.clean.specs.declared.Outcome.the-variants.{Unbroken}
-use Rattle.clean.specs.Clean.{treeOf, faultParts, repeats, broken, judged, cleanOf}
+use Rattle.clean.specs.Clean.{treeOf, recordsOf, faultParts, repeats, broken, judged, cleanOf}
 use Rattle.clean.proofs.Judged.{clean-there}
-use Rattle.cross.specs.Cross.{present, Files, crossFaults}
+use Rattle.cross.specs.Cross.{crossFaults}
+use Rattle.cross.proofs.Sets.{cross-same}
 use Rattle.cross.specs.Stage.{fileOf}
 use Rattle.quote.specs.Quote.{quoteOf}
 use Rattle.zone.specs.Zone.{rulesAt}
 use Rattle.zone.specs.Answer.{rulingOf}
 use Rattle.geometry.specs.Ring.{Point}
-use Rattle.gbfs.specs.Verdict.{Feeds, bytesOf, picked, rulesA, faultsB, everyFile, stageA, stageBBy, stageC, orElse, brokenRulesBy, brokenRules, first, verdictOf, said}
+use Rattle.cross.specs.Stage.{Feeds, fileCount, bytesOf, picked}
+use Rattle.gbfs.specs.Verdict.{rulesA, faultsB, stageA, stageBBy, stageC, orElse, brokenRulesBy, brokenRules, first, verdictOf, said}
 use Rattle.gbfs.specs.Demand3 as demand
 use Rattle.gbfs.specs.Demand3.{LaterFile, LaterSet, Agree}
 use Rattle.gbfs.proofs.Answers.{told, number-room, word-room}
@@ -63,45 +66,33 @@ same file (demand.present {s = s} {t = t} a b l) =
     record {
       reads = read-there file s i ∙ sym (read-there file t j);
       faults = faults-there file s i ∙ ap (faults (fileShape table23 file) top 0) p ∙ sym (faults-there file t j);
-      files = file-there file s i ∙ ap present p ∙ sym (file-there file t j);
+      files = file-there file s i ∙ ap (λ (x : Picked). record { here = true; records = recordsOf file x }) p ∙ sym (file-there file t j);
       trees = p;
       cleans = clean-of file s i ∙ ap (onPicked file) p ∙ sym (clean-of file t j);
     }
 
 -- A set and a later one.
 module _ (s t : Feeds) (later : LaterSet s t) where
-  at : (file : ℕ) → 1 ≤ file → file ≤ 6 → Same file (bytesOf s file) (bytesOf t file)
+  at : (file : ℕ) → 1 ≤ file → file ≤ fileCount → Same file (bytesOf s file) (bytesOf t file)
   at file h i = same file (later file h i)
-
-  picked-same : picked s ≡ picked t
-  unfolding bytesOf
-  picked-same i =
-      record {
-        vehicleTypes = at 1 (omega arith) (omega arith) .files i;
-        stations = at 2 (omega arith) (omega arith) .files i;
-        statuses = at 3 (omega arith) (omega arith) .files i;
-        bikes = at 4 (omega arith) (omega arith) .files i;
-        plans = at 5 (omega arith) (omega arith) .files i;
-        zones = at 6 (omega arith) (omega arith) .files i;
-      }
 
   rules-same : brokenRules s ≡ brokenRules t
   unfolding brokenRulesBy stageA stageBBy stageC
   rules-same =
       ap₂ orElse (every-same _ _ (λ file h i. at file h i .reads))
       (ap₂ orElse (every-same _ _ (λ file h i. ap (map (faultParts file)) (at file h i .faults)))
-      (ap (λ (x : Files). everyFile (λ file. map (faultParts file) (crossFaults x file))) picked-same))
+      (every-same _ _ (λ file h i. ap (map (faultParts file)) (cross-same (picked s) (picked t) (λ k a b. at k a b .files) file h i))))
 
   verdict-same : verdictOf s ≡ verdictOf t
   unfolding verdictOf
   verdict-same = ap first rules-same
 
-  quote-same : (id : List ℕ) (seconds metres : ℕ) → quoteOf (s .plans) id seconds metres ≡ quoteOf (t .plans) id seconds metres
-  unfolding bytesOf quoteOf
+  quote-same : (id : List ℕ) (seconds metres : ℕ) → quoteOf (bytesOf s 5) id seconds metres ≡ quoteOf (bytesOf t 5) id seconds metres
+  unfolding quoteOf
   quote-same id seconds metres = let h = at 5 (omega arith) (omega arith) in rw (h .cleans, h .trees)
 
-  ruling-same : (q : Point) (type : List ℕ) (moment : ℕ) → rulingOf (s .zones) q type moment ≡ rulingOf (t .zones) q type moment
-  unfolding bytesOf rulingOf rulesAt
+  ruling-same : (q : Point) (type : List ℕ) (moment : ℕ) → rulingOf (bytesOf s 6) q type moment ≡ rulingOf (bytesOf t 6) q type moment
+  unfolding rulingOf rulesAt
   ruling-same q type moment = let h = at 6 (omega arith) (omega arith) in rw (h .cleans, h .trees)
 
 pub unmoved : (s t : Feeds) → LaterSet s t → Agree s t

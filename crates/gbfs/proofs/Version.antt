@@ -36,11 +36,13 @@ use Rattle.clean.specs.declared.Outcome.{Outcome}
 use Rattle.clean.specs.declared.Outcome.the-variants.{Unbroken, Broken}
 use Rattle.clean.specs.Clean as clean
 use Rattle.clean.specs.Clean.{treeOf, faultParts}
-use Rattle.gbfs.specs.Verdict.{Feeds, bytesOf, syntaxRules, rulesA, faultsB, stageA, stageBBy, stageB, stageC, orElse, brokenRulesBy, brokenRules, before, first, verdictOf}
+use Rattle.cross.specs.Stage.{Feeds, fileCount, bytesOf}
+use Rattle.cross.proofs.Onward.{onward-all}
+use Rattle.gbfs.specs.Verdict.{syntaxRules, rulesA, faultsB, stageA, stageBBy, stageB, stageC, orElse, brokenRulesBy, brokenRules, before, first, verdictOf}
 use Rattle.gbfs.specs.inner.Stages.{firstB}
 use Rattle.gbfs.specs.Demand3.{OtherVersion, OfStageA, Ahead, malformed, earlier, header, Refused}
 use Rattle.gbfs.proofs.Passed.{syntax-kind, tree-spelled, faults-there}
-use Rattle.gbfs.proofs.Every.{all-at, every-all, every-member, files-all}
+use Rattle.gbfs.proofs.Every.{all-at, every-all, every-member}
 use Rattle.gbfs.proofs.Order.{faultOf, same-file, not-before-file}
 use Rattle.gbfs.proofs.First.{first-named, first-broken}
 use Rattle.gbfs.proofs.ByFile.{first-stageA, first-stageB}
@@ -59,7 +61,7 @@ text-some [] t e = let g = grammar-reads t in no-text (g .0) (g .1) (g .2)
 text-some (b ∷ s) t e = omega arith
 
 -- a file of another version that stage A passes
-file-opens : (file : ℕ) → 1 ≤ file → file ≤ 6 → (s : List ℕ) → OtherVersion s → syntaxOf s ≡ syntax.Sound → Opening (faultsB file s)
+file-opens : (file : ℕ) → 1 ≤ file → file ≤ fileCount → (s : List ℕ) → OtherVersion s → syntaxOf s ≡ syntax.Sound → Opening (faultsB file s)
 file-opens file h i s o e =
     let p = sound-spells s e in
     subst Opening (ap (fileFaults (fileShape table23 file)) (sym (tree-spelled s (p .1))) ∙ sym (faults-there file s e))
@@ -112,7 +114,7 @@ fault-kind file (b ∷ s) f e = first-fits file (treeOf (b ∷ s)) f e .kind
 stageB-kind : (s : Feeds) → OfB (firstB s)
 unfolding firstB
 stageB-kind s =
-    files-all OfB (λ file next. clean.broken file (least (faultsB file (bytesOf s file))) next) tt
+    onward-all OfB (λ file next. clean.broken file (least (faultsB file (bytesOf s file))) next) tt
     (λ file h i x n. broken-kind file x n (least (faultsB file (bytesOf s file))) (fault-kind file (bytesOf s file)))
 
 -- which rules count
@@ -124,7 +126,7 @@ orElse-some : (l m : List Parts) (p : Parts) → List·Memᴰ p l → orElse l m
 orElse-some [] m p h = absurd (List·Memᴰ·not-nil h)
 orElse-some (q ∷ l) m p h = refl
 
-module _ (s : Feeds) (file : ℕ) (h : 1 ≤ file) (i : file ≤ 6) (o : OtherVersion (bytesOf s file)) where
+module _ (s : Feeds) (file : ℕ) (h : 1 ≤ file) (i : file ≤ fileCount) (o : OtherVersion (bytesOf s file)) where
   -- where stage A finds nothing
   module _ (a : stageA s ≡ []) where
     sound : syntaxOf (bytesOf s file) ≡ syntax.Sound

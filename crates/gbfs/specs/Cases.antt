@@ -13,11 +13,11 @@ use Rattle.clean.specs.declared.Outcome.the-variants.{Unbroken, Broken}
 use Rattle.clean.specs.Clean as clean
 use Rattle.references.specs.References as references
 use Rattle.cross.specs.Cross as cross
-use Rattle.gbfs.specs.Verdict.{bytesOf, stageA, stageBBy, stageC, brokenRulesBy, before, first, verdictOf}
+use Rattle.gbfs.specs.Verdict.{eachFrom, stageA, stageBBy, stageC, brokenRulesBy, before, first, verdictOf}
 
 -- opens every definition of a verdict
 unfoldable pub judgingSets : Unit {0}
-unfolding judging identified pick.slotOf document.field document.fieldItems document.along document.text document.spelling clean.treeOf clean.recordsOf clean.usedBefore clean.repeatedId clean.repeatsFrom clean.repeats references.anyWith cross.recordsIn cross.repeatsIn cross.sumOf cross.availableFaults cross.idFaults cross.ruleFaults cross.typeFaults cross.statusFaults cross.bikeFaults cross.zoneFaults cross.eachRecord cross.faultsOf cross.absentees cross.fileIn cross.crossFaults bytesOf stageA stageBBy stageC brokenRulesBy before first verdictOf
+unfolding judging identified pick.slotOf document.field document.fieldItems document.along document.text document.spelling clean.treeOf clean.recordsOf clean.usedBefore clean.repeatedId clean.repeatsFrom clean.repeats references.anyWith cross.sumOf cross.availableFaults cross.idFaults cross.ruleFaults cross.typeFaults cross.statusFaults cross.bikeFaults cross.zoneFaults cross.eachRecord cross.faultsOf cross.absentees cross.crossFaults eachFrom stageA stageBBy stageC brokenRulesBy before first verdictOf
 judgingSets = tt
 
 -- a file that lists these records under this name
@@ -26,8 +26,7 @@ listing name records = inData (json "{'" ++ json name ++ json "':[" ++ json reco
 
 -- the verdict on vehicle types, stations and bikes
 abbrev pub verdict : (types stations bikes : List ℕ) → Outcome
-verdict types stations bikes =
-    verdictOf (record { vehicleTypes = types; stations = stations; statuses = []; bikes = bikes; plans = []; zones = [] })
+verdict types stations bikes = verdictOf (types ∷ stations ∷ [] ∷ bikes ∷ [])
 
 abbrev pub broken : (file kind field rec sub offset : ℕ) → Outcome
 broken file kind field rec sub offset =

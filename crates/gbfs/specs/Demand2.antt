@@ -29,7 +29,8 @@ use Rattle.quote.specs.Quote.{mostSeconds, mostMetres, quoteOf}
 use Rattle.zone.specs.Zone.{outline, counts, polygonsOf, applies, zonesOf}
 use Rattle.zone.specs.Answer as zone
 use Rattle.zone.specs.Answer.{ruleOf, onMap, rulingOf}
-use Rattle.gbfs.specs.Verdict.{Feeds, brokenRules, before, numberOf, bufferOf}
+use Rattle.cross.specs.Stage.{Feeds}
+use Rattle.gbfs.specs.Verdict.{brokenRules, before, verdictNumber, bufferOf}
 
 -- The verdict: p is among the rules, and none of them comes before it.
 pub record First (p : Parts) (l : List Parts) : Type 0 where
@@ -38,7 +39,7 @@ pub record First (p : Parts) (l : List Parts) : Type 0 where
 
 -- a call with room for a word gives this number, and leaves a word in the first eight bytes that reads back as these parts
 pub record Says (s : Feeds) (number : ℕ) (p : Parts) : Type 0 where
-  pub numbered : (b : List ℕ) → 8 ≤ length b → numberOf s b ≡ number
+  pub numbered : (b : List ℕ) → 8 ≤ length b → verdictNumber s b ≡ number
   pub written : (b : List ℕ) → 8 ≤ length b → take 8 (bufferOf s b) ≡ wordOf form1 p
   pub readBack : (b : List ℕ) → 8 ≤ length b → readWord (take 8 (bufferOf s b)) ≡ record { number = 0; parts = p }
 

@@ -19,7 +19,8 @@ use Rattle.judge.specs.Bounds.{OfStageB}
 use Rattle.geometry.specs.Ring.{Point}
 use Rattle.quote.specs.Quote.{quoteOf}
 use Rattle.zone.specs.Answer.{rulingOf}
-use Rattle.gbfs.specs.Verdict.{Feeds, bytesOf, numberOf, bufferOf}
+use Rattle.cross.specs.Stage.{Feeds, fileCount, bytesOf}
+use Rattle.gbfs.specs.Verdict.{verdictNumber, bufferOf}
 use Rattle.gbfs.specs.Demand2.{Says}
 
 -- a well-formed file within length and depth, every surrogate escape paired, and the tree that it spells
@@ -34,13 +35,13 @@ pub data LaterFile (file : ℕ) : List ℕ → List ℕ → Type 0 where
 
 -- a set and a later one, file by file
 abbrev pub LaterSet : Feeds → Feeds → Type 0
-LaterSet s t = (file : ℕ) → 1 ≤ file → file ≤ 6 → LaterFile file (bytesOf s file) (bytesOf t file)
+LaterSet s t = (file : ℕ) → 1 ≤ file → file ≤ fileCount → LaterFile file (bytesOf s file) (bytesOf t file)
 
 -- the answers of two sets agree: number and word of the verdict wherever there is room for a word, and all that quotes and zone rules return
 pub record Agree (s t : Feeds) : Type 0 where
-  pub verdicts : (b c : List ℕ) → 8 ≤ length b → 8 ≤ length c → (numberOf s b ≡ numberOf t c) × (take 8 (bufferOf s b) ≡ take 8 (bufferOf t c))
-  pub quotes : (id : List ℕ) (seconds metres : ℕ) → quoteOf (s .plans) id seconds metres ≡ quoteOf (t .plans) id seconds metres
-  pub zones : (q : Point) (type : List ℕ) (moment : ℕ) → rulingOf (s .zones) q type moment ≡ rulingOf (t .zones) q type moment
+  pub verdicts : (b c : List ℕ) → 8 ≤ length b → 8 ≤ length c → (verdictNumber s b ≡ verdictNumber t c) × (take 8 (bufferOf s b) ≡ take 8 (bufferOf t c))
+  pub quotes : (id : List ℕ) (seconds metres : ℕ) → quoteOf (bytesOf s 5) id seconds metres ≡ quoteOf (bytesOf t 5) id seconds metres
+  pub zones : (q : Point) (type : List ℕ) (moment : ℕ) → rulingOf (bytesOf s 6) q type moment ≡ rulingOf (bytesOf t 6) q type moment
 
 -- a member of this name holds this string
 pub data Holds (name value : List ℕ) : Members → Type 0 where
@@ -77,4 +78,4 @@ pub record Refused (s : Feeds) (file : ℕ) : Type 0 where
 -- the demand, undivided
 pub record Demand3 : Type 0 where
   pub unmoved : (s t : Feeds) → LaterSet s t → Agree s t
-  pub otherVersion : (s : Feeds) (file : ℕ) → 1 ≤ file → file ≤ 6 → OtherVersion (bytesOf s file) → Refused s file
+  pub otherVersion : (s : Feeds) (file : ℕ) → 1 ≤ file → file ≤ fileCount → OtherVersion (bytesOf s file) → Refused s file

@@ -2,8 +2,8 @@
 -- named; `brokenRules` lists all that count, and `before` is their order.
 use mathlib.Core.Bool.{Bool, true, false}
 use mathlib.Core.List.{List, [], _∷_, _++_, map}
-use Prim.Native.Nat.{ℕ}
-use lib.Dec.{eqb, ltb}
+use Prim.Native.Nat.{ℕ, zero, suc, _+_}
+use lib.Dec.{ltb}
 use lib.ListN.{length, drop}
 use Rattle.notation.specs.Choice.{_⇒_else_}
 use Rattle.word.specs.declared.Parts.{Parts}
@@ -22,35 +22,10 @@ use Rattle.judge.specs.Faults.{fileFaultsBy}
 use Rattle.clean.specs.declared.Outcome.{Outcome}
 use Rattle.clean.specs.declared.Outcome.the-variants.{Unbroken, Broken}
 use Rattle.clean.specs.Clean.{treeOf, faultParts}
-use Rattle.cross.specs.Cross.{Files, crossFaults}
-use Rattle.cross.specs.Stage.{filesOf}
+use Rattle.cross.specs.Cross.{crossFaults}
+use Rattle.cross.specs.Stage.{Feeds, fileCount, bytesOf, picked}
 use Rattle.gbfs.specs.declared.Acceptance.{Acceptance}
 use Rattle.gbfs.specs.declared.Acceptance.the-variants.{NoRoom, Accepted, NotAccepted}
-
--- six byte strings
-pub record Feeds : Type 0 where
-  pub vehicleTypes : List ℕ
-  pub stations : List ℕ
-  pub statuses : List ℕ
-  pub bikes : List ℕ
-  pub plans : List ℕ
-  pub zones : List ℕ
-
-abbrev pub feeds : (vehicleTypes stations statuses bikes plans zones : List ℕ) → Feeds
-feeds t s u b p z = record { vehicleTypes = t; stations = s; statuses = u; bikes = b; plans = p; zones = z }
-
--- by number
-unfoldable pub bytesOf : Feeds → ℕ → List ℕ
-bytesOf s file =
-    eqb file 1 ⇒ s .vehicleTypes else
-    eqb file 2 ⇒ s .stations else
-    eqb file 3 ⇒ s .statuses else
-    eqb file 4 ⇒ s .bikes else
-    eqb file 5 ⇒ s .plans else s .zones
-
--- what is picked of them
-abbrev pub picked : Feeds → Files
-picked s = filesOf (s .vehicleTypes) (s .stations) (s .statuses) (s .bikes) (s .plans) (s .zones)
 
 -- what a file breaks in stage A, B or C; an absent file breaks nothing in A and B
 abbrev pub syntaxRules : ℕ → Syntax → List Parts
@@ -65,9 +40,13 @@ abbrev pub faultsBBy : (coordinates : PickedItems → List Found) → ℕ → Li
 faultsBBy coordinates file [] = []
 faultsBBy coordinates file (b ∷ s) = fileFaultsBy coordinates (fileShape table23 file) (treeOf (b ∷ s))
 
--- all files, from 1 to 6
+-- file after file: so many from one on, and all
+unfoldable pub eachFrom : {A : Type 0} → (ℕ → List A) → (file left : ℕ) → List A
+eachFrom f file zero = []
+eachFrom f file (suc left) = f file ++ eachFrom f (file + 1) left
+
 abbrev pub everyFile : {A : Type 0} → (ℕ → List A) → List A
-everyFile f = f 1 ++ f 2 ++ f 3 ++ f 4 ++ f 5 ++ f 6
+everyFile f = eachFrom f 1 fileCount
 
 unfoldable pub stageA : Feeds → List Parts
 stageA s = everyFile (λ file. rulesA file (bytesOf s file))
@@ -126,8 +105,8 @@ accepts (Broken p) = false
 
 -- The first row of the table of questions: the number in its order of checking, and the buffer after the call. Without room for a word nothing is
 -- written; otherwise the word stands in the first eight bytes, and the rest stays.
-unfoldable pub numberOf : Feeds → (buffer : List ℕ) → ℕ
-numberOf s buffer = ltb (length buffer) 8 ⇒ 2 else accepts (verdictOf s) ⇒ 0 else 1
+unfoldable pub verdictNumber : Feeds → (buffer : List ℕ) → ℕ
+verdictNumber s buffer = ltb (length buffer) 8 ⇒ 2 else accepts (verdictOf s) ⇒ 0 else 1
 
 unfoldable pub bufferOf : Feeds → (buffer : List ℕ) → List ℕ
 bufferOf s buffer = ltb (length buffer) 8 ⇒ buffer else wordOf form1 (said (verdictOf s)) ++ drop 8 buffer

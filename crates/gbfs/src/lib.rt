@@ -3,13 +3,13 @@ use crate::stages::judge;
 use clean::Outcome;
 use word::Parts;
 use word::Word;
-ghost use mathlib.Core.List.{_++_};
+ghost use mathlib.Core.List.{[], _∷_, _++_};
 ghost use mathlib.Core.Path.{_≡_};
 ghost use Prim.Native.Nat.{_≤_};
 ghost use lib.ListN.{length, drop};
 ghost use Rattle.word.specs.Form.{form1};
 ghost use Rattle.word.specs.Word.{Fits, wordOf};
-ghost use Rattle.gbfs.specs.Verdict.{feeds, said, number, numberOf, bufferOf};
+ghost use Rattle.gbfs.specs.Verdict.{said, number, verdictNumber, bufferOf};
 
 mod stages;
 
@@ -20,20 +20,27 @@ pub enum Acceptance {
     NotAccepted,
 }
 
+impl Acceptance {
+    // The number of the answer.
+    // Shut out: the number of an accepted set answered for one that is not.
+    pub fn number(self) -> u8
+        ensures { λ n. ⌜ n ≡ number self ⌝ }
+    {
+        match self {
+            Acceptance::NoRoom => 2,
+            Acceptance::Accepted => 0,
+            Acceptance::NotAccepted => 1,
+        }
+    }
+}
+
 // What a word says: nothing of an accepted set.
 fn parts_in(c: Outcome) -> Parts
     ensures { λ r. ⌜ r ≡ said c ⌝ }
 {
     match c {
         Outcome::Broken(p) => p,
-        Outcome::Unbroken => Parts {
-            file: 0,
-            kind: 0,
-            field: 0,
-            record: 0,
-            sub: 0,
-            offset: 0,
-        },
+        Outcome::Unbroken => Parts::NONE,
     }
 }
 
@@ -63,17 +70,17 @@ pub fn verdict<'a>(
     zones: &'a [u8],
     buffer: &mut [u8],
 ) -> Acceptance
-    ensures { λ r. ⌜ (number r ≡ numberOf
-        (feeds (now (types .entry)) (now (stations .entry)) (now (statuses .entry)) (now (bikes .entry)) (now (plans .entry)) (now (zones .entry)))
+    ensures { λ r. ⌜ (number r ≡ verdictNumber
+        (now (types .entry) ∷ now (stations .entry) ∷ now (statuses .entry) ∷ now (bikes .entry) ∷ now (plans .entry) ∷ now (zones .entry) ∷ [])
         (now (buffer .entry)))
         × (now (buffer .exit) ≡ bufferOf
-        (feeds (now (types .entry)) (now (stations .entry)) (now (statuses .entry)) (now (bikes .entry)) (now (plans .entry)) (now (zones .entry)))
+        (now (types .entry) ∷ now (stations .entry) ∷ now (statuses .entry) ∷ now (bikes .entry) ∷ now (plans .entry) ∷ now (zones .entry) ∷ [])
         (now (buffer .entry))) ⌝ }
 {
     if buffer.len() < Word::SIZE {
         return Acceptance::NoRoom;
     }
-    let c = judge(types, stations, statuses, bikes, plans, zones);
+    let c = judge([types, stations, statuses, bikes, plans, zones]);
     put(parts_in(c), buffer);
     match c {
         Outcome::Unbroken => Acceptance::Accepted,

@@ -1,7 +1,7 @@
 -- The pass over the records of an array that notes them: each is the next one that is left, and the number of the first repeat so far and what is left
 -- come to that of all.
 use mathlib.Core.Bool.{Bool, false}
-use mathlib.Core.List.{List, [], _∷_, map, List·Memᴰ, List·Memᴰ·head, List·Memᴰ·tail}
+use mathlib.Core.List.{List, [], _∷_, map}
 use mathlib.Core.Path.{_≡_, refl, sym, ap, subst, _∙_}
 use Prim.Native.Nat.{ℕ, zero, suc, _+_, _≤_, _<_}
 use native.Mathlib.Numerals.{add-one}
@@ -16,12 +16,11 @@ use Rattle.lexeme.proofs.Steps.{by-test}
 use Rattle.walk.specs.declared.Item.{Item}
 use Rattle.walk.specs.declared.ItemStep.{ItemStep}
 use Rattle.walk.specs.declared.ItemStep.the-variants as step
-use Rattle.walk.specs.Walk.{itemAt, itemsFrom, itemsOf}
+use Rattle.walk.specs.Walk.{itemsOf}
 use Rattle.walk.specs.inner.Along.{AlongItems, ItemPassed}
-use Rattle.walk.proofs.Folds.{itemSteps, one-more}
+use Rattle.walk.proofs.Left.{Left, Onward, left-start, left-end, left-more}
 use Rattle.walk.proofs.Parts.{itemOf}
 use Rattle.document.specs.Document.{Maybe, none, some}
-use Rattle.fields.proofs.Arrays.{passed-read}
 use Rattle.ids.specs.inner.Ids.{idOf, hasId, recordBytes, lastWith, anyHas, repeated, repeatFrom, firstRepeat, earlier}
 use Rattle.ids.specs.inner.Notes.{Noted, Blank}
 use Rattle.ids.proofs.Entering.{noted-none}
@@ -69,56 +68,12 @@ module _ (file : ℕ) (rs : List (List ℕ)) where
       (λ t. rw (drop-cons rs n [] h, z, t, z, add-one n, earlier)))
       (λ z. rw (z, z))
 
--- n records of the array are passed; those from `at` on are left
-record Passes (p : List ℕ) (n at : ℕ) : Type 0 where
-  fuel : ℕ
-  enough : length p ≤ at + fuel
-  among : (m : Item) → List·Memᴰ m (itemsFrom fuel p at) → List·Memᴰ m (itemsOf p)
-  count : n + length (itemsFrom fuel p at) ≡ length (itemsOf p)
-  rest : drop n (recordBytes p) ≡ map (itemOf p) (itemsFrom fuel p at)
-
-module _ (p : List ℕ) where
-  pass-start : Passes p 0 1
-  unfolding itemsOf recordBytes
-  pass-start = record { fuel = length p; enough = omega arith; among = λ m i. i; count = omega arith; rest = refl }
-
-  module _ {n at : ℕ} (w : Passes p n at) where
-    pass-end : itemSteps p .Ends at → (n ≡ length (itemsOf p)) × (drop n (recordBytes p) ≡ [])
-    pass-end f =
-        let e = itemSteps p .end (w .fuel) at f in
-        (omega (arith, w .count, ap length e), w .rest ∙ ap (map (itemOf p)) e)
-
-    module _ (m : Item) (f : itemSteps p .Finds at m) where
-      pass-inside : n < length (recordBytes p)
-      unfolding recordBytes
-      pass-inside =
-          let j = one-more (itemSteps p) (w .fuel) at m f (w .enough) in omega (arith, w .count, ap length (j .2), length-map (itemsOf p) (itemOf p))
-
-      split : getD (recordBytes p) n [] ∷ drop (suc n) (recordBytes p) ≡ itemOf p m ∷ map (itemOf p) (itemsFrom (one-more (itemSteps p) (w .fuel) at m f (w .enough) .0) p (m .next))
-      split =
-          sym (drop-cons (recordBytes p) n [] pass-inside) ∙ w .rest ∙ ap (map (itemOf p)) (one-more (itemSteps p) (w .fuel) at m f (w .enough) .2)
-
-      pass-among : List·Memᴰ m (itemsOf p)
-      pass-among = w .among m (subst (List·Memᴰ m) (sym (one-more (itemSteps p) (w .fuel) at m f (w .enough) .2)) (List·Memᴰ·head refl))
-
-      pass-record : itemOf p m ≡ getD (recordBytes p) n []
-      pass-record = cc split
-
-      pass-more : Passes p (n + 1) (m .next)
-      pass-more =
-          let j = one-more (itemSteps p) (w .fuel) at m f (w .enough) in
-          record {
-            fuel = j .0;
-            enough = j .1;
-            among = λ t i. w .among t (subst (List·Memᴰ t) (sym (j .2)) (List·Memᴰ·tail i));
-            count = omega (arith, w .count, ap length (j .2));
-            rest = ap (λ (k : ℕ). drop k (recordBytes p)) (add-one n) ∙ cc split;
-          }
-
 -- the first n records of the array are noted and `first` is the first repeat among them, or 0; those from `at` on are left
 pub record Noting (file : ℕ) (p notes : List ℕ) (first n at : ℕ) : Type 0 where
-  passes : Passes p n at
-  along : at < length p → AlongItems p at
+  items : List Item
+  pub left : Left p at items
+  count : n + length items ≡ length (itemsOf p)
+  rest : drop n (recordBytes p) ≡ map (itemOf p) items
   pub noted : Noted file p n notes
   come : toCome file (recordBytes p) n first ≡ firstRepeat file (recordBytes p)
 
@@ -127,40 +82,46 @@ abbrev pub NotedAll : (file : ℕ) (p notes : List ℕ) (first : ℕ) → Type 0
 NotedAll file p notes first = (first ≡ firstRepeat file (recordBytes p)) × Noted file p (length (itemsOf p)) notes
 
 pub noting-start : {file : ℕ} {p notes : List ℕ} → Blank notes → (0 < length p → AlongItems p 1) → Noting file p notes 0 0 1
+unfolding recordBytes
 noting-start {file} {p} z a =
-    record { passes = pass-start p; along = λ h. a (omega arith); noted = noted-none z; come = come-start file (recordBytes p) }
+    record { items = itemsOf p; left = left-start a; count = omega arith; rest = refl; noted = noted-none z; come = come-start file (recordBytes p) }
 
 -- what a step that passes over the next record finds
-module _ {file : ℕ} {p notes : List ℕ} {first n at : ℕ} (w : Noting file p notes first n at) {s : ItemStep} (passes-over : ItemPassed p at s) where
+module _ {file : ℕ} {p notes : List ℕ} {first n at : ℕ} (w : Noting file p notes first n at) {s : ItemStep} (f : ItemPassed p at s) where
   pub noting-end : s ≡ step.End → NotedAll file p notes first
   noting-end e =
-      let i = pass-end p (w .passes) (sym (passed-read p at passes-over (w .along)) ∙ e) in
-      (come-end file (recordBytes p) n first (i .1) ∙ w .come, subst (λ (k : ℕ). Noted file p k notes) (i .0) (w .noted))
+      let none = left-end (w .left) f e in let all : n ≡ length (itemsOf p) = omega (arith, w .count, ap length none) in
+      (come-end file (recordBytes p) n first (w .rest ∙ ap (map (itemOf p)) none) ∙ w .come, subst (λ (k : ℕ). Noted file p k notes) all (w .noted))
 
   module _ (m : Item) (e : s ≡ step.Found m) where
-    pub noting-found : itemAt p at ≡ step.Found m
-    noting-found = sym (passed-read p at passes-over (w .along)) ∙ e
+    onward : Onward p m (w .items)
+    onward = left-more (w .left) f e
+
+    inside : n < length (recordBytes p)
+    unfolding recordBytes
+    inside = omega (arith, w .count, ap length (onward .is), length-map (itemsOf p) (itemOf p))
+
+    split : getD (recordBytes p) n [] ∷ drop (suc n) (recordBytes p) ≡ itemOf p m ∷ map (itemOf p) (onward .rest)
+    split = sym (drop-cons (recordBytes p) n [] inside) ∙ w .rest ∙ ap (map (itemOf p)) (onward .is)
 
     pub noting-room : length (itemsOf p) ≤ records → n < records
-    unfolding recordBytes
-    noting-room h = omega (arith, h, pass-inside p (w .passes) m noting-found, length-map (itemsOf p) (itemOf p))
-
-    pub noting-among : List·Memᴰ m (itemsOf p)
-    noting-among = pass-among p (w .passes) m noting-found
+    noting-room h = omega (arith, h, w .count, ap length (onward .is))
 
     pub noting-record : itemOf p m ≡ getD (recordBytes p) n []
-    noting-record = pass-record p (w .passes) m noting-found
+    noting-record = cc split
 
     pub noting-more : {repeats : Bool} → repeats ≡ repeated file (earlier (recordBytes p) n) (itemOf p m) → {now′ : List ℕ} → Noted file p (n + 1) now′
         → {next : ℕ} → next ≡ (eqb first 0 and repeats ⇒ n + 1 else first) → Noting file p now′ next (n + 1) (m .next)
     noting-more i k j =
-        let rs = recordBytes p in let f = noting-found in let o = passes-over .placed m e in
+        let rs = recordBytes p in
         record {
-          passes = pass-more p (w .passes) m f;
-          along = λ h. AlongItems.next (w .along (omega (arith, o .later, o .value, o .next, o .inside))) f;
+          items = onward .rest;
+          left = onward .left;
+          count = omega (arith, w .count, ap length (onward .is));
+          rest = ap (λ (k : ℕ). drop k rs) (add-one n) ∙ cc split;
           noted = k;
           come =
               ap (toCome file rs (n + 1)) (j ∙ ap (λ (t : Bool). eqb first 0 and t ⇒ n + 1 else first) (i ∙ ap (repeated file (earlier rs n)) noting-record))
-              ∙ come-more file rs n first (pass-inside p (w .passes) m f)
+              ∙ come-more file rs n first inside
               ∙ w .come;
         }

@@ -1,6 +1,6 @@
 // The columns of notes, and one entry more.
 use crate::Notes;
-use document::cut;
+use walk::cut;
 ghost use mathlib.Core.Path.{_≡_};
 ghost use Prim.Native.Nat.{_%_, _≤_, _<_};
 ghost use Rattle.limits.specs.Ceilings.{records, fileBytes};

@@ -1,5 +1,4 @@
 // The id of a record.
-use document::cut;
 use fields::STRING;
 use fields::code_of;
 use fields::unquoted;
@@ -8,19 +7,18 @@ use slots::Found;
 use text::compare::same_text;
 use text::compare::text_is;
 use walk::MemberStep;
+use walk::cut;
 use walk::pass_member;
 ghost use mathlib.Core.Path.{_≡_};
-ghost use Prim.Native.Nat.{ℕ, _≤_};
+ghost use Prim.Native.Nat.{_≤_};
 ghost use lib.ListN.{length};
 ghost use Rattle.limits.specs.Ceilings.{fileBytes};
 ghost use Rattle.json.specs.Tree as tree;
 ghost use Rattle.json.specs.Tree.{Members};
 ghost use Rattle.walk.specs.Part.{Whole};
 ghost use Rattle.text.specs.Text.{textOf, same};
-ghost use Rattle.slots.specs.declared.Found.the-variants.{Twice};
-ghost use Rattle.slots.specs.Found.{foundIn};
 ghost use Rattle.fields.specs.inner.Values.{textBy, isId};
-ghost use Rattle.ids.specs.inner.Ids.{idField, idName, idValue, IdPlace};
+ghost use Rattle.ids.specs.inner.Ids.{idField, idName, IdPlace, IdAt};
 
 // The field of a file's own ids; 0 where its records have none.
 // Shut out: plans whose ids are not looked at.
@@ -66,7 +64,7 @@ pub fn id_place(file: u8, q: &[u8]) -> usize
 
 // What the record `q` holds as its id, of which the member is looked for at `at`.
 pub fn id_value(q: &[u8], at: usize) -> &[u8]
-    ensures { λ r. ⌜ ((file : ℕ) (ms : Members) → Whole (now (q .entry)) (tree.object ms) → IdPlace file (now (q .entry)) at → (foundIn (now (q .entry)) (idName file) ≡ Twice → ⊥) → now r ≡ idValue file (now (q .entry))) ⌝ }
+    ensures { λ r. ⌜ IdAt (now (q .entry)) at (now r) ⌝ }
 {
     match pass_member(q, at) {
         MemberStep::End => {

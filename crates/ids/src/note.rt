@@ -5,24 +5,23 @@ use crate::columns::last;
 use crate::id::id_place;
 use crate::id::id_value;
 use crate::search::search;
-use document::cut;
 use fields::STRING;
 use fields::code_of;
 use fields::unquoted;
 use text::digest::digest_of;
 use walk::ItemStep;
+use walk::item_bytes;
 use walk::pass_item;
 ghost use mathlib.Core.Path.{_≡_};
-ghost use mathlib.Core.List.{[]};
 ghost use Prim.Native.Nat.{_+_, _≤_, _<_};
 ghost use lib.Dec.{eqb};
-ghost use lib.ListN.{length, getD};
+ghost use lib.ListN.{length};
 ghost use Rattle.notation.specs.Choice.{_⇒_else_, _and_};
 ghost use Rattle.limits.specs.Ceilings.{records, fileBytes};
 ghost use Rattle.walk.specs.Walk.{part, itemsOf};
 ghost use Rattle.walk.specs.inner.Along.{AlongItems};
-ghost use Rattle.ids.specs.inner.Ids.{idValue, Unmet, Singles, recordBytes, repeated, earlier, firstRepeat};
-ghost use Rattle.ids.specs.inner.Notes.{Noted, Blank};
+ghost use Rattle.ids.specs.inner.Ids.{Singles, recordBytes, repeated, earlier, firstRepeat};
+ghost use Rattle.ids.specs.inner.Notes.{Next, Noted, Blank};
 
 // Notes the record between two places of `p` behind the `n` that are noted; whether one of those has its id. `value` is what it holds as its id, and the
 // member with it is looked for at `member`.
@@ -36,7 +35,7 @@ pub fn note_record(
     n: usize,
     notes: &mut [u32; Notes::SIZE],
 ) -> bool
-    requires { ⌜ (from ≤ fileBytes) × (upto ≤ fileBytes) × (member ≤ fileBytes) × (n < records) × Unmet file (part (now p) from upto) member × (part (now p) from upto ≡ getD (recordBytes (now p)) n []) × Noted file (now p) n (now notes) × (now value ≡ idValue file (part (now p) from upto)) ⌝ }
+    requires { ⌜ Next file (now p) n from upto member (now value) × Noted file (now p) n (now notes) ⌝ }
     ensures { λ r. ⌜ (r ≡ repeated file (earlier (recordBytes (now (p .entry))) n) (part (now (p .entry)) from upto)) × Noted file (now (p .entry)) (n + 1) (now (notes .exit)) ⌝ }
 {
     if code_of(value) != STRING {
@@ -79,7 +78,7 @@ pub fn note(file: u8, p: &[u8], notes: &mut [u32; Notes::SIZE]) -> u16
                 return first;
             }
             ItemStep::Found(m) => {
-                let q = cut(p, m.value, m.value_end);
+                let q = item_bytes(p, m);
                 let member = id_place(file, q);
                 let value = id_value(q, member);
                 let repeats = note_record(file, p, m.value, m.value_end, member, value, n, notes);

@@ -14,7 +14,7 @@ use Rattle.lexeme.specs.Tokens.{blanks}
 use Rattle.lexeme.proofs.Reading.{Eats}
 use Rattle.lexeme.proofs.Steps.{by-test}
 use Rattle.lexeme.proofs.Shrinks.{blanks-shrinks}
-use Rattle.json.specs.Text.{After, after, elements}
+use Rattle.json.specs.Text.{After, after, elementsUpTo}
 use Rattle.json.specs.Text.After.{closed, more, wrong}
 use Rattle.json.proofs.Steps.{after-end, after-closed, after-more, after-wrong, elements-bad, elements-closed, elements-more, elements-wrong}
 
@@ -54,7 +54,7 @@ after-less close l e = follows-less close l (follows-as close l e)
 
 -- elements, as many as the text's length lets be
 abbrev pub all : {A : Type 0} → ℕ → (List ℕ → Read A) → List ℕ → Read (List A)
-all close element l = elements close (suc (length l)) element l
+all close element l = elementsUpTo close (suc (length l)) element l
 
 -- a run of elements from l on, and what reading it gives
 pub data Run {A : Type 0} (close : ℕ) (element : List ℕ → Read A) : List ℕ → Read (List A) → Type 0 where
@@ -65,22 +65,22 @@ pub data Run {A : Type 0} (close : ℕ) (element : List ℕ → Read A) : List �
   broken : {l r q : List ℕ} {x : A} → element l ≡ done x r → after close r ≡ wrong q → Run close element l (bad notJson q)
 
 module _ {A : Type 0} (close : ℕ) (element : List ℕ → Read A) (eats : Eats element) where
-  pub run : (most : ℕ) (l : List ℕ) → length l < most → Run close element l (elements close most element l)
+  pub run : (most : ℕ) (l : List ℕ) → length l < most → Run close element l (elementsUpTo close most element l)
   run zero l h = absurd (omega arith)
   run (suc most) l h = first (run most) (element l) refl
     where
-      first : ((q : List ℕ) → length q < most → Run close element q (elements close most element q))
-          → (o : Read A) → element l ≡ o → Run close element l (elements close (suc most) element l)
+      first : ((q : List ℕ) → length q < most → Run close element q (elementsUpTo close most element q))
+          → (o : Read A) → element l ≡ o → Run close element l (elementsUpTo close (suc most) element l)
       first ih (bad k r) e = rw (elements-bad close most element l k r e) (faulty e)
       first ih (done x r) e = second (after close r) refl
         where
-          second : (a : After) → after close r ≡ a → Run close element l (elements close (suc most) element l)
+          second : (a : After) → after close r ≡ a → Run close element l (elementsUpTo close (suc most) element l)
           second (closed q) i = rw (elements-closed close most element l x r q e i) (last e i)
           second (wrong q) i = rw (elements-wrong close most element l x r q e i) (broken e i)
           second (more q) i =
               rw (elements-more close most element l x r q e i) (next e i (ih q (omega (arith, eats l r x e, after-less close r i))))
 
-  pub run-reads : {l : List ℕ} {o : Read (List A)} → Run close element l o → (most : ℕ) → length l < most → elements close most element l ≡ o
+  pub run-reads : {l : List ℕ} {o : Read (List A)} → Run close element l o → (most : ℕ) → length l < most → elementsUpTo close most element l ≡ o
   run-reads {l} u zero h = absurd (omega arith)
   run-reads {l} (faulty {r = r} {k = k} e) (suc most) h = elements-bad close most element l k r e
   run-reads {l} (last {r = r} {q = q} {x = x} e i) (suc most) h = elements-closed close most element l x r q e i
@@ -88,7 +88,7 @@ module _ {A : Type 0} (close : ℕ) (element : List ℕ → Read A) (eats : Eats
   run-reads {l} (next {r = r} {q = q} {x = x} e i u) (suc most) h =
       elements-more close most element l x r q e i ∙ ap (made (λ xs. x ∷ xs)) (run-reads u most (omega (arith, eats l r x e, after-less close r i)))
 
-  pub elements-bound : (most other : ℕ) (l : List ℕ) → length l < most → length l < other → elements close most element l ≡ elements close other element l
+  pub elements-bound : (most other : ℕ) (l : List ℕ) → length l < most → length l < other → elementsUpTo close most element l ≡ elementsUpTo close other element l
   elements-bound most other l h k = run-reads (run other l k) most h
 
   -- an element, and those after it

@@ -11,7 +11,7 @@ use Rattle.word.specs.Kinds.{unpaired, tooDeep}
 use Rattle.lexeme.specs.Read.{Read, made}
 use Rattle.lexeme.specs.Read.Read.{done, bad}
 use Rattle.lexeme.specs.Character.{Surrogates, paired, lone}
-use Rattle.lexeme.specs.Strings as Strings
+use Rattle.lexeme.specs.Strings
 use Rattle.lexeme.specs.Tokens.{blanks}
 use Rattle.lexeme.specs.inner.Start.{Start, start}
 use Rattle.lexeme.proofs.Reading.{rest, Goes}
@@ -20,7 +20,7 @@ use Rattle.lexeme.proofs.Steps.{by-test, bad-done, bad-kind, bad-rest}
 use Rattle.lexeme.proofs.Shrinks.{made-shrinks}
 use Rattle.lexeme.proofs.Goes.{string-goes, made-goes, then-goes}
 use Rattle.json.specs.Tree.{Json}
-use Rattle.json.specs.Text.{expect, After, after, elements, contents, bracketed, member, valueBy, value, finish, text}
+use Rattle.json.specs.Text.{expect, After, after, elementsUpTo, contents, bracketed, member, valueBy, value, finish, text}
 use Rattle.json.specs.Text.After.{closed, more, wrong}
 use Rattle.json.proofs.Steps.{expect-here, expect-other, onward, elements-then, onward-closed, onward-more, onward-wrong, contents-none, contents-some, named, member-then, valueAt, value-start}
 use Rattle.json.proofs.Shrinks.{Stays, stays-shrinks, blanks-stay, onward-stays, elements-stay, bracketed-stays, named-stays, member-stays, value-ends, finish-ends}
@@ -37,7 +37,7 @@ module _ (D : ℕ → Type 0) where
       by-test (eqb b c) (λ e. rw (expect-here c f b l e, expect-here c g b l e) (h l)) (λ e. rw (expect-other c f b l e, expect-other c g b l e) same)
 
   module _ {A : Type 0} (close : ℕ) (f g : List ℕ → Read A) (h : Laxer D f g) (σ : Surrogates) (d : ℕ) (stays : Stays σ d g) where
-    onward-goes : (most : ℕ) → Laxer D (elements close most f) (elements close most g) → (x : A) → Laxer D (onward close most f x) (onward close most g x)
+    onward-goes : (most : ℕ) → Laxer D (elementsUpTo close most f) (elementsUpTo close most g) → (x : A) → Laxer D (onward close most f x) (onward close most g x)
     onward-goes most ih x l = go (after close l) refl
       where
         go : (a : After) → after close l ≡ a → Goes D (onward close most f x l) (onward close most g x l)
@@ -45,8 +45,8 @@ module _ (D : ℕ → Type 0) where
         go (wrong q) e = rw (onward-wrong close most f x l q e, onward-wrong close most g x l q e) same
         go (more q) e = rw (onward-more close most f x l q e, onward-more close most g x l q e) (made-goes (λ xs. x ∷ xs) (ih q))
 
-    elements-goes : (most : ℕ) → Laxer D (elements close most f) (elements close most g)
-    unfolding elements
+    elements-goes : (most : ℕ) → Laxer D (elementsUpTo close most f) (elementsUpTo close most g)
+    unfolding elementsUpTo
     elements-goes zero l = same
     elements-goes (suc most) l =
         rw (elements-then close most f l, elements-then close most g l)

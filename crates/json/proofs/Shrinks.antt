@@ -9,14 +9,14 @@ use Rattle.word.specs.Kinds.{notJson, tooDeep}
 use Rattle.lexeme.specs.Read.{Read, then, made}
 use Rattle.lexeme.specs.Read.Read.{done, bad}
 use Rattle.lexeme.specs.Character.{Surrogates}
-use Rattle.lexeme.specs.Strings as Strings
-use Rattle.lexeme.specs.Numbers as Numbers
+use Rattle.lexeme.specs.Strings
+use Rattle.lexeme.specs.Numbers
 use Rattle.lexeme.specs.Tokens.{blanks, literal}
 use Rattle.lexeme.proofs.Reading.{rest, Shrinks}
 use Rattle.lexeme.proofs.Steps.{by-test}
 use Rattle.lexeme.proofs.Shrinks.{blanks-shrinks, string-shrinks, number-shrinks, literal-shrinks}
 use Rattle.json.specs.Tree.{Json}
-use Rattle.json.specs.Text.{expect, After, after, elements, contents, bracketed, member, valueBy, value, finish, text}
+use Rattle.json.specs.Text.{expect, After, after, elementsUpTo, contents, bracketed, member, valueBy, value, finish, text}
 use Rattle.json.specs.Text.After.{closed, more, wrong}
 use Rattle.json.proofs.Steps.{expect-here, expect-other, onward, elements-then, onward-closed, onward-more, onward-wrong, contents-none, contents-some, named, member-then, chosen}
 use Rattle.json.proofs.Bound.{after-less}
@@ -64,7 +64,7 @@ module _ (ρ : Surrogates) (d : ℕ) where
       by-test (eqb b c) (λ e. rw (expect-here c f b l e) (ends-more (length l) (length (b ∷ l)) (f l) (omega arith) (h l)))
       (λ e. rw (expect-other c f b l e) (wrong-here (b ∷ l)))
 
-  pub onward-stays : {A : Type 0} (close most : ℕ) (element : List ℕ → Read A) → Stays (elements close most element) → (x : A) → Stays (onward close most element x)
+  pub onward-stays : {A : Type 0} (close most : ℕ) (element : List ℕ → Read A) → Stays (elementsUpTo close most element) → (x : A) → Stays (onward close most element x)
   onward-stays close most element h x l = go (after close l) refl
     where
       go : (a : After) → after close l ≡ a → Ends ρ d (length l) (onward close most element x l)
@@ -72,12 +72,12 @@ module _ (ρ : Surrogates) (d : ℕ) where
       go (wrong q) e = rw (onward-wrong close most element x l q e) (after-less close l e, grammar refl)
       go (more q) e =
           rw (onward-more close most element x l q e)
-          (ends-made (λ xs. x ∷ xs) (length l) (elements close most element q)
-          (ends-more (length q) (length l) (elements close most element q) (omega (arith, after-less close l e)) (h q)))
+          (ends-made (λ xs. x ∷ xs) (length l) (elementsUpTo close most element q)
+          (ends-more (length q) (length l) (elementsUpTo close most element q) (omega (arith, after-less close l e)) (h q)))
 
   module _ {A : Type 0} (close : ℕ) (element : List ℕ → Read A) (h : Stays element) where
-    pub elements-stay : (most : ℕ) → Stays (elements close most element)
-    unfolding elements
+    pub elements-stay : (most : ℕ) → Stays (elementsUpTo close most element)
+    unfolding elementsUpTo
     elements-stay zero l = wrong-here l
     elements-stay (suc most) l =
         rw (elements-then close most element l) (ends-then (length l) (element l) _ (h l) (onward-stays close most element (elements-stay most)))

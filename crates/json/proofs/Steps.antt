@@ -11,15 +11,15 @@ use Rattle.notation.specs.Ascii.{bytes}
 use Rattle.lexeme.specs.Read.{Read, then, made}
 use Rattle.lexeme.specs.Read.Read.{done, bad}
 use Rattle.lexeme.specs.Character.{Surrogates, within}
-use Rattle.lexeme.specs.Strings as Strings
-use Rattle.lexeme.specs.Numbers as Numbers
+use Rattle.lexeme.specs.Strings
+use Rattle.lexeme.specs.Numbers
 use Rattle.lexeme.specs.Numbers.{digit}
 use Rattle.lexeme.specs.Tokens.{blanks, literal}
 use Rattle.lexeme.specs.inner.Start.{Start, start}
 use Rattle.lexeme.proofs.Steps.{by-test, true-false, then-reads, then-fails, made-fails}
 use Rattle.lexeme.proofs.Starts.{number-none}
 use Rattle.json.specs.Tree.{Json}
-use Rattle.json.specs.Text.{expect, separator, after, elements, contents, member, valueBy}
+use Rattle.json.specs.Text.{expect, separator, after, elementsUpTo, contents, member, valueBy}
 use Rattle.json.specs.Text.After.{closed, more, wrong}
 
 -- a byte that must stand there
@@ -59,13 +59,13 @@ unfoldable pub onward : {A : Type 0} → ℕ → ℕ → (List ℕ → Read A) �
 onward close most element x r =
     elim (after close r) [
       | closed q ↦ done (x ∷ []) q
-      | more q ↦ made (λ xs. x ∷ xs) (elements close most element q)
+      | more q ↦ made (λ xs. x ∷ xs) (elementsUpTo close most element q)
       | wrong q ↦ bad notJson q
     ]
 
 module _ {A : Type 0} (close most : ℕ) (element : List ℕ → Read A) where
-  pub elements-then : (l : List ℕ) → elements close (suc most) element l ≡ then (element l) (onward close most element)
-  unfolding elements onward
+  pub elements-then : (l : List ℕ) → elementsUpTo close (suc most) element l ≡ then (element l) (onward close most element)
+  unfolding elementsUpTo onward
   elements-then l = refl
 
   module _ (x : A) (r q : List ℕ) where
@@ -73,7 +73,7 @@ module _ {A : Type 0} (close most : ℕ) (element : List ℕ → Read A) where
     unfolding onward
     onward-closed h = rw (h, onward)
 
-    pub onward-more : after close r ≡ more q → onward close most element x r ≡ made (λ xs. x ∷ xs) (elements close most element q)
+    pub onward-more : after close r ≡ more q → onward close most element x r ≡ made (λ xs. x ∷ xs) (elementsUpTo close most element q)
     unfolding onward
     onward-more h = rw (h, onward)
 
@@ -82,19 +82,19 @@ module _ {A : Type 0} (close most : ℕ) (element : List ℕ → Read A) where
     onward-wrong h = rw (h, onward)
 
   module _ (l : List ℕ) where
-    pub elements-bad : (k : ℕ) (r : List ℕ) → element l ≡ bad k r → elements close (suc most) element l ≡ bad k r
+    pub elements-bad : (k : ℕ) (r : List ℕ) → element l ≡ bad k r → elementsUpTo close (suc most) element l ≡ bad k r
     elements-bad k r e = elements-then l ∙ then-fails (onward close most element) e
 
-    pub elements-onward : (x : A) (r : List ℕ) → element l ≡ done x r → elements close (suc most) element l ≡ onward close most element x r
+    pub elements-onward : (x : A) (r : List ℕ) → element l ≡ done x r → elementsUpTo close (suc most) element l ≡ onward close most element x r
     elements-onward x r e = elements-then l ∙ then-reads (onward close most element) e
 
-    pub elements-closed : (x : A) (r q : List ℕ) → element l ≡ done x r → after close r ≡ closed q → elements close (suc most) element l ≡ done (x ∷ []) q
+    pub elements-closed : (x : A) (r q : List ℕ) → element l ≡ done x r → after close r ≡ closed q → elementsUpTo close (suc most) element l ≡ done (x ∷ []) q
     elements-closed x r q e h = elements-onward x r e ∙ onward-closed x r q h
 
-    pub elements-more : (x : A) (r q : List ℕ) → element l ≡ done x r → after close r ≡ more q → elements close (suc most) element l ≡ made (λ xs. x ∷ xs) (elements close most element q)
+    pub elements-more : (x : A) (r q : List ℕ) → element l ≡ done x r → after close r ≡ more q → elementsUpTo close (suc most) element l ≡ made (λ xs. x ∷ xs) (elementsUpTo close most element q)
     elements-more x r q e h = elements-onward x r e ∙ onward-more x r q h
 
-    pub elements-wrong : (x : A) (r q : List ℕ) → element l ≡ done x r → after close r ≡ wrong q → elements close (suc most) element l ≡ bad notJson q
+    pub elements-wrong : (x : A) (r q : List ℕ) → element l ≡ done x r → after close r ≡ wrong q → elementsUpTo close (suc most) element l ≡ bad notJson q
     elements-wrong x r q e h = elements-onward x r e ∙ onward-wrong x r q h
 
 -- what stands between brackets
@@ -107,7 +107,7 @@ module _ {A : Type 0} (close : ℕ) (element : List ℕ → Read A) where
   unfolding contents
   contents-none b r h = rw (h, contents)
 
-  pub contents-some : (b : ℕ) (r : List ℕ) → eqb b close ≡ false → contents close element (b ∷ r) ≡ elements close (suc (length (b ∷ r))) element (b ∷ r)
+  pub contents-some : (b : ℕ) (r : List ℕ) → eqb b close ≡ false → contents close element (b ∷ r) ≡ elementsUpTo close (suc (length (b ∷ r))) element (b ∷ r)
   unfolding contents
   contents-some b r h = rw (h, contents)
 

@@ -16,13 +16,13 @@ use Rattle.lexeme.specs.Cases.{lexing}
 use Rattle.json.specs.declared.Syntax.{Syntax}
 use Rattle.json.specs.declared.Syntax.the-variants.{Sound, Fault}
 use Rattle.json.specs.Tree.{Json, item, noItem, asItems, asMembers}
-use Rattle.json.specs.Text.{expect, separator, after, elements, contents, bracketed, member, valueBy, value, finish, text, syntaxBy, syntaxOf}
+use Rattle.json.specs.Text.{expect, separator, after, elementsUpTo, contents, bracketed, member, valueBy, value, finish, text, syntaxBy, syntaxOf}
 use Rattle.json.specs.Spelling.{Blanks, Padded, Character, Characters, Quoted, Plain, Listed, Enclosed, Nested, Spells}
 use Rattle.json.specs.Places.{Place, outside, inside, escaped, placeAfter, placing, Escape, Low, Unpaired}
 
 -- opens every definition of stage A
 unfoldable pub reading : Unit {0}
-unfolding lexing placed asItems asMembers expect separator after elements contents bracketed member valueBy value finish text syntaxBy syntaxOf
+unfolding lexing placed asItems asMembers expect separator after elementsUpTo contents bracketed member valueBy value finish text syntaxBy syntaxOf
 reading = tt
 
 abbrev texts : List (Case (List ℕ) Syntax)

@@ -13,8 +13,8 @@ use Rattle.notation.specs.Ascii.{bytes}
 use Rattle.lexeme.specs.Read.{Read, then, made, placed}
 use Rattle.lexeme.specs.Read.Read.{done, bad}
 use Rattle.lexeme.specs.Character.{Surrogates, paired}
-use Rattle.lexeme.specs.Strings as Strings
-use Rattle.lexeme.specs.Numbers as Numbers
+use Rattle.lexeme.specs.Strings
+use Rattle.lexeme.specs.Numbers
 use Rattle.lexeme.specs.Tokens.{blanks, literal}
 use Rattle.json.specs.declared.Syntax.{Syntax}
 use Rattle.json.specs.declared.Syntax.the-variants as syntax
@@ -41,13 +41,13 @@ unfoldable pub after : ℕ → List ℕ → After
 after close l = separator close (blanks l)
 
 -- elements and the closing bracket, at most so many; the first element begins at the front
-unfoldable pub elements : {A : Type 0} → ℕ → ℕ → (List ℕ → Read A) → List ℕ → Read (List A)
-elements close zero element l = bad notJson l
-elements close (suc most) element l =
+unfoldable pub elementsUpTo : {A : Type 0} → ℕ → ℕ → (List ℕ → Read A) → List ℕ → Read (List A)
+elementsUpTo close zero element l = bad notJson l
+elementsUpTo close (suc most) element l =
     then (element l) (λ x r.
     elim (after close r) [
       | closed q ↦ done (x ∷ []) q
-      | more q ↦ made (λ xs. x ∷ xs) (elements close most element q)
+      | more q ↦ made (λ xs. x ∷ xs) (elementsUpTo close most element q)
       | wrong q ↦ bad notJson q
     ])
 
@@ -55,7 +55,7 @@ elements close (suc most) element l =
 unfoldable pub contents : {A : Type 0} → ℕ → (List ℕ → Read A) → List ℕ → Read (List A)
 contents close element [] = bad notJson []
 contents close element (b ∷ r) =
-    elim (eqb b close) [ true ↦ done [] r | false ↦ elements close (suc (length (b ∷ r))) element (b ∷ r) ]
+    elim (eqb b close) [ true ↦ done [] r | false ↦ elementsUpTo close (suc (length (b ∷ r))) element (b ∷ r) ]
 
 unfoldable pub bracketed : {A : Type 0} → ℕ → (List ℕ → Read A) → List ℕ → Read (List A)
 bracketed close element l = contents close element (blanks l)

@@ -19,7 +19,7 @@ use Rattle.decimal.specs.Exact.{natural, portion, inRange}
 use Rattle.text.specs.Text.{same, currency}
 use Rattle.schema.specs.Shape as sort
 use Rattle.schema.specs.Shape.{Sort}
-use Rattle.scalar.specs.Scalars.{unless, formed, anyMoney, priceMoney, pricing, anyWord, numberKinds, textKinds, booleanKinds, kindsOf, sortKinds}
+use Rattle.scalar.specs.Scalars.{unless, formedKinds, anyMoney, priceMoney, pricing, anyWord, numberKinds, textKinds, booleanKinds, kindsOf, sortKinds}
 use Rattle.judge.specs.Bounds.{OfStageB}
 use Rattle.judge.proofs.Holds.{All, none, only}
 
@@ -30,8 +30,8 @@ pub unless-kinds : (t : Bool) (kind : ℕ) → OfStageB kind → AllStageB (unle
 unless-kinds true kind h = none
 unless-kinds false kind h = only h
 
-formed-kinds : (test : Decimal → Bool) (x : Number) → AllStageB (formed test x)
-unfolding formed
+formed-kinds : (test : Decimal → Bool) (x : Number) → AllStageB (formedKinds test x)
+unfolding formedKinds
 formed-kinds test (number.Value d) = unless-kinds (test d) _ (omega arith)
 formed-kinds test number.Unformed = only (omega arith)
 
@@ -42,7 +42,7 @@ pricing-kinds price.Unformed = only (omega arith)
 pricing-kinds price.NoNumber = only (omega arith)
 
 -- an integer has no point
-integer-kinds : (t : Bool) (x : Number) → AllStageB (t ⇒ 7 ∷ [] else formed natural x)
+integer-kinds : (t : Bool) (x : Number) → AllStageB (t ⇒ 7 ∷ [] else formedKinds natural x)
 integer-kinds true x = only (omega arith)
 integer-kinds false x = formed-kinds natural x
 
@@ -54,7 +54,7 @@ number-kinds sort.amount s = formed-kinds natural (numberOf s)
 number-kinds sort.portion s = formed-kinds portion (numberOf s)
 number-kinds sort.latitude s = formed-kinds (inRange 90) (numberOf s)
 number-kinds sort.longitude s = formed-kinds (inRange 180) (numberOf s)
-number-kinds sort.coordinate s = none
+number-kinds sort.anyNumber s = none
 number-kinds sort.money s = formed-kinds anyMoney (numberOf s)
 number-kinds sort.price s = formed-kinds priceMoney (numberOf s)
 number-kinds sort.boolean s = only (omega arith)
@@ -72,7 +72,7 @@ text-kinds sort.amount s = only (omega arith)
 text-kinds sort.portion s = only (omega arith)
 text-kinds sort.latitude s = only (omega arith)
 text-kinds sort.longitude s = only (omega arith)
-text-kinds sort.coordinate s = only (omega arith)
+text-kinds sort.anyNumber s = only (omega arith)
 text-kinds sort.money s = only (omega arith)
 text-kinds sort.price s = pricing-kinds (priceOf s)
 text-kinds sort.boolean s = only (omega arith)
@@ -90,7 +90,7 @@ boolean-kinds sort.amount = only (omega arith)
 boolean-kinds sort.portion = only (omega arith)
 boolean-kinds sort.latitude = only (omega arith)
 boolean-kinds sort.longitude = only (omega arith)
-boolean-kinds sort.coordinate = only (omega arith)
+boolean-kinds sort.anyNumber = only (omega arith)
 boolean-kinds sort.money = only (omega arith)
 boolean-kinds sort.price = only (omega arith)
 boolean-kinds sort.boolean = none

@@ -10,9 +10,8 @@ use borrow.Author.Tests.{leb-true}
 use Rattle.limits.specs.Ceilings as ceiling
 use Rattle.schema.specs.Pick.{Picked, PickedItems, bare, items, slots, listOf, elements}
 use Rattle.schema.proofs.Tests.{and-right}
-use Rattle.rings.specs.Rings.{count, itemCount, itemTotal, polygonPositions}
+use Rattle.rings.specs.Rings.{numbered, count, itemCount, itemTotal, polygonPositions}
 use Rattle.rings.proofs.OneRing.{coordinates-one}
-use Rattle.judge.specs.Faults.{numbered}
 use Rattle.judge.specs.Coordinates.{Coordinates, WithinCeilings, polygonsPositions}
 use Rattle.judge.proofs.Holds.{holds-is}
 use Rattle.judge.proofs.Positions.{coordinates-fit}
@@ -43,5 +42,5 @@ coordinates =
           omega (arith, polygons-room l (w .positions));
       sixteen = omega arith;
       firstFits = λ p field is f fits known e. holds-is (coordinates-fit p field fits known is) e;
-      oneRing = λ p field is one. ap (numbered p field) (coordinates-one is one);
+      oneRing = λ p field is one. ap (numbered (p .«record») field) (coordinates-one is one);
     }

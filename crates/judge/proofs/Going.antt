@@ -30,7 +30,7 @@ use Rattle.schema.specs.Shape as shape
 use Rattle.schema.specs.Shape.{Shape, Rows, Need, Numbering}
 use Rattle.schema.specs.inner.Line.{lineAt, numberingLetter}
 use Rattle.schema.specs.Pick as picking
-use Rattle.schema.specs.Pick.{Slot, missing, once, twice, filled, find, put, Picked, PickedItems, pick, pickRows, pickItems, listOf}
+use Rattle.schema.specs.Pick.{Slot, missing, once, twice, unlessBlank, find, put, Picked, PickedItems, pick, pickRows, pickItems, listOf}
 use Rattle.schema.specs.Table23.{table23}
 use Rattle.schema.proofs.Tests.{and-left, and-right}
 use Rattle.schema.proofs.Walk.{Laid, linesIn, step, first-row, no-row}
@@ -60,9 +60,9 @@ passed acc this rest e t = lesser-assoc acc this rest ∙ ap (lesser acc) (sym e
 -- a row and the rows below it
 pub row-first : (q : Place) (field : ℕ) (need : Need) (name : List ℕ) (σ : Shape) (rows : Rows) (ms : Members) →
     least (rowFaults (shape.row field need name σ rows) q (pickRows (shape.row field need name σ rows) ms)) ≡
-    lesser (least (memberFaults need σ q field (filled (find name ms)))) (least (rowFaults rows q (pickRows rows ms)))
+    lesser (least (memberFaults need σ q field (unlessBlank (find name ms)))) (least (rowFaults rows q (pickRows rows ms)))
 unfolding rowFaultsBy pickRows
-row-first q field need name σ rows ms = go (filled (find name ms))
+row-first q field need name σ rows ms = go (unlessBlank (find name ms))
   where
     go : (o : Slot Json) → least (rowFaults (shape.row field need name σ rows) q (put field (λ y. pick σ y) o (pickRows rows ms))) ≡
         lesser (least (memberFaults need σ q field o)) (least (rowFaults rows q (pickRows rows ms)))

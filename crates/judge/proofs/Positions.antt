@@ -2,7 +2,7 @@
 -- numbers up to the first ring of more positions, whose own fault has its first position's number: 1 + 15 · 256 is the greatest.
 use mathlib.Core.Bool.{Bool, true, false}
 use mathlib.Core.List.{List, [], _∷_, _++_, map}
-use mathlib.Core.Path.{_≡_, refl, ap, _∙_}
+use mathlib.Core.Path.{_≡_, refl}
 use Prim.Native.Nat.{ℕ, _+_, _*_, _≤_, _<_}
 use native.Mathlib.Omega.{arith}
 use lib.Dec.{leb}
@@ -18,12 +18,12 @@ use Rattle.fault.specs.declared.Fault.{Fault}
 use Rattle.fault.specs.declared.Least.{Least}
 use Rattle.fault.specs.Fault.{fault, lesser, least}
 use Rattle.fault.proofs.Order.{by-test}
-use Rattle.fault.proofs.Leasts.{least-one, least-append}
+use Rattle.fault.proofs.Leasts.{least-one}
 use Rattle.scalar.specs.Scalars.{unless}
 use Rattle.geometry.specs.Ring.{sound}
-use Rattle.rings.specs.Rings.{Found, foundAt, count, coordinateKinds, coordinatesKinds, positionKinds, position, allSound, positionsFound, ringFound, ring, itemCount, ringsFound, itemTotal, polygon, polygonPositions, isRingCount, areZoneCounts, polygonsFound, coordinatesFound}
+use Rattle.rings.specs.Rings.{Found, foundAt, numbered, count, coordinateKinds, numberKindsIn, positionKinds, position, allSound, positionsFound, ringFound, ring, itemCount, ringsFound, itemTotal, polygon, polygonPositions, isRingCount, areZoneCounts, polygonsFound, coordinatesFound}
+use Rattle.rings.proofs.Found.{least-append as found-append}
 use Rattle.judge.specs.declared.Place.{Place}
-use Rattle.judge.specs.Faults.{numbered}
 use Rattle.judge.specs.Bounds.{OfStageB, Fitting, greatest, fields}
 use Rattle.judge.proofs.Holds.{All, none, more, only, all-append, Holds, nothing, holds-least, holds-lesser, Of, Small, small-fits, small-left, small-right}
 use Rattle.judge.proofs.Broken.{AllStageB, unless-kinds, value-kinds}
@@ -36,13 +36,13 @@ ordinate-kinds σ (bare x) = value-kinds σ x
 ordinate-kinds σ (items is) = only (omega arith)
 ordinate-kinds σ (slots ss) = only (omega arith)
 
-number-kinds : (l : List Picked) → AllStageB (coordinatesKinds l)
-unfolding coordinatesKinds
+number-kinds : (l : List Picked) → AllStageB (numberKindsIn l)
+unfolding numberKindsIn
 number-kinds [] = none
 number-kinds (x ∷ []) = ordinate-kinds sort.longitude x
 number-kinds (x ∷ y ∷ []) = all-append (ordinate-kinds sort.longitude x) (ordinate-kinds sort.latitude y)
 number-kinds (x ∷ y ∷ z ∷ l) =
-    all-append (all-append (ordinate-kinds sort.longitude x) (ordinate-kinds sort.latitude y)) (ordinate-kinds sort.coordinate z)
+    all-append (all-append (ordinate-kinds sort.longitude x) (ordinate-kinds sort.latitude y)) (ordinate-kinds sort.anyNumber z)
 
 position-kinds : (x : Picked) → AllStageB (positionKinds x)
 unfolding positionKinds
@@ -119,18 +119,13 @@ polygons-upTo n (x ∷ l) =
 -- faults of a field in a record
 module _ (p : Place) (φ : ℕ) where
   abbrev N : List Found → Least
-  N l = least (numbered p φ l)
-
-  numbered-append : (xs ys : List Found) → numbered p φ (xs ++ ys) ≡ numbered p φ xs ++ numbered p φ ys
-  unfolding numbered
-  numbered-append [] ys = refl
-  numbered-append (x ∷ xs) ys = ap (λ (l : List Fault). fault (p .«record») φ (x .number) (x .kind) ∷ l) (numbered-append xs ys)
+  N l = least (numbered (p .«record») φ l)
 
   N-append : (xs ys : List Found) → N (xs ++ ys) ≡ lesser (N xs) (N ys)
-  N-append xs ys = ap least (numbered-append xs ys) ∙ least-append (numbered p φ xs) (numbered p φ ys)
+  N-append xs ys = found-append (record { «record» = p .«record»; field = φ }) xs ys
 
   numbered-all : {P : Fault → Type 0} {top : ℕ} → ((x : Found) → UpTo top x → P (fault (p .«record») φ (x .number) (x .kind))) →
-      {l : List Found} → AllUpTo top l → All P (numbered p φ l)
+      {l : List Found} → AllUpTo top l → All P (numbered (p .«record») φ l)
   unfolding numbered
   numbered-all t none = none
   numbered-all t (more {x = x} u us) = more (t x u) (numbered-all t us)

@@ -18,7 +18,7 @@ use Rattle.schema.specs.declared.Line.{Line}
 use Rattle.schema.specs.Shape as shape
 use Rattle.schema.specs.Shape.{Shape, Rows, Need, Sort}
 use Rattle.schema.specs.inner.Line.{lineAt, wordsAt, sortLetter, sortWords, inside}
-use Rattle.schema.specs.Pick.{Slot, missing, once, filled, unlessEmpty, find, emptied, pick}
+use Rattle.schema.specs.Pick.{Slot, missing, once, unlessBlank, unlessEmpty, find, emptied, pick}
 use Rattle.schema.specs.inner.Sound.{distinctRows}
 use Rattle.schema.specs.Table23.{table23}
 use Rattle.schema.proofs.Letters.{IsArray, IsObject, array-letter, object-letter}
@@ -153,11 +153,11 @@ module _ {p : List ℕ} {i : ℕ} {q : Place} {level : ℕ} {r : Least} {line : 
 pub record Row (p : List ℕ) (found : Found) (i : ℕ) (q : Place) (level : ℕ) (r : Least) : Type 0 where
   pub is : (field : ℕ) (need : Need) (name : List ℕ) (σ : Shape) (rows : Rows) → Laid table23 i (shape.row field need name σ rows) →
       ready σ level ≡ true → (ms : Members) → Whole p (Json.object ms) → found ≡ foundIn p name →
-      r ≡ least (memberFaults need σ q field (filled (find name ms)))
+      r ≡ least (memberFaults need σ q field (unlessBlank (find name ms)))
 
 given-found : {p : List ℕ} {found o : Found} (name : List ℕ) (ms : Members) → Whole p (Json.object ms) → found ≡ foundIn p name → found ≡ o →
-    filled (find name ms) ≡ filled (treeIn p o)
-given-found {p} name ms w f e = ap filled (find-found p name w ∙ ap (treeIn p) (sym f ∙ e))
+    unlessBlank (find name ms) ≡ unlessBlank (treeIn p o)
+given-found {p} name ms w f e = ap unlessBlank (find-found p name w ∙ ap (treeIn p) (sym f ∙ e))
 
 module _ {p : List ℕ} {found : Found} {i : ℕ} {q : Place} {level : ℕ} {r : Least} where
   module _ {line : Line} (at : line ≡ lineAt table23 i) where

@@ -9,10 +9,10 @@ use Rattle.schema.specs.Pick.{Picked, PickedItems, items, listOf, elements}
 use Rattle.fault.specs.declared.Fault.{Fault}
 use Rattle.fault.specs.declared.Least.the-variants.{Is}
 use Rattle.fault.specs.Fault.{least}
-use Rattle.rings.specs.Rings.{count, itemCount, polygonPositions, itemTotal, areZoneCounts}
+use Rattle.rings.specs.Rings.{numbered, count, itemCount, polygonPositions, itemTotal, areZoneCounts}
 use Rattle.rings.specs.OneRing.{coordinatesOfOne, OneRingAtMost}
 use Rattle.judge.specs.declared.Place.{Place}
-use Rattle.judge.specs.Faults.{numbered, coordinateFaults}
+use Rattle.judge.specs.Faults.{coordinateFaults}
 use Rattle.judge.specs.Bounds.{Fitting, greatest, fields}
 
 -- no more polygons and rings than a zone may have, and no ring of more positions than it may have
@@ -38,4 +38,4 @@ pub record Coordinates : Type 0 where
   pub firstFits : (p : Place) (field : ℕ) (is : PickedItems) (f : Fault) → p .«record» ≤ greatest → field ≤ fields
       → least (coordinateFaults p field (items is)) ≡ Is f → Fitting f
   -- where no polygon has more than one ring, the faults of before are found and no other
-  pub oneRing : (p : Place) (field : ℕ) (is : PickedItems) → OneRingAtMost (listOf is) → coordinateFaults p field (items is) ≡ numbered p field (coordinatesOfOne is)
+  pub oneRing : (p : Place) (field : ℕ) (is : PickedItems) → OneRingAtMost (listOf is) → coordinateFaults p field (items is) ≡ numbered (p .«record») field (coordinatesOfOne is)

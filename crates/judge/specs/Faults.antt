@@ -14,7 +14,7 @@ use Rattle.fault.specs.declared.Least.{Least}
 use Rattle.fault.specs.Fault.{fault, least}
 use Rattle.scalar.specs.Scalars.{unless, kindsOf}
 use Rattle.judge.specs.declared.Place.{Place}
-use Rattle.rings.specs.Rings.{Found, count, coordinatesFound}
+use Rattle.rings.specs.Rings.{Found, numbered, count, coordinatesFound}
 
 -- the top value stands in no record
 abbrev pub top : Place
@@ -31,11 +31,6 @@ itemPlace shape.records n p = record { «record» = n; sub = p .sub }
 itemPlace shape.subs n p = record { «record» = p .«record»; sub = n }
 itemPlace shape.outer n p = p
 itemPlace shape.positions n p = p
-
--- faults at positions' numbers
-unfoldable pub numbered : Place → ℕ → List Found → List Fault
-numbered p field [] = []
-numbered p field (x ∷ l) = fault (p .«record») field (x .number) (x .kind) ∷ numbered p field l
 
 -- a row whose member is not there
 abbrev pub absence : Need → List ℕ
@@ -59,7 +54,7 @@ arrayFaults judge numbering most p field (slots ss) = faulty p field (wrongType 
 
 -- coordinates, of which `coordinates` tells what is found in them
 abbrev pub coordinateFaultsBy : (coordinates : PickedItems → List Found) → Place → ℕ → Picked → List Fault
-coordinateFaultsBy coordinates p field (items is) = numbered p field (coordinates is)
+coordinateFaultsBy coordinates p field (items is) = numbered (p .«record») field (coordinates is)
 coordinateFaultsBy coordinates p field (bare x) = faulty p field (wrongType ∷ [])
 coordinateFaultsBy coordinates p field (slots ss) = faulty p field (wrongType ∷ [])
 

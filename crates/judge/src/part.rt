@@ -2,11 +2,10 @@
 // objects that may still open, one inside another, and falls with each. A row's line is looked up once and handed down.
 use crate::Judged;
 use crate::Place;
-use fault::Fault;
 use fault::Least;
 use fault::lesser;
 use lexeme::blank::skip_blanks;
-use rings::LeastFound;
+use rings::Field;
 use rings::zone::judge_coordinates;
 use scalar::judge_scalar;
 use schema::Line;
@@ -85,24 +84,13 @@ fn judge_positions(p: &[u8], field: u8, place: Place) -> Judged
         return passed(p, place.broken(field, Kind::WRONG_TYPE));
     }
     let end = skip_value(p, 0);
-    match judge_coordinates(&p[..end]) {
-        LeastFound::None => {
-            return Judged {
-                least: Least::None,
-                end: end,
-            };
-        }
-        LeastFound::At(number, kind) => {
-            return Judged {
-                least: Least::Is(Fault {
-                    record: place.record,
-                    field: field,
-                    sub: number,
-                    kind: kind,
-                }),
-                end: end,
-            };
-        }
+    let owner = Field {
+        record: place.record,
+        field: field,
+    };
+    Judged {
+        least: judge_coordinates(&p[..end], owner),
+        end: end,
     }
 }
 

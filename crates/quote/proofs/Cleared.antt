@@ -31,7 +31,7 @@ use Rattle.schema.specs.Shape as shape
 use Rattle.schema.specs.Shape.{Shape, Rows, Sort}
 use Rattle.schema.specs.Pick.{Picked, pick, emptied}
 use Rattle.schema.proofs.Tests.{and-right}
-use Rattle.scalar.specs.Scalars.{unless, formed, anyMoney, priceMoney, pricing, numberKinds, textKinds, booleanKinds, kindsOf, sortKinds}
+use Rattle.scalar.specs.Scalars.{unless, formedKinds, anyMoney, priceMoney, pricing, numberKinds, textKinds, booleanKinds, kindsOf, sortKinds}
 use Rattle.judge.specs.declared.Place.{Place}
 use Rattle.judge.specs.Faults.{faulty, faultsBy, faults}
 use Rattle.document.specs.Document.{some, elementsOf, field, fieldItems}
@@ -147,8 +147,8 @@ passes : (t : Bool) (k : ℕ) → unless t k ≡ [] → t ≡ true
 passes true k e = refl
 passes false k e = cons-nil e
 
-formed-value : (test : Decimal → Bool) (n : Number) → formed test n ≡ [] → (d : Decimal) × (n ≡ number.Value d) × (test d ≡ true)
-unfolding formed
+formed-value : (test : Decimal → Bool) (n : Number) → formedKinds test n ≡ [] → (d : Decimal) × (n ≡ number.Value d) × (test d ≡ true)
+unfolding formedKinds
 formed-value test (number.Value d) e = (d, refl, passes (test d) _ e)
 formed-value test number.Unformed e = cons-nil e
 
@@ -176,7 +176,7 @@ integer-clear {q} c =
     let v = go (hasPoint q) (n .1) in
     (n .0, v .0, v .1)
   where
-    go : (t : Bool) → (t ⇒ wrongType ∷ [] else formed natural (numberOf q)) ≡ [] → (d : Decimal) × (numberOf q ≡ number.Value d) × (natural d ≡ true)
+    go : (t : Bool) → (t ⇒ wrongType ∷ [] else formedKinds natural (numberOf q)) ≡ [] → (d : Decimal) × (numberOf q ≡ number.Value d) × (natural d ≡ true)
     go true e = cons-nil e
     go false e = formed-value natural (numberOf q) e
 

@@ -21,8 +21,9 @@ use Rattle.document.proofs.Ways as required
 use Rattle.document.proofs.Records.{pickedItems}
 use Rattle.fields.specs.Values.{integerIn}
 use Rattle.fields.specs.inner.Values.{memberOf, textBy, arrayBy}
+use Rattle.fields.proofs.Arrays.{member-along}
 use Rattle.fields.proofs.Fields.{field-spelled, field-text, field-given, field-items, rowOf, listed}
-use Rattle.quote.specs.Plan.{moneyIn, priceIn, priceAt, segment}
+use Rattle.quote.specs.Plan.{moneyIn, priceIn, priceAt, planSegment}
 use Rattle.quote.specs.inner.Values.{priceBy, segmentBy}
 use Rattle.quote.specs.inner.Clear.{Clear, ClearValue, ClearPlan, ClearSegments}
 use Rattle.quote.proofs.Cleared.{member-clear, required-clear, items-most, items-clear}
@@ -54,12 +55,12 @@ module _ {p : List ℕ} (c : ClearPlan p) where
   pub kilometres-clear : ClearSegments (arrayBy (memberOf p (bytes "per_km_pricing")))
   unfolding table.plan rowOf
   kilometres-clear =
-      let l = listed {f = 56} refl in record { few = items-most c l; each = λ m i. (57, items-clear c l m i) }
+      let l = listed {f = 56} refl in record { along = member-along p (bytes "per_km_pricing"); few = items-most c l; each = λ m i. (57, items-clear c l m i) }
 
   pub minutes-clear : ClearSegments (arrayBy (memberOf p (bytes "per_min_pricing")))
   unfolding table.plan rowOf
   minutes-clear =
-      let l = listed {f = 61} refl in record { few = items-most c l; each = λ m i. (62, items-clear c l m i) }
+      let l = listed {f = 61} refl in record { along = member-along p (bytes "per_min_pricing"); few = items-most c l; each = λ m i. (62, items-clear c l m i) }
 
 -- a segment, whatever its fields' numbers
 abbrev made : ℕ → Amount → ℕ → Bool → ℕ → Segment
@@ -77,8 +78,8 @@ module _ (f : ℕ) where
   off-first i h = ne-eqb (f + i) f (λ e. omega arith)
 
   module _ {p : List ℕ} {x : Json} (w : Whole p x) where
-    pub segment-is : segmentBy p ≡ segment f (pick (table.segment f) x)
-    unfolding table.segment segment segmentBy
+    pub segment-is : segmentBy p ≡ planSegment f (pick (table.segment f) x)
+    unfolding table.segment planSegment segmentBy
     segment-is =
         let a = off-first 1 (omega arith) in
         let b = off-first 2 (omega arith) in

@@ -1,17 +1,13 @@
--- A loop over the records that looks for an id: what is found among those that are left is what is found among all. And what is found is the
--- picked plan.
+-- What is found by an id among records: the first one, where that is of the id, and else what is found among the others. And what is found is the picked plan.
 use mathlib.Core.Bool.{Bool, true, false}
 use mathlib.Core.List.{List, [], _∷_, map}
-use mathlib.Core.Path.{_≡_, refl, sym, ap, _∙_}
-use Prim.Native.Nat.{ℕ, _+_, _≤_}
-use native.Mathlib.Omega.{arith}
-use lib.ListN.{length}
+use mathlib.Core.Path.{_≡_, refl}
+use Prim.Native.Nat.{ℕ}
 use Rattle.notation.specs.Choice.{_⇒_else_}
 use Rattle.text.specs.Text.{same}
 use Rattle.walk.specs.declared.Item.{Item}
-use Rattle.walk.specs.Walk.{part, itemsFrom, itemsOf}
+use Rattle.walk.specs.Walk.{part, itemsOf}
 use Rattle.walk.specs.Part.{partTree}
-use Rattle.walk.proofs.Folds.{itemSteps, one-more}
 use Rattle.walk.proofs.Parts.{itemOf}
 use Rattle.schema.specs.Pick.{Picked, pick}
 use Rattle.schema.specs.Table23.{plan}
@@ -27,37 +23,17 @@ abbrev pub recordOf : List ℕ → Item → Picked
 recordOf p m = pick plan (partTree (itemOf p m))
 
 module _ (p id : List ℕ) where
-  looked-here : (m : Item) (l : List Item) → isPlan id (recordOf p m) ≡ true → lookupIn p id (m ∷ l) ≡ Plan (m .value) (m .«value_end»)
+  pub looked-none : lookupIn p id [] ≡ Nothing
+  unfolding lookupIn
+  looked-none = refl
+
+  pub looked-here : (m : Item) (l : List Item) → isPlan id (recordOf p m) ≡ true → lookupIn p id (m ∷ l) ≡ Plan (m .value) (m .«value_end»)
   unfolding lookupIn
   looked-here m l e = rw (lookupIn, e)
 
-  looked-later : (m : Item) (l : List Item) → isPlan id (recordOf p m) ≡ false → lookupIn p id (m ∷ l) ≡ lookupIn p id l
+  pub looked-later : (m : Item) (l : List Item) → isPlan id (recordOf p m) ≡ false → lookupIn p id (m ∷ l) ≡ lookupIn p id l
   unfolding lookupIn
   looked-later m l e = rw (lookupIn, e)
-
-  -- among the items from `at` on, r is found
-  abbrev pub Looks : ℕ → Lookup → Type 0
-  Looks at r = (k : ℕ) × (length p ≤ at + k) × (lookupIn p id (itemsFrom k p at) ≡ r)
-
-  pub looks-start : Looks 1 (lookup p id)
-  unfolding lookup itemsOf
-  looks-start = (length p, omega arith, refl)
-
-  module _ (at : ℕ) (r : Lookup) (w : Looks at r) where
-    pub looks-end : itemSteps p .Ends at → Nothing ≡ r
-    unfolding lookupIn
-    looks-end f = sym (ap (lookupIn p id) (itemSteps p .end (w .0) at f)) ∙ w .2
-
-    module _ (m : Item) (f : itemSteps p .Finds at m) where
-      pub looks-here : isPlan id (recordOf p m) ≡ true → Plan (m .value) (m .«value_end») ≡ r
-      looks-here e =
-          let j = one-more (itemSteps p) (w .0) at m f (w .1) in
-          sym (looked-here m (itemsFrom (j .0) p (m .next)) e) ∙ ap (lookupIn p id) (sym (j .2)) ∙ w .2
-
-      pub looks-later : isPlan id (recordOf p m) ≡ false → Looks (m .next) r
-      looks-later e =
-          let j = one-more (itemSteps p) (w .0) at m f (w .1) in
-          (j .0, j .1, sym (looked-later m (itemsFrom (j .0) p (m .next)) e) ∙ ap (lookupIn p id) (sym (j .2)) ∙ w .2)
 
 -- the plan at a place
 abbrev pub planAt : List ℕ → Lookup → Maybe Picked

@@ -1,4 +1,4 @@
--- A loop over segments: those that were read and those that are left are all, there is a place for each, and each is clear. All are the picked ones, and
+-- A loop over segments: those that were read and those that are left are all, and there is a place for each. All are the picked ones, and
 -- their rates are moderate, whatever is read.
 use mathlib.Core.Bool.{Bool, true, false}
 use mathlib.Core.List.{List, [], _∷_, _++_, map, append-nil, append-assoc, List·Memᴰ, List·Memᴰ·head, List·Memᴰ·tail, List·Memᴰ·not-nil, List·Memᴰ·cases-cons}
@@ -13,9 +13,12 @@ use Rattle.notation.specs.Ascii.{bytes}
 use Rattle.notation.specs.Choice.{_⇒_else_, _and_}
 use Rattle.limits.specs.Ceilings.{segments}
 use Rattle.walk.specs.declared.Item.{Item}
-use Rattle.walk.specs.Walk.{itemsFrom, itemsOf}
+use Rattle.walk.specs.declared.ItemStep.{ItemStep}
+use Rattle.walk.specs.declared.ItemStep.the-variants as step
+use Rattle.walk.specs.Walk.{itemsOf}
 use Rattle.walk.specs.Part.{Whole, partTree}
-use Rattle.walk.proofs.Folds.{itemSteps, one-more}
+use Rattle.walk.specs.inner.Along.{ItemPassed}
+use Rattle.walk.proofs.Left.{Left, Onward, left-start, left-end, left-more}
 use Rattle.walk.proofs.Parts.{itemOf, items-whole}
 use Rattle.schema.specs.Pick.{Picked, pick}
 use Rattle.schema.specs.Table23 as table
@@ -34,7 +37,7 @@ use Rattle.fare.specs.declared.Segment.{Segment}
 use Rattle.fare.specs.inner.Folds.{Fills}
 use Rattle.fare.specs.Bounds.{mostMoney}
 use Rattle.fare.specs.inner.Room.{Modest}
-use Rattle.quote.specs.Plan.{amountIn, numberAmount, priceAmount, moneyIn, priceIn, segment}
+use Rattle.quote.specs.Plan.{amountIn, numberAmount, priceAmount, moneyIn, priceIn, planSegment}
 use Rattle.fields.specs.inner.Values.{spelledBy, textBy, memberOf}
 use Rattle.quote.specs.inner.Values.{priceBy, segmentBy, segmentsBy}
 use Rattle.quote.specs.inner.Clear.{ClearSegment, ClearSegments}
@@ -95,60 +98,54 @@ segments-modest p = modest-items p (itemsOf p)
 module _ (p : List ℕ) where
   -- `count` segments were read, and the next is looked for at `at`
   pub record Reading (list : List Segment) (count at : ℕ) : Type 0 where
-    pub most : ℕ
-    pub enough : length p ≤ at + most
-    pub places : length list ≡ segments
-    pub few : count + length (itemsFrom most p at) ≤ segments
-    pub clear : (m : Item) → List·Memᴰ m (itemsFrom most p at) → ClearSegment (itemOf p m)
-    pub are : take count list ++ map (segmentOf p) (itemsFrom most p at) ≡ segmentsBy p
+    items : List Item
+    pub left : Left p at items
+    places : length list ≡ segments
+    few : count + length items ≤ segments
+    are : take count list ++ map (segmentOf p) items ≡ segmentsBy p
 
   pub reading-start : ClearSegments p → (list : List Segment) → length list ≡ segments → Reading list 0 1
-  unfolding segmentsBy itemsOf
-  reading-start c list h =
-      record { most = length p; enough = omega arith; places = h; few = omega (arith, c .few); clear = c .each; are = refl }
+  unfolding segmentsBy
+  reading-start c list h = record { items = itemsOf p; left = left-start (c .along); places = h; few = omega (arith, c .few); are = refl }
 
-  module _ (list : List Segment) (count at : ℕ) (g : Reading list count at) where
-    pub reading-end : itemSteps p .Ends at → Fills (record { list = list; count = count }) (segmentsBy p)
-    reading-end f =
-        let none = itemSteps p .end (g .most) at f in
+  module _ {list : List Segment} {count at : ℕ} (g : Reading list count at) {s : ItemStep} (f : ItemPassed p at s) where
+    pub reading-end : s ≡ step.End → Fills (record { list = list; count = count }) (segmentsBy p)
+    reading-end e =
+        let none = left-end (g .left) f e in
         let all : take count list ≡ segmentsBy p = sym (append-nil (take count list)) ∙ ap (λ (l : List Item). take count list ++ map (segmentOf p) l) (sym none) ∙ g .are in
         record { count = omega (arith, ap length all, length-take count list, g .places, g .few); are = all }
 
-    module _ (m : Item) (f : itemSteps p .Finds at m) where
-      one : (j : ℕ) × (length p ≤ m .next + j) × (itemsFrom (g .most) p at ≡ m ∷ itemsFrom j p (m .next))
-      one = one-more (itemSteps p) (g .most) at m f (g .enough)
+    module _ {m : Item} (e : s ≡ step.Found m) where
+      onward : Onward p m (g .items)
+      onward = left-more (g .left) f e
 
       pub reading-place : count < segments
-      reading-place = omega (arith, g .few, ap length (one .2))
-
-      pub reading-clear : ClearSegment (itemOf p m)
-      reading-clear = g .clear m (subst (List·Memᴰ m) (sym (one .2)) (List·Memᴰ·head refl))
+      reading-place = omega (arith, g .few, ap length (onward .is))
 
       pub reading-more : Reading (set list count (segmentOf p m)) (count + 1) (m .next)
       reading-more =
           let n : suc count ≡ count + 1 = omega arith in
-          let rest = map (segmentOf p) (itemsFrom (one .0) p (m .next)) in
+          let rest = map (segmentOf p) (onward .rest) in
           let stored = ap (λ (k : ℕ). take k (set list count (segmentOf p m))) (sym n) ∙ take-suc-set list count (segmentOf p m) (omega (arith, g .places, reading-place)) in
           record {
-            most = one .0;
-            enough = one .1;
+            items = onward .rest;
+            left = onward .left;
             places = length-set list count (segmentOf p m) ∙ g .places;
-            few = omega (arith, g .few, ap length (one .2));
-            clear = λ t i. g .clear t (subst (List·Memᴰ t) (sym (one .2)) (List·Memᴰ·tail i));
+            few = omega (arith, g .few, ap length (onward .is));
             are = ap (λ (l : List Segment). l ++ rest) stored ∙ append-assoc (take count list) (segmentOf p m ∷ []) rest
-                ∙ ap (λ (l : List Item). take count list ++ map (segmentOf p) l) (sym (one .2)) ∙ g .are;
+                ∙ ap (λ (l : List Item). take count list ++ map (segmentOf p) l) (sym (onward .is)) ∙ g .are;
           }
 
 -- the segments of the bytes are the picked ones
 same-segments : (f : ℕ) (p : List ℕ) (ms : List Item) → ((m : Item) → List·Memᴰ m ms → Whole (itemOf p m) (partTree (itemOf p m)))
-    → map (segmentOf p) ms ≡ map (segment f) (map (λ m. pick (table.segment f) (partTree (itemOf p m))) ms)
+    → map (segmentOf p) ms ≡ map (planSegment f) (map (λ m. pick (table.segment f) (partTree (itemOf p m))) ms)
 same-segments f p [] h = refl
 same-segments f p (m ∷ ms) h =
     ap₂ (λ (s : Segment) (l : List Segment). s ∷ l) (segment-is f (h m (List·Memᴰ·head refl))) (same-segments f p ms (λ t i. h t (List·Memᴰ·tail i)))
 
-pub segments-picked : (f : ℕ) (p : List ℕ) (l : List Picked) → pickedItems (table.segment f) p ≡ l → segmentsBy p ≡ map (segment f) l
+pub segments-picked : (f : ℕ) (p : List ℕ) (l : List Picked) → pickedItems (table.segment f) p ≡ l → segmentsBy p ≡ map (planSegment f) l
 unfolding segmentsBy
-segments-picked f p l e = same-segments f p (itemsOf p) (items-whole p) ∙ ap (map (segment f)) e
+segments-picked f p l e = same-segments f p (itemsOf p) (items-whole p) ∙ ap (map (planSegment f)) e
 
 pub segments-few : (p : List ℕ) → ClearSegments p → length (segmentsBy p) ≤ segments
 unfolding segmentsBy

@@ -14,12 +14,12 @@ use Rattle.document.specs.Document as document
 use Rattle.fare.specs.Cases.{charging}
 use Rattle.judge.specs.Cases.{judging, inData}
 use Rattle.clean.specs.Clean.{treeOf, recordsOf, usedBefore, repeatedId, repeatsFrom, repeats, cleanBy}
-use Rattle.quote.specs.Plan.{priceAt, segment, perKilometre, perMinute, planOf, plans, tripAmount, pastMinutes, pastKilometres}
+use Rattle.quote.specs.Plan.{priceAt, planSegment, perKilometre, perMinute, planOf, plans, tripAmount, pastMinutes, pastKilometres}
 use Rattle.quote.specs.Quote.{Answer, refused, unclean, priced, cleanQuote, short, quoteOf}
 
 -- opens every definition of a quote
 unfoldable pub quoting : Unit {0}
-unfolding judging identified charging slotOf document.field document.fieldItems document.along document.text document.spelling treeOf recordsOf usedBefore repeatedId repeatsFrom repeats cleanBy priceAt segment perKilometre perMinute planOf plans tripAmount pastMinutes pastKilometres cleanQuote short quoteOf
+unfolding judging identified charging slotOf document.field document.fieldItems document.along document.text document.spelling treeOf recordsOf usedBefore repeatedId repeatsFrom repeats cleanBy priceAt planSegment perKilometre perMinute planOf plans tripAmount pastMinutes pastKilometres cleanQuote short quoteOf
 quoting = tt
 
 -- a file with these plans; a plan of this id, with its price and segments

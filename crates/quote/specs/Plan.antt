@@ -53,8 +53,8 @@ unfoldable pub priceAt : Picked → Amount
 priceAt plan = priceIn (spelling 53 plan) (text 53 plan)
 
 -- a segment whose fields are numbered from f on
-unfoldable pub segment : ℕ → Picked → Segment
-segment f x =
+unfoldable pub planSegment : ℕ → Picked → Segment
+planSegment f x =
     record {
       start = integerIn (spelling f x);
       rate = moneyIn (spelling (f + 1) x);
@@ -64,10 +64,10 @@ segment f x =
     }
 
 unfoldable pub perKilometre : Picked → List Segment
-perKilometre plan = map (segment 57) (fieldItems 56 plan)
+perKilometre plan = map (planSegment 57) (fieldItems 56 plan)
 
 unfoldable pub perMinute : Picked → List Segment
-perMinute plan = map (segment 62) (fieldItems 61 plan)
+perMinute plan = map (planSegment 62) (fieldItems 61 plan)
 
 -- the plan of an id
 unfoldable pub planOf : List Picked → List ℕ → Maybe Picked

@@ -3,8 +3,8 @@ use crate::plans::find_plan;
 use crate::trip::quote_plan;
 use clean::Outcome;
 use clean::check_clean;
-use document::cut;
 use document::records_from;
+use walk::cut;
 use word::Parts;
 ghost use mathlib.Core.Path.{_≡_};
 ghost use Prim.Native.Nat.{_≤_};
@@ -42,6 +42,30 @@ impl Quote {
     pub const MOST_SECONDS: u64 = 2_678_400;
 
     pub const MOST_METRES: u64 = 1_000_000;
+
+    // The number of the answer.
+    pub fn number(self) -> u8
+        ensures { λ n. ⌜ n ≡ answer self .number ⌝ }
+    {
+        match self {
+            Quote::TooLong => 4,
+            Quote::NotClean(_) => 5,
+            Quote::NoPlan => 6,
+            Quote::Fare(_, _, _) => 0,
+        }
+    }
+
+    // The parts of its word, none but where the file is not clean.
+    pub fn word_parts(self) -> Parts
+        ensures { λ p. ⌜ p ≡ answer self .parts ⌝ }
+    {
+        match self {
+            Quote::TooLong => Parts::NONE,
+            Quote::NotClean(p) => p,
+            Quote::NoPlan => Parts::NONE,
+            Quote::Fare(_, _, _) => Parts::NONE,
+        }
+    }
 }
 
 // Whether a ride is short enough for a quote.

@@ -3,6 +3,7 @@ use crate::Lookup;
 use fields::is_id;
 use fields::member;
 use walk::ItemStep;
+use walk::item_bytes;
 use walk::pass_item;
 ghost use mathlib.Core.Path.{_≡_};
 ghost use Rattle.json.specs.Tree.{Json};
@@ -32,10 +33,8 @@ pub fn find_plan(p: &[u8], id: &[u8]) -> Lookup
                 return Lookup::Nothing;
             }
             ItemStep::Found(m) => {
-                let from = m.value;
-                let upto = m.value_end;
-                if is_plan(&p[from..upto], id) {
-                    return Lookup::Plan(from, upto);
+                if is_plan(item_bytes(p, m), id) {
+                    return Lookup::Plan(m.value, m.value_end);
                 }
                 at = m.next;
             }

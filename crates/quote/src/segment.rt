@@ -6,7 +6,8 @@ use fare::Segment;
 use fare::Segments;
 use fields::member;
 use walk::ItemStep;
-use walk::next_item;
+use walk::item_bytes;
+use walk::pass_item;
 ghost use mathlib.Core.List.{[]};
 ghost use mathlib.Core.Logic.{_⊎_};
 ghost use mathlib.Core.Path.{_≡_};
@@ -70,14 +71,12 @@ pub fn segments_in(p: &[u8]) -> Segments
     let mut count: usize = 0;
     let mut at: usize = 1;
     loop {
-        match next_item(p, at) {
+        match pass_item(p, at) {
             ItemStep::End => {
                 return Segments { list, count };
             }
             ItemStep::Found(m) => {
-                let from = m.value;
-                let upto = m.value_end;
-                list[count] = segment_in(&p[from..upto]);
+                list[count] = segment_in(item_bytes(p, m));
                 count += 1;
                 at = m.next;
             }

@@ -1,7 +1,7 @@
 -- A ring by what was read of it: its counts, its positions, and its area where all positions are sound. With more positions than there is room
 -- for, kind 10 stands at the ring's number already, and kind 11 at the same number comes after it.
 use mathlib.Core.Bool.{Bool, true, false}
-use mathlib.Core.List.{List, [], _∷_, _++_, map}
+use mathlib.Core.List.{List, [], _∷_, _++_, map, append-eq-nil-iff}
 use mathlib.Core.Path.{_≡_, refl, sym, ap, ap₂, _∙_}
 use Prim.Native.Nat.{ℕ, zero, suc, _+_, _≤_, _<_}
 use native.Mathlib.Omega.{arith}
@@ -18,16 +18,19 @@ use Rattle.walk.specs.inner.Along.{ItemPassed}
 use Rattle.geometry.specs.Ring.{sound}
 use Rattle.geometry.specs.inner.Shifted.{InRange, points}
 use Rattle.schema.specs.Pick.{Picked}
+use Rattle.fault.specs.declared.Fault.{Fault}
+use Rattle.fault.specs.declared.Least.{Least}
+use Rattle.fault.specs.declared.Least.the-variants.{None, Is}
+use Rattle.fault.specs.Fault.{fault, lesser}
+use Rattle.fault.proofs.Order.{later-kind}
+use Rattle.fault.proofs.Leasts.{none-is, lesser-first, lesser-none, lesser-assoc}
 use Rattle.scalar.specs.Scalars.{unless}
 use Rattle.rings.specs.Rings.{Found, foundAt, positionKinds, position, noKinds, allSound, positionsFound, ringFound}
-use Rattle.rings.specs.inner.Least.{lesser, leastFound}
-use Rattle.rings.specs.inner.Parts.{positionShape, partsOf, Charted, RingRead, RingRoom, Outlined, areaLeast, Tells}
-use Rattle.rings.specs.declared.LeastFound.{LeastFound}
-use Rattle.rings.specs.declared.LeastFound.the-variants.{None, At}
+use Rattle.rings.specs.inner.Parts.{faultAt, leastFound, positionShape, partsOf, Charted, RingRead, RingRoom, Outlined, areaLeast, Tells}
+use Rattle.rings.specs.declared.Field.{Field}
 use Rattle.rings.specs.declared.RingPoints.{RingPoints}
-use Rattle.rings.proofs.Order.{lesser-none, lesser-assoc, both-none, least-append, least-of-none, least-nothing, at-nothing, later-kind}
+use Rattle.rings.proofs.Found.{at-nothing, least-append, least-of-none, least-nothing, least-one, least-empty}
 use Rattle.rings.proofs.Going.{foundIn, Going, going-end, none-left}
-use Rattle.rings.proofs.Numbers.{least-one, least-empty, not-none}
 use Rattle.rings.proofs.Charts.{Drawn, drawn-end}
 
 -- the positions of a ring, as items that are one position each
@@ -43,37 +46,35 @@ positions-found n [] = refl
 positions-found n (x ∷ l) = ap (λ (fs : List Found). foundAt n (positionKinds x) ++ fs) (positions-found (n + 1) l)
 
 -- all are sound just where nothing is found
-pub sound-found : (n : ℕ) (l : List Picked) → allSound l ≡ true → leastFound (positionsFound n l) ≡ None
+pub sound-found : (n : ℕ) (l : List Picked) → allSound l ≡ true → positionsFound n l ≡ []
 unfolding allSound positionsFound noKinds foundAt
-sound-found n [] e = least-of-none
+sound-found n [] e = refl
 sound-found n (x ∷ l) e = go (positionKinds x) e (sound-found (n + 1) l)
   where
-    go : (ks : List ℕ) → (noKinds ks and allSound l) ≡ true → (allSound l ≡ true → leastFound (positionsFound (n + 1) l) ≡ None)
-        → leastFound (foundAt n ks ++ positionsFound (n + 1) l) ≡ None
+    go : (ks : List ℕ) → (noKinds ks and allSound l) ≡ true → (allSound l ≡ true → positionsFound (n + 1) l ≡ []) → foundAt n ks ++ positionsFound (n + 1) l ≡ []
     go [] f ih = ih f
     go (k ∷ ks) f ih = let z : _≡_ {A = ℕ} 0 1 = cc in absurd (omega arith)
 
-pub found-sound : (n : ℕ) (l : List Picked) → leastFound (positionsFound n l) ≡ None → allSound l ≡ true
+pub found-sound : (n : ℕ) (l : List Picked) → positionsFound n l ≡ [] → allSound l ≡ true
 unfolding allSound positionsFound noKinds
 found-sound n [] e = refl
 found-sound n (x ∷ l) e =
-    let b = both-none _ _ (sym (least-append (foundAt n (positionKinds x)) (positionsFound (n + 1) l)) ∙ e) in
-    let k : positionKinds x ≡ [] = at-nothing n (positionKinds x) (least-nothing _ (b .0)) in
-    ap (λ ks. noKinds ks and allSound l) k ∙ found-sound (n + 1) l (b .1)
+    let b = append-eq-nil-iff {p = foundAt n (positionKinds x)} .0 e in
+    ap (λ ks. noKinds ks and allSound l) (at-nothing n (positionKinds x) (b .0)) ∙ found-sound (n + 1) l (b .1)
 
 -- where the loop over positions ends
-module _ (n : ℕ) (p : List ℕ) {at₀ count : ℕ} {least : LeastFound} {lons lats : List ℕ}
-    (g : Going positionFound single positionShape n p at₀ count count least)
+module _ (q : Field) (n : ℕ) (p : List ℕ) {at₀ count : ℕ} {least : Least} {lons lats : List ℕ}
+    (g : Going q positionFound single positionShape n p at₀ count count least)
     (d : Drawn lons lats count least (g .left) (partsOf positionShape p)) {o : ItemStep} (f : ItemPassed p at₀ o) (h : o ≡ step.End) where
-  pub ring-read : RingRead n (partsOf positionShape p) (record { lons = lons; lats = lats; count = count; least = least })
+  pub ring-read : RingRead q n (partsOf positionShape p) (record { lons = lons; lats = lats; count = count; least = least })
   ring-read =
-      let t = going-end positionFound single positionShape n p g f h in
-      let found = t .found ∙ ap leastFound (sym (positions-found n (partsOf positionShape p))) in
+      let t = going-end q positionFound single positionShape n p g f h in
+      let found = t .found ∙ ap (leastFound q) (sym (positions-found n (partsOf positionShape p))) in
       record {
         count = t .counted;
         least = found;
         points = λ s i.
-            drawn-end d (none-left positionFound single positionShape n p g f h) (found ∙ sound-found n (partsOf positionShape p) s) (omega (arith, t .counted));
+            drawn-end d (none-left q positionFound single positionShape n p g f h) (found ∙ ap (leastFound q) (sound-found n (partsOf positionShape p) s) ∙ least-of-none q) (omega (arith, t .counted));
       }
 
 -- the part that is filled
@@ -97,75 +98,81 @@ pub filled-size : (xs : List ℕ) (n : ℕ) → length xs ≡ positions → n �
 filled-size xs n e h = let a : n ≤ length xs = omega arith in sym (length-take-le n xs a)
 
 -- the area
-module _ (n : ℕ) (r : RingPoints) where
-  pub area-faulty : (m k : ℕ) → r .least ≡ At m k → None ≡ areaLeast n r
+module _ (q : Field) (n : ℕ) (r : RingPoints) where
+  pub area-faulty : (f : Fault) → r .least ≡ Is f → None ≡ areaLeast q n r
   unfolding areaLeast
-  area-faulty m k e = rw e
+  area-faulty f e = rw e
 
-  pub area-many : r .least ≡ None → positions < r .count → None ≡ areaLeast n r
+  pub area-many : r .least ≡ None → positions < r .count → None ≡ areaLeast q n r
   unfolding areaLeast
   area-many e h = rw (e, lt-leb (r .count) positions h)
 
   pub area-asked : r .least ≡ None → r .count ≤ positions
-      → leastFound (foundAt n (unless (sound (points (take (r .count) (r .lons)) (take (r .count) (r .lats)))) badRing)) ≡ areaLeast n r
+      → leastFound q (foundAt n (unless (sound (points (take (r .count) (r .lons)) (take (r .count) (r .lats)))) badRing)) ≡ areaLeast q n r
   unfolding areaLeast
   area-asked e h = rw (e, le-leb (r .count) positions h)
 
-hidden : (n : ℕ) (t : Bool) → lesser (At n tooMany) (leastFound (foundAt n (unless t badRing))) ≡ At n tooMany
-hidden n true = ap (lesser (At n tooMany)) (least-empty n) ∙ lesser-none (At n tooMany)
-hidden n false = ap (lesser (At n tooMany)) (least-one n badRing) ∙ later-kind n tooMany badRing (omega arith)
+hidden : (q : Field) (n : ℕ) (t : Bool) → lesser (faultAt q n tooMany) (leastFound q (foundAt n (unless t badRing))) ≡ faultAt q n tooMany
+hidden q n true = ap (lesser (faultAt q n tooMany)) (least-empty q n) ∙ lesser-none (faultAt q n tooMany)
+hidden q n false =
+    ap (lesser (faultAt q n tooMany)) (least-one q n badRing)
+    ∙ lesser-first _ _ (later-kind (fault (q .«record») (q .field) n tooMany) (fault (q .«record») (q .field) n badRing) refl refl refl (omega arith))
 
-module _ {n : ℕ} {l : List Picked} {r : RingPoints} (h : RingRead n l r) where
-  abbrev few : LeastFound
-  few = leastFound (foundAt n (unless (leb 4 (r .count)) badRing))
+module _ {q : Field} {n : ℕ} {l : List Picked} {r : RingPoints} (h : RingRead q n l r) where
+  abbrev few : Least
+  few = leastFound q (foundAt n (unless (leb 4 (r .count)) badRing))
 
-  abbrev many : LeastFound
-  many = leastFound (foundAt n (unless (leb (r .count) positions) tooMany))
+  abbrev many : Least
+  many = leastFound q (foundAt n (unless (leb (r .count) positions) tooMany))
 
-  abbrev area : LeastFound
-  area = leastFound (allSound l ⇒ foundAt n (unless (sound (map position l)) badRing) else [])
+  abbrev area : Least
+  area = leastFound q (allSound l ⇒ foundAt n (unless (sound (map position l)) badRing) else [])
 
-  unsound : (m k : ℕ) → r .least ≡ At m k → area ≡ None
-  unsound m k e = go (allSound l) refl
+  -- where nothing is found they are sound
+  all-sound : r .least ≡ None → allSound l ≡ true
+  all-sound e = found-sound n l (least-nothing q (positionsFound n l) (sym (h .least) ∙ e))
+
+  unsound : (f : Fault) → r .least ≡ Is f → area ≡ None
+  unsound f e = go (allSound l) refl
     where
-      go : (t : Bool) → allSound l ≡ t → leastFound (t ⇒ foundAt n (unless (sound (map position l)) badRing) else []) ≡ None
-      go true s = not-none (sym e ∙ h .least ∙ sound-found n l s)
-      go false s = least-of-none
+      go : (t : Bool) → allSound l ≡ t → leastFound q (t ⇒ foundAt n (unless (sound (map position l)) badRing) else []) ≡ None
+      go true s = none-is (sym (h .least ∙ ap (leastFound q) (sound-found n l s) ∙ least-of-none q) ∙ e)
+      go false s = least-of-none q
 
-  asked : r .least ≡ None → area ≡ leastFound (foundAt n (unless (sound (map position l)) badRing))
-  asked e = rw (found-sound n l (sym (h .least) ∙ e))
+  asked : r .least ≡ None → area ≡ leastFound q (foundAt n (unless (sound (map position l)) badRing))
+  asked e = rw (all-sound e)
 
-  abbrev sofar : LeastFound
+  abbrev sofar : Least
   sofar = lesser (lesser few many) (r .least)
 
   -- with what the code asks, and with what the definition has
-  as-asked : lesser sofar (areaLeast n r) ≡ lesser sofar area
+  as-asked : lesser sofar (areaLeast q n r) ≡ lesser sofar area
   as-asked = go (r .least) refl (leb (r .count) positions) refl
     where
-      go : (f : LeastFound) → r .least ≡ f → (t : Bool) → leb (r .count) positions ≡ t → lesser sofar (areaLeast n r) ≡ lesser sofar area
-      go (At m k) e t i = ap (lesser sofar) (sym (area-faulty n r m k e) ∙ sym (unsound m k e))
+      go : (f : Least) → r .least ≡ f → (t : Bool) → leb (r .count) positions ≡ t → lesser sofar (areaLeast q n r) ≡ lesser sofar area
+      go (Is f) e t i = ap (lesser sofar) (sym (area-faulty q n r f e) ∙ sym (unsound f e))
       go None e true i =
           let c : r .count ≤ positions = leb-true (r .count) positions i in
-          let q = h .points (found-sound n l (sym (h .least) ∙ e)) (omega (arith, h .count)) in
-          ap (lesser sofar) (sym (area-asked n r e c) ∙ ap (λ ps. leastFound (foundAt n (unless (sound ps) badRing))) q ∙ sym (asked e))
+          let drawn = h .points (all-sound e) (omega (arith, h .count)) in
+          ap (lesser sofar) (sym (area-asked q n r e c) ∙ ap (λ ps. leastFound q (foundAt n (unless (sound ps) badRing))) drawn ∙ sym (asked e))
       go None e false i =
-          let base : sofar ≡ lesser few (At n tooMany) =
+          let base : sofar ≡ lesser few (faultAt q n tooMany) =
           ap (lesser (lesser few many)) e ∙ lesser-none (lesser few many)
-          ∙ ap (lesser few) (ap (λ t. leastFound (foundAt n (unless t tooMany))) i ∙ least-one n tooMany) in
-          ap₂ lesser base (sym (area-many n r e (leb-false (r .count) positions i))) ∙ lesser-none (lesser few (At n tooMany))
-          ∙ sym (ap₂ lesser base (asked e) ∙ lesser-assoc few (At n tooMany) _ ∙ ap (lesser few) (hidden n (sound (map position l))))
+          ∙ ap (lesser few) (ap (λ t. leastFound q (foundAt n (unless t tooMany))) i ∙ least-one q n tooMany) in
+          ap₂ lesser base (sym (area-many q n r e (leb-false (r .count) positions i))) ∙ lesser-none (lesser few (faultAt q n tooMany))
+          ∙ sym (ap₂ lesser base (asked e) ∙ lesser-assoc few (faultAt q n tooMany) _ ∙ ap (lesser few) (hidden q n (sound (map position l))))
 
-  pub ring-found : lesser (lesser (lesser few many) (r .least)) (areaLeast n r) ≡ leastFound (ringFound n l)
+  pub ring-found : lesser (lesser (lesser few many) (r .least)) (areaLeast q n r) ≡ leastFound q (ringFound n l)
   unfolding ringFound
   ring-found =
       let c = sym (h .count) in
       as-asked
-      ∙ sym (least-append _ _ ∙ ap (λ z. lesser z area) (least-append _ (positionsFound n l)
-      ∙ ap₂ lesser (least-append _ _ ∙ ap₂ lesser (ap (λ k. leastFound (foundAt n (unless (leb 4 k) badRing))) c)
-      (ap (λ k. leastFound (foundAt n (unless (leb k positions) tooMany))) c)) (sym (h .least))))
+      ∙ sym (least-append q _ _ ∙ ap (λ z. lesser z area) (least-append q _ (positionsFound n l)
+      ∙ ap₂ lesser (least-append q _ _ ∙ ap₂ lesser (ap (λ k. leastFound q (foundAt n (unless (leb 4 k) badRing))) c)
+      (ap (λ k. leastFound q (foundAt n (unless (leb k positions) tooMany))) c)) (sym (h .least))))
 
-  pub ring-tells : (found : LeastFound) → found ≡ lesser (lesser (lesser few many) (r .least)) (areaLeast n r)
-      → Tells (ringFound n l) (length l) (record { positions = r .count; least = found })
+  pub ring-tells : (found : Least) → found ≡ lesser (lesser (lesser few many) (r .least)) (areaLeast q n r)
+      → Tells q (ringFound n l) (length l) (record { positions = r .count; least = found })
   ring-tells found e = record { least = e ∙ ring-found; positions = h .count }
 
 -- a ring in which nothing is found
@@ -175,17 +182,18 @@ pub record Clean (l : List Picked) : Type 0 where
   pub each : allSound l ≡ true
   pub whole : sound (map position l) ≡ true
 
-held : (n k : ℕ) (t : Bool) → leastFound (foundAt n (unless t k)) ≡ None → t ≡ true
+held : (n k : ℕ) (t : Bool) → foundAt n (unless t k) ≡ [] → t ≡ true
 held n k true e = refl
-held n k false e = not-none (sym (least-one n k) ∙ e)
+held n k false e = let f = at-nothing n (k ∷ []) e in let z : _≡_ {A = ℕ} 0 1 = cc in absurd (omega arith)
 
 pub clean-ring : (n : ℕ) (l : List Picked) → ringFound n l ≡ [] → Clean l
 unfolding ringFound
 clean-ring n l e =
-    let nothing = ap leastFound e ∙ least-of-none in
-    let a = both-none _ _ (sym (least-append _ _) ∙ nothing) in
-    let b = both-none _ _ (sym (least-append _ (positionsFound n l)) ∙ a .0) in
-    let c = both-none _ _ (sym (least-append _ _) ∙ b .0) in
+    let few = foundAt n (unless (leb 4 (length l)) badRing) in
+    let many = foundAt n (unless (leb (length l) positions) tooMany) in
+    let a = append-eq-nil-iff {p = (few ++ many) ++ positionsFound n l} .0 e in
+    let b = append-eq-nil-iff {p = few ++ many} .0 (a .0) in
+    let c = append-eq-nil-iff {p = few} .0 (b .0) in
     let s = found-sound n l (b .1) in
     record {
       least = leb-true 4 (length l) (held n badRing _ (c .0));
@@ -194,7 +202,7 @@ clean-ring n l e =
       whole = held n badRing _ (rw s at (a .1));
     }
 
-pub outlined : {m bytes : ℕ} {l : List Picked} {r : RingPoints} → RingRoom bytes r → RingRead m l r → (k : List Picked) → k ≡ l → Clean k → Outlined k r
+pub outlined : {q : Field} {m bytes : ℕ} {l : List Picked} {r : RingPoints} → RingRoom bytes r → RingRead q m l r → (k : List Picked) → k ≡ l → Clean k → Outlined k r
 outlined {l = l} {r = r} o h k e c =
     let many : length l ≤ positions = rw e at (c .most) in
     rw e

@@ -17,13 +17,14 @@ use Rattle.geometry.specs.Ring.{Point}
 use Rattle.geometry.specs.inner.Shifted.{OnMap, point, shifted, points}
 use Rattle.geometry.specs.declared.Position.{Position}
 use Rattle.schema.specs.Pick.{Picked}
+use Rattle.fault.specs.declared.Least.{Least}
+use Rattle.fault.specs.declared.Least.the-variants.{None}
+use Rattle.fault.specs.Fault.{lesser}
+use Rattle.fault.proofs.Leasts.{both-none}
 use Rattle.rings.specs.Rings.{positionKinds, position}
-use Rattle.rings.specs.inner.Least.{lesser}
 use Rattle.rings.specs.inner.Parts.{Charted, FindsPosition}
-use Rattle.rings.specs.declared.LeastFound.{LeastFound}
-use Rattle.rings.specs.declared.LeastFound.the-variants.{None}
+use Rattle.rings.specs.declared.Field.{Field}
 use Rattle.rings.specs.declared.PositionFound.{PositionFound}
-use Rattle.rings.proofs.Order.{both-none}
 
 points-append : (xs ys : List ℕ) (v w : List ℕ) → length ys ≡ length xs → points (xs ++ v) (ys ++ w) ≡ points xs ys ++ points v w
 unfolding points
@@ -82,7 +83,7 @@ points-stored lons lats i p c l =
     ap₂ points (stored-taken lons i (p .lon) (c .east) l) (stored-taken lats i (p .lat) (c .north) l)
     ∙ points-append (take i lons) (take i lats) _ _ (length-take-le i lats b ∙ sym (length-take-le i lons a))
 
-pub record Drawn (lons lats : List ℕ) (count : ℕ) (least : LeastFound) (left all : List Picked) : Type 0 where
+pub record Drawn (lons lats : List ℕ) (count : ℕ) (least : Least) (left all : List Picked) : Type 0 where
   pub drawn : least ≡ None → count ≤ positions → points (take count lons) (take count lats) ++ map position left ≡ map position all
 
 zeros : (n k : ℕ) → _≡_ {A = ℕ} (getD (replicate n 0) k 0) 0
@@ -97,22 +98,22 @@ pub drawn-start : (all : List Picked) → Drawn (replicate 256 0) (replicate 256
 unfolding points
 drawn-start all = record { drawn = λ e h. refl }
 
-module _ {lons lats : List ℕ} {count : ℕ} {least : LeastFound} {left all : List Picked} (d : Drawn lons lats count least left all) where
-  pub drawn-more : Charted lons lats → (x : Picked) (rest : List Picked) (n : ℕ) (s : PositionFound) (next : LeastFound) (lons′ lats′ : List ℕ)
-      → left ≡ x ∷ rest → FindsPosition n (positionKinds x) (position x) s → next ≡ lesser least (s .least)
+module _ {lons lats : List ℕ} {count : ℕ} {least : Least} {left all : List Picked} (d : Drawn lons lats count least left all) where
+  pub drawn-more : Charted lons lats → (x : Picked) (rest : List Picked) (q : Field) (n : ℕ) (s : PositionFound) (next : Least) (lons′ lats′ : List ℕ)
+      → left ≡ x ∷ rest → FindsPosition q n (positionKinds x) (position x) s → next ≡ lesser least (s .least)
       → lons′ ≡ stored lons count (s .point .lon) → lats′ ≡ stored lats count (s .point .lat)
       → Drawn lons′ lats′ (count + 1) next rest all
-  drawn-more c x rest n s next lons′ lats′ e k f g h =
+  drawn-more c x rest q n s next lons′ lats′ e k f g h =
       rw (g, h)
       record {
         drawn = λ z l.
             let b = both-none least (s .least) (sym f ∙ z) in
             let i : count < positions = omega arith in
-            let q : point (s .point) ≡ position x = k .point (b .1) in
+            let here : point (s .point) ≡ position x = k .point (b .1) in
             let ps = points (take count lons) (take count lats) in
             ap (λ ts. ts ++ map position rest) (points-stored lons lats count (s .point) c i)
             ∙ append-assoc ps (point (s .point) ∷ []) (map position rest)
-            ∙ ap (λ t. ps ++ (t ∷ map position rest)) q
+            ∙ ap (λ t. ps ++ (t ∷ map position rest)) here
             ∙ ap (λ (us : List Picked). ps ++ map position us) (sym e)
             ∙ d .drawn (b .0) (omega arith);
       }

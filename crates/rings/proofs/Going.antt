@@ -15,12 +15,14 @@ use Rattle.walk.specs.inner.Along.{ItemPlaced, ItemPassed}
 use Rattle.walk.proofs.Parts.{itemOf}
 use Rattle.schema.specs.Shape.{Shape}
 use Rattle.schema.specs.Pick.{Picked}
+use Rattle.fault.specs.declared.Least.{Least}
+use Rattle.fault.specs.declared.Least.the-variants.{None}
+use Rattle.fault.specs.Fault.{lesser}
+use Rattle.fault.proofs.Leasts.{lesser-none, none-lesser, lesser-assoc}
 use Rattle.rings.specs.Rings.{Found}
-use Rattle.rings.specs.inner.Least.{lesser, leastFound}
-use Rattle.rings.specs.inner.Parts.{Listing, picked, partsOf, Left}
-use Rattle.rings.specs.declared.LeastFound.{LeastFound}
-use Rattle.rings.specs.declared.LeastFound.the-variants.{None}
-use Rattle.rings.proofs.Order.{lesser-none, none-lesser, lesser-assoc, least-append}
+use Rattle.rings.specs.inner.Parts.{leastFound, Listing, picked, partsOf, Left}
+use Rattle.rings.specs.declared.Field.{Field}
+use Rattle.rings.proofs.Found.{least-append, least-of-none}
 use Rattle.rings.proofs.Picked.{left-start, left-end, left-more}
 
 -- an item m of p, found at a place with so many items and positions passed
@@ -83,7 +85,7 @@ unfoldable pub foundIn : (ℕ → Picked → List Found) → (Picked → ℕ) �
 foundIn e c n [] = []
 foundIn e c n (x ∷ l) = e n x ++ foundIn e c (n + c x) l
 
-module _ (e : ℕ → Picked → List Found) (c : Picked → ℕ) where
+module _ (φ : Field) (e : ℕ → Picked → List Found) (c : Picked → ℕ) where
   -- the definitions, step by step
   sum-none : sumOver c [] ≡ 0
   unfolding sumOver
@@ -93,29 +95,29 @@ module _ (e : ℕ → Picked → List Found) (c : Picked → ℕ) where
   unfolding sumOver
   sum-next x l = refl
 
-  found-none : (n : ℕ) → leastFound (foundIn e c n []) ≡ None
-  unfolding foundIn leastFound
-  found-none n = refl
+  found-none : (n : ℕ) → leastFound φ (foundIn e c n []) ≡ None
+  unfolding foundIn
+  found-none n = least-of-none φ
 
   found-next : (n : ℕ) (x : Picked) (l : List Picked)
-      → leastFound (foundIn e c n (x ∷ l)) ≡ lesser (leastFound (e n x)) (leastFound (foundIn e c (n + c x) l))
+      → leastFound φ (foundIn e c n (x ∷ l)) ≡ lesser (leastFound φ (e n x)) (leastFound φ (foundIn e c (n + c x) l))
   unfolding foundIn
-  found-next n x l = least-append (e n x) (foundIn e c (n + c x) l)
+  found-next n x l = least-append φ (e n x) (foundIn e c (n + c x) l)
 
   module _ (σ : Shape) (n : ℕ) (p : List ℕ) where
     -- at the place `at` of an array, with so many items and positions passed
-    pub record Going (at items positions : ℕ) (least : LeastFound) : Type 0 where
+    pub record Going (at items positions : ℕ) (least : Least) : Type 0 where
       pub left : List Picked
       pub here : Left σ p at left
       pub counted : items + length left ≡ length (partsOf σ p)
       pub numbered : positions + sumOver c left ≡ sumOver c (partsOf σ p)
-      pub found : lesser least (leastFound (foundIn e c (n + positions) left)) ≡ leastFound (foundIn e c n (partsOf σ p))
+      pub found : lesser least (leastFound φ (foundIn e c (n + positions) left)) ≡ leastFound φ (foundIn e c n (partsOf σ p))
 
     -- and at its end
-    pub record Ended (items positions : ℕ) (least : LeastFound) : Type 0 where
+    pub record Ended (items positions : ℕ) (least : Least) : Type 0 where
       pub counted : items ≡ length (partsOf σ p)
       pub numbered : positions ≡ sumOver c (partsOf σ p)
-      pub found : least ≡ leastFound (foundIn e c n (partsOf σ p))
+      pub found : least ≡ leastFound φ (foundIn e c n (partsOf σ p))
 
     abbrev pub going-start : Listing p → Going 1 0 0 None
     going-start w =
@@ -125,10 +127,10 @@ module _ (e : ℕ → Picked → List Found) (c : Picked → ℕ) where
           here = left-start σ p w;
           counted = omega arith;
           numbered = omega arith;
-          found = none-lesser _ ∙ ap (λ (m : ℕ). leastFound (foundIn e c m (partsOf σ p))) z;
+          found = none-lesser _ ∙ ap (λ (m : ℕ). leastFound φ (foundIn e c m (partsOf σ p))) z;
         }
 
-    module _ {at items positions : ℕ} {least : LeastFound} (g : Going at items positions least) {o : ItemStep} (f : ItemPassed p at o) where
+    module _ {at items positions : ℕ} {least : Least} (g : Going at items positions least) {o : ItemStep} (f : ItemPassed p at o) where
       -- where none is found
       module _ (h : o ≡ step.End) where
         pub none-left : g .left ≡ []
@@ -137,10 +139,10 @@ module _ (e : ℕ → Picked → List Found) (c : Picked → ℕ) where
         end-counted : items ≡ length (partsOf σ p)
         end-counted = let z = ap length none-left in omega (arith, g .counted, z)
 
-        end-found : least ≡ leastFound (foundIn e c n (partsOf σ p))
+        end-found : least ≡ leastFound φ (foundIn e c n (partsOf σ p))
         end-found =
             sym (lesser-none least) ∙ ap (lesser least) (sym (found-none (n + positions)))
-            ∙ ap (λ (l : List Picked). lesser least (leastFound (foundIn e c (n + positions) l))) (sym none-left) ∙ g .found
+            ∙ ap (λ (l : List Picked). lesser least (leastFound φ (foundIn e c (n + positions) l))) (sym none-left) ∙ g .found
 
         pub going-end : Ended items positions least
         going-end =
@@ -151,8 +153,8 @@ module _ (e : ℕ → Picked → List Found) (c : Picked → ℕ) where
       pub going-whole : (m : Item) → o ≡ step.Found m → Whole (itemOf p m) (partTree (itemOf p m))
       going-whole m h = left-more σ p at (g .left) (g .here) f m h .whole
 
-      module _ (m : Item) (h : o ≡ step.Found m) (first next : LeastFound) (q : ℕ)
-          (judged : first ≡ leastFound (e (n + positions) (picked σ p m))) (taken : next ≡ lesser least first) (many : q ≡ c (picked σ p m)) where
+      module _ (m : Item) (h : o ≡ step.Found m) (first next : Least) (q : ℕ)
+          (judged : first ≡ leastFound φ (e (n + positions) (picked σ p m))) (taken : next ≡ lesser least first) (many : q ≡ c (picked σ p m)) where
         -- with the items that are left then
         pub going-next : (k : Going (m .next) (items + 1) (positions + q) next) × (g .left ≡ picked σ p m ∷ k .left)
         going-next =
@@ -162,18 +164,18 @@ module _ (e : ℕ → Picked → List Found) (c : Picked → ℕ) where
             let b : sumOver c (g .left) ≡ q + sumOver c (o .rest) =
             ap (sumOver c) (o .is) ∙ sum-next x (o .rest) ∙ ap (λ (z : ℕ). z + sumOver c (o .rest)) (sym many) in
             let s : n + (positions + q) ≡ n + positions + c x = omega (arith, many) in
-            let rest = leastFound (foundIn e c (n + positions + c x) (o .rest)) in (
+            let rest = leastFound φ (foundIn e c (n + positions + c x) (o .rest)) in (
               record {
                 left = o .rest;
                 here = o .left;
                 counted = omega (arith, g .counted);
                 numbered = omega (arith, g .numbered);
                 found =
-                    ap (λ (z : ℕ). lesser next (leastFound (foundIn e c z (o .rest)))) s
-                    ∙ ap (λ (z : LeastFound). lesser z rest) (taken ∙ ap (lesser least) judged)
-                    ∙ lesser-assoc least (leastFound (e (n + positions) x)) rest
+                    ap (λ (z : ℕ). lesser next (leastFound φ (foundIn e c z (o .rest)))) s
+                    ∙ ap (λ (z : Least). lesser z rest) (taken ∙ ap (lesser least) judged)
+                    ∙ lesser-assoc least (leastFound φ (e (n + positions) x)) rest
                     ∙ ap (lesser least) (sym (found-next (n + positions) x (o .rest)))
-                    ∙ ap (λ (l : List Picked). lesser least (leastFound (foundIn e c (n + positions) l))) (sym (o .is))
+                    ∙ ap (λ (l : List Picked). lesser least (leastFound φ (foundIn e c (n + positions) l))) (sym (o .is))
                     ∙ g .found;
               },
               o .is,
@@ -183,24 +185,20 @@ module _ (e : ℕ → Picked → List Found) (c : Picked → ℕ) where
         going-more = going-next .0
 
 -- A count over items, with nothing asked of them but that.
-module _ (c : Picked → ℕ) (σ : Shape) (p : List ℕ) where
+module _ (φ : Field) (c : Picked → ℕ) (σ : Shape) (p : List ℕ) where
   abbrev nothing : ℕ → Picked → List Found
   nothing n x = []
 
-  nothing-found : None ≡ leastFound []
-  unfolding leastFound
-  nothing-found = refl
-
   -- at the place `at` of an array, with so many items passed that count so much
   abbrev pub Counting : (at items total : ℕ) → Type 0
-  Counting at items total = Going nothing c σ 0 p at items total None
+  Counting at items total = Going φ nothing c σ 0 p at items total None
 
   abbrev pub counting-start : Listing p → Counting 1 0 0
-  counting-start w = going-start nothing c σ 0 p w
+  counting-start w = going-start φ nothing c σ 0 p w
 
   module _ {at items total : ℕ} (g : Counting at items total) {o : ItemStep} (f : ItemPassed p at o) where
     pub counting-end : o ≡ step.End → total ≡ sumOver c (partsOf σ p)
-    counting-end h = going-end nothing c σ 0 p g f h .numbered
+    counting-end h = going-end φ nothing c σ 0 p g f h .numbered
 
     pub counting-more : (m : Item) → o ≡ step.Found m → (q : ℕ) → q ≡ c (picked σ p m) → Counting (m .next) (items + 1) (total + q)
-    counting-more m h q many = going-more nothing c σ 0 p g f m h None None q nothing-found (sym (none-lesser None)) many
+    counting-more m h q many = going-more φ nothing c σ 0 p g f m h None None q (sym (least-of-none φ)) (sym (none-lesser None)) many

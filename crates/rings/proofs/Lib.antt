@@ -1,4 +1,4 @@
-pub mod Order
+pub mod Found
 pub mod Picked
 pub mod Going
 pub mod Numbers

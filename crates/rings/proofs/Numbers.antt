@@ -20,14 +20,16 @@ use Rattle.decimal.specs.Exact.{inRange, millionths}
 use Rattle.decimal.proofs.Millionths.{millionths-within}
 use Rattle.schema.specs.Shape as shape
 use Rattle.schema.specs.Pick.{Picked, bare, items, slots, pick}
+use Rattle.fault.specs.declared.Least.{Least}
+use Rattle.fault.specs.declared.Least.the-variants.{None}
+use Rattle.fault.proofs.Leasts.{none-is}
 use Rattle.scalar.specs.Scalars as scalar
-use Rattle.scalar.specs.Scalars.{unless, formed, kindsOf}
+use Rattle.scalar.specs.Scalars.{unless, formedKinds, kindsOf}
 use Rattle.rings.specs.Rings.{foundAt, inMillionths, coordinateKinds}
-use Rattle.rings.specs.inner.Least.{leastFound}
-use Rattle.rings.specs.inner.Parts.{numberShape, isNumber, rangeKinds, FindsCoordinate}
-use Rattle.rings.specs.declared.LeastFound.the-variants.{None, At}
+use Rattle.rings.specs.inner.Parts.{faultAt, leastFound, numberShape, isNumber, rangeKinds, FindsCoordinate}
+use Rattle.rings.specs.declared.Field.{Field}
 use Rattle.rings.specs.declared.CoordinateFound.{CoordinateFound}
-use Rattle.rings.proofs.Order.{lesser-none}
+use Rattle.rings.proofs.Found.{least-one, least-empty}
 
 -- the sorts
 pub longitude-kinds : (x : Picked) → coordinateKinds shape.longitude x ≡ rangeKinds 180 x
@@ -52,7 +54,7 @@ latitude-kinds (bare (tree.object ms)) = refl
 latitude-kinds (items is) = refl
 latitude-kinds (slots ss) = refl
 
-third-tree : (x : Json) → unless (isNumber (kindOf x)) wrongType ≡ coordinateKinds shape.coordinate (pick numberShape x)
+third-tree : (x : Json) → unless (isNumber (kindOf x)) wrongType ≡ coordinateKinds shape.anyNumber (pick numberShape x)
 unfolding coordinateKinds kindsOf scalar.sortKinds pick
 third-tree tree.null = refl
 third-tree (tree.boolean b) = refl
@@ -62,26 +64,15 @@ third-tree (tree.array is) = refl
 third-tree (tree.object ms) = refl
 
 -- the third number
-pub third-kinds : {p : List ℕ} {x : Json} → Whole p x → unless (isNumber (kindAt p)) wrongType ≡ coordinateKinds shape.coordinate (pick numberShape x)
+pub third-kinds : {p : List ℕ} {x : Json} → Whole p x → unless (isNumber (kindAt p)) wrongType ≡ coordinateKinds shape.anyNumber (pick numberShape x)
 third-kinds {p} {x} w = ap (λ k. unless (isNumber k) wrongType) (whole-kind w) ∙ third-tree x
 
 -- one fault
-pub least-one : (n k : ℕ) → leastFound (foundAt n (k ∷ [])) ≡ At n k
-unfolding leastFound foundAt
-least-one n k = lesser-none (At n k)
-
-pub least-empty : (n : ℕ) → leastFound (foundAt n []) ≡ None
-unfolding leastFound foundAt
-least-empty n = refl
-
-pub not-none : {A : Type 0} {n k : ℕ} → At n k ≡ None → A
-not-none e = let z : _≡_ {A = ℕ} 0 1 = cc in absurd (omega arith)
-
-pub measured-broken : (most n kind : ℕ) (x : Picked) (o : CoordinateFound) → rangeKinds most x ≡ kind ∷ []
-    → o ≡ record { least = At n kind; value = 0 } → FindsCoordinate most n x o
-measured-broken most n kind x o h e =
+pub measured-broken : (q : Field) (most n kind : ℕ) (x : Picked) (found : Least) (o : CoordinateFound) → rangeKinds most x ≡ kind ∷ []
+    → found ≡ faultAt q n kind → o ≡ record { least = found; value = 0 } → FindsCoordinate q most n x o
+measured-broken q most n kind x found o h f e =
     rw e
-    record { least = sym (ap (λ ks. leastFound (foundAt n ks)) h ∙ least-one n kind); value = λ f. not-none f }
+    record { least = f ∙ sym (ap (λ ks. leastFound q (foundAt n ks)) h ∙ least-one q n kind); value = λ z. none-is (sym z ∙ f) }
 
 -- what is no number
 other-kinds : (most : ℕ) (x : Json) → isNumber (kindOf x) ≡ false → rangeKinds most (pick numberShape x) ≡ wrongType ∷ []
@@ -129,21 +120,21 @@ inside-upto most v d f g =
 
 module _ (most : ℕ) {p : List ℕ} {x : Json} (w : Whole p x) (e : isNumber (kindAt p) ≡ true) where
   pub unformed-kinds : numberOf p ≡ number.Unformed → rangeKinds most (pick numberShape x) ≡ numberForm ∷ []
-  unfolding formed
-  unformed-kinds h = ap (rangeKinds most) (number-picked w e) ∙ ap (formed (inRange most)) h
+  unfolding formedKinds
+  unformed-kinds h = ap (rangeKinds most) (number-picked w e) ∙ ap (formedKinds (inRange most)) h
 
   module _ (d : Decimal) (h : numberOf p ≡ number.Value d) where
     pub outside-kinds : inRange most d ≡ false → rangeKinds most (pick numberShape x) ≡ outOfRange ∷ []
-    unfolding formed
-    outside-kinds f = ap (rangeKinds most) (number-picked w e) ∙ ap (formed (inRange most)) h ∙ ap (λ t. unless t outOfRange) f
+    unfolding formedKinds
+    outside-kinds f = ap (rangeKinds most) (number-picked w e) ∙ ap (formedKinds (inRange most)) h ∙ ap (λ t. unless t outOfRange) f
 
-    pub measured-inside : (n v : ℕ) → inRange most d ≡ true → difference v (most * 1_000_000) ≡ millionths d
-        → FindsCoordinate most n (pick numberShape x) (record { least = None; value = v })
-    unfolding formed
-    measured-inside n v f g =
-        subst (λ (y : Picked). FindsCoordinate most n y (record { least = None; value = v })) (sym (number-picked w e)) (
+    pub measured-inside : (q : Field) (n v : ℕ) → inRange most d ≡ true → difference v (most * 1_000_000) ≡ millionths d
+        → FindsCoordinate q most n (pick numberShape x) (record { least = None; value = v })
+    unfolding formedKinds
+    measured-inside q n v f g =
+        subst (λ (y : Picked). FindsCoordinate q most n y (record { least = None; value = v })) (sym (number-picked w e)) (
         record {
-          least = sym (ap (λ ks. leastFound (foundAt n ks)) (ap (formed (inRange most)) h ∙ ap (λ t. unless t outOfRange) f) ∙ least-empty n);
+          least = sym (ap (λ ks. leastFound q (foundAt n ks)) (ap (formedKinds (inRange most)) h ∙ ap (λ t. unless t outOfRange) f) ∙ least-empty q n);
           value = λ z. g ∙ sym (ap inMillionths h);
         }
         )

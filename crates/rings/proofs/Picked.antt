@@ -3,8 +3,7 @@
 use mathlib.Core.Bool.{true, false}
 use mathlib.Core.List.{List, [], _∷_, map}
 use mathlib.Core.Path.{_≡_, refl, sym, ap, subst, _∙_}
-use Prim.Native.Nat.{ℕ, _≤_, _<_}
-use native.Mathlib.Decide.{decLt}
+use Prim.Native.Nat.{ℕ}
 use native.Mathlib.Omega.{arith}
 use lib.ListN.{length}
 use Rattle.json.specs.Tree
@@ -14,10 +13,10 @@ use Rattle.walk.specs.declared.ItemStep.{ItemStep}
 use Rattle.walk.specs.declared.ItemStep.the-variants as step
 use Rattle.walk.specs.Walk.{itemAt, itemsFrom, itemsOf}
 use Rattle.walk.specs.Part.{Whole, partTree, kindOf, kindAt}
-use Rattle.walk.specs.inner.Along.{AlongItems, ItemPlaced, ItemPassed}
+use Rattle.walk.specs.inner.Along.{AlongItems, ItemPassed}
 use Rattle.walk.proofs.Folds.{one-more, itemSteps, items-end}
-use Rattle.walk.proofs.Places.{item-placed}
 use Rattle.walk.proofs.Parts.{itemOf, item-whole}
+use Rattle.walk.proofs.Left.{passed-read}
 use Rattle.walk.proofs.Wholes.{whole-kind}
 use Rattle.walk.proofs.Trees.{array-parts}
 use Rattle.schema.specs.Shape as shape
@@ -39,17 +38,8 @@ module _ (σ : Shape) (p : List ℕ) where
     pub whole : Whole (itemOf p m) (partTree (itemOf p m))
 
   module _ (at : ℕ) (l : List Picked) (h : Left σ p at l) {o : ItemStep} (f : ItemPassed p at o) where
-    -- behind the last byte nothing is found
-    behind : length p ≤ at → (s : ItemStep) → ((m : Item) → s ≡ step.Found m → ItemPlaced p at m) → s ≡ step.End
-    behind n step.End g = refl
-    behind n (step.Found m) g = let k = g m refl in absurd (omega (arith, k .later, k .value, k .next, k .inside))
-
     as-read : o ≡ itemAt p at
-    as-read = go (decLt at (length p))
-      where
-        go : Dec (at < length p) → o ≡ itemAt p at
-        go (yes i) = f .same (h .along i)
-        go (no n) = let i : length p ≤ at = omega (arith, n) in behind i o (f .placed) ∙ sym (behind i (itemAt p at) (item-placed p at))
+    as-read = passed-read f (h .along)
 
     pub left-end : o ≡ step.End → l ≡ []
     left-end e = sym (h .are) ∙ ap (map (picked σ p)) (items-end p (h .most) at (sym as-read ∙ e))

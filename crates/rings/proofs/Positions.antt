@@ -22,124 +22,128 @@ use Rattle.geometry.specs.inner.Shifted.{OnMap, point, origin}
 use Rattle.geometry.specs.declared.Position.{Position}
 use Rattle.schema.specs.Shape as shape
 use Rattle.schema.specs.Pick.{Picked, pick}
+use Rattle.fault.specs.declared.Least.{Least}
+use Rattle.fault.specs.declared.Least.the-variants.{None}
+use Rattle.fault.specs.Fault.{lesser}
+use Rattle.fault.proofs.Leasts.{none-is, lesser-comm, lesser-assoc, both-none}
 use Rattle.scalar.specs.Scalars.{unless}
-use Rattle.rings.specs.Rings.{foundAt, count, coordinateKinds, coordinatesKinds, positionKinds, pointOf, position}
-use Rattle.rings.specs.inner.Least.{lesser, leastFound}
-use Rattle.rings.specs.inner.Parts.{numberShape, positionShape, Listing, picked, partsOf, Left, isArray, isNumber, rangeKinds, FindsCoordinate, listKinds, restKinds, FindsPosition}
-use Rattle.rings.specs.declared.LeastFound.{LeastFound}
-use Rattle.rings.specs.declared.LeastFound.the-variants.{None, At}
+use Rattle.rings.specs.Rings.{foundAt, count, coordinateKinds, numberKindsIn, positionKinds, pointOf, position}
+use Rattle.rings.specs.inner.Parts.{faultAt, leastFound, numberShape, positionShape, Listing, picked, partsOf, Left, isArray, isNumber, rangeKinds, FindsCoordinate, listKinds, restKinds, FindsPosition}
+use Rattle.rings.specs.declared.Field.{Field}
 use Rattle.rings.specs.declared.CoordinateFound.{CoordinateFound}
 use Rattle.rings.specs.declared.PositionFound.{PositionFound}
-use Rattle.rings.proofs.Order.{lesser-comm, lesser-assoc, both-none, least-at}
+use Rattle.rings.proofs.Found.{least-one, least-empty, least-at}
 use Rattle.rings.proofs.Picked.{left-end, left-more, array-picked, other-picked}
-use Rattle.rings.proofs.Numbers.{longitude-kinds, latitude-kinds, third-kinds, least-one, least-empty, not-none}
+use Rattle.rings.proofs.Numbers.{longitude-kinds, latitude-kinds, third-kinds}
 
-abbrev first : ℕ → List ℕ → LeastFound
-first n ks = leastFound (foundAt n ks)
+abbrev first : Field → ℕ → List ℕ → Least
+first q n ks = leastFound q (foundAt n ks)
 
 -- what follows lon and lat, at a place of p
-module _ (p : List ℕ) (at₀ n : ℕ) (l : List Picked) (h : Left numberShape p at₀ l) {o : ItemStep} (f : ItemPassed p at₀ o) where
-  pub rest-none : o ≡ step.End → None ≡ first n (restKinds l)
+module _ (q : Field) (p : List ℕ) (at₀ n : ℕ) (l : List Picked) (h : Left numberShape p at₀ l) {o : ItemStep} (f : ItemPassed p at₀ o) where
+  pub rest-none : o ≡ step.End → None ≡ first q n (restKinds l)
   unfolding restKinds
-  rest-none e = sym (ap (λ k. first n (restKinds k)) (left-end numberShape p at₀ l h f e) ∙ least-empty n)
+  rest-none e = sym (ap (λ k. first q n (restKinds k)) (left-end numberShape p at₀ l h f e) ∙ least-empty q n)
 
   module _ (m : Item) (e : o ≡ step.Found m) (t : Bool) (told : t ≡ isNumber (kindAt (part p (m .value) (m .«value_end»))))
       {u : ItemStep} (g : ItemPassed p (m .next) u) where
-    third : unless t wrongType ≡ coordinateKinds shape.coordinate (picked numberShape p m)
+    third : unless t wrongType ≡ coordinateKinds shape.anyNumber (picked numberShape p m)
     third = ap (λ s. unless s wrongType) told ∙ third-kinds (left-more numberShape p at₀ l h f m e .whole)
 
-    pub rest-one : u ≡ step.End → first n (unless t wrongType) ≡ first n (restKinds l)
+    pub rest-one : u ≡ step.End → first q n (unless t wrongType) ≡ first q n (restKinds l)
     unfolding restKinds
     rest-one i =
         let o = left-more numberShape p at₀ l h f m e in
         let z : l ≡ picked numberShape p m ∷ [] = o .is ∙ ap (λ k. picked numberShape p m ∷ k) (left-end numberShape p (m .next) (o .rest) (o .left) g i) in
-        ap (first n) third ∙ sym (ap (λ k. first n (restKinds k)) z)
+        ap (first q n) third ∙ sym (ap (λ k. first q n (restKinds k)) z)
 
-    pub rest-two : (w : Item) → u ≡ step.Found w → lesser (At n badRing) (first n (unless t wrongType)) ≡ first n (restKinds l)
+    pub rest-two : (w : Item) → u ≡ step.Found w → lesser (faultAt q n badRing) (first q n (unless t wrongType)) ≡ first q n (restKinds l)
     unfolding restKinds
     rest-two w i =
         let o = left-more numberShape p at₀ l h f m e in
         let v = left-more numberShape p (m .next) (o .rest) (o .left) g w i in
         let z : l ≡ picked numberShape p m ∷ picked numberShape p w ∷ v .rest = o .is ∙ ap (λ k. picked numberShape p m ∷ k) (v .is) in
-        ap (lesser (At n badRing)) (ap (first n) third)
-        ∙ ap (λ k. lesser k (first n (coordinateKinds shape.coordinate (picked numberShape p m)))) (sym (least-one n badRing))
-        ∙ sym (ap (λ k. first n (restKinds k)) z ∙ least-at n (badRing ∷ []) _)
+        ap (lesser (faultAt q n badRing)) (ap (first q n) third)
+        ∙ ap (λ k. lesser k (first q n (coordinateKinds shape.anyNumber (picked numberShape p m)))) (sym (least-one q n badRing))
+        ∙ sym (ap (λ k. first q n (restKinds k)) z ∙ least-at q n (badRing ∷ []) _)
 
 -- all items
 none-kinds : listKinds [] ≡ badRing ∷ []
-unfolding listKinds coordinatesKinds
+unfolding listKinds numberKindsIn
 none-kinds = refl
 
 one-kinds : (x : Picked) → listKinds (x ∷ []) ≡ badRing ∷ rangeKinds 180 x
-unfolding listKinds coordinatesKinds
+unfolding listKinds numberKindsIn
 one-kinds x = ap (λ ks. badRing ∷ ks) (longitude-kinds x)
 
 -- a fault in the third place comes to the front
-swap : (a b c : LeastFound) → lesser a (lesser b c) ≡ lesser b (lesser a c)
+swap : (a b c : Least) → lesser a (lesser b c) ≡ lesser b (lesser a c)
 swap a b c = sym (lesser-assoc a b c) ∙ ap (λ z. lesser z c) (lesser-comm a b) ∙ lesser-assoc b a c
 
-module _ (n : ℕ) (x y : Picked) where
-  abbrev three : List ℕ → LeastFound
-  three ks = lesser (first n (rangeKinds 180 x)) (lesser (first n (rangeKinds 90 y)) (first n ks))
+module _ (q : Field) (n : ℕ) (x y : Picked) where
+  abbrev three : List ℕ → Least
+  three ks = lesser (first q n (rangeKinds 180 x)) (lesser (first q n (rangeKinds 90 y)) (first q n ks))
 
-  three-kinds : (ks : List ℕ) → three ks ≡ first n (coordinateKinds shape.longitude x ++ coordinateKinds shape.latitude y ++ ks)
+  three-kinds : (ks : List ℕ) → three ks ≡ first q n (coordinateKinds shape.longitude x ++ coordinateKinds shape.latitude y ++ ks)
   three-kinds ks =
       let xs = coordinateKinds shape.longitude x in let ys = coordinateKinds shape.latitude y in
-      sym (least-at n (xs ++ ys) ks ∙ ap (λ z. lesser z (first n ks)) (least-at n xs ys) ∙ lesser-assoc (first n xs) (first n ys) (first n ks)
-      ∙ ap (λ cs. lesser (first n cs) (lesser (first n ys) (first n ks))) (longitude-kinds x)
-      ∙ ap (λ cs. lesser (first n (rangeKinds 180 x)) (lesser (first n cs) (first n ks))) (latitude-kinds y))
+      sym (least-at q n (xs ++ ys) ks ∙ ap (λ z. lesser z (first q n ks)) (least-at q n xs ys) ∙ lesser-assoc (first q n xs) (first q n ys) (first q n ks)
+      ∙ ap (λ cs. lesser (first q n cs) (lesser (first q n ys) (first q n ks))) (longitude-kinds x)
+      ∙ ap (λ cs. lesser (first q n (rangeKinds 180 x)) (lesser (first q n cs) (first q n ks))) (latitude-kinds y))
 
-  more-kinds : (l : List Picked) → three (restKinds l) ≡ first n (listKinds (x ∷ y ∷ l))
-  unfolding listKinds coordinatesKinds restKinds
+  more-kinds : (l : List Picked) → three (restKinds l) ≡ first q n (listKinds (x ∷ y ∷ l))
+  unfolding listKinds numberKindsIn restKinds
   more-kinds [] =
-      three-kinds [] ∙ ap (first n) (append-nil (coordinateKinds shape.longitude x ++ coordinateKinds shape.latitude y))
-  more-kinds (z ∷ []) = three-kinds (coordinateKinds shape.coordinate z)
+      three-kinds [] ∙ ap (first q n) (append-nil (coordinateKinds shape.longitude x ++ coordinateKinds shape.latitude y))
+  more-kinds (z ∷ []) = three-kinds (coordinateKinds shape.anyNumber z)
   more-kinds (z ∷ w ∷ l) =
-      let cs = coordinateKinds shape.coordinate z in
+      let cs = coordinateKinds shape.anyNumber z in
       let m = length (x ∷ y ∷ z ∷ w ∷ l) in
       let a : 2 ≤ m = omega arith in let b : 3 < m = omega arith in
-      let bad = first n (badRing ∷ []) in
+      let bad = first q n (badRing ∷ []) in
       let all = coordinateKinds shape.longitude x ++ coordinateKinds shape.latitude y ++ cs in
       let t : (leb 2 m and leb m 3) ≡ false = ap (λ s. s and leb m 3) (le-leb 2 m a) ∙ lt-leb m 3 b in
-      ap (λ k. lesser (first n (rangeKinds 180 x)) (lesser (first n (rangeKinds 90 y)) k)) (least-at n (badRing ∷ []) cs)
-      ∙ ap (lesser (first n (rangeKinds 180 x))) (swap (first n (rangeKinds 90 y)) bad (first n cs))
-      ∙ swap (first n (rangeKinds 180 x)) bad (lesser (first n (rangeKinds 90 y)) (first n cs))
-      ∙ ap (lesser bad) (three-kinds cs) ∙ sym (ap (λ s. first n (unless s badRing ++ all)) t ∙ least-at n (badRing ∷ []) all)
+      ap (λ k. lesser (first q n (rangeKinds 180 x)) (lesser (first q n (rangeKinds 90 y)) k)) (least-at q n (badRing ∷ []) cs)
+      ∙ ap (lesser (first q n (rangeKinds 180 x))) (swap (first q n (rangeKinds 90 y)) bad (first q n cs))
+      ∙ swap (first q n (rangeKinds 180 x)) bad (lesser (first q n (rangeKinds 90 y)) (first q n cs))
+      ∙ ap (lesser bad) (three-kinds cs) ∙ sym (ap (λ s. first q n (unless s badRing ++ all)) t ∙ least-at q n (badRing ∷ []) all)
 
 -- the same fault
-pub finds-position-as : (n : ℕ) (kinds : List ℕ) (q : Point) (found first : LeastFound) {p : Position} → found ≡ first
-    → FindsPosition n kinds q (record { least = first; point = p }) → FindsPosition n kinds q (record { least = found; point = p })
-finds-position-as n kinds q found first {p} e s = rw e s
+pub finds-position-as : (q : Field) (n : ℕ) (kinds : List ℕ) (here : Point) (found first : Least) {p : Position} → found ≡ first
+    → FindsPosition q n kinds here (record { least = first; point = p }) → FindsPosition q n kinds here (record { least = found; point = p })
+finds-position-as q n kinds here found first {p} e s = rw e s
 
 -- a position that is not sound
-pub finds-position-broken : (n : ℕ) (kinds : List ℕ) (q : Point) (s : PositionFound) (found : LeastFound) → s ≡ record { least = found; point = origin }
-    → found ≡ first n kinds → (found ≡ None → ⊥) → FindsPosition n kinds q s
-finds-position-broken n kinds q s found e f never =
+pub finds-position-broken : (q : Field) (n : ℕ) (kinds : List ℕ) (here : Point) (s : PositionFound) (found : Least)
+    → s ≡ record { least = found; point = origin } → found ≡ first q n kinds → (found ≡ None → ⊥) → FindsPosition q n kinds here s
+finds-position-broken q n kinds here s found e f never =
     rw e record { least = f; point = λ z. absurd (never z) }
 
-pub broken-map : (s : PositionFound) (found : LeastFound) → s ≡ record { least = found; point = origin } → OnMap (s .point)
+pub broken-map : (s : PositionFound) (found : Least) → s ≡ record { least = found; point = origin } → OnMap (s .point)
 broken-map s found e = rw e record { east = omega arith; north = omega arith }
 
-pub finds-position-empty : (n : ℕ) (l : List Picked) (q : Point) (s : PositionFound) → l ≡ [] → s ≡ record { least = At n badRing; point = origin } → FindsPosition n (listKinds l) q s
-finds-position-empty n l q s h e =
-    finds-position-broken n (listKinds l) q s (At n badRing) e (sym (ap (λ k. first n (listKinds k)) h ∙ ap (first n) none-kinds ∙ least-one n badRing)) (λ z. not-none z)
+pub finds-position-empty : (q : Field) (n : ℕ) (l : List Picked) (here : Point) (s : PositionFound) (found : Least) → l ≡ []
+    → found ≡ faultAt q n badRing → s ≡ record { least = found; point = origin } → FindsPosition q n (listKinds l) here s
+finds-position-empty q n l here s found h f e =
+    finds-position-broken q n (listKinds l) here s found e
+    (f ∙ sym (ap (λ k. first q n (listKinds k)) h ∙ ap (first q n) none-kinds ∙ least-one q n badRing)) (λ z. none-is (sym z ∙ f))
 
 abbrev pointAt : ℤ → ℤ → Point
 pointAt x y = record { lon = x; lat = y }
 
 -- lon, and what follows it
-module _ (n : ℕ) (x : Picked) (lon : CoordinateFound) (east : FindsCoordinate 180 n x lon) where
-  pub finds-position-one : (l : List Picked) (q : Point) (s : PositionFound) (found : LeastFound) → l ≡ [] → found ≡ lesser (At n badRing) (lon .least)
-      → s ≡ record { least = found; point = origin } → FindsPosition n (listKinds (x ∷ l)) q s
-  finds-position-one l q s found h f e =
-      finds-position-broken n (listKinds (x ∷ l)) q s found e
-      (f ∙ ap (lesser (At n badRing)) (east .least) ∙ ap (λ k. lesser k (first n (rangeKinds 180 x))) (sym (least-one n badRing))
-      ∙ sym (ap (λ k. first n (listKinds (x ∷ k))) h ∙ ap (first n) (one-kinds x) ∙ least-at n (badRing ∷ []) (rangeKinds 180 x)))
-      (λ z. not-none (both-none (At n badRing) (lon .least) (sym f ∙ z) .0))
+module _ (q : Field) (n : ℕ) (x : Picked) (lon : CoordinateFound) (east : FindsCoordinate q 180 n x lon) where
+  pub finds-position-one : (l : List Picked) (here : Point) (s : PositionFound) (bad found : Least) → l ≡ [] → bad ≡ faultAt q n badRing
+      → found ≡ lesser bad (lon .least) → s ≡ record { least = found; point = origin } → FindsPosition q n (listKinds (x ∷ l)) here s
+  finds-position-one l here s bad found h b f e =
+      finds-position-broken q n (listKinds (x ∷ l)) here s found e
+      (f ∙ ap₂ lesser (b ∙ sym (least-one q n badRing)) (east .least)
+      ∙ sym (ap (λ k. first q n (listKinds (x ∷ k))) h ∙ ap (first q n) (one-kinds x) ∙ least-at q n (badRing ∷ []) (rangeKinds 180 x)))
+      (λ z. none-is (sym (both-none bad (lon .least) (sym f ∙ z) .0) ∙ b))
 
-  pub finds-position-more : (l : List Picked) (y : Picked) (r : List Picked) (lat : CoordinateFound) (rest : LeastFound) → l ≡ y ∷ r → FindsCoordinate 90 n y lat
-      → rest ≡ first n (restKinds r)
-      → FindsPosition n (listKinds (x ∷ l)) (pointOf (x ∷ l))
+  pub finds-position-more : (l : List Picked) (y : Picked) (r : List Picked) (lat : CoordinateFound) (rest : Least) → l ≡ y ∷ r → FindsCoordinate q 90 n y lat
+      → rest ≡ first q n (restKinds r)
+      → FindsPosition q n (listKinds (x ∷ l)) (pointOf (x ∷ l))
       (record { least = lesser (lon .least) (lesser (lat .least) rest); point = record { lon = lon .value; lat = lat .value } })
   unfolding pointOf
   finds-position-more l y r lat rest h north g =
@@ -148,25 +152,25 @@ module _ (n : ℕ) (x : Picked) (lon : CoordinateFound) (east : FindsCoordinate 
       rw h
       record {
         least =
-            ap (λ k. lesser k (lesser (lat .least) rest)) (east .least) ∙ ap (λ k. lesser (first n (rangeKinds 180 x)) (lesser k rest)) (north .least)
-            ∙ ap (λ k. lesser (first n (rangeKinds 180 x)) (lesser (first n (rangeKinds 90 y)) k)) g ∙ more-kinds n x y r;
+            ap (λ k. lesser k (lesser (lat .least) rest)) (east .least) ∙ ap (λ k. lesser (first q n (rangeKinds 180 x)) (lesser k rest)) (north .least)
+            ∙ ap (λ k. lesser (first q n (rangeKinds 180 x)) (lesser (first q n (rangeKinds 90 y)) k)) g ∙ more-kinds q n x y r;
         point = λ z.
             let a = east .value (sound z .0) in let b = north .value (both-none (lat .least) rest (sound z .1) .0) in
             ap₂ pointAt a b;
       }
 
 -- an item of a ring
-module _ {p : List ℕ} {x : Json} (w : Whole p x) (n : ℕ) (s : PositionFound) where
-  pub finds-position-array : isArray (kindAt p) ≡ true → (Listing p → FindsPosition n (listKinds (partsOf numberShape p)) (pointOf (partsOf numberShape p)) s)
-      → FindsPosition n (positionKinds (pick positionShape x)) (position (pick positionShape x)) s
+module _ {p : List ℕ} {x : Json} (w : Whole p x) (q : Field) (n : ℕ) (s : PositionFound) where
+  pub finds-position-array : isArray (kindAt p) ≡ true → (Listing p → FindsPosition q n (listKinds (partsOf numberShape p)) (pointOf (partsOf numberShape p)) s)
+      → FindsPosition q n (positionKinds (pick positionShape x)) (position (pick positionShape x)) s
   unfolding positionKinds position count listKinds
   finds-position-array e h =
       let k = array-picked shape.positions 3 numberShape x w e in
       rw (k .picks) (rw (k .listed .parts) (h (k .listed .listing)))
 
-  pub finds-position-other : isArray (kindAt p) ≡ false → s ≡ record { least = At n wrongType; point = origin }
-      → FindsPosition n (positionKinds (pick positionShape x)) (position (pick positionShape x)) s
+  pub finds-position-other : (found : Least) → isArray (kindAt p) ≡ false → found ≡ faultAt q n wrongType → s ≡ record { least = found; point = origin }
+      → FindsPosition q n (positionKinds (pick positionShape x)) (position (pick positionShape x)) s
   unfolding positionKinds
-  finds-position-other e h =
+  finds-position-other found e f h =
       let k = other-picked shape.positions 3 numberShape x w e in
-      finds-position-broken n _ _ s (At n wrongType) h (sym (ap (λ z. first n (positionKinds z)) (k .1) ∙ least-one n wrongType)) (λ z. not-none z)
+      finds-position-broken q n _ _ s found h (f ∙ sym (ap (λ z. first q n (positionKinds z)) (k .1) ∙ least-one q n wrongType)) (λ z. none-is (sym z ∙ f))

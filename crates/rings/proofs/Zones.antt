@@ -11,19 +11,18 @@ use Rattle.walk.specs.Part.{Whole, kindAt}
 use Rattle.schema.specs.Shape as shape
 use Rattle.schema.specs.Table23.{coordinates}
 use Rattle.schema.specs.Pick.{Picked, PickedItems, items, pick, listOf}
+use Rattle.fault.specs.declared.Least.{Least}
+use Rattle.fault.specs.Fault.{lesser}
 use Rattle.scalar.specs.Scalars.{unless}
 use Rattle.rings.specs.Rings.{Found, foundAt, count, ring, itemCount, ringFound, ringsFound, itemTotal, polygon, polygonPositions, isRingCount, areZoneCounts, polygonsFound, coordinatesFound}
-use Rattle.rings.specs.inner.Least.{lesser, leastFound}
-use Rattle.rings.specs.inner.Parts.{positionShape, ringShape, polygonShape, Listing, partsOf, isArray, Tells, TellsRings, TellsPolygon, TellsPolygons}
-use Rattle.rings.specs.declared.LeastFound.{LeastFound}
-use Rattle.rings.specs.declared.LeastFound.the-variants.{At}
+use Rattle.rings.specs.inner.Parts.{faultAt, leastFound, positionShape, ringShape, polygonShape, Listing, partsOf, isArray, Tells, TellsRings, TellsPolygon, TellsPolygons}
+use Rattle.rings.specs.declared.Field.{Field}
 use Rattle.rings.specs.declared.Judged.{Judged}
 use Rattle.rings.specs.declared.PolygonTally.{PolygonTally}
 use Rattle.rings.specs.declared.ZoneTally.{ZoneTally}
-use Rattle.rings.proofs.Order.{least-append}
+use Rattle.rings.proofs.Found.{least-append, least-one}
 use Rattle.rings.proofs.Going.{sumOver, foundIn}
 use Rattle.rings.proofs.Picked.{array-picked, other-picked, items-parts}
-use Rattle.rings.proofs.Numbers.{least-one}
 
 -- the definitions, as items after another
 pub rings-found : (n : ℕ) (l : List Picked) → ringsFound n l ≡ foundIn ring itemCount n l
@@ -41,25 +40,23 @@ unfolding polygonsFound foundIn
 polygons-found n [] = refl
 polygons-found n (x ∷ l) = ap (λ (fs : List Found). polygon n x ++ fs) (polygons-found (n + polygonPositions x) l)
 
-abbrev broken : ℕ → Judged
-broken n = record { positions = 0; least = At n wrongType }
-
-module _ {p : List ℕ} {x : Json} (w : Whole p x) (n : ℕ) where
+module _ {p : List ℕ} {x : Json} (w : Whole p x) (q : Field) (n : ℕ) where
   -- an item of a polygon
-  pub ring-array : (r : Judged) → isArray (kindAt p) ≡ true → (Listing p → Tells (ringFound n (partsOf positionShape p)) (length (partsOf positionShape p)) r)
-      → Tells (ring n (pick ringShape x)) (itemCount (pick ringShape x)) r
+  pub ring-array : (r : Judged) → isArray (kindAt p) ≡ true → (Listing p → Tells q (ringFound n (partsOf positionShape p)) (length (partsOf positionShape p)) r)
+      → Tells q (ring n (pick ringShape x)) (itemCount (pick ringShape x)) r
   unfolding count
   ring-array r e h = let k = array-picked shape.positions ceiling.positions positionShape x w e in rw (k .picks) (rw (k .listed .parts) (h (k .listed .listing)))
 
-  pub ring-other : isArray (kindAt p) ≡ false → Tells (ring n (pick ringShape x)) (itemCount (pick ringShape x)) (broken n)
-  ring-other e =
+  pub ring-other : (found : Least) → isArray (kindAt p) ≡ false → found ≡ faultAt q n wrongType
+      → Tells q (ring n (pick ringShape x)) (itemCount (pick ringShape x)) (record { positions = 0; least = found })
+  ring-other found e f =
       let k = other-picked shape.positions ceiling.positions positionShape x w e in
-      rw (k .1) record { least = sym (least-one n wrongType); positions = refl }
+      rw (k .1) record { least = f ∙ sym (least-one q n wrongType); positions = refl }
 
   -- an item of the coordinates
-  pub polygon-array : (t : PolygonTally) (found : LeastFound) → isArray (kindAt p) ≡ true → (Listing p → TellsRings n (partsOf ringShape p) t)
-      → found ≡ lesser (leastFound (foundAt n (unless (isRingCount (t .rings)) badRing))) (t .least)
-      → TellsPolygon n (pick polygonShape x) (record { rings = t .rings; positions = t .positions; least = found })
+  pub polygon-array : (t : PolygonTally) (found : Least) → isArray (kindAt p) ≡ true → (Listing p → TellsRings q n (partsOf ringShape p) t)
+      → found ≡ lesser (leastFound q (foundAt n (unless (isRingCount (t .rings)) badRing))) (t .least)
+      → TellsPolygon q n (pick polygonShape x) (record { rings = t .rings; positions = t .positions; least = found })
   unfolding count
   polygon-array t found e g f =
       let k = array-picked shape.positions ceiling.rings ringShape x w e in
@@ -71,28 +68,29 @@ module _ {p : List ℕ} {x : Json} (w : Whole p x) (n : ℕ) where
         positions = rw (k .listed .parts) (h .positions);
         least =
             rw (k .listed .parts)
-            (f ∙ ap₂ lesser (ap (λ m. leastFound (foundAt n (unless (isRingCount m) badRing))) (h .rings)) (h .least)
-            ∙ sym (least-append (foundAt n (unless (isRingCount (length l)) badRing)) (ringsFound n l)));
+            (f ∙ ap₂ lesser (ap (λ m. leastFound q (foundAt n (unless (isRingCount m) badRing))) (h .rings)) (h .least)
+            ∙ sym (least-append q (foundAt n (unless (isRingCount (length l)) badRing)) (ringsFound n l)));
       }
 
-  pub polygon-other : isArray (kindAt p) ≡ false → TellsPolygon n (pick polygonShape x) (record { rings = 0; positions = 0; least = At n wrongType })
+  pub polygon-other : (found : Least) → isArray (kindAt p) ≡ false → found ≡ faultAt q n wrongType
+      → TellsPolygon q n (pick polygonShape x) (record { rings = 0; positions = 0; least = found })
   unfolding itemTotal
-  polygon-other e =
+  polygon-other found e f =
       let k = other-picked shape.positions ceiling.rings ringShape x w e in
-      rw (k .1) record { rings = refl; positions = refl; least = sym (least-one n wrongType) }
+      rw (k .1) record { rings = refl; positions = refl; least = f ∙ sym (least-one q n wrongType) }
 
 abbrev counts : (m k : ℕ) → List Found
 counts m k = foundAt 0 (unless (areZoneCounts m k) tooMany)
 
 -- all of field 73
-pub coordinates-found : {p : List ℕ} (t : ZoneTally) → (Listing p → TellsPolygons 1 (partsOf polygonShape p) t)
+pub coordinates-found : (q : Field) {p : List ℕ} (t : ZoneTally) → (Listing p → TellsPolygons q 1 (partsOf polygonShape p) t)
     → (x : Json) (is : PickedItems) → Whole p x → pick coordinates x ≡ items is
-    → lesser (leastFound (counts (t .polygons) (t .rings))) (t .least) ≡ leastFound (coordinatesFound is)
+    → lesser (leastFound q (counts (t .polygons) (t .rings))) (t .least) ≡ leastFound q (coordinatesFound is)
 unfolding coordinatesFound count coordinates
-coordinates-found {p} t g x is w e =
+coordinates-found q {p} t g x is w e =
     let k = items-parts shape.positions ceiling.polygons polygonShape x is w e in
     let h = g (k .listing) in let l = k .parts in
     ap₂ lesser
-    (ap₂ (λ m j. leastFound (counts m j)) (h .polygons ∙ ap length (sym l)) (h .rings ∙ ap itemTotal (sym l)))
-    (h .least ∙ ap (λ (ps : List Picked). leastFound (polygonsFound 1 ps)) (sym l))
-    ∙ sym (least-append (counts (length (listOf is)) (itemTotal (listOf is))) (polygonsFound 1 (listOf is)))
+    (ap₂ (λ m j. leastFound q (counts m j)) (h .polygons ∙ ap length (sym l)) (h .rings ∙ ap itemTotal (sym l)))
+    (h .least ∙ ap (λ (ps : List Picked). leastFound q (polygonsFound 1 ps)) (sym l))
+    ∙ sym (least-append q (counts (length (listOf is)) (itemTotal (listOf is))) (polygonsFound 1 (listOf is)))

@@ -11,16 +11,16 @@ use Rattle.decimal.specs.Cases.{deciding}
 use Rattle.geometry.specs.Cases.{holding}
 use Rattle.schema.specs.Table23.{coordinates, written23}
 use Rattle.schema.specs.Pick.{Picked, PickedItems, bare, items, slots, noItem, item, pickItems, pick, listOf}
+use Rattle.fault.specs.declared.Least.{Least}
+use Rattle.fault.specs.declared.Least.the-variants.{None, Is}
+use Rattle.fault.specs.Fault.{fault, before, lesser, least}
 use Rattle.scalar.specs.Scalars as scalar
-use Rattle.rings.specs.Rings.{Found, foundAt, count, coordinateKinds, coordinatesKinds, positionKinds, pointOf, position, noKinds, allSound, positionsFound, ringFound, ringsFound, itemTotal, polygonsFound, coordinatesFound}
-use Rattle.rings.specs.inner.Least.{earlier, lesser, leastFound}
+use Rattle.rings.specs.Rings.{Found, foundAt, numbered, count, coordinateKinds, numberKindsIn, positionKinds, pointOf, position, noKinds, allSound, positionsFound, ringFound, ringsFound, itemTotal, polygonsFound, coordinatesFound}
 use Rattle.rings.specs.inner.Parts.{ringShape, positionShape}
-use Rattle.rings.specs.declared.LeastFound.{LeastFound}
-use Rattle.rings.specs.declared.LeastFound.the-variants.{None, At}
 
 -- opens every definition of this layer
 unfoldable pub ringing : Unit {0}
-unfolding reading partTree deciding holding written23 pickItems pick scalar.formed scalar.sortKinds scalar.kindsOf foundAt listOf count coordinateKinds coordinatesKinds positionKinds pointOf position noKinds allSound positionsFound ringFound ringsFound itemTotal polygonsFound coordinatesFound earlier lesser leastFound
+unfolding reading partTree deciding holding written23 pickItems pick scalar.formedKinds scalar.sortKinds scalar.kindsOf foundAt numbered listOf count coordinateKinds numberKindsIn positionKinds pointOf position noKinds allSound positionsFound ringFound ringsFound itemTotal polygonsFound coordinatesFound before lesser least
 ringing = tt
 
 -- what is found in the coordinates that a text spells: positions' numbers and kinds
@@ -138,7 +138,11 @@ ringed n last = polygon (repeated n sound (last ∷ []))
 abbrev fourteen : List Picked → List Picked
 fourteen behind = repeated 7 (ringed 1 sound) behind
 
-abbrev many : List (Case (List Picked) LeastFound)
+-- a fault of field 73 in the first record
+abbrev At : (number kind : ℕ) → Least
+At number kind = Is (fault 1 73 number kind)
+
+abbrev many : List (Case (List Picked) Least)
 many =
     ("256 positions", polygon (triangle 253 "[0,0]" "[0,0]" ∷ []) ∷ [], None) ∷
     ("257", polygon (triangle 254 "[0,0]" "[0,0]" ∷ []) ∷ [], At 1 10) ∷
@@ -166,6 +170,6 @@ many =
     ("fifteen behind what is none", noArray ∷ fourteen (ringed 0 noArray ∷ []), At 1 7) ∷
     []
 
-many-answered : Answers (λ l. leastFound (coordinatesFound (itemsOf l))) many
+many-answered : Answers (λ l. least (numbered 1 73 (coordinatesFound (itemsOf l)))) many
 unfolding ringing repeated itemsOf
 many-answered = refl

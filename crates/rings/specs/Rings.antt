@@ -15,7 +15,9 @@ use Rattle.decimal.specs.Decimals.{numberOf}
 use Rattle.decimal.specs.Exact.{millionths}
 use Rattle.geometry.specs.Ring.{Point, sound}
 use Rattle.schema.specs.Shape as sort
-use Rattle.schema.specs.Pick.{Picked, PickedItems, bare, items, slots, listOf, elements, single}
+use Rattle.schema.specs.Pick.{Picked, PickedItems, bare, items, slots, listOf, elements, byValue}
+use Rattle.fault.specs.declared.Fault.{Fault}
+use Rattle.fault.specs.Fault.{fault}
 use Rattle.scalar.specs.Scalars.{unless, kindsOf}
 
 -- what is found at a position's number: its kind
@@ -27,6 +29,11 @@ unfoldable pub foundAt : ℕ → List ℕ → List Found
 foundAt n [] = []
 foundAt n (k ∷ ks) = record { number = n; kind = k } ∷ foundAt n ks
 
+-- faults of a field, each at its position's number
+unfoldable pub numbered : (rec field : ℕ) → List Found → List Fault
+numbered rec field [] = []
+numbered rec field (x ∷ l) = fault rec field (x .number) (x .kind) ∷ numbered rec field l
+
 -- how many items
 unfoldable pub count : PickedItems → ℕ
 count is = length (listOf is)
@@ -37,16 +44,16 @@ coordinateKinds σ (bare x) = kindsOf σ x
 coordinateKinds σ (items is) = wrongType ∷ []
 coordinateKinds σ (slots ss) = wrongType ∷ []
 
-unfoldable pub coordinatesKinds : List Picked → List ℕ
-coordinatesKinds [] = []
-coordinatesKinds (x ∷ []) = coordinateKinds sort.longitude x
-coordinatesKinds (x ∷ y ∷ []) = coordinateKinds sort.longitude x ++ coordinateKinds sort.latitude y
-coordinatesKinds (x ∷ y ∷ z ∷ rest) =
-    coordinateKinds sort.longitude x ++ coordinateKinds sort.latitude y ++ coordinateKinds sort.coordinate z
+unfoldable pub numberKindsIn : List Picked → List ℕ
+numberKindsIn [] = []
+numberKindsIn (x ∷ []) = coordinateKinds sort.longitude x
+numberKindsIn (x ∷ y ∷ []) = coordinateKinds sort.longitude x ++ coordinateKinds sort.latitude y
+numberKindsIn (x ∷ y ∷ z ∷ rest) =
+    coordinateKinds sort.longitude x ++ coordinateKinds sort.latitude y ++ coordinateKinds sort.anyNumber z
 
 -- a position: an array of two or three numbers
 unfoldable pub positionKinds : Picked → List ℕ
-positionKinds (items is) = unless (leb 2 (count is) and leb (count is) 3) badRing ++ coordinatesKinds (listOf is)
+positionKinds (items is) = unless (leb 2 (count is) and leb (count is) 3) badRing ++ numberKindsIn (listOf is)
 positionKinds (bare x) = wrongType ∷ []
 positionKinds (slots ss) = wrongType ∷ []
 
@@ -56,7 +63,7 @@ inMillionths (number.Value d) = millionths d
 inMillionths number.Unformed = pos 0
 
 abbrev pub coordinate : Picked → ℤ
-coordinate x = single (λ b. pos 0) (λ s. inMillionths (numberOf s)) (λ s. pos 0) (pos 0) x
+coordinate x = byValue (λ b. pos 0) (λ s. inMillionths (numberOf s)) (λ s. pos 0) (pos 0) x
 
 unfoldable pub pointOf : List Picked → Point
 pointOf [] = record { lon = pos 0; lat = pos 0 }

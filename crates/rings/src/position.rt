@@ -1,9 +1,11 @@
 // One position: an array of lon, lat and perhaps a third number.
 use crate::CoordinateFound;
-use crate::LeastFound;
+use crate::Field;
 use crate::PositionFound;
 use decimal::Number;
 use decimal::spelling::read_decimal;
+use fault::Least;
+use fault::lesser;
 use geometry::Position;
 use walk::ItemStep;
 use walk::ValueKind;
@@ -17,10 +19,8 @@ ghost use Rattle.json.specs.Tree.{Json};
 ghost use Rattle.walk.specs.Part.{Whole, kindAt};
 ghost use Rattle.schema.specs.Pick.{Picked, pick};
 ghost use Rattle.rings.specs.Rings.{foundAt, positionKinds, pointOf, position};
-ghost use Rattle.rings.specs.inner.Least.{leastFound};
-ghost use Rattle.rings.specs.declared.LeastFound.the-variants.{At};
 ghost use Rattle.geometry.specs.inner.Shifted.{OnMap, origin};
-ghost use Rattle.rings.specs.inner.Parts.{numberShape, positionShape, Listing, partsOf, Left, isArray, isNumber, FindsCoordinate, listKinds, restKinds, FindsPosition};
+ghost use Rattle.rings.specs.inner.Parts.{leastFound, numberShape, positionShape, Listing, partsOf, Left, isArray, isNumber, FindsCoordinate, listKinds, restKinds, FindsPosition};
 
 pub fn is_array(p: &[u8]) -> bool
     ensures { λ r. ⌜ r ≡ isArray (kindAt (now (p .entry))) ⌝ }
@@ -49,54 +49,51 @@ fn is_number(p: &[u8]) -> bool
 }
 
 impl CoordinateFound {
-    fn broken(number: u32, kind: u8) -> CoordinateFound
-        ensures { λ r. ⌜ r ≡ record { least = At number kind; value = 0 } ⌝ }
+    fn broken(least: Least) -> CoordinateFound
+        ensures { λ r. ⌜ r ≡ record { least = least; value = 0 } ⌝ }
     {
-        CoordinateFound {
-            least: LeastFound::At(number, kind),
-            value: 0,
-        }
+        CoordinateFound { least, value: 0 }
     }
 }
 
 // Lon or lat, from -most to most degrees.
-fn read_coordinate(p: &[u8], most: u64, number: u32) -> CoordinateFound
+fn read_coordinate(p: &[u8], most: u64, field: Field, number: u32) -> CoordinateFound
     requires { ⌜ most ≤ 180 ⌝ }
-    ensures { λ r. ⌜ (r .value ≤ most * 2_000_000) × ((x : Json) → Whole (now (p .entry)) x → FindsCoordinate most number (pick numberShape x) r) ⌝ }
+    ensures { λ r. ⌜ (r .value ≤ most * 2_000_000) × ((x : Json) → Whole (now (p .entry)) x → FindsCoordinate field most number (pick numberShape x) r) ⌝ }
 {
     if !is_number(p) {
-        return CoordinateFound::broken(number, Kind::WRONG_TYPE);
+        return CoordinateFound::broken(field.broken(number, Kind::WRONG_TYPE));
     }
     let Number::Value(d) = read_decimal(p) else {
-        return CoordinateFound::broken(number, Kind::NUMBER_FORM);
+        return CoordinateFound::broken(field.broken(number, Kind::NUMBER_FORM));
     };
     if !d.within(most) {
-        return CoordinateFound::broken(number, Kind::OUT_OF_RANGE);
+        return CoordinateFound::broken(field.broken(number, Kind::OUT_OF_RANGE));
     }
     CoordinateFound {
-        least: LeastFound::None,
+        least: Least::None,
         value: d.coordinate(most),
     }
 }
 
 // What follows lon and lat: nothing, or one number of any size.
-fn judge_rest(p: &[u8], at: usize, number: u32) -> LeastFound
-    ensures { λ r. ⌜ ((l : List Picked) → Left numberShape (now (p .entry)) at l → r ≡ leastFound (foundAt number (restKinds l))) ⌝ }
+fn judge_rest(p: &[u8], at: usize, field: Field, number: u32) -> Least
+    ensures { λ r. ⌜ ((l : List Picked) → Left numberShape (now (p .entry)) at l → r ≡ leastFound field (foundAt number (restKinds l))) ⌝ }
 {
     let ItemStep::Found(third) = pass_item(p, at) else {
-        return LeastFound::None;
+        return Least::None;
     };
     let from = third.value;
     let upto = third.value_end;
-    let least = LeastFound::unless(is_number(&p[from..upto]), number, Kind::WRONG_TYPE);
+    let least = field.unless(is_number(&p[from..upto]), number, Kind::WRONG_TYPE);
     let ItemStep::Found(fourth) = pass_item(p, third.next) else {
         return least;
     };
-    return LeastFound::At(number, Kind::BAD_RING).lesser(least);
+    return lesser(field.broken(number, Kind::BAD_RING), least);
 }
 
 impl PositionFound {
-    fn broken(least: LeastFound) -> PositionFound
+    fn broken(least: Least) -> PositionFound
         ensures { λ r. ⌜ r ≡ record { least = least; point = origin } ⌝ }
     {
         PositionFound {
@@ -107,21 +104,28 @@ impl PositionFound {
 }
 
 // Lat and what follows it, behind lon.
-fn judge_behind(p: &[u8], at: usize, lon: CoordinateFound, number: u32) -> PositionFound
+fn judge_behind(
+    p: &[u8],
+    at: usize,
+    lon: CoordinateFound,
+    field: Field,
+    number: u32,
+) -> PositionFound
     requires { ⌜ lon .value ≤ 180 * 2_000_000 ⌝ }
-    ensures { λ r. ⌜ OnMap (r .point) × ((x : Picked) (l : List Picked) → FindsCoordinate 180 number x lon → Left numberShape (now (p .entry)) at l → FindsPosition number (listKinds (x ∷ l)) (pointOf (x ∷ l)) r) ⌝ }
+    ensures { λ r. ⌜ OnMap (r .point) ×
+        ((x : Picked) (l : List Picked) → FindsCoordinate field 180 number x lon → Left numberShape (now (p .entry)) at l → FindsPosition field number (listKinds (x ∷ l)) (pointOf (x ∷ l)) r) ⌝ }
 {
     let east = lon.least;
     let ItemStep::Found(second) = pass_item(p, at) else {
-        return PositionFound::broken(LeastFound::At(number, Kind::BAD_RING).lesser(east));
+        return PositionFound::broken(lesser(field.broken(number, Kind::BAD_RING), east));
     };
     let from = second.value;
     let upto = second.value_end;
-    let lat = read_coordinate(&p[from..upto], 90, number);
+    let lat = read_coordinate(&p[from..upto], 90, field, number);
     let north = lat.least;
-    let rest = judge_rest(p, second.next, number);
+    let rest = judge_rest(p, second.next, field, number);
     PositionFound {
-        least: east.lesser(north.lesser(rest)),
+        least: lesser(east, lesser(north, rest)),
         point: Position {
             lon: lon.value,
             lat: lat.value,
@@ -129,24 +133,25 @@ fn judge_behind(p: &[u8], at: usize, lon: CoordinateFound, number: u32) -> Posit
     }
 }
 
-fn judge_numbers(p: &[u8], number: u32) -> PositionFound
-    ensures { λ r. ⌜ OnMap (r .point) × (Listing (now (p .entry)) → FindsPosition number (listKinds (partsOf numberShape (now (p .entry)))) (pointOf (partsOf numberShape (now (p .entry)))) r) ⌝ }
+fn judge_numbers(p: &[u8], field: Field, number: u32) -> PositionFound
+    ensures { λ r. ⌜ OnMap (r .point) ×
+        (Listing (now (p .entry)) → FindsPosition field number (listKinds (partsOf numberShape (now (p .entry)))) (pointOf (partsOf numberShape (now (p .entry)))) r) ⌝ }
 {
     let ItemStep::Found(first) = pass_item(p, 1) else {
-        return PositionFound::broken(LeastFound::At(number, Kind::BAD_RING));
+        return PositionFound::broken(field.broken(number, Kind::BAD_RING));
     };
     let from = first.value;
     let upto = first.value_end;
-    let lon = read_coordinate(&p[from..upto], 180, number);
-    return judge_behind(p, first.next, lon, number);
+    let lon = read_coordinate(&p[from..upto], 180, field, number);
+    return judge_behind(p, first.next, lon, field, number);
 }
 
 // The least kind of a position, at its number; and its point, where it is sound.
-pub fn judge_position(p: &[u8], number: u32) -> PositionFound
-    ensures { λ r. ⌜ OnMap (r .point) × ((x : Json) → Whole (now (p .entry)) x → FindsPosition number (positionKinds (pick positionShape x)) (position (pick positionShape x)) r) ⌝ }
+pub fn judge_position(p: &[u8], field: Field, number: u32) -> PositionFound
+    ensures { λ r. ⌜ OnMap (r .point) × ((x : Json) → Whole (now (p .entry)) x → FindsPosition field number (positionKinds (pick positionShape x)) (position (pick positionShape x)) r) ⌝ }
 {
     if !is_array(p) {
-        return PositionFound::broken(LeastFound::At(number, Kind::WRONG_TYPE));
+        return PositionFound::broken(field.broken(number, Kind::WRONG_TYPE));
     }
-    return judge_numbers(p, number);
+    return judge_numbers(p, field, number);
 }

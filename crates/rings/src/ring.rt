@@ -1,9 +1,11 @@
 // One ring: its positions, numbered one after the other.
+use crate::Field;
 use crate::Judged;
-use crate::LeastFound;
 use crate::RingPoints;
 use crate::position::is_array;
 use crate::position::judge_position;
+use fault::Least;
+use fault::lesser;
 use geometry::ring::sound;
 use limits::Limits;
 use walk::ItemStep;
@@ -32,14 +34,14 @@ fn keep(xs: &mut [u64; 256], i: u32, v: u64)
 }
 
 // The positions of the ring p, the first with the number n.
-pub fn read_ring(p: &[u8], n: u32) -> RingPoints
+pub fn read_ring(p: &[u8], field: Field, n: u32) -> RingPoints
     requires { ⌜ n + length (now p) < 2 ^ 32 ⌝ }
-    ensures { λ r. ⌜ RingRoom (length (now (p .entry))) r × (Listing (now (p .entry)) → RingRead n (partsOf positionShape (now (p .entry))) r) ⌝ }
+    ensures { λ r. ⌜ RingRoom (length (now (p .entry))) r × (Listing (now (p .entry)) → RingRead field n (partsOf positionShape (now (p .entry))) r) ⌝ }
 {
     let mut lons: [u64; 256] = [0; 256];
     let mut lats: [u64; 256] = [0; 256];
     let mut count: u32 = 0;
-    let mut least = LeastFound::None;
+    let mut least = Least::None;
     let mut at: usize = 1;
     loop {
         let ItemStep::Found(item) = pass_item(p, at) else {
@@ -52,10 +54,10 @@ pub fn read_ring(p: &[u8], n: u32) -> RingPoints
         };
         let from = item.value;
         let upto = item.value_end;
-        let position = judge_position(&p[from..upto], n + count);
+        let position = judge_position(&p[from..upto], field, n + count);
         let first = position.least;
         let point = position.point;
-        least = least.lesser(first);
+        least = lesser(least, first);
         keep(&mut lons, count, point.lon);
         keep(&mut lats, count, point.lat);
         count += 1;
@@ -68,38 +70,46 @@ pub fn ring_points(p: &[u8]) -> RingPoints
     requires { ⌜ length (now p) ≤ fileBytes ⌝ }
     ensures { λ r. ⌜ ((x : Json) (is : PickedItems) (n : ℕ) → Whole (now (p .entry)) x → pick ringShape x ≡ itemsAre is → ringFound n (listOf is) ≡ [] → Outlined (listOf is) r) ⌝ }
 {
-    read_ring(p, 0)
+    read_ring(
+        p,
+        Field {
+            record: 0,
+            field: 0,
+        },
+        0,
+    )
 }
 
 // The area of a ring is asked for where its positions are all sound and there is room for them. With more of them kind 10 stands
 // at the same number and comes before kind 11.
-fn judge_area(r: RingPoints, n: u32) -> LeastFound
+fn judge_area(r: RingPoints, field: Field, n: u32) -> Least
     requires { ⌜ Charted (r .lons) (r .lats) ⌝ }
-    ensures { λ o. ⌜ o ≡ areaLeast n r ⌝ }
+    ensures { λ o. ⌜ o ≡ areaLeast field n r ⌝ }
 {
     let least = r.least;
-    let LeastFound::None = least else {
-        return LeastFound::None;
+    let Least::None = least else {
+        return Least::None;
     };
     if (Limits::POSITIONS as u32) < r.count {
-        return LeastFound::None;
+        return Least::None;
     }
     let count = r.count as usize;
     let lons = r.lons;
     let lats = r.lats;
-    return LeastFound::unless(sound(&lons[..count], &lats[..count]), n, Kind::BAD_RING);
+    return field.unless(sound(&lons[..count], &lats[..count]), n, Kind::BAD_RING);
 }
 
-fn judge_positions(p: &[u8], n: u32) -> Judged
+fn judge_positions(p: &[u8], field: Field, n: u32) -> Judged
     requires { ⌜ n + length (now p) < 2 ^ 32 ⌝ }
-    ensures { λ r. ⌜ (r .positions ≤ length (now (p .entry))) × (Listing (now (p .entry)) → Tells (ringFound n (partsOf positionShape (now (p .entry)))) (length (partsOf positionShape (now (p .entry)))) r) ⌝ }
+    ensures { λ r. ⌜ (r .positions ≤ length (now (p .entry))) ×
+        (Listing (now (p .entry)) → Tells field (ringFound n (partsOf positionShape (now (p .entry)))) (length (partsOf positionShape (now (p .entry)))) r) ⌝ }
 {
-    let r = read_ring(p, n);
+    let r = read_ring(p, field, n);
     let count = r.count;
-    let few = LeastFound::unless(4 <= count, n, Kind::BAD_RING);
-    let many = LeastFound::unless(count <= Limits::POSITIONS as u32, n, Kind::TOO_MANY);
+    let few = field.unless(4 <= count, n, Kind::BAD_RING);
+    let many = field.unless(count <= Limits::POSITIONS as u32, n, Kind::TOO_MANY);
     let found = r.least;
-    let least = few.lesser(many).lesser(found).lesser(judge_area(r, n));
+    let least = lesser(lesser(lesser(few, many), found), judge_area(r, field, n));
     Judged {
         positions: count,
         least,
@@ -107,15 +117,15 @@ fn judge_positions(p: &[u8], n: u32) -> Judged
 }
 
 // An item of a polygon, whose first position has the number n.
-pub fn judge_ring(p: &[u8], n: u32) -> Judged
+pub fn judge_ring(p: &[u8], field: Field, n: u32) -> Judged
     requires { ⌜ n + length (now p) < 2 ^ 32 ⌝ }
-    ensures { λ r. ⌜ (r .positions ≤ length (now (p .entry))) × ((x : Json) → Whole (now (p .entry)) x → Tells (ring n (pick ringShape x)) (itemCount (pick ringShape x)) r) ⌝ }
+    ensures { λ r. ⌜ (r .positions ≤ length (now (p .entry))) × ((x : Json) → Whole (now (p .entry)) x → Tells field (ring n (pick ringShape x)) (itemCount (pick ringShape x)) r) ⌝ }
 {
     if !is_array(p) {
         return Judged {
             positions: 0,
-            least: LeastFound::At(n, Kind::WRONG_TYPE),
+            least: field.broken(n, Kind::WRONG_TYPE),
         };
     }
-    return judge_positions(p, n);
+    return judge_positions(p, field, n);
 }

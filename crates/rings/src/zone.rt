@@ -1,9 +1,11 @@
 // All of a zone's coordinates: polygons of rings.
-use crate::LeastFound;
+use crate::Field;
 use crate::PolygonTally;
 use crate::ZoneTally;
 use crate::position::is_array;
 use crate::ring::judge_ring;
+use fault::Least;
+use fault::lesser;
 use limits::Limits;
 use walk::ItemStep;
 use walk::pass_item;
@@ -17,17 +19,16 @@ ghost use Rattle.walk.specs.Part.{Whole};
 ghost use Rattle.schema.specs.Pick.{PickedItems, items as itemsAre, pick};
 ghost use Rattle.schema.specs.Table23.{coordinates};
 ghost use Rattle.rings.specs.Rings.{isRingCount, areZoneCounts, coordinatesFound};
-ghost use Rattle.rings.specs.inner.Least.{leastFound};
-ghost use Rattle.rings.specs.inner.Parts.{ringShape, polygonShape, Listing, partsOf, PolygonRoom, TellsRings, TellsPolygon, TellsPolygons};
+ghost use Rattle.rings.specs.inner.Parts.{leastFound, ringShape, polygonShape, Listing, partsOf, PolygonRoom, TellsRings, TellsPolygon, TellsPolygons};
 
 // The items of the polygon p, the first position of which has the number n.
-fn judge_rings(p: &[u8], n: u32) -> PolygonTally
+fn judge_rings(p: &[u8], field: Field, n: u32) -> PolygonTally
     requires { ⌜ n + length (now p) < 2 ^ 32 ⌝ }
-    ensures { λ r. ⌜ PolygonRoom (length (now (p .entry))) r × (Listing (now (p .entry)) → TellsRings n (partsOf ringShape (now (p .entry))) r) ⌝ }
+    ensures { λ r. ⌜ PolygonRoom (length (now (p .entry))) r × (Listing (now (p .entry)) → TellsRings field n (partsOf ringShape (now (p .entry))) r) ⌝ }
 {
     let mut rings: u32 = 0;
     let mut positions: u32 = 0;
-    let mut least = LeastFound::None;
+    let mut least = Least::None;
     let mut at: usize = 1;
     loop {
         let ItemStep::Found(item) = pass_item(p, at) else {
@@ -39,9 +40,9 @@ fn judge_rings(p: &[u8], n: u32) -> PolygonTally
         };
         let from = item.value;
         let upto = item.value_end;
-        let judged = judge_ring(&p[from..upto], n + positions);
+        let judged = judge_ring(&p[from..upto], field, n + positions);
         let first = judged.least;
-        least = least.lesser(first);
+        least = lesser(least, first);
         rings += 1;
         positions += judged.positions;
         at = item.next;
@@ -59,35 +60,38 @@ fn is_ring_count(rings: u32) -> bool
 }
 
 // An item of the coordinates, whose first position has the number n.
-fn judge_polygon(p: &[u8], n: u32) -> PolygonTally
+fn judge_polygon(p: &[u8], field: Field, n: u32) -> PolygonTally
     requires { ⌜ n + length (now p) < 2 ^ 32 ⌝ }
-    ensures { λ r. ⌜ PolygonRoom (length (now (p .entry))) r × ((x : Json) → Whole (now (p .entry)) x → TellsPolygon n (pick polygonShape x) r) ⌝ }
+    ensures { λ r. ⌜ PolygonRoom (length (now (p .entry))) r × ((x : Json) → Whole (now (p .entry)) x → TellsPolygon field n (pick polygonShape x) r) ⌝ }
 {
     if !is_array(p) {
         return PolygonTally {
             rings: 0,
             positions: 0,
-            least: LeastFound::At(n, Kind::WRONG_TYPE),
+            least: field.broken(n, Kind::WRONG_TYPE),
         };
     }
-    let tally = judge_rings(p, n);
+    let tally = judge_rings(p, field, n);
     let found = tally.least;
     PolygonTally {
         rings: tally.rings,
         positions: tally.positions,
-        least: LeastFound::unless(is_ring_count(tally.rings), n, Kind::BAD_RING).lesser(found),
+        least: lesser(
+            field.unless(is_ring_count(tally.rings), n, Kind::BAD_RING),
+            found,
+        ),
     }
 }
 
 // The items of the coordinates p, the first position of which has the number n.
-fn judge_polygons(p: &[u8], n: u32) -> ZoneTally
+fn judge_polygons(p: &[u8], field: Field, n: u32) -> ZoneTally
     requires { ⌜ n + length (now p) < 2 ^ 32 ⌝ }
-    ensures { λ r. ⌜ (Listing (now (p .entry)) → TellsPolygons n (partsOf polygonShape (now (p .entry))) r) ⌝ }
+    ensures { λ r. ⌜ (Listing (now (p .entry)) → TellsPolygons field n (partsOf polygonShape (now (p .entry))) r) ⌝ }
 {
     let mut polygons: u32 = 0;
     let mut rings: u32 = 0;
     let mut positions: u32 = 0;
-    let mut least = LeastFound::None;
+    let mut least = Least::None;
     let mut at: usize = 1;
     loop {
         let ItemStep::Found(item) = pass_item(p, at) else {
@@ -99,9 +103,9 @@ fn judge_polygons(p: &[u8], n: u32) -> ZoneTally
         };
         let from = item.value;
         let upto = item.value_end;
-        let judged = judge_polygon(&p[from..upto], n + positions);
+        let judged = judge_polygon(&p[from..upto], field, n + positions);
         let first = judged.least;
-        least = least.lesser(first);
+        least = lesser(least, first);
         polygons += 1;
         rings += judged.rings;
         positions += judged.positions;
@@ -122,15 +126,18 @@ fn are_zone_counts(polygons: u32, rings: u32) -> bool
 // The first fault of the array that field 73 is.
 // Shut out: a count of polygons, rings or positions that hides another fault; rings of a zone counted in one polygon only; a ring compared
 // before it is rounded to six decimals; a number that is off by one.
-pub fn judge_coordinates(p: &[u8]) -> LeastFound
+pub fn judge_coordinates(p: &[u8], field: Field) -> Least
     requires { ⌜ length (now p) ≤ fileBytes ⌝ }
-    ensures { λ r. ⌜ ((x : Json) (is : PickedItems) → Whole (now (p .entry)) x → pick coordinates x ≡ itemsAre is → r ≡ leastFound (coordinatesFound is)) ⌝ }
+    ensures { λ r. ⌜ ((x : Json) (is : PickedItems) → Whole (now (p .entry)) x → pick coordinates x ≡ itemsAre is → r ≡ leastFound field (coordinatesFound is)) ⌝ }
 {
-    let zone = judge_polygons(p, 1);
+    let zone = judge_polygons(p, field, 1);
     let found = zone.least;
-    LeastFound::unless(
-        are_zone_counts(zone.polygons, zone.rings),
-        0,
-        Kind::TOO_MANY,
-    ).lesser(found)
+    lesser(
+        field.unless(
+            are_zone_counts(zone.polygons, zone.rings),
+            0,
+            Kind::TOO_MANY,
+        ),
+        found,
+    )
 }

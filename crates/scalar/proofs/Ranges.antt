@@ -12,7 +12,7 @@ use Rattle.decimal.specs.declared.Price.{Price}
 use Rattle.decimal.specs.declared.Price.the-variants as price
 use Rattle.decimal.specs.declared.Money.the-variants as money
 use Rattle.decimal.specs.Exact.{natural, moneyOf}
-use Rattle.scalar.specs.Scalars.{unless, formed, anyMoney, priceMoney, pricing}
+use Rattle.scalar.specs.Scalars.{unless, formedKinds, anyMoney, priceMoney, pricing}
 
 -- money
 module _ (d : Decimal) where
@@ -34,17 +34,17 @@ module _ (d : Decimal) where
 
 -- what a test of the exact value says, of a number and of a price in quotation marks
 module _ {r : List ℕ} (d : Decimal) (kept : Bool) (says : unless kept outOfRange ≡ r) where
-  pub formed-value : (test : Decimal → Bool) {n : Number} → n ≡ number.Value d → kept ≡ test d → formed test n ≡ r
-  unfolding formed
-  formed-value test e k = ap (formed test) e ∙ ap (λ (t : Bool). unless t outOfRange) (sym k) ∙ says
+  pub formed-value : (test : Decimal → Bool) {n : Number} → n ≡ number.Value d → kept ≡ test d → formedKinds test n ≡ r
+  unfolding formedKinds
+  formed-value test e k = ap (formedKinds test) e ∙ ap (λ (t : Bool). unless t outOfRange) (sym k) ∙ says
 
   pub pricing-value : {n : Price} → n ≡ price.Value d → kept ≡ priceMoney d → pricing n ≡ r
   unfolding pricing
   pricing-value e k = ap pricing e ∙ ap (λ (t : Bool). unless t outOfRange) (sym k) ∙ says
 
-pub formed-unformed : (test : Decimal → Bool) {n : Number} → n ≡ number.Unformed → formed test n ≡ numberForm ∷ []
-unfolding formed
-formed-unformed test e = ap (formed test) e
+pub formed-unformed : (test : Decimal → Bool) {n : Number} → n ≡ number.Unformed → formedKinds test n ≡ numberForm ∷ []
+unfolding formedKinds
+formed-unformed test e = ap (formedKinds test) e
 
 pub pricing-unformed : {n : Price} → n ≡ price.Unformed → pricing n ≡ numberForm ∷ []
 unfolding pricing

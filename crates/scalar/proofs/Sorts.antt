@@ -45,7 +45,7 @@ module _ {letter : ℕ} where
   no-number s t n f o y x z m p sort.portion e = absurd (o (sym e))
   no-number s t n f o y x z m p sort.latitude e = absurd (y (sym e))
   no-number s t n f o y x z m p sort.longitude e = absurd (x (sym e))
-  no-number s t n f o y x z m p sort.coordinate e = absurd (z (sym e))
+  no-number s t n f o y x z m p sort.anyNumber e = absurd (z (sym e))
   no-number s t n f o y x z m p sort.money e = absurd (m (sym e))
   no-number s t n f o y x z m p sort.price e = absurd (p (sym e))
   no-number s t n f o y x z m p sort.boolean e = refl
@@ -64,7 +64,7 @@ module _ {letter : ℕ} where
   no-text s p t i c x w sort.portion e = refl
   no-text s p t i c x w sort.latitude e = refl
   no-text s p t i c x w sort.longitude e = refl
-  no-text s p t i c x w sort.coordinate e = refl
+  no-text s p t i c x w sort.anyNumber e = refl
   no-text s p t i c x w sort.money e = refl
   no-text s p t i c x w sort.price e = absurd (p (sym e))
   no-text s p t i c x w sort.boolean e = refl
@@ -82,7 +82,7 @@ module _ {letter : ℕ} where
   no-boolean b sort.portion e = refl
   no-boolean b sort.latitude e = refl
   no-boolean b sort.longitude e = refl
-  no-boolean b sort.coordinate e = refl
+  no-boolean b sort.anyNumber e = refl
   no-boolean b sort.money e = refl
   no-boolean b sort.price e = refl
   no-boolean b sort.boolean e = absurd (b (sym e))

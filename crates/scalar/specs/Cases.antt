@@ -14,13 +14,12 @@ use Rattle.text.specs.Cases.{comparing}
 use Rattle.decimal.specs.Cases.{deciding}
 use Rattle.schema.specs.Shape as sort
 use Rattle.schema.specs.Shape.{Sort}
-use Rattle.schema.specs.Table23.{table23, written23}
-use Rattle.schema.specs.inner.Line.{wordsAt, laidOut}
-use Rattle.scalar.specs.Scalars.{formed, anyMoney, priceMoney, pricing, anyWord, kindsOf, sortKinds}
+use Rattle.schema.specs.Words.{formFactors}
+use Rattle.scalar.specs.Scalars.{formedKinds, anyMoney, priceMoney, pricing, anyWord, kindsOf, sortKinds}
 
 -- opens every definition of this layer
 unfoldable pub judging : Unit {0}
-unfolding comparing deciding formed anyMoney priceMoney pricing anyWord sortKinds kindsOf
+unfolding comparing deciding formedKinds anyMoney priceMoney pricing anyWord sortKinds kindsOf
 judging = tt
 
 -- what a value says against a sort: nothing is wrong, or one of three kinds
@@ -77,8 +76,8 @@ numbers =
     ("past the greatest", (sort.longitude, "180.00000001"), astray) ∷
     ("below the least", (sort.longitude, "-181"), astray) ∷
     ("an exponent", (sort.longitude, "18e1"), unformed) ∷
-    ("a third number of any size", (sort.coordinate, "-1e400"), sound) ∷
-    ("of any length", (sort.coordinate, "12345678901234567890"), sound) ∷
+    ("a third number of any size", (sort.anyNumber, "-1e400"), sound) ∷
+    ("of any length", (sort.anyNumber, "12345678901234567890"), sound) ∷
     ("a million", (sort.money, "1000000"), sound) ∷
     ("a million below zero", (sort.money, "-1000000"), sound) ∷
     ("zeros behind ten-thousandths", (sort.money, "0.25000"), sound) ∷
@@ -96,12 +95,12 @@ numbers-answered : Answers (λ c. kindsOf (c .0) (tree.number (bytes (c .1)))) n
 unfolding judging
 numbers-answered = refl
 
--- strings as spelled between their quotation marks; line 6 of the table is the form factor's
+-- strings as spelled between their quotation marks
 abbrev feature : Sort
 feature = sort.exactly (bytes "Feature")
 
 abbrev formFactor : Sort
-formFactor = sort.word (wordsAt table23 6)
+formFactor = sort.word formFactors
 
 abbrev strings : List (Case (Sort × String) (List ℕ))
 strings =
@@ -139,7 +138,7 @@ strings =
     []
 
 strings-answered : Answers (λ c. kindsOf (c .0) (tree.string (textOf (bytes (c .1))))) strings
-unfolding judging laidOut written23
+unfolding judging formFactors
 strings-answered = refl
 
 -- ids, by how many bytes they have when they are decoded
@@ -176,7 +175,7 @@ types =
     ("portion", sort.portion, numeric) ∷
     ("latitude", sort.latitude, numeric) ∷
     ("longitude", sort.longitude, numeric) ∷
-    ("third number of a position", sort.coordinate, numeric) ∷
+    ("third number of a position", sort.anyNumber, numeric) ∷
     ("money", sort.money, numeric) ∷
     ("price", sort.price, sound ∷ astray ∷ mistyped ∷ mistyped ∷ mistyped ∷ mistyped ∷ []) ∷
     ("text", sort.text, textual sound) ∷

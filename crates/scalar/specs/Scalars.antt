@@ -27,9 +27,9 @@ unless true kind = []
 unless false kind = kind ∷ []
 
 -- a number in the form of listed numbers, against a test of its exact value
-unfoldable pub formed : (Decimal → Bool) → Number → List ℕ
-formed test (number.Value d) = unless (test d) outOfRange
-formed test number.Unformed = numberForm ∷ []
+unfoldable pub formedKinds : (Decimal → Bool) → Number → List ℕ
+formedKinds test (number.Value d) = unless (test d) outOfRange
+formedKinds test number.Unformed = numberForm ∷ []
 
 unfoldable pub anyMoney : Decimal → Bool
 anyMoney d = elim (moneyOf d) [ money.Is a ↦ true | money.Outside ↦ false ]
@@ -62,20 +62,20 @@ strings kinds = record { ofNumber = λ s. wrongType ∷ []; ofText = kinds; ofBo
 
 -- an integer first of all has no point
 abbrev pub whole : List ℕ → List ℕ
-whole s = hasPoint s ⇒ wrongType ∷ [] else formed natural (numberOf s)
+whole s = hasPoint s ⇒ wrongType ∷ [] else formedKinds natural (numberOf s)
 
 -- sort by sort
 unfoldable pub sortKinds : Sort → Kinds
 sortKinds sort.timestamp = numbers whole
 sortKinds sort.integer = numbers whole
-sortKinds sort.amount = numbers (λ s. formed natural (numberOf s))
-sortKinds sort.portion = numbers (λ s. formed portion (numberOf s))
-sortKinds sort.latitude = numbers (λ s. formed (inRange 90) (numberOf s))
-sortKinds sort.longitude = numbers (λ s. formed (inRange 180) (numberOf s))
-sortKinds sort.coordinate = numbers (λ s. [])
-sortKinds sort.money = numbers (λ s. formed anyMoney (numberOf s))
+sortKinds sort.amount = numbers (λ s. formedKinds natural (numberOf s))
+sortKinds sort.portion = numbers (λ s. formedKinds portion (numberOf s))
+sortKinds sort.latitude = numbers (λ s. formedKinds (inRange 90) (numberOf s))
+sortKinds sort.longitude = numbers (λ s. formedKinds (inRange 180) (numberOf s))
+sortKinds sort.anyNumber = numbers (λ s. [])
+sortKinds sort.money = numbers (λ s. formedKinds anyMoney (numberOf s))
 sortKinds sort.price =
-    record { ofNumber = λ s. formed priceMoney (numberOf s); ofText = λ s. pricing (priceOf s); ofBoolean = wrongType ∷ [] }
+    record { ofNumber = λ s. formedKinds priceMoney (numberOf s); ofText = λ s. pricing (priceOf s); ofBoolean = wrongType ∷ [] }
 sortKinds sort.boolean = record { ofNumber = λ s. wrongType ∷ []; ofText = λ s. wrongType ∷ []; ofBoolean = [] }
 sortKinds sort.text = strings (λ s. [])
 sortKinds sort.id = strings (λ s. unless (not (ltb idBytes (length s))) outOfRange)

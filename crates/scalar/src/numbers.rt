@@ -15,7 +15,7 @@ ghost use Rattle.decimal.specs.Exact.{natural};
 ghost use Rattle.decimal.specs.inner.Formed.{Formed};
 ghost use Rattle.schema.specs.Shape.{Sort};
 ghost use Rattle.schema.specs.inner.Line.{sortLetter};
-ghost use Rattle.scalar.specs.Scalars.{unless, formed, anyMoney, numberKinds};
+ghost use Rattle.scalar.specs.Scalars.{unless, formedKinds, anyMoney, numberKinds};
 ghost use Rattle.scalar.specs.inner.Listed.{listed, inBounds};
 
 // What the exact value of a number is held to: at least 0; from 0 to 1; so many degrees either way; an amount of money; one that is at least 0.
@@ -75,7 +75,7 @@ pub fn range_kind(kept: bool) -> u8
 
 // A listed number's form, and then its range.
 fn formed_kind(s: &[u8], bounds: Bounds) -> u8
-    ensures { λ r. ⌜ formed (inBounds bounds) (numberOf (now (s .entry))) ≡ listed r ⌝ }
+    ensures { λ r. ⌜ formedKinds (inBounds bounds) (numberOf (now (s .entry))) ≡ listed r ⌝ }
 {
     match read_decimal(s) {
         Number::Value(d) => range_kind(keeps(bounds, d)),
@@ -86,7 +86,7 @@ fn formed_kind(s: &[u8], bounds: Bounds) -> u8
 // An integer: it has no point, whatever else is wrong with it.
 // Shut out: 1.0 taken for 1; 1.5e1 judged by its form, and not as no integer.
 fn integer_kind(s: &[u8]) -> u8
-    ensures { λ r. ⌜ hasPoint (now (s .entry)) ⇒ wrongType ∷ [] else formed natural (numberOf (now (s .entry))) ≡ listed r ⌝ }
+    ensures { λ r. ⌜ hasPoint (now (s .entry)) ⇒ wrongType ∷ [] else formedKinds natural (numberOf (now (s .entry))) ≡ listed r ⌝ }
 {
     if has_point(s) {
         return Kind::WRONG_TYPE;

@@ -26,7 +26,7 @@ sortFrom letter words =
     eqb letter (code "%") ⇒ shape.portion else
     eqb letter (code "y") ⇒ shape.latitude else
     eqb letter (code "x") ⇒ shape.longitude else
-    eqb letter (code "z") ⇒ shape.coordinate else
+    eqb letter (code "z") ⇒ shape.anyNumber else
     eqb letter (code "m") ⇒ shape.money else
     eqb letter (code "p") ⇒ shape.price else
     eqb letter (code "B") ⇒ shape.boolean else
@@ -43,7 +43,7 @@ sort-from shape.amount = refl
 sort-from shape.portion = refl
 sort-from shape.latitude = refl
 sort-from shape.longitude = refl
-sort-from shape.coordinate = refl
+sort-from shape.anyNumber = refl
 sort-from shape.money = refl
 sort-from shape.price = refl
 sort-from shape.boolean = refl
@@ -68,7 +68,7 @@ sort-sortal shape.amount = refl
 sort-sortal shape.portion = refl
 sort-sortal shape.latitude = refl
 sort-sortal shape.longitude = refl
-sort-sortal shape.coordinate = refl
+sort-sortal shape.anyNumber = refl
 sort-sortal shape.money = refl
 sort-sortal shape.price = refl
 sort-sortal shape.boolean = refl

@@ -13,7 +13,7 @@ use Rattle.text.proofs.Laws.{same-refl, same-true}
 use Rattle.schema.specs.Shape as shape
 use Rattle.schema.specs.Shape.{Shape, Rows, Need}
 use Rattle.schema.specs.Pick as picking
-use Rattle.schema.specs.Pick.{Slot, missing, once, twice, again, find, unlessEmpty, filled, put, Picked, items, slots, Slots, absent, present, repeated, pickItems, pick, pickRows}
+use Rattle.schema.specs.Pick.{Slot, missing, once, twice, again, find, unlessEmpty, unlessBlank, put, Picked, items, slots, Slots, absent, present, repeated, pickItems, pick, pickRows}
 use Rattle.schema.specs.Later.{Later, LaterItems, LaterMembers, unchanged, afterwards, inArray, inObject, noItem′, item′, noMember′, kept, swapped, added, andThen, itemShape, rowsOf, listedIn, shapeIn, memberShape, listed}
 use Rattle.schema.specs.inner.Sound.{distinctNames, distinctRows}
 use Rattle.schema.proofs.Tests.{and-left, and-right}
@@ -128,15 +128,15 @@ put-over field f missing rest = refl
 put-over field f (once x) rest = refl
 put-over field f twice rest = refl
 
-over-given : (σ : Shape) (s : Slot Json) → over (pick σ) (filled s) ≡ alone (over (seen σ) s)
+over-given : (σ : Shape) (s : Slot Json) → over (pick σ) (unlessBlank s) ≡ alone (over (seen σ) s)
 unfolding over alone seen
 over-given σ missing = refl
 over-given σ (once x) = refl
 over-given σ twice = refl
 
 -- a row's slot, by the members of its name
-put-seen : (field : ℕ) (σ : Shape) (s : Slot Json) (rest : Slots) → put field (λ y. pick σ y) (filled s) rest ≡ place field (alone (over (seen σ) s)) rest
-put-seen field σ s rest = put-over field (pick σ) (filled s) rest ∙ ap (λ (p : Slot Picked). place field p rest) (over-given σ s)
+put-seen : (field : ℕ) (σ : Shape) (s : Slot Json) (rest : Slots) → put field (λ y. pick σ y) (unlessBlank s) rest ≡ place field (alone (over (seen σ) s)) rest
+put-seen field σ s rest = put-over field (pick σ) (unlessBlank s) rest ∙ ap (λ (p : Slot Picked). place field p rest) (over-given σ s)
 
 -- Objects: the members of each listed name decide.
 

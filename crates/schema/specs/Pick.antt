@@ -84,10 +84,10 @@ unlessEmpty (tree.string (b ∷ s)) = once (tree.string (b ∷ s))
 unlessEmpty (tree.array is) = once (tree.array is)
 unlessEmpty (tree.object ms) = once (tree.object ms)
 
-abbrev pub filled : Slot Json → Slot Json
-filled missing = missing
-filled (once x) = unlessEmpty x
-filled twice = twice
+abbrev pub unlessBlank : Slot Json → Slot Json
+unlessBlank missing = missing
+unlessBlank (once x) = unlessEmpty x
+unlessBlank twice = twice
 
 abbrev pub put : ℕ → (Json → Picked) → Slot Json → Slots → Slots
 put field f missing rest = absent field rest
@@ -103,7 +103,7 @@ unfoldable mutual
 
   pub pickRows : Rows → Members → Slots
   pickRows shape.noRow ms = noSlot
-  pickRows (shape.row field need name σ rows) ms = put field (λ y. pick σ y) (filled (find name ms)) (pickRows rows ms)
+  pickRows (shape.row field need name σ rows) ms = put field (λ y. pick σ y) (unlessBlank (find name ms)) (pickRows rows ms)
 
 -- the slot of a field
 unfoldable pub slotOf : ℕ → Slots → Slot Picked
@@ -124,12 +124,12 @@ elements (bare x) = []
 elements (slots ss) = []
 
 -- by what a single value is: the truth of a boolean, the spelling of a number, the text of a string; anything else is `other`
-abbrev pub single : {A : Type 0} → (Bool → A) → (List ℕ → A) → (List ℕ → A) → (other : A) → Picked → A
-single truth spelling text other (bare tree.null) = other
-single truth spelling text other (bare (tree.boolean b)) = truth b
-single truth spelling text other (bare (tree.number s)) = spelling s
-single truth spelling text other (bare (tree.string s)) = text s
-single truth spelling text other (bare (tree.array is)) = other
-single truth spelling text other (bare (tree.object ms)) = other
-single truth spelling text other (items is) = other
-single truth spelling text other (slots ss) = other
+abbrev pub byValue : {A : Type 0} → (Bool → A) → (List ℕ → A) → (List ℕ → A) → (other : A) → Picked → A
+byValue truth spelling text other (bare tree.null) = other
+byValue truth spelling text other (bare (tree.boolean b)) = truth b
+byValue truth spelling text other (bare (tree.number s)) = spelling s
+byValue truth spelling text other (bare (tree.string s)) = text s
+byValue truth spelling text other (bare (tree.array is)) = other
+byValue truth spelling text other (bare (tree.object ms)) = other
+byValue truth spelling text other (items is) = other
+byValue truth spelling text other (slots ss) = other

@@ -11,7 +11,7 @@ pub data Sort : Type 0 where
   -- T and N: an integer that is at least 0
   timestamp integer : Sort
   -- F: a number that is at least 0; 0 to 1; lat and lon; any number
-  amount portion latitude longitude coordinate : Sort
+  amount portion latitude longitude anyNumber : Sort
   -- money; and a price: money that is at least 0, as a number or a string
   money price : Sort
   -- B, S, ids, currencies

@@ -6,7 +6,7 @@ use Rattle.limits.specs.Ceilings as ceiling
 use Rattle.notation.specs.Ascii.{bytes}
 use Rattle.schema.specs.Shape.{Shape, Table, noRow, scalar, array, object, records, subs, outer, positions, _·_·_∶_▸_, _·_·_holds_▸_}
 use Rattle.schema.specs.Shape.Need.{required as R, optional as O, conditional as C}
-use Rattle.schema.specs.Shape.Sort.{timestamp as T, integer as N, amount as F, boolean as B, text as S, id, latitude as lat, longitude as lon, coordinate}
+use Rattle.schema.specs.Shape.Sort.{timestamp as T, integer as N, amount as F, boolean as B, text as S, id, latitude as lat, longitude as lon, anyNumber}
 use Rattle.schema.specs.Shape.Sort.{money, price, portion, currency, exactly, word}
 use Rattle.schema.specs.Words.{formFactors, propulsionTypes}
 
@@ -98,7 +98,7 @@ rule = object (
 
 -- Polygons of rings of positions of numbers. The ceilings and the sort in it are not read: `rings/specs/Rings.antt` judges field 73.
 unfoldable pub coordinates : Shape
-coordinates = array positions ceiling.polygons (array positions ceiling.rings (array positions ceiling.positions (array positions 3 (scalar coordinate))))
+coordinates = array positions ceiling.polygons (array positions ceiling.rings (array positions ceiling.positions (array positions 3 (scalar anyNumber))))
 
 unfoldable pub zone : Shape
 zone = object (

@@ -1,5 +1,5 @@
 -- Where each byte of encoded numbers comes from: byte i is byte i % 8 of number i / 8, counted from the lowest.
-use mathlib.Core.List.{List, [], _∷_, _++_}
+use mathlib.Core.List.{List, [], _∷_, _++_, append-assoc}
 use mathlib.Core.Logic.{⊎-elim}
 use mathlib.Core.Path.{_≡_, refl, ap, _∙_}
 use Prim.Native.Nat.{ℕ, zero, suc, _+_, _*_, _-_, _/_, _%_, _^_, _<_}
@@ -27,6 +27,11 @@ unfolding encoded
 encoded-length [] = refl
 encoded-length (v ∷ vs) =
     let ih = encoded-length vs in omega (arith, length-append (lowBytes 8 v) (encoded vs), low-length 8 v)
+
+pub encoded-append : (us vs : List ℕ) → encoded (us ++ vs) ≡ encoded us ++ encoded vs
+unfolding encoded
+encoded-append [] vs = refl
+encoded-append (u ∷ us) vs = rw (encoded-append us vs, append-assoc (lowBytes 8 u) (encoded us) (encoded vs))
 
 pub encoded-at : (vs : List ℕ) (i : ℕ) → i / 8 < length vs → getD (encoded vs) i 0 ≡ getD vs (i / 8) 0 / 2 ^ (i % 8 * 8) % 2 ^ 8
 unfolding encoded

@@ -1,5 +1,5 @@
 pub mod Bytes
 pub mod Filling
-pub mod Refusals
+pub mod Giving
 pub mod Signs
 pub mod Worked

@@ -1,11 +1,17 @@
 // Numbers into a buffer that the caller lends: eight bytes a number, the least significant first.
 use word::Parts;
-ghost use mathlib.Core.List.{[], _∷_, _++_};
+ghost use mathlib.Core.List.{_++_};
 ghost use mathlib.Core.Path.{_≡_};
 ghost use Prim.Native.Nat.{_*_, _≤_};
 ghost use lib.ListN.{length, drop};
+ghost use Rattle.notation.specs.Choice.{_⇒_else_};
 ghost use Rattle.skaveldro.specs.Encoding.{encoded, filled};
-ghost use Rattle.skaveldro.specs.Answers.{answered, bit as bitOf, partValues, signedBits, told};
+ghost use Rattle.skaveldro.specs.Answers.{answered, bit as bitOf, gives, partValues, signedBits, told};
+
+// How many numbers the parts of a word are, and how many bytes these take.
+const PARTS: usize = 6;
+
+const PARTS_SIZE: usize = 8 * PARTS;
 
 // A truth as a number.
 pub fn bit(b: bool) -> u64
@@ -24,9 +30,9 @@ pub fn signed_bits(v: i64) -> u64
     v as u64
 }
 
-// The values that begin with the parts of a word and are 0 from there on: what any question gives of a file that is not clean.
-pub fn parts_then_zeros(p: Parts) -> [u64; 12]
-    ensures { λ v. ⌜ v ≡ partValues p ++ (0 ∷ 0 ∷ 0 ∷ 0 ∷ 0 ∷ 0 ∷ []) ⌝ }
+// The parts of a word as numbers.
+fn part_values(p: Parts) -> [u64; PARTS]
+    ensures { λ v. ⌜ v ≡ partValues p ⌝ }
 {
     [
         p.file as u64,
@@ -35,12 +41,6 @@ pub fn parts_then_zeros(p: Parts) -> [u64; 12]
         p.record as u64,
         p.sub as u64,
         p.offset as u64,
-        0,
-        0,
-        0,
-        0,
-        0,
-        0,
     ]
 }
 
@@ -56,10 +56,10 @@ fn put(values: &[u64], buffer: &mut [u8])
     }
 }
 
-// The values that an answer of this number gives: none on a refusal.
+// How many values an answer of this number gives, of so many that its question has: none on a refusal.
 // Shut out: a refusal that gives the zeros of its layout.
-fn given(number: u8, values: &[u64]) -> &[u64]
-    ensures { λ r. ⌜ now r ≡ answered number (now (values .entry)) .values ⌝ }
+fn given(number: u8, values: usize) -> usize
+    ensures { λ r. ⌜ r ≡ (gives number ⇒ values else 0) ⌝ }
 {
     if number == 0 {
         return values;
@@ -67,19 +67,24 @@ fn given(number: u8, values: &[u64]) -> &[u64]
     if number == 5 {
         return values;
     }
-    &values[..0]
+    0
 }
 
-// Answers with a number, and with the values that it gives in the buffer, or with 2 where these have no room.
+// Answers with a number, and with the values that it gives in the buffer, the parts of a word and then the question's own; or with 2 where these have no room.
 // Shut out: 2 answered for a refusal, which needs no room; a byte past the values written.
-pub fn give(number: u8, values: &[u64], buffer: &mut [u8]) -> u8
-    ensures { λ r. ⌜ r ≡ told (now (buffer .entry)) (answered number (now (values .entry))) ⌝ }
-    ensures { λ _. ⌜ now (buffer .exit) ≡ filled (now (buffer .entry)) (answered number (now (values .entry)) .values) ⌝ }
+pub fn give(number: u8, parts: Parts, rest: &[u64], buffer: &mut [u8]) -> u8
+    ensures { λ r. ⌜ r ≡ told (now (buffer .entry)) (answered number (partValues parts ++ now (rest .entry))) ⌝ }
+    ensures { λ _. ⌜ now (buffer .exit) ≡ filled (now (buffer .entry)) (answered number (partValues parts ++ now (rest .entry)) .values) ⌝ }
 {
+    let values = PARTS + rest.len();
     let written = given(number, values);
-    if buffer.len() / 8 < written.len() {
+    if buffer.len() / 8 < written {
         return 2;
     }
-    put(written, buffer);
+    if written == 0 {
+        return number;
+    }
+    put(&part_values(parts), buffer);
+    put(rest, &mut buffer[PARTS_SIZE..]);
     number
 }

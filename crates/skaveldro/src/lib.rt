@@ -3,20 +3,19 @@
 // the number is 2; one that is longer keeps its other bytes.
 use crate::encode::give;
 use word::Word;
+ghost use mathlib.Core.List.{[], _∷_};
 ghost use mathlib.Core.Path.{_≡_};
-ghost use Rattle.gbfs.specs.Verdict.{feeds, numberOf, bufferOf};
+ghost use Rattle.gbfs.specs.Verdict.{verdictNumber, bufferOf};
 ghost use Rattle.skaveldro.specs.Encoding.{filled};
 ghost use Rattle.skaveldro.specs.Answers.{wordAnswer, quoteAnswer, zoneAnswer, shownAnswer, told};
 
 mod encode;
 mod quote_trip;
-mod read_word;
 mod show_record;
-mod verdict;
 mod zone_rule;
 
 // The verdict on a set of six files, of which one without bytes is absent. The word stands in the first eight bytes of the buffer.
-// Shut out: the number of an accepted set answered for one that is not; one file judged in another's place.
+// Shut out: one file judged in another's place.
 #[no_mangle]
 pub extern "C" fn skaveldro_verdict<'a>(
     types: &'a [u8],
@@ -27,15 +26,14 @@ pub extern "C" fn skaveldro_verdict<'a>(
     zones: &'a [u8],
     buffer: &mut [u8],
 ) -> u8
-    ensures { λ r. ⌜ r ≡ numberOf
-        (feeds (now (types .entry)) (now (stations .entry)) (now (statuses .entry)) (now (bikes .entry)) (now (plans .entry)) (now (zones .entry)))
+    ensures { λ r. ⌜ r ≡ verdictNumber
+        (now (types .entry) ∷ now (stations .entry) ∷ now (statuses .entry) ∷ now (bikes .entry) ∷ now (plans .entry) ∷ now (zones .entry) ∷ [])
         (now (buffer .entry)) ⌝ }
     ensures { λ _. ⌜ now (buffer .exit) ≡ bufferOf
-        (feeds (now (types .entry)) (now (stations .entry)) (now (statuses .entry)) (now (bikes .entry)) (now (plans .entry)) (now (zones .entry)))
+        (now (types .entry) ∷ now (stations .entry) ∷ now (statuses .entry) ∷ now (bikes .entry) ∷ now (plans .entry) ∷ now (zones .entry) ∷ [])
         (now (buffer .entry)) ⌝ }
 {
-    let a = gbfs::verdict(types, stations, statuses, bikes, plans, zones, buffer);
-    verdict::number(a)
+    gbfs::verdict(types, stations, statuses, bikes, plans, zones, buffer).number()
 }
 
 // The question "read a word". Six values: file, kind, field, record, sub, offset.
@@ -46,8 +44,7 @@ pub extern "C" fn skaveldro_read_word(word: &[u8], answer: &mut [u8]) -> u8
     ensures { λ _. ⌜ now (answer .exit) ≡ filled (now (answer .entry)) (wordAnswer (now (word .entry)) .values) ⌝ }
 {
     let r = Word::read(word);
-    let values = read_word::values(r);
-    give(read_word::number(r), &values[..6], answer)
+    give(r.number(), r.word_parts(), &[], answer)
 }
 
 // The question "quote", of the bytes of file 5. Nine values: the six parts of a word, the amount in two's complement, past minutes, past kilometres.
@@ -64,8 +61,7 @@ pub extern "C" fn skaveldro_quote(
     ensures { λ _. ⌜ now (answer .exit) ≡ filled (now (answer .entry)) (quoteAnswer (now (plans .entry)) (now (id .entry)) seconds metres .values) ⌝ }
 {
     let q = quote::quote_trip(plans, id, seconds, metres);
-    let values = quote_trip::values(q);
-    give(quote_trip::number(q), &values[..9], answer)
+    give(q.number(), q.word_parts(), &quote_trip::rest(q), answer)
 }
 
 // The question "zone rule", of the bytes of file 6. Twelve values: the six parts of a word, ride, through, whether a speed is given, the speed, whether parking is
@@ -84,7 +80,7 @@ pub extern "C" fn skaveldro_zone_rule(
     ensures { λ _. ⌜ now (answer .exit) ≡ filled (now (answer .entry)) (zoneAnswer (now (zones .entry)) (record { lon = lon; lat = lat }) (now («type_id» .entry)) moment .values) ⌝ }
 {
     let r = zone::zone_rule(zones, lon, lat, type_id, moment);
-    give(zone_rule::number(r), &zone_rule::values(r), answer)
+    give(r.number(), r.word_parts(), &zone_rule::rest(r), answer)
 }
 
 // The question "show record", of a file's number and bytes. Eight values: the six parts of a word, where the record begins, where it ends. The record is that part
@@ -101,6 +97,10 @@ pub extern "C" fn skaveldro_show_record(
     ensures { λ _. ⌜ now (answer .exit) ≡ filled (now (answer .entry)) (shownAnswer file «record» (now (bytes .entry)) .values) ⌝ }
 {
     let shown = clean::show_record(file, record, bytes);
-    let values = show_record::values(shown);
-    give(show_record::number(shown), &values[..8], answer)
+    give(
+        shown.number(),
+        shown.word_parts(),
+        &show_record::rest(shown),
+        answer,
+    )
 }

@@ -14,7 +14,7 @@ use Rattle.schema.specs.Shape as shape
 use Rattle.schema.specs.Shape.{Rows, Shape, Need}
 use Rattle.schema.specs.inner.Sound.{distinctRows}
 use Rattle.schema.specs.Table23.{table23}
-use Rattle.schema.specs.Pick.{Slot, missing, once, unlessEmpty, filled, put, noSlot, pick, pickRows}
+use Rattle.schema.specs.Pick.{Slot, missing, once, unlessEmpty, unlessBlank, put, noSlot, pick, pickRows}
 use Rattle.schema.proofs.Walk.{Laid, linesIn}
 use Rattle.slots.specs.declared.Found.the-variants.{Once}
 use Rattle.slots.specs.declared.Slots.{Slots}
@@ -52,15 +52,15 @@ module _ {p : List ℕ} {ms : Members} (w : Whole p (Json.object ms)) where
       slotted-from p s rows 0 (λ j h. let n : 0 + j ≡ j = omega arith in ap (slotAt s) n ∙ g .slot w rows l c d few j h)
 
   pub pick-row : (field : ℕ) (need : Need) (name : List ℕ) (σ : Shape) (rows : Rows)
-      → pickRows (shape.row field need name σ rows) ms ≡ put field (λ y. pick σ y) (filled (treeIn p (foundIn p name))) (pickRows rows ms)
+      → pickRows (shape.row field need name σ rows) ms ≡ put field (λ y. pick σ y) (unlessBlank (treeIn p (foundIn p name))) (pickRows rows ms)
   unfolding pickRows
-  pick-row field need name σ rows = ap (λ (o : Slot Json). put field (λ y. pick σ y) (filled o) (pickRows rows ms)) (find-found p name w)
+  pick-row field need name σ rows = ap (λ (o : Slot Json). put field (λ y. pick σ y) (unlessBlank o) (pickRows rows ms)) (find-found p name w)
 
   -- the same by the slot
   pub pick-slot : (s : Slots) (k field : ℕ) (need : Need) (name : List ℕ) (σ : Shape) (rows : Rows) → Slotted p s k (shape.row field need name σ rows)
-      → pickRows (shape.row field need name σ rows) ms ≡ put field (λ y. pick σ y) (filled (treeIn p (slotAt s k))) (pickRows rows ms)
+      → pickRows (shape.row field need name σ rows) ms ≡ put field (λ y. pick σ y) (unlessBlank (treeIn p (slotAt s k))) (pickRows rows ms)
   pick-slot s k field need name σ rows h =
-      pick-row field need name σ rows ∙ ap (λ o. put field (λ y. pick σ y) (filled (treeIn p o)) (pickRows rows ms)) (sym (h .0))
+      pick-row field need name σ rows ∙ ap (λ o. put field (λ y. pick σ y) (unlessBlank (treeIn p o)) (pickRows rows ms)) (sym (h .0))
 
 pub pick-none : (ms : Members) → pickRows shape.noRow ms ≡ noSlot
 unfolding pickRows
@@ -78,5 +78,5 @@ unless-blank (tree.object ms) = refl
 
 -- so a slot that holds one value is given unless that value is blank
 pub given-once : (p : List ℕ) (from upto : ℕ) (b : Bool) → b ≡ blankText (partTree (part p from upto))
-    → filled (treeIn p (Once from upto)) ≡ (b ⇒ missing else once (partTree (part p from upto)))
+    → unlessBlank (treeIn p (Once from upto)) ≡ (b ⇒ missing else once (partTree (part p from upto)))
 given-once p from upto b e = rw e (unless-blank (partTree (part p from upto)))

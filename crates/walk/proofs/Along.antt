@@ -30,12 +30,11 @@ use Rattle.json.proofs.Values.{value-none}
 use Rattle.walk.specs.declared.Member.{Member}
 use Rattle.walk.specs.declared.Item.{Item}
 use Rattle.walk.specs.declared.MemberStep.{MemberStep}
-use Rattle.walk.specs.declared.ItemStep.{ItemStep}
 use Rattle.walk.specs.declared.MemberStep.the-variants as members
 use Rattle.walk.specs.declared.ItemStep.the-variants as items
 use Rattle.walk.specs.Walk.{onward, memberAt, membersOf, itemAt, itemsOf}
 use Rattle.walk.specs.Part.{Whole}
-use Rattle.walk.specs.inner.Along.{AlongItems, AlongMembers, ItemPassed, MemberPassed}
+use Rattle.walk.specs.inner.Along.{AlongItems, AlongMembers, MemberPassed}
 use Rattle.walk.proofs.Steps.{expect-done, Reads}
 use Rattle.walk.proofs.Folds as Folds
 use Rattle.walk.proofs.Folds.{Steps, Walk, walk-more, walk-end, memberSteps, itemSteps}
@@ -259,14 +258,8 @@ module _ (p : List ℕ) {A : Type 0} (g : A → Item → A) where
   pub items-along-next : (s : A) (at : ℕ) (r : A) (m : Item) → itemAt p at ≡ items.Found m → ItemsAlong s at r → ItemsAlong (g s m) (m .next) r
   items-along-next s at r m f (a, k) = (AlongItems.next a f, walk-more (itemSteps p) g s at r m f k)
 
-  pub items-along-more : (s : A) (at : ℕ) (r : A) {o : ItemStep} {m : Item} → ItemPassed p at o → o ≡ items.Found m → ItemsAlong s at r → ItemsAlong (g s m) (m .next) r
-  items-along-more s at r {m = m} h e i = items-along-next s at r m (sym (h .same (i .0)) ∙ e) i
-
   pub items-along-last : (s : A) (at : ℕ) (r : A) → itemAt p at ≡ items.End → ItemsAlong s at r → s ≡ r
   items-along-last s at r e (a, k) = walk-end (itemSteps p) g s at r e k
-
-  pub items-along-end : (s : A) (at : ℕ) (r : A) {o : ItemStep} → ItemPassed p at o → o ≡ items.End → ItemsAlong s at r → s ≡ r
-  items-along-end s at r h e i = items-along-last s at r (sym (h .same (i .0)) ∙ e) i
 
 module _ (p : List ℕ) {A : Type 0} (g : A → Member → A) where
   abbrev pub MembersAlong : A → ℕ → A → Type 0

@@ -25,7 +25,7 @@ use Rattle.json.proofs.Values.{expect-there, expect-absent}
 use Rattle.walk.specs.declared.MemberStep.the-variants as members
 use Rattle.walk.specs.declared.ItemStep.the-variants as items
 use Rattle.walk.specs.Walk.{offsetOf, onward, memberIn, memberAt, itemIn, itemAt}
-use Rattle.walk.proofs.Steps.{onward-end, onward-comma, onward-other, Reads, member-unvalued, member-found, item-none, item-found}
+use Rattle.walk.proofs.Steps.{onward-end, onward-comma, onward-other, Reads, member-unvalued, member-found, item-found}
 
 abbrev quoted : List ℕ → Read (List ℕ)
 quoted = expect 0x22 (Strings.string paired 0)
@@ -61,9 +61,6 @@ module _ (p : List ℕ) (at i : ℕ) (k : Skipped p at i) where
   item-here : itemAt p at ≡ itemIn p (drop i p)
   unfolding itemAt
   item-here = ap (itemIn p) (sym (k .rest))
-
-  pub item-absent : (f n : ℕ) → scan.Fault f n ≡ placed p (whole (drop i p)) → items.End ≡ itemAt p at
-  item-absent f n e = sym (item-here ∙ item-none p (drop i p) (failed p f n (whole (drop i p)) e .1))
 
   pub item-there : (e n : ℕ) → Lands whole p i e → n ≡ onward p (blanks (drop e p)) → items.Found (record { value = i; «value_end» = e; next = n }) ≡ itemAt p at
   item-there e n v h =

@@ -1,6 +1,6 @@
--- A loop over the members of an object or the items of an array, for any fold over them: what is still to come decides the result.
--- Every later loop has `Walk (memberSteps p) g s at (foldl g s₀ (membersOf p))` for its invariant and cites three lemmas: `members-start`
--- (or `items-start`), `walk-more` and `walk-end`. A step goes on by a byte at least, so the text's length bounds their number.
+-- A loop over the members of an object or the items of an array, for any fold over them: what is still to come decides the result. A loop over members has
+-- `Walk (memberSteps p) g s at (foldl g s₀ (membersOf p))` for its invariant and cites `members-start`, `walk-more` and `walk-end`; one over items may have `Comes`
+-- (`Left.antt`). A step goes on by a byte at least, so the text's length bounds their number.
 use mathlib.Core.List.{List, [], _∷_, foldl, List·Memᴰ, List·Memᴰ·not-nil, List·Memᴰ·cases-cons}
 use mathlib.Core.Logic.{_⊎_, inl, inr, ⊎-elim}
 use mathlib.Core.Path.{_≡_, refl, sym, ap, subst, _∙_}

@@ -1,5 +1,6 @@
 pub mod Quotes
 pub mod Rests
+pub mod Cuts
 pub mod Steps
 pub mod Skips
 pub mod Places
@@ -12,6 +13,7 @@ pub mod Parts
 pub mod Trees
 pub mod Along
 pub mod Passing
+pub mod Left
 pub mod Files
 pub mod Tails
 pub mod Memberless

@@ -3,21 +3,18 @@ ghost use mathlib.Core.Path.{_≡_};
 ghost use Prim.Native.Nat.{ℕ, _-_};
 ghost use lib.ListN.{length, drop};
 ghost use Rattle.lexeme.specs.Tokens.{blanks};
-ghost use Rattle.walk.specs.Walk.{onward, memberAt, itemAt};
+ghost use Rattle.walk.specs.Walk.{part, onward};
 ghost use Rattle.walk.specs.Part.{kindAt};
 ghost use Rattle.walk.specs.inner.Along.{ItemPassed, MemberPassed, NamePassed};
 ghost use Rattle.walk.specs.declared.NameStep.the-variants as names;
 use crate::skip::skip_value;
 use crate::skip::string_end;
-use json::reader::read_value;
-use lexeme::Scan;
 use lexeme::ascii::is_digit;
 use lexeme::ascii::is_either;
 use lexeme::blank::skip_blanks;
 use lexeme::front::ahead;
 use lexeme::front::first;
 use lexeme::front::place;
-use limits::Limits;
 
 pub mod skip;
 pub mod tail;
@@ -68,21 +65,6 @@ pub enum ValueKind {
     String,
     Array,
     Object,
-}
-
-// The item of the array `p` that is looked for at `at`, read whole: for any bytes.
-pub fn next_item(p: &[u8], at: usize) -> ItemStep
-    ensures { λ r. ⌜ r ≡ itemAt (now (p .entry)) at ⌝ }
-{
-    let value = skip_blanks(p, at);
-    let Scan::End(value_end) = read_value(p, value, Limits::DEPTH) else {
-        return ItemStep::End;
-    };
-    ItemStep::Found(Item {
-        value: value,
-        value_end: value_end,
-        next: next_place(p, value_end),
-    })
 }
 
 // The member of the object `p` that is looked for at `at`, with name and value passed over and not read: the member there for an object that stage A
@@ -137,7 +119,8 @@ pub fn pass_value(p: &[u8], n: Named) -> MemberStep
     })
 }
 
-// As `next_item`, with the value passed over and not read: the same for an array that stage A passed, and in order in any bytes.
+// The item of the array `p` that is looked for at `at`, with its value passed over and not read: the item there for an array that stage A passed, and in
+// order in any bytes.
 pub fn pass_item(p: &[u8], at: usize) -> ItemStep
     ensures { λ r. ⌜ ItemPassed (now (p .entry)) at r ⌝ }
 {
@@ -151,6 +134,30 @@ pub fn pass_item(p: &[u8], at: usize) -> ItemStep
         value_end: value_end,
         next: next_place(p, value_end),
     })
+}
+
+// The bytes from one place up to another; those that are there, where the places are past the end.
+pub fn cut(s: &[u8], from: usize, upto: usize) -> &[u8]
+    ensures { λ r. ⌜ now r ≡ part (now (s .entry)) from upto ⌝ }
+{
+    let n = s.len();
+    if upto <= from {
+        return &s[n..];
+    }
+    if n <= from {
+        return &s[n..];
+    }
+    if n <= upto {
+        return &s[from..];
+    }
+    &s[from..upto]
+}
+
+// The bytes of an item.
+pub fn item_bytes(p: &[u8], m: Item) -> &[u8]
+    ensures { λ r. ⌜ now r ≡ part (now (p .entry)) (m .value) (m .«value_end») ⌝ }
+{
+    cut(p, m.value, m.value_end)
 }
 
 // Where the next element is looked for, after one that ends at `at`.

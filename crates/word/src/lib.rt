@@ -131,7 +131,39 @@ impl Word {
     }
 }
 
+impl Reading {
+    // The number of the answer.
+    pub fn number(self) -> u8
+        ensures { λ n. ⌜ n ≡ answer self .number ⌝ }
+    {
+        match self {
+            Reading::NoWord => 3,
+            Reading::Word(_) => 0,
+        }
+    }
+
+    // The parts that it gives, none where it is no word.
+    pub fn word_parts(self) -> Parts
+        ensures { λ p. ⌜ p ≡ answer self .parts ⌝ }
+    {
+        match self {
+            Reading::NoWord => Parts::NONE,
+            Reading::Word(p) => p,
+        }
+    }
+}
+
 impl Parts {
+    // The parts of an answer that has none.
+    pub const NONE: Parts = Parts {
+        file: 0,
+        kind: 0,
+        field: 0,
+        record: 0,
+        sub: 0,
+        offset: 0,
+    };
+
     // Whether the parts keep the rule of words.
     fn keeps(self) -> bool
         ensures { λ r. ⌜ r ≡ keepsOf form1 self ⌝ }

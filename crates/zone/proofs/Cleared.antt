@@ -1,30 +1,33 @@
 -- In a zone without a fault nothing is found in its coordinates, so nothing in any polygon or ring of it; its geometry and its properties are there,
 -- whole.
-use mathlib.Core.List.{List, [], _∷_, map, append-eq-nil-iff}
+use mathlib.Core.List.{List, [], _∷_, map, append-eq-nil-iff, List·Memᴰ, List·Memᴰ·not-nil, List·Memᴰ·cases-cons, Memᴰ·map}
+use mathlib.Core.Logic.{⊎-elim}
 use mathlib.Core.Path.{_≡_, refl, sym, ap, subst, _∙_}
-use Prim.Native.Nat.{ℕ, _≤_}
+use Prim.Native.Nat.{ℕ, _+_, _≤_}
 use native.Mathlib.Omega.{arith}
 use lib.ListN.{length, take, length-take, length-map}
 use Rattle.limits.specs.Ceilings as ceiling
 use Rattle.notation.specs.Ascii.{bytes}
 use Rattle.json.specs.Tree.{Json}
 use Rattle.walk.specs.declared.Item.{Item}
+use Rattle.walk.specs.Walk.{itemsOf}
 use Rattle.walk.specs.Part.{Whole, partTree}
 use Rattle.walk.proofs.Wholes.{whole-tree}
-use Rattle.walk.proofs.Parts.{itemOf}
+use Rattle.walk.proofs.Parts.{itemOf, items-whole}
 use Rattle.schema.specs.Shape as shape
 use Rattle.schema.specs.Shape.{Shape, Rows}
 use Rattle.schema.specs.Table23.{zone, coordinates}
 use Rattle.schema.specs.Pick.{Picked, PickedItems, bare, items, slots, pick, listOf, elements}
 use Rattle.word.specs.Kinds.{tooMany, badRing}
 use Rattle.scalar.specs.Scalars.{unless}
-use Rattle.rings.specs.Rings.{Found, foundAt, count, ring, ringFound, ringsFound, position, isRingCount, polygon, itemTotal, polygonsFound, areZoneCounts, coordinatesFound}
+use Rattle.rings.specs.Rings.{foundAt, count, ring, ringFound, ringsFound, position, isRingCount, itemCount, polygon, polygonPositions, itemTotal, polygonsFound, areZoneCounts, coordinatesFound}
+use Rattle.rings.proofs.Found.{numbered-none}
 use Rattle.rings.specs.inner.Parts.{ringShape, polygonShape, picked, partsOf, Outlined}
 use Rattle.rings.specs.declared.RingPoints.{RingPoints}
 use Rattle.geometry.specs.inner.Shifted.{InRange, points}
 use Rattle.rings.proofs.Picked.{Listed, items-parts}
 use Rattle.judge.specs.declared.Place.{Place}
-use Rattle.judge.specs.Faults.{faulty, numbered, faultsBy, faults}
+use Rattle.judge.specs.Faults.{faulty, faultsBy, faults}
 use Rattle.document.specs.Document.{Maybe, none, some, elementsOf, field, along}
 use Rattle.document.proofs.Fields.{none-some}
 use Rattle.document.proofs.Ways.{Requires, here, below, lists, Leads, arrived, into}
@@ -32,7 +35,7 @@ use Rattle.fields.specs.inner.Values.{memberOf}
 use Rattle.fields.proofs.Sizes.{part-short, member-short, array-short}
 use Rattle.fields.proofs.Values.{Holds, member-holds}
 use Rattle.clean.proofs.Faultless.{demands-there}
-use Rattle.zone.specs.inner.Clean.{CleanRing, CleanItems, CleanZone}
+use Rattle.zone.specs.inner.Clean.{CleanRing, CleanItems, CleanZone, CleanZones}
 use Rattle.zone.proofs.Fields.{member-listing}
 use Rattle.zone.proofs.Zoned.{polygonBytes, propertyBytes, zone-polygons}
 
@@ -88,35 +91,54 @@ polygon-items n (items is) e = (is, refl, append-eq-nil-iff {p = foundAt n (unle
 polygon-items n (bare x) e = cons-nil e
 polygon-items n (slots ss) e = cons-nil e
 
-numbered-none : (p : Place) (field : ℕ) (l : List Found) → numbered p field l ≡ [] → l ≡ []
-unfolding numbered
-numbered-none p field [] e = refl
-numbered-none p field (x ∷ l) e = cons-nil e
-
 coordinates-clear : (p : Place) (field : ℕ) (x : Picked) → faults coordinates p field x ≡ [] → polygonsFound 1 (elements x) ≡ []
 unfolding coordinates faultsBy faulty coordinatesFound
 coordinates-clear p field (items is) e =
     let many = foundAt 0 (unless (areZoneCounts (count is) (itemTotal (listOf is))) tooMany) in
-    append-eq-nil-iff {p = many} .0 (numbered-none p field (coordinatesFound is) e) .1
+    append-eq-nil-iff {p = many} .0 (numbered-none (p .«record») field (coordinatesFound is) e) .1
 coordinates-clear p field (bare x) e = cons-nil e
 coordinates-clear p field (slots ss) e = cons-nil e
 
 -- an item of an array
-pub item-short : (p : List ℕ) (m : Item) → length p ≤ ceiling.fileBytes → length (itemOf p m) ≤ ceiling.fileBytes
+item-short : (p : List ℕ) (m : Item) → length p ≤ ceiling.fileBytes → length (itemOf p m) ≤ ceiling.fileBytes
 item-short p m h = omega (arith, part-short p (m .value) (m .«value_end»))
 
-module _ (p : List ℕ) (m : Item) (short : length p ≤ ceiling.fileBytes) (w : Whole (itemOf p m) (partTree (itemOf p m))) (l : List Picked) where
-  pub ring-clean : (n : ℕ) × (ringsFound n (picked ringShape p m ∷ l) ≡ []) → CleanRing (itemOf p m)
-  unfolding ringsFound
-  ring-clean (n, e) = record { short = item-short p m short; whole = w; first = n; clear = append-eq-nil-iff {p = ring n (picked ringShape p m)} .0 e .0 }
+-- where nothing is found in a list, nothing is in one of it
+rings-each : (n : ℕ) (l : List Picked) → ringsFound n l ≡ [] → (x : Picked) → List·Memᴰ x l → (k : ℕ) × (ring k x ≡ [])
+unfolding ringsFound
+rings-each n [] e x i = absurd (List·Memᴰ·not-nil i)
+rings-each n (y ∷ l) e x i =
+    let both = append-eq-nil-iff {p = ring n y} .0 e in let ih = rings-each (n + itemCount y) l (both .1) x in
+    ⊎-elim (λ h. (n, subst (λ (z : Picked). ring n z ≡ []) (sym h) (both .0))) ih (List·Memᴰ·cases-cons i)
 
-  module _ (f : (n : ℕ) × (polygonsFound n (picked polygonShape p m ∷ l) ≡ [])) where
-    polygon-is : (is : PickedItems) × (picked polygonShape p m ≡ items is) × (ringsFound (f .0) (listOf is) ≡ [])
-    unfolding polygonsFound
-    polygon-is = polygon-items (f .0) (picked polygonShape p m) (append-eq-nil-iff {p = polygon (f .0) (picked polygonShape p m)} .0 (f .1) .0)
+polygons-each : (n : ℕ) (l : List Picked) → polygonsFound n l ≡ [] → (x : Picked) → List·Memᴰ x l → (k : ℕ) × (polygon k x ≡ [])
+unfolding polygonsFound
+polygons-each n [] e x i = absurd (List·Memᴰ·not-nil i)
+polygons-each n (y ∷ l) e x i =
+    let both = append-eq-nil-iff {p = polygon n y} .0 e in let ih = polygons-each (n + polygonPositions y) l (both .1) x in
+    ⊎-elim (λ h. (n, subst (λ (z : Picked). polygon n z ≡ []) (sym h) (both .0))) ih (List·Memᴰ·cases-cons i)
+
+module _ {p : List ℕ} {m : Item} (i : List·Memᴰ m (itemsOf p)) where
+  pub ring-clean : CleanItems ringShape ringsFound p → CleanRing (itemOf p m)
+  unfolding partsOf
+  ring-clean c =
+      let f = rings-each (c .first) (partsOf ringShape p) (c .clear) (picked ringShape p m) (Memᴰ·map (picked ringShape p) i) in
+      record { short = item-short p m (c .short); whole = items-whole p m i; first = f .0; clear = f .1 }
+
+  pub zone-clean : CleanZones p → CleanZone (itemOf p m)
+  unfolding partsOf
+  zone-clean c = record { short = item-short p m (c .short); whole = items-whole p m i; clear = c .clear (picked zone p m) (Memᴰ·map (picked zone p) i) }
+
+  module _ (c : CleanItems polygonShape polygonsFound p) where
+    polygon-found : (n : ℕ) × (polygon n (picked polygonShape p m) ≡ [])
+    unfolding partsOf
+    polygon-found = polygons-each (c .first) (partsOf polygonShape p) (c .clear) (picked polygonShape p m) (Memᴰ·map (picked polygonShape p) i)
+
+    polygon-is : (is : PickedItems) × (picked polygonShape p m ≡ items is) × (ringsFound (polygon-found .0) (listOf is) ≡ [])
+    polygon-is = polygon-items (polygon-found .0) (picked polygonShape p m) (polygon-found .1)
 
     rings-are : Listed ringShape (itemOf p m) (listOf (polygon-is .0))
-    rings-are = items-parts shape.positions ceiling.rings ringShape (partTree (itemOf p m)) (polygon-is .0) w (polygon-is .1)
+    rings-are = items-parts shape.positions ceiling.rings ringShape (partTree (itemOf p m)) (polygon-is .0) (items-whole p m i) (polygon-is .1)
 
     pub polygon-rings : partsOf ringShape (itemOf p m) ≡ elements (picked polygonShape p m)
     polygon-rings = sym (ap elements (polygon-is .1) ∙ rings-are .parts)
@@ -124,10 +146,10 @@ module _ (p : List ℕ) (m : Item) (short : length p ≤ ceiling.fileBytes) (w :
     pub polygon-clean : CleanItems ringShape ringsFound (itemOf p m)
     polygon-clean =
         record {
-          short = item-short p m short;
+          short = item-short p m (c .short);
           listing = rings-are .listing;
-          first = f .0;
-          clear = ap (ringsFound (f .0)) (sym (rings-are .parts)) ∙ polygon-is .2;
+          first = polygon-found .0;
+          clear = ap (ringsFound (polygon-found .0)) (sym (rings-are .parts)) ∙ polygon-is .2;
         }
 
 -- a member that the zone must have is there
@@ -155,8 +177,8 @@ coordinates-demanded : Leads zone (record { field = 71; name = bytes "geometry" 
 unfolding zone
 coordinates-demanded = into (below refl here) (into (below refl here) arrived)
 
-pub zone-clean : (p : List ℕ) → CleanZone p → CleanItems polygonShape polygonsFound (polygonBytes p)
-zone-clean p c =
+pub coordinates-clean : (p : List ℕ) → CleanZone p → CleanItems polygonShape polygonsFound (polygonBytes p)
+coordinates-clean p c =
     let inner = memberOf p (bytes "geometry") in
     let deep = memberOf inner (bytes "coordinates") in
     let d = demands-there coordinates-demanded (c .clear .place) (c .clear .field) (partTree p) (c .clear .clear) in

@@ -6,6 +6,5 @@ pub mod Single
 pub mod Fields
 pub mod Zoned
 pub mod Cleared
-pub mod Looping
 pub mod Loops
 pub mod Files

@@ -1,31 +1,45 @@
--- The loops of this crate: over ids for a type, rings and polygons for a point, rules for what they give a type, zones for what their rules give.
+-- What the loops of this crate make of the items of the array p that are left: of ids for a type, of rings and polygons for a point, of rules what they give a
+-- type, of zones what their rules give. And what one item says to it.
 use mathlib.Core.Bool.{Bool, true, false}
-use mathlib.Core.List.{List, [], _∷_, map, List·Memᴰ, List·Memᴰ·tail, append-eq-nil-iff}
+use mathlib.Core.List.{List, [], _∷_, map}
 use mathlib.Core.Path.{_≡_, refl}
-use Prim.Native.Nat.{ℕ, _+_}
+use Prim.Native.Nat.{ℕ}
 use native.Mathlib.Omega.{arith}
+use Rattle.walk.specs.declared.Item.{Item}
+use Rattle.walk.specs.Walk.{itemsOf}
 use Rattle.schema.specs.Table23 as table
 use Rattle.schema.specs.Pick.{Picked, elements}
 use Rattle.geometry.specs.Ring.{Point}
-use Rattle.geometry.specs.inner.Shifted.{stands}
-use Rattle.geometry.specs.declared.Standing.the-variants.{Edge, Is}
-use Rattle.geometry.proofs.Holed.{heldFrom, from-none, from-edge, from-next, from-first}
-use Rattle.rings.specs.Rings.{ring, itemCount, ringsFound, polygon, polygonPositions, polygonsFound}
-use Rattle.rings.specs.inner.Parts.{ringShape, polygonShape}
+use Rattle.geometry.proofs.Holed.{heldFrom, from-first}
+use Rattle.rings.specs.inner.Parts.{ringShape, polygonShape, picked, partsOf}
 use Rattle.document.specs.Document.{Maybe, none, some, textIn}
 use Rattle.fields.specs.inner.Values.{isId}
 use Rattle.zone.specs.declared.Given.{Given}
 use Rattle.zone.specs.Zone.{outline, ringsHold, polygonsHoldBy, polygonsHold, anyText, rules}
 use Rattle.zone.specs.inner.Values.{idShape}
-use Rattle.zone.specs.inner.Clean.{Faultless}
-use Rattle.zone.proofs.Looping.{Loop}
 use Rattle.zone.proofs.Combining.{withRules}
 
--- ids
-module _ (type : List ℕ) where
-  abbrev pub ids : Loop (Unit {0}) Bool
-  ids = record { shape = idShape; from = λ a l. anyText l type; Fit = λ l. Unit {0}; rest = λ x l f. tt }
+module _ (p : List ℕ) where
+  abbrev pub ids : (type : List ℕ) → List Item → Bool
+  ids type ms = anyText (map (picked idShape p) ms) type
 
+  abbrev pub rings : Point → (first held : Bool) → List Item → Bool
+  rings q first held ms = heldFrom first held (map outline (map (picked ringShape p) ms)) q
+
+  pub rings-all : (q : Point) → rings q true false (itemsOf p) ≡ ringsHold (partsOf ringShape p) q
+  unfolding ringsHold partsOf
+  rings-all q = from-first (map outline (map (picked ringShape p) (itemsOf p))) q
+
+  abbrev pub polygons : Point → List Item → Bool
+  polygons q ms = polygonsHold (map (picked polygonShape p) ms) q
+
+  abbrev pub rulesFor : (type : List ℕ) → Given → List Item → Given
+  rulesFor type a ms = withRules type a (map (picked table.rule p) ms)
+
+  abbrev pub zonesFor : (type : List ℕ) → Point → (moment : ℕ) → Given → List Item → Given
+  zonesFor type q moment a ms = withRules type a (rules (map (picked table.zone p) ms) q moment)
+
+module _ (type : List ℕ) where
   pub any-none : anyText [] type ≡ false
   unfolding anyText
   any-none = refl
@@ -46,51 +60,7 @@ module _ (type : List ℕ) where
       go none h i = rw (anyText, h)
       go (some t) h i = rw (anyText, h, i)
 
--- rings: whether none was asked yet, and whether those that were hold the point
-pub record Asked : Type 0 where
-  pub first : Bool
-  pub held : Bool
-
-abbrev pub unasked : Asked
-unasked = record { first = true; held = false }
-
--- rings and polygons
 module _ (q : Point) where
-  pub rings-rest : (x : Picked) (l : List Picked) → (n : ℕ) × (ringsFound n (x ∷ l) ≡ []) → (n : ℕ) × (ringsFound n l ≡ [])
-  unfolding ringsFound
-  rings-rest x l (n, e) = (n + itemCount x, append-eq-nil-iff {p = ring n x} .0 e .1)
-
-  abbrev pub rings : Loop Asked Bool
-  rings =
-      record {
-        shape = ringShape;
-        from = λ a l. heldFrom (a .first) (a .held) (map outline l) q;
-        Fit = λ l. (n : ℕ) × (ringsFound n l ≡ []);
-        rest = rings-rest;
-      }
-
-  pub rings-all : (l : List Picked) → rings .from unasked l ≡ ringsHold l q
-  unfolding ringsHold
-  rings-all l = from-first (map outline l) q
-
-  pub rings-none : (a : Asked) → rings .from a [] ≡ a .held
-  rings-none a = from-none (a .first) (a .held) q
-
-  module _ (a : Asked) (x : Picked) (l : List Picked) where
-    pub rings-edge : Edge ≡ stands (a .first) (a .held) (outline x) q → rings .from a (x ∷ l) ≡ true
-    rings-edge e = from-edge (a .first) (a .held) q (outline x) (map outline l) e
-
-    pub rings-next : (b : Bool) → Is b ≡ stands (a .first) (a .held) (outline x) q → rings .from a (x ∷ l) ≡ rings .from (record { first = false; held = b }) l
-    rings-next b e = from-next (a .first) (a .held) q (outline x) (map outline l) b e
-
-  pub polygons-rest : (x : Picked) (l : List Picked) → (n : ℕ) × (polygonsFound n (x ∷ l) ≡ []) → (n : ℕ) × (polygonsFound n l ≡ [])
-  unfolding polygonsFound
-  polygons-rest x l (n, e) = (n + polygonPositions x, append-eq-nil-iff {p = polygon n x} .0 e .1)
-
-  abbrev pub polygons : Loop (Unit {0}) Bool
-  polygons =
-      record { shape = polygonShape; from = λ a l. polygonsHold l q; Fit = λ l. (n : ℕ) × (polygonsFound n l ≡ []); rest = polygons-rest }
-
   pub polygons-none : polygonsHold [] q ≡ false
   unfolding polygonsHoldBy
   polygons-none = refl
@@ -102,17 +72,3 @@ module _ (q : Point) where
   pub polygons-later : (x : Picked) (l : List Picked) → ringsHold (elements x) q ≡ false → polygonsHold (x ∷ l) q ≡ polygonsHold l q
   unfolding polygonsHoldBy
   polygons-later x l e = rw (polygonsHoldBy, e)
-
--- rules and zones, by the laws of `Combining`
-module _ (type : List ℕ) where
-  abbrev pub rulesFor : Loop Given Given
-  rulesFor = record { shape = table.rule; from = withRules type; Fit = λ l. Unit {0}; rest = λ x l f. tt }
-
-  abbrev pub zonesFor : Point → ℕ → Loop Given Given
-  zonesFor q moment =
-      record {
-        shape = table.zone;
-        from = λ a l. withRules type a (rules l q moment);
-        Fit = λ l. (x : Picked) → List·Memᴰ x l → Faultless x;
-        rest = λ x l f y i. f y (List·Memᴰ·tail i);
-      }

@@ -19,14 +19,14 @@ use Rattle.schema.specs.Pick.{Picked, pick, elements}
 use Rattle.geometry.specs.Ring.{Point}
 use Rattle.geometry.specs.Held.{holds, polygonHolds}
 use Rattle.geometry.proofs.Polygon.{polygons}
-use Rattle.rings.specs.Rings.{count, itemCount, coordinatesFound}
+use Rattle.rings.specs.Rings.{numbered, count, itemCount, coordinatesFound}
 use Rattle.rings.specs.OneRing.{coordinatesOfOne, OneRingAtMost}
 use Rattle.rings.proofs.OneRing.{coordinates-one}
-use Rattle.judge.specs.Faults.{top, numbered, faultsBy, fileFaultsBy}
+use Rattle.judge.specs.Faults.{top, faultsBy, fileFaultsBy}
 use Rattle.document.specs.Document.{Maybe, none, some, elementsOf, along, field, fieldItems}
 use Rattle.clean.specs.declared.Outcome.{Outcome}
 use Rattle.clean.specs.Clean.{treeOf, recordsOf, cleanOf}
-use Rattle.clean.proofs.Alike.{plain, Way, arrived, into, here, below, Same, plain-same, way-same, records-same, clean-alike}
+use Rattle.clean.proofs.Alike.{plain, Route, arrived, into, here, below, Same, plain-same, way-same, records-same, clean-alike}
 use Rattle.zone.specs.Zone.{outline, counts, ringsHold, polygonsHoldBy, polygonsHold, polygonsOf, zoneHolds, zoneRulesBy, rulesBy, applicable, zonesOf, rulesAt}
 use Rattle.zone.specs.Answer.{refused, onMap, ofRules, ofClean, rulingOf}
 use Rattle.zone.specs.Single.{WithoutHoles, cleanOfOne, ringsHoldOfOne, polygonsHoldOfOne, zoneHoldsOfOne, rulingOfOne, Single}
@@ -79,18 +79,18 @@ Alike = Same coordinatesFound coordinatesOfOne
 
 coordinates-same : (x : Json) → OneRingAtMost (elements (pick coordinates x)) → Alike coordinates (pick coordinates x)
 unfolding coordinates faultsBy pick
-coordinates-same (tree.array is) one p φ = ap (numbered p φ) (coordinates-one _ one)
+coordinates-same (tree.array is) one p φ = ap (numbered (p .«record») φ) (coordinates-one _ one)
 coordinates-same tree.null one p φ = refl
 coordinates-same (tree.boolean b) one p φ = refl
 coordinates-same (tree.number s) one p φ = refl
 coordinates-same (tree.string s) one p φ = refl
 coordinates-same (tree.object ms) one p φ = refl
 
-to-polygons : Way zone (71 ∷ 73 ∷ []) coordinates
+to-polygons : Route zone (71 ∷ 73 ∷ []) coordinates
 unfolding written23 plain
 to-polygons = into (below refl refl (here refl)) (into (below refl refl (here refl)) arrived)
 
-to-zones : Way (fileShape table23 6) (4 ∷ 5 ∷ 7 ∷ []) (shape.array shape.records ceiling.records zone)
+to-zones : Route (fileShape table23 6) (4 ∷ 5 ∷ 7 ∷ []) (shape.array shape.records ceiling.records zone)
 unfolding fileShape written23 plain
 to-zones = into (below refl refl (below refl refl (below refl refl (here refl)))) (into (here refl) (into (below refl refl (here refl)) arrived))
 

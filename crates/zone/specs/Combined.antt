@@ -13,7 +13,7 @@ use Rattle.zone.specs.declared.Rule.{Rule}
 use Rattle.zone.specs.Zone.{rulesAt, firstGiven}
 use Rattle.zone.specs.Answer.{ruleOf, found, onMap, ofRules, rulingOf}
 
--- the values of one rule, as document 01 alone answers them
+-- the values of one rule, as they were answered before W4
 unfoldable pub own : Picked → Rule
 own x = ruleOf (truth 79 x) (truth 80 x) (spelling 81 x) (truth 82 x)
 

@@ -6,6 +6,7 @@ use geometry::Standing;
 use geometry::held::stand;
 use rings::ring::ring_points;
 use walk::ItemStep;
+use walk::item_bytes;
 use walk::pass_item;
 ghost use mathlib.Core.Path.{_≡_};
 ghost use Rattle.walk.specs.Part.{partTree};
@@ -43,9 +44,7 @@ fn rings_hold(p: &[u8], q: Position) -> bool
                 return held;
             }
             ItemStep::Found(m) => {
-                let from = m.value;
-                let upto = m.value_end;
-                match stand_to(&p[from..upto], q, first, held) {
+                match stand_to(item_bytes(p, m), q, first, held) {
                     Standing::Edge => {
                         return true;
                     }
@@ -72,9 +71,7 @@ fn polygons_hold(p: &[u8], q: Position) -> bool
                 return false;
             }
             ItemStep::Found(m) => {
-                let from = m.value;
-                let upto = m.value_end;
-                if rings_hold(&p[from..upto], q) {
+                if rings_hold(item_bytes(p, m), q) {
                     return true;
                 }
                 at = m.next;

@@ -57,6 +57,30 @@ pub enum Ruling {
 impl Ruling {
     // The number of the file of zones.
     const FILE: u8 = 6;
+
+    // The number of the answer.
+    pub fn number(self) -> u8
+        ensures { λ n. ⌜ n ≡ answer self .number ⌝ }
+    {
+        match self {
+            Ruling::OffMap => 8,
+            Ruling::NotClean(_) => 5,
+            Ruling::NoRule => 9,
+            Ruling::Is(_) => 0,
+        }
+    }
+
+    // The parts of its word, none but where the file is not clean.
+    pub fn word_parts(self) -> Parts
+        ensures { λ p. ⌜ p ≡ answer self .parts ⌝ }
+    {
+        match self {
+            Ruling::OffMap => Parts::NONE,
+            Ruling::NotClean(p) => p,
+            Ruling::NoRule => Parts::NONE,
+            Ruling::Is(_) => Parts::NONE,
+        }
+    }
 }
 
 // The values at a point, in millionths of a degree, for a type at a moment, by the bytes of the file of zones: each by the first rule that applies and gives it.

@@ -9,6 +9,7 @@ use fields::integer_in;
 use fields::is_id;
 use fields::member;
 use walk::ItemStep;
+use walk::item_bytes;
 use walk::pass_item;
 ghost use mathlib.Core.Path.{_≡_};
 ghost use Rattle.walk.specs.Part.{Whole, partTree};
@@ -71,9 +72,7 @@ fn names_type(p: &[u8], type_id: &[u8]) -> bool
                 return false;
             }
             ItemStep::Found(m) => {
-                let from = m.value;
-                let upto = m.value_end;
-                if is_id(&p[from..upto], type_id) {
+                if is_id(item_bytes(p, m), type_id) {
                     return true;
                 }
                 at = m.next;
@@ -118,9 +117,7 @@ pub fn with_rules(p: &[u8], type_id: &[u8], start: Given) -> Given
                 return given;
             }
             ItemStep::Found(m) => {
-                let from = m.value;
-                let upto = m.value_end;
-                given = with_rule(&p[from..upto], type_id, given);
+                given = with_rule(item_bytes(p, m), type_id, given);
                 if given.is_full() {
                     return given;
                 }

@@ -9,6 +9,7 @@ use fields::array_in;
 use fields::member;
 use geometry::Position;
 use walk::ItemStep;
+use walk::item_bytes;
 use walk::pass_item;
 ghost use mathlib.Core.Path.{_≡_};
 ghost use Rattle.walk.specs.Part.{partTree};
@@ -51,9 +52,7 @@ fn given_by_zones(p: &[u8], q: Position, type_id: &[u8], moment: u64) -> Given
                 return given;
             }
             ItemStep::Found(m) => {
-                let from = m.value;
-                let upto = m.value_end;
-                given = with_zone(&p[from..upto], q, type_id, moment, given);
+                given = with_zone(item_bytes(p, m), q, type_id, moment, given);
                 if given.is_full() {
                     return given;
                 }

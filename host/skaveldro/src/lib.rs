@@ -18,6 +18,7 @@
 
 mod answer;
 pub mod names;
+mod numbers;
 mod parts;
 mod quote;
 pub mod raw;

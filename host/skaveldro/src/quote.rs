@@ -1,6 +1,7 @@
 //! What a trip costs.
 
 use crate::answer::{room, Answer};
+use crate::numbers::{GIVEN, NOT_CLEAN, NO_PLAN, TOO_LONG};
 use crate::{raw, Parts};
 
 /// The answer to a quote.
@@ -32,10 +33,12 @@ pub struct Fare {
 pub fn quote(plans: &[u8], id: &[u8], seconds: u64, metres: u64) -> Quote {
     let answer = Answer::<{ room(9) }>::to(|buffer| raw::quote(plans, id, seconds, metres, buffer));
     match answer.number {
-        4 => Quote::TooLong,
-        5 => Quote::NotClean(answer.parts()),
-        6 => Quote::NoPlan,
-        0 => Quote::Fare(Fare { amount: answer.at(6).cast_signed(), past_minutes: answer.is(7), past_kilometres: answer.is(8) }),
+        TOO_LONG => Quote::TooLong,
+        NOT_CLEAN => Quote::NotClean(answer.parts()),
+        NO_PLAN => Quote::NoPlan,
+        GIVEN => {
+            Quote::Fare(Fare { amount: answer.at(6).cast_signed(), past_minutes: answer.is(7), past_kilometres: answer.is(8) })
+        }
         _ => answer.unknown(),
     }
 }
@@ -44,10 +47,10 @@ impl Quote {
     /// The number of the answer.
     pub fn number(self) -> u8 {
         match self {
-            Quote::TooLong => 4,
-            Quote::NotClean(_) => 5,
-            Quote::NoPlan => 6,
-            Quote::Fare(_) => 0,
+            Quote::TooLong => TOO_LONG,
+            Quote::NotClean(_) => NOT_CLEAN,
+            Quote::NoPlan => NO_PLAN,
+            Quote::Fare(_) => GIVEN,
         }
     }
 }

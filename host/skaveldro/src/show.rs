@@ -1,6 +1,7 @@
 //! Where a record stands.
 
 use crate::answer::{room, Answer};
+use crate::numbers::{GIVEN, NOT_CLEAN, NO_RECORD};
 use crate::{raw, Parts};
 
 /// The answer to a question for a record.
@@ -18,9 +19,9 @@ pub enum Shown {
 pub fn show_record(file: u64, record: u64, bytes: &[u8]) -> Shown {
     let answer = Answer::<{ room(8) }>::to(|buffer| raw::show_record(file, record, bytes, buffer));
     match answer.number {
-        10 => Shown::NoRecord,
-        5 => Shown::NotClean(answer.parts()),
-        0 => Shown::Record { from: answer.small(6), upto: answer.small(7) },
+        NO_RECORD => Shown::NoRecord,
+        NOT_CLEAN => Shown::NotClean(answer.parts()),
+        GIVEN => Shown::Record { from: answer.small(6), upto: answer.small(7) },
         _ => answer.unknown(),
     }
 }
@@ -29,9 +30,9 @@ impl Shown {
     /// The number of the answer.
     pub fn number(self) -> u8 {
         match self {
-            Shown::NoRecord => 10,
-            Shown::NotClean(_) => 5,
-            Shown::Record { .. } => 0,
+            Shown::NoRecord => NO_RECORD,
+            Shown::NotClean(_) => NOT_CLEAN,
+            Shown::Record { .. } => GIVEN,
         }
     }
 }

@@ -1,5 +1,6 @@
 //! The verdict on a feed set.
 
+use crate::numbers::{ACCEPTED, NOT_ACCEPTED};
 use crate::{raw, read_word, Files, Parts, Reading, Word};
 
 /// The judgement on a feed set.
@@ -15,8 +16,8 @@ pub enum Verdict {
 pub fn verdict(files: Files) -> Verdict {
     let mut buffer = [0; 8];
     match raw::verdict(files, &mut buffer) {
-        0 => Verdict::Accepted,
-        1 => {
+        ACCEPTED => Verdict::Accepted,
+        NOT_ACCEPTED => {
             let Reading::Parts(parts) = read_word(&buffer) else { unreachable!("a verdict's word is a word") };
             Verdict::Refused { word: Word(buffer), parts }
         }
@@ -28,8 +29,8 @@ impl Verdict {
     /// The number of the answer.
     pub fn number(self) -> u8 {
         match self {
-            Verdict::Accepted => 0,
-            Verdict::Refused { .. } => 1,
+            Verdict::Accepted => ACCEPTED,
+            Verdict::Refused { .. } => NOT_ACCEPTED,
         }
     }
 

@@ -1,6 +1,7 @@
 //! Verdict words.
 
 use crate::answer::{room, Answer};
+use crate::numbers::{GIVEN, NO_WORD};
 use crate::{raw, Parts};
 use std::fmt;
 use std::str::FromStr;
@@ -22,8 +23,8 @@ pub enum Reading {
 pub fn read_word(bytes: &[u8]) -> Reading {
     let answer = Answer::<{ room(6) }>::to(|buffer| raw::read_word(bytes, buffer));
     match answer.number {
-        3 => Reading::NoWord,
-        0 => Reading::Parts(answer.parts()),
+        NO_WORD => Reading::NoWord,
+        GIVEN => Reading::Parts(answer.parts()),
         _ => answer.unknown(),
     }
 }
@@ -42,8 +43,8 @@ impl Reading {
     /// The number of the answer.
     pub fn number(self) -> u8 {
         match self {
-            Reading::NoWord => 3,
-            Reading::Parts(_) => 0,
+            Reading::NoWord => NO_WORD,
+            Reading::Parts(_) => GIVEN,
         }
     }
 }

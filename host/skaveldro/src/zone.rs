@@ -1,6 +1,7 @@
 //! What zone rules allow.
 
 use crate::answer::{room, Answer};
+use crate::numbers::{GIVEN, NOT_CLEAN, NO_RULE, OFF_MAP};
 use crate::{raw, Parts};
 
 /// A point in millionths of a degree.
@@ -43,10 +44,10 @@ pub struct Rule {
 pub fn zone_rule(zones: &[u8], point: Point, type_id: &[u8], moment: u64) -> Ruling {
     let answer = Answer::<{ room(12) }>::to(|buffer| raw::zone_rule(zones, point.lon, point.lat, type_id, moment, buffer));
     match answer.number {
-        8 => Ruling::OffMap,
-        5 => Ruling::NotClean(answer.parts()),
-        9 => Ruling::NoRule,
-        0 => Ruling::Is(Rule {
+        OFF_MAP => Ruling::OffMap,
+        NOT_CLEAN => Ruling::NotClean(answer.parts()),
+        NO_RULE => Ruling::NoRule,
+        GIVEN => Ruling::Is(Rule {
             ride: answer.is(6),
             through: answer.is(7),
             speed: answer.is(8).then(|| answer.at(9)),
@@ -60,10 +61,10 @@ impl Ruling {
     /// The number of the answer.
     pub fn number(self) -> u8 {
         match self {
-            Ruling::OffMap => 8,
-            Ruling::NotClean(_) => 5,
-            Ruling::NoRule => 9,
-            Ruling::Is(_) => 0,
+            Ruling::OffMap => OFF_MAP,
+            Ruling::NotClean(_) => NOT_CLEAN,
+            Ruling::NoRule => NO_RULE,
+            Ruling::Is(_) => GIVEN,
         }
     }
 }

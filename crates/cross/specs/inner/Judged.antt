@@ -1,27 +1,35 @@
 -- What the code answers of one record: the least of its broken rules, where the records that it may refer to are known.
-use mathlib.Core.List.{List, List·Memᴰ}
+use mathlib.Core.Bool.{not}
+use mathlib.Core.List.{List, [], _++_, List·Memᴰ}
 use mathlib.Core.Path.{_≡_}
 use Prim.Native.Nat.{ℕ, _≤_}
-use lib.Dec.{eqb}
-use Rattle.notation.specs.Choice.{_⇒_else_}
+use lib.Dec.{eqb, ltb}
+use lib.ListN.{length, getD}
+use Rattle.notation.specs.Choice.{_⇒_else_, _and_}
+use Rattle.word.specs.Kinds.{sumDiffers}
 use Rattle.json.specs.Tree as tree
 use Rattle.json.specs.Tree.{Members}
 use Rattle.walk.specs.declared.Item.{Item}
 use Rattle.walk.specs.Walk.{itemsOf}
 use Rattle.walk.specs.Part.{Whole, partTree}
 use Rattle.walk.proofs.Parts.{itemOf}
+use Rattle.schema.specs.Table23.{available}
 use Rattle.schema.specs.Records.{recordShape}
 use Rattle.schema.specs.Pick.{Picked, pick}
 use Rattle.slots.specs.declared.Slots.{Slots}
-use Rattle.slots.specs.inner.Slots.{slotAt}
+use Rattle.slots.specs.inner.Slots.{slotAt, Gathered}
 use Rattle.fault.specs.declared.Fault.{Fault}
 use Rattle.fault.specs.declared.Least.{Least}
 use Rattle.fault.specs.Fault.{least}
+use Rattle.judge.specs.declared.Place.{Place}
+use Rattle.judge.specs.Faults.{faulty}
 use Rattle.document.proofs.Records.{pickedItems}
-use Rattle.fields.specs.inner.Values.{Standing, foundBytes}
-use Rattle.references.specs.declared.Set.{Set}
+use Rattle.fields.specs.Values.{integerIn}
+use Rattle.fields.specs.inner.Values.{Standing, foundBytes, textBy, thereBy, arrayBy, spelledBy}
+use Rattle.references.specs.References.{kindIf, hasCapacity, motorized, named, refers, demanded}
 use Rattle.references.specs.inner.Known.{Searchable}
-use Rattle.cross.specs.Cross.{faultsOf}
+use Rattle.cross.specs.Cross.{File, Files, recordPlace, sumOf, availableFaults}
+use Rattle.cross.specs.Stage.{Feeds, bytesOf}
 
 -- every record of the array is an object
 abbrev pub Objects : List ℕ → Type 0
@@ -31,11 +39,19 @@ Objects p = (m : Item) → List·Memᴰ m (itemsOf p) → (ms : Members) × (par
 abbrev pub Object : List ℕ → Type 0
 Object p = (ms : Members) × Whole p (tree.object ms)
 
--- all that is known of a set when its records are judged: the records that references name are noted
-pub record Known (types stations plans typeNotes stationNotes planNotes : List ℕ) : Type 0 where
-  pub vehicleTypes : Searchable 1 types typeNotes
-  pub docks : Searchable 2 stations stationNotes
-  pub prices : Searchable 5 plans planNotes
+-- a file by the bytes from its records on: without any it is not there
+abbrev pub fileBy : ℕ → List ℕ → File
+fileBy file p = record { here = ltb 0 (length p); records = pickedItems (recordShape file) p }
+
+abbrev pub filesBy : Feeds → Files
+filesBy rs file = fileBy file (bytesOf rs file)
+
+-- What is known when the records of a file are judged: the records of types, stations and plans are noted, in this order; those of types not yet for
+-- types themselves, which name none.
+pub record Known (file : ℕ) (rs notes : Feeds) : Type 0 where
+  pub types : (file ≡ 1 → ⊥) → Searchable 1 (bytesOf rs 1) (getD notes 0 [])
+  pub stations : Searchable 2 (bytesOf rs 2) (getD notes 1 [])
+  pub plans : Searchable 5 (bytesOf rs 5) (getD notes 2 [])
 
 -- a file whose records have ids and refer to other records
 pub record Referring (file : ℕ) : Type 0 where
@@ -50,14 +66,34 @@ firstLine file = eqb file 1 ⇒ 5 else eqb file 3 ⇒ 25 else 40
 abbrev pub lineCount : ℕ → ℕ
 lineCount file = eqb file 1 ⇒ 5 else 10
 
+-- the slots of a record of the file
+abbrev pub Slotted : ℕ → List ℕ → Slots → Type 0
+Slotted file p s = Gathered p (firstLine file) (lineCount file) s
+
 -- q is the value that is read at a slot
 abbrev pub Reads : (p : List ℕ) (s : Slots) (row : ℕ) (q : List ℕ) → Type 0
 Reads p s row q = Standing p (slotAt s row) → q ≡ foundBytes p (slotAt s row)
 
--- the rules that the n-th record of a file breaks
-abbrev pub broken : (set : Set) (types stations plans : List ℕ) (file n : ℕ) → Picked → List Fault
-broken set types stations plans file n x =
-    faultsOf (set .«types_here») (set .«plans_here») (pickedItems (recordShape 1) types) (pickedItems (recordShape 2) stations) (pickedItems (recordShape 5) plans) file n x
+-- What fields of a record break, by the bytes of their values: the position of a bike, its type, the station of a status, and its counts.
+abbrev pub positionBy : Place → (station lat lon : List ℕ) → List Fault
+positionBy place station lat lon =
+    faulty place 41 (demanded (not (thereBy station)) (thereBy lat)) ++ faulty place 42 (demanded (not (thereBy station)) (thereBy lon))
+
+abbrev pub vehicleBy : Place → (types : File) (type range : List ℕ) → List Fault
+vehicleBy place types type range =
+    faulty place 45 (demanded (types .here) (thereBy type) ++ refers (textBy type) 10 (types .records)) ++
+    faulty place 46 (demanded (named motorized 10 (types .records) (textBy type)) (thereBy range))
+
+abbrev pub stationBy : Place → (stations : File) (station docks : List ℕ) → List Fault
+stationBy place stations station docks =
+    faulty place 30 (refers (textBy station) 20 (stations .records)) ++
+    faulty place 32 (demanded (named hasCapacity 20 (stations .records) (textBy station)) (thereBy docks))
+
+abbrev pub countsBy : ℕ → (types : File) (counts bikes : List ℕ) → List Fault
+countsBy n types counts bikes =
+    let items = pickedItems available (arrayBy counts) in
+    faulty (recordPlace n 0) 37 (demanded (types .here) (thereBy counts) ++ kindIf (thereBy counts and not (eqb (sumOf items) (integerIn (spelledBy bikes)))) sumDiffers) ++
+    availableFaults (types .records) n 1 items
 
 -- p is an object, and r the least of the rules that it breaks as a record of a file
 abbrev pub Judges : (file : ℕ) (breaks : Picked → List Fault) (p : List ℕ) (r : Least) → Type 0

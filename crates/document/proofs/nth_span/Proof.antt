@@ -1,18 +1,21 @@
 -- `nth_span` counts the items down. The loop's invariant: along an array, the items that are left, by the number that is left, come to the same item.
 use borrow.Author.Needs.{needs}
-use mathlib.Core.Path.{sym, ap, subst, _∙_}
+use mathlib.Core.List.{List}
+use mathlib.Core.Path.{sym, ap, _∙_}
 use Prim.Native.Nat.{_-_, _≤_}
 use native.Mathlib.Omega.{arith}
 use lib.ListN.{length}
+use Rattle.walk.specs.declared.Item.{Item}
 use Rattle.walk.specs.Walk.{itemsOf}
-use Rattle.walk.specs.inner.Along.{AlongItems, ItemPlaced, ItemPassed}
+use Rattle.walk.specs.inner.Along.{AlongItems, ItemPlaced}
+use Rattle.walk.proofs.Left.{Comes, comes-start, comes-end, comes-here, comes-more}
 use Rattle.document.specs.Spans.{nth}
-use Rattle.document.proofs.Along.{Counts, nth-zero, counts-start, counts-end, counts-here, counts-later}
+use Rattle.document.proofs.Along.{nth-none, nth-zero, nth-here, nth-later}
 use Rattle.document.proofs.nth_span.Statement.{statement}
 use Rattle.document.proofs.nth_span.Tie as tie
 
 abbrev Inv-loop : tie.InvT-loop
-Inv-loop p from n left₀ at₀ left at = (1 ≤ left) × (AlongItems p 1 → Counts p from left at (nth from (itemsOf p) n))
+Inv-loop p from n left₀ at₀ left at = (1 ≤ left) × (AlongItems p 1 → Comes p (λ (l : List Item). nth from l left) at (nth from (itemsOf p) n))
 
 abbrev μ-loop : tie.MeasureT-loop
 μ-loop p from n left₀ at₀ left at = length p - at
@@ -23,12 +26,12 @@ returns c h =
     sym (ap (nth (a .from) l) (c .if1 .taken) ∙ nth-zero (a .from) l)
 
 loop-holds : tie.Need-loop-holds Inv-loop μ-loop
-loop-holds c = let a = c .before .before .args in (search needs, counts-start (a .p .now) (a .from) (a .n))
+loop-holds c = let a = c .before .before .args in (search needs, λ h. comes-start (λ (l : List Item). nth (a .from) l (a .n)) (λ i. h))
 
 returns-2 : tie.Need-returns-2 Inv-loop μ-loop
 returns-2 c h =
     let t = c .before .before in let k = t .before in
-    counts-end _ _ (k .loop .left) (k .loop .at) _ (k .loop .inv .1 h) (subst (ItemPassed _ _) (c .enum-told .given .1) (t .pass-item .ensures))
+    sym (nth-none _ (k .loop .left)) ∙ comes-end (k .loop .inv .1 h) (t .pass-item .ensures) (c .enum-told .given .1)
 
 -- where an item was found
 abbrev Met : Type 0
@@ -46,7 +49,7 @@ add-t11 c = let d = c .before .before .before in let m = placed d in let h = d .
 returns-3 : tie.Need-returns-3 Inv-loop μ-loop
 returns-3 c h =
     let i = c .before .before in let d = i .before .before in let n = d .before .before in let k = n .before in
-    counts-here _ _ (k .loop .left) (k .loop .at) _ (k .loop .inv .1 h) (d .m .given .0 .0) (subst (ItemPassed _ _) (d .m .given .1) (n .pass-item .ensures)) (i .if2 .taken)
+    comes-here (k .loop .inv .1 h) (n .pass-item .ensures) (d .m .given .1) (λ l. ap (nth _ _) (i .if2 .taken) ∙ nth-here _ (d .m .given .0 .0) l)
 
 loop-less : tie.Need-loop-less Inv-loop μ-loop
 loop-less c = let m = placed (c .before) in omega arith
@@ -55,9 +58,7 @@ loop-again : tie.Need-loop-again Inv-loop μ-loop
 loop-again c =
     let d = c .before .before in let n = d .before .before in let k = n .before in (
       omega arith,
-      λ h.
-          counts-later _ _ (k .loop .left) (k .loop .at) _ (k .loop .inv .1 h) (d .m .given .0 .0) (subst (ItemPassed _ _) (d .m .given .1) (n .pass-item .ensures))
-          (k .loop .inv .0) (c .if2 .left),
+      λ h. comes-more (k .loop .inv .1 h) (n .pass-item .ensures) (d .m .given .1) _ (λ l. nth-later _ (d .m .given .0 .0) l (k .loop .left) (k .loop .inv .0) (c .if2 .left)),
     )
 
 pub nth-span-spec : {M : Type 1} → statement M

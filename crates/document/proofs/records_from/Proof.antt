@@ -7,7 +7,7 @@ use lib.ListN.{length}
 use Rattle.notation.specs.Ascii.{bytes}
 use Rattle.schema.specs.Records.{wayTo, located}
 use Rattle.document.specs.Spans.{memberSpan, topSpan}
-use Rattle.document.proofs.Cuts.{part-length}
+use Rattle.walk.proofs.Cuts.{part-length}
 use Rattle.document.proofs.Along.{along-two, along-three, along-none}
 use Rattle.document.proofs.Rests.{Begins, begins-top, begins-member, records-begin, no-records}
 use Rattle.document.proofs.records_from.Statement.{statement}

@@ -8,7 +8,7 @@ use lib.ListN.{length}
 use Rattle.walk.specs.declared.NameStep.the-variants as names
 use Rattle.walk.specs.inner.Along.{NamePlaced, NamePassed, MemberPassed}
 use Rattle.walk.proofs.Passing.{member-absent}
-use Rattle.document.proofs.Cuts.{part-rest}
+use Rattle.walk.proofs.Cuts.{part-rest}
 use Rattle.document.proofs.First.{Unmet, unmet-none, unmet-start, unmet-end, unmet-here, unmet-next, from-none, from-here}
 use Rattle.document.proofs.value_from.Statement.{statement}
 use Rattle.document.proofs.value_from.Tie as tie

@@ -10,7 +10,8 @@ use Rattle.clean.specs.declared.Outcome.the-variants.{Unbroken, Broken}
 use Rattle.clean.specs.Clean.{broken}
 use Rattle.cross.specs.inner.Stage as cross
 use Rattle.cross.specs.inner.Stage.{firstOf}
-use Rattle.gbfs.specs.Verdict.{Feeds, bytesOf, picked, faultsB}
+use Rattle.cross.specs.Stage.{Feeds, bytesOf, picked}
+use Rattle.gbfs.specs.Verdict.{faultsB}
 
 -- what is found, or else the next
 abbrev pub orNext : Outcome → Outcome → Outcome

@@ -12,7 +12,7 @@ use Rattle.walk.specs.declared.Item.{Item}
 use Rattle.walk.specs.declared.Member.{Member}
 use Rattle.walk.specs.declared.MemberStep.the-variants as members
 use Rattle.walk.specs.Walk.{part, memberAt, itemsOf}
-use Rattle.walk.specs.Part.{partTree}
+use Rattle.walk.specs.Part.{Whole, partTree}
 use Rattle.walk.specs.inner.Along.{AlongMembers}
 use Rattle.walk.proofs.Folds.{Walk, memberSteps}
 use Rattle.walk.proofs.Parts.{itemOf}
@@ -46,6 +46,10 @@ pub record Unmet (file : ℕ) (q : List ℕ) (at : ℕ) : Type 0 where
 pub record IdPlace (file : ℕ) (q : List ℕ) (at : ℕ) : Type 0 where
   pub unmet : Unmet file q at
   pub here : (m : Member) → memberAt q at ≡ members.Found m → same (textOf (part q (m .name) (m .«name_end»))) (idName file) ≡ true
+
+-- v is what an object q holds as its id, where its member is looked for at this place
+abbrev pub IdAt : (q : List ℕ) (at : ℕ) (v : List ℕ) → Type 0
+IdAt q at v = (file : ℕ) (ms : Members) → Whole q (tree.object ms) → IdPlace file q at → (foundIn q (idName file) ≡ Twice → ⊥) → v ≡ idValue file q
 
 -- the record q is an object in which this name stands once at most
 pub record Single (file : ℕ) (q : List ℕ) : Type 0 where

@@ -6,12 +6,12 @@ use mathlib.Core.Path.{_≡_}
 use Prim.Native.Nat.{ℕ, zero, suc, _+_, _*_, _%_, _≤_, _<_}
 use lib.Dec.{eqb}
 use lib.ListN.{length, getD, set}
-use Rattle.limits.specs.Ceilings.{records}
+use Rattle.limits.specs.Ceilings.{records, fileBytes}
 use Rattle.notation.specs.Choice.{_⇒_else_}
 use Rattle.text.specs.inner.Digest as text
 use Rattle.walk.specs.Walk.{part}
 use Rattle.document.specs.Document.{none, some}
-use Rattle.ids.specs.inner.Ids.{idOf, Unmet, recordBytes}
+use Rattle.ids.specs.inner.Ids.{idOf, idValue, Unmet, recordBytes}
 
 -- as many buckets; all numbers
 abbrev pub buckets : ℕ
@@ -61,6 +61,16 @@ pub record Entry (file : ℕ) (p notes : List ℕ) (j : ℕ) : Type 0 where
   pub there : part p (startAt notes j) (endAt notes j) ≡ kept file (getD (recordBytes p) j [])
   pub unmet : Unmet file (part p (startAt notes j) (endAt notes j)) (memberStart notes j)
   pub digested : (id : List ℕ) → idOf file (getD (recordBytes p) j []) ≡ some id → digestAt notes j ≡ text.digest id
+
+-- the record between two places of p is the one behind n others; the member of its id is looked for at `member`, and the id is this value
+pub record Next (file : ℕ) (p : List ℕ) (n from upto member : ℕ) (value : List ℕ) : Type 0 where
+  pub room : n < records
+  pub starts : from ≤ fileBytes
+  pub ends : upto ≤ fileBytes
+  pub looked : member ≤ fileBytes
+  pub unmet : Unmet file (part p from upto) member
+  pub is : part p from upto ≡ getD (recordBytes p) n []
+  pub holds : value ≡ idValue file (part p from upto)
 
 -- the first n records of p are noted, and in chains
 pub record Noted (file : ℕ) (p : List ℕ) (n : ℕ) (notes : List ℕ) : Type 0 where

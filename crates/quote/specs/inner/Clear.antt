@@ -2,12 +2,13 @@
 -- are no more than a plan may have.
 use mathlib.Core.List.{List, [], List·Memᴰ}
 use mathlib.Core.Path.{_≡_}
-use Prim.Native.Nat.{ℕ, _≤_}
+use Prim.Native.Nat.{ℕ, _≤_, _<_}
 use lib.ListN.{length}
 use Rattle.limits.specs.Ceilings.{segments}
 use Rattle.walk.specs.declared.Item.{Item}
 use Rattle.walk.specs.Walk.{part, itemsOf}
 use Rattle.walk.specs.Part.{Whole, partTree}
+use Rattle.walk.specs.inner.Along.{AlongItems}
 use Rattle.schema.specs.Shape as shape
 use Rattle.schema.specs.Shape.{Shape, Sort}
 use Rattle.schema.specs.Table23 as table
@@ -33,5 +34,6 @@ ClearSegment p = (f : ℕ) × Clear (table.segment f) p
 
 -- an array of segments, or no bytes
 pub record ClearSegments (p : List ℕ) : Type 0 where
+  pub along : 0 < length p → AlongItems p 1
   pub few : length (itemsOf p) ≤ segments
   pub each : (m : Item) → List·Memᴰ m (itemsOf p) → ClearSegment (part p (m .value) (m .«value_end»))

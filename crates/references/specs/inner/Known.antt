@@ -3,7 +3,7 @@
 use mathlib.Core.Bool.{Bool, true, false}
 use mathlib.Core.List.{List, []}
 use Prim.Native.Nat.{ℕ, zero, suc, _≤_}
-use lib.Dec.{eqb, ltb}
+use lib.Dec.{eqb}
 use lib.ListN.{length, getD}
 use Rattle.notation.specs.Ascii.{bytes}
 use Rattle.notation.specs.Choice.{_⇒_else_, _and_}
@@ -12,7 +12,6 @@ use Rattle.schema.specs.Pick.{Picked}
 use Rattle.fields.specs.inner.Values.{memberOf, textBy, thereBy}
 use Rattle.ids.specs.inner.Ids.{hasId}
 use Rattle.ids.specs.inner.Notes.{Noted}
-use Rattle.references.specs.declared.Set.{Set}
 use Rattle.references.specs.References.{any, hasCapacity, motorized, notHuman}
 
 -- a record is of the sort that is asked about in its file
@@ -36,17 +35,6 @@ testOf file = eqb file 1 ⇒ motorized else eqb file 2 ⇒ hasCapacity else any
 
 abbrev pub testedOf : ℕ → Bool → Picked → Bool
 testedOf file tested = tested ⇒ testOf file else any
-
--- the files that are there
-abbrev pub setOf : (types stations statuses bikes plans : List ℕ) → Set
-setOf types stations statuses bikes plans =
-    record {
-      «types_here» = ltb 0 (length types);
-      «stations_here» = ltb 0 (length stations);
-      «statuses_here» = ltb 0 (length statuses);
-      «bikes_here» = ltb 0 (length bikes);
-      «plans_here» = ltb 0 (length plans);
-    }
 
 -- the records p of a file, which have ids, are noted
 pub record Searchable (file : ℕ) (p notes : List ℕ) : Type 0 where

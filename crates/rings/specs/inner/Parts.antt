@@ -23,11 +23,12 @@ use Rattle.geometry.specs.inner.Shifted.{OnMap, InRange, point, points}
 use Rattle.schema.specs.Shape as shape
 use Rattle.schema.specs.Shape.{Shape}
 use Rattle.schema.specs.Pick.{Picked, bare, items, slots, pick}
-use Rattle.scalar.specs.Scalars.{unless, formed}
-use Rattle.rings.specs.Rings.{Found, foundAt, coordinate, coordinateKinds, coordinatesKinds, position, allSound, positionsFound, ringsFound, itemTotal, polygon, polygonPositions, itemCount, polygonsFound}
-use Rattle.rings.specs.inner.Least.{leastFound}
-use Rattle.rings.specs.declared.LeastFound.{LeastFound}
-use Rattle.rings.specs.declared.LeastFound.the-variants.{None, At}
+use Rattle.scalar.specs.Scalars.{unless, formedKinds}
+use Rattle.fault.specs.declared.Least.{Least}
+use Rattle.fault.specs.declared.Least.the-variants.{None, Is}
+use Rattle.fault.specs.Fault.{fault, least}
+use Rattle.rings.specs.Rings.{Found, foundAt, numbered, coordinate, coordinateKinds, numberKindsIn, position, allSound, positionsFound, ringsFound, itemTotal, polygon, polygonPositions, itemCount, polygonsFound}
+use Rattle.rings.specs.declared.Field.{Field}
 use Rattle.rings.specs.declared.CoordinateFound.{CoordinateFound}
 use Rattle.rings.specs.declared.PositionFound.{PositionFound}
 use Rattle.rings.specs.declared.RingPoints.{RingPoints}
@@ -35,9 +36,16 @@ use Rattle.rings.specs.declared.Judged.{Judged}
 use Rattle.rings.specs.declared.PolygonTally.{PolygonTally}
 use Rattle.rings.specs.declared.ZoneTally.{ZoneTally}
 
+-- a fault at a position's number, and the first of what is found
+abbrev pub faultAt : Field → (number kind : ℕ) → Least
+faultAt q number kind = Is (fault (q .«record») (q .field) number kind)
+
+abbrev pub leastFound : Field → List Found → Least
+leastFound q l = least (numbered (q .«record») (q .field) l)
+
 -- the shapes inside field 73
 abbrev pub numberShape : Shape
-numberShape = shape.scalar shape.coordinate
+numberShape = shape.scalar shape.anyNumber
 
 abbrev pub positionShape : Shape
 positionShape = shape.array shape.positions 3 numberShape
@@ -86,7 +94,7 @@ isNumber kind.Object = false
 abbrev pub rangeKinds : ℕ → Picked → List ℕ
 rangeKinds k (bare tree.null) = wrongType ∷ []
 rangeKinds k (bare (tree.boolean b)) = wrongType ∷ []
-rangeKinds k (bare (tree.number s)) = formed (inRange k) (numberOf s)
+rangeKinds k (bare (tree.number s)) = formedKinds (inRange k) (numberOf s)
 rangeKinds k (bare (tree.string s)) = wrongType ∷ []
 rangeKinds k (bare (tree.array is)) = wrongType ∷ []
 rangeKinds k (bare (tree.object ms)) = wrongType ∷ []
@@ -94,44 +102,44 @@ rangeKinds k (items is) = wrongType ∷ []
 rangeKinds k (slots ss) = wrongType ∷ []
 
 -- where it is sound, its millionths, moved up by k degrees
-pub record FindsCoordinate (k n : ℕ) (x : Picked) (o : CoordinateFound) : Type 0 where
-  pub least : o .least ≡ leastFound (foundAt n (rangeKinds k x))
+pub record FindsCoordinate (q : Field) (k n : ℕ) (x : Picked) (o : CoordinateFound) : Type 0 where
+  pub least : o .least ≡ leastFound q (foundAt n (rangeKinds k x))
   pub value : o .least ≡ None → difference (o .value) (k * 1_000_000) ≡ coordinate x
 
 -- the items of a position; and those behind lon and lat
 unfoldable pub listKinds : List Picked → List ℕ
-listKinds l = unless (leb 2 (length l) and leb (length l) 3) badRing ++ coordinatesKinds l
+listKinds l = unless (leb 2 (length l) and leb (length l) 3) badRing ++ numberKindsIn l
 
 unfoldable pub restKinds : List Picked → List ℕ
 restKinds [] = []
-restKinds (z ∷ []) = coordinateKinds shape.coordinate z
-restKinds (z ∷ w ∷ l) = badRing ∷ coordinateKinds shape.coordinate z
+restKinds (z ∷ []) = coordinateKinds shape.anyNumber z
+restKinds (z ∷ w ∷ l) = badRing ∷ coordinateKinds shape.anyNumber z
 
 -- a position at the number n: its kinds, and where it is sound its point
-pub record FindsPosition (n : ℕ) (kinds : List ℕ) (q : Point) (s : PositionFound) : Type 0 where
-  pub least : s .least ≡ leastFound (foundAt n kinds)
-  pub point : s .least ≡ None → point (s .point) ≡ q
+pub record FindsPosition (q : Field) (n : ℕ) (kinds : List ℕ) (at : Point) (s : PositionFound) : Type 0 where
+  pub least : s .least ≡ leastFound q (foundAt n kinds)
+  pub point : s .least ≡ None → point (s .point) ≡ at
 
 -- a value in which that much is found, with its positions
-pub record Tells (found : List Found) (count : ℕ) (r : Judged) : Type 0 where
-  pub least : r .least ≡ leastFound found
+pub record Tells (q : Field) (found : List Found) (count : ℕ) (r : Judged) : Type 0 where
+  pub least : r .least ≡ leastFound q found
   pub positions : r .positions ≡ count
 
 -- the rings of a polygon, the first position with the number n; a polygon; and the polygons of a zone
-pub record TellsRings (n : ℕ) (l : List Picked) (r : PolygonTally) : Type 0 where
+pub record TellsRings (q : Field) (n : ℕ) (l : List Picked) (r : PolygonTally) : Type 0 where
   pub rings : r .rings ≡ length l
   pub positions : r .positions ≡ itemTotal l
-  pub least : r .least ≡ leastFound (ringsFound n l)
+  pub least : r .least ≡ leastFound q (ringsFound n l)
 
-pub record TellsPolygon (n : ℕ) (x : Picked) (r : PolygonTally) : Type 0 where
+pub record TellsPolygon (q : Field) (n : ℕ) (x : Picked) (r : PolygonTally) : Type 0 where
   pub rings : r .rings ≡ itemCount x
   pub positions : r .positions ≡ polygonPositions x
-  pub least : r .least ≡ leastFound (polygon n x)
+  pub least : r .least ≡ leastFound q (polygon n x)
 
-pub record TellsPolygons (n : ℕ) (l : List Picked) (r : ZoneTally) : Type 0 where
+pub record TellsPolygons (q : Field) (n : ℕ) (l : List Picked) (r : ZoneTally) : Type 0 where
   pub polygons : r .polygons ≡ length l
   pub rings : r .rings ≡ itemTotal l
-  pub least : r .least ≡ leastFound (polygonsFound n l)
+  pub least : r .least ≡ leastFound q (polygonsFound n l)
 
 -- what is counted in any bytes: no more than there are bytes
 pub record PolygonRoom (bytes : ℕ) (r : PolygonTally) : Type 0 where
@@ -145,9 +153,9 @@ pub record Charted (lons lats : List ℕ) : Type 0 where
   pub map : (k : ℕ) → OnMap (record { lon = getD lons k 0; lat = getD lats k 0 })
 
 -- the positions of a ring, the first with the number n; where all are sound and not too many, their points
-pub record RingRead (n : ℕ) (l : List Picked) (r : RingPoints) : Type 0 where
+pub record RingRead (q : Field) (n : ℕ) (l : List Picked) (r : RingPoints) : Type 0 where
   pub count : r .count ≡ length l
-  pub least : r .least ≡ leastFound (positionsFound n l)
+  pub least : r .least ≡ leastFound q (positionsFound n l)
   pub points : allSound l ≡ true → length l ≤ ceiling.positions
       → points (take (r .count) (r .lons)) (take (r .count) (r .lats)) ≡ map position l
 
@@ -163,12 +171,12 @@ pub record Outlined (l : List Picked) (r : RingPoints) : Type 0 where
   pub points : points (take (r .count) (r .lons)) (take (r .count) (r .lats)) ≡ map position l
 
 -- what the code asks of a ring that it has read: kind 11 where all positions are sound, there is room for them, and the ring is not sound
-abbrev pub onlySound : LeastFound → LeastFound → LeastFound
+abbrev pub onlySound : Least → Least → Least
 onlySound None x = x
-onlySound (At n k) x = None
+onlySound (Is f) x = None
 
-unfoldable pub areaLeast : ℕ → RingPoints → LeastFound
-areaLeast n r =
+unfoldable pub areaLeast : Field → ℕ → RingPoints → Least
+areaLeast q n r =
     onlySound (r .least)
     (leb (r .count) ceiling.positions ⇒
-    leastFound (foundAt n (unless (sound (points (take (r .count) (r .lons)) (take (r .count) (r .lats)))) badRing)) else None)
+    leastFound q (foundAt n (unless (sound (points (take (r .count) (r .lons)) (take (r .count) (r .lats)))) badRing)) else None)

@@ -4,25 +4,13 @@ use Rattle.skaveldro.specs.Answers.{wordAnswer}
 use Rattle.skaveldro.proofs.skaveldro_read_word.Statement.{statement}
 use Rattle.skaveldro.proofs.skaveldro_read_word.Tie as tie
 
--- as many values are lent as the layout has
-slice-aggregate-give : tie.Need-slice-aggregate-give
-slice-aggregate-give c = rw (c .before .before .values .ensures)
-
 returns : tie.Need-returns
 unfolding wordAnswer
 returns c =
-    let g = c .before .before in let n = g .before .before .before in let v = n .before in
-    rw (← v .before .read .ensures, ← n .number .ensures, ← v .values .ensures) (g .give .ensures)
+    let g = c .before .before in let p = g .before .before .before in let n = p .before in
+    rw (← n .before .read .ensures, ← n .number .ensures, ← p .word-parts .ensures) (g .give .ensures)
 
 pub skaveldro-read-word-spec : {M : Type 1} → statement M
 skaveldro-read-word-spec =
     tie.close
-    (tie.spec
-    (λ c κs. search needs)
-    (λ c κs. search needs)
-    (λ c κs. search needs)
-    (λ c. search needs)
-    slice-aggregate-give
-    (λ c κs. search needs)
-    (λ c. search needs)
-    returns)
+    (tie.spec (λ c κs. search needs) (λ c κs. search needs) (λ c κs. search needs) (λ c. search needs) (λ c κs. search needs) (λ c. search needs) returns)

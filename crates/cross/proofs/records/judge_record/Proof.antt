@@ -1,35 +1,35 @@
 -- `judge_record` goes by the file's number: past files 1 and 3 it is file 4.
+use mathlib.Core.List.{map}
 use mathlib.Core.Path.{_≡_, subst}
 use Prim.Native.Nat.{ℕ}
 use native.Mathlib.Omega.{arith}
-use Rattle.slots.specs.inner.Slots.{slotsOf, Gathered}
+use Rattle.slots.specs.inner.Slots.{slotsOf}
 use Rattle.cross.specs.Cross.{faultsOf}
-use Rattle.cross.specs.inner.Judged.{Referring, firstLine, lineCount}
+use Rattle.cross.specs.inner.Judged.{Referring, Slotted, Known}
 use Rattle.cross.proofs.records.judge_record.Statement.{statement}
 use Rattle.cross.proofs.records.judge_record.Tie as tie
 
--- the slots are those of the file that it is
-gathered : (s : tie.Start) {file : ℕ} → s .args .file ≡ file →
-    let a = s .args in Gathered (a .p .now) (firstLine file) (lineCount file) (slotsOf (a .state .now) (a .from .now) (a .upto .now))
-gathered s e =
-    let a = s .args in subst (λ (f : ℕ). Gathered (a .p .now) (firstLine f) (lineCount f) (slotsOf (a .state .now) (a .from .now) (a .upto .now))) e (s .pre .1)
+-- the slots are those of the file that it is, and so is what is known
+slotted : (s : tie.Start) {file : ℕ} → s .args .file ≡ file → let a = s .args in Slotted file (a .p .now) (slotsOf (a .state .now) (a .from .now) (a .upto .now))
+slotted s e = let a = s .args in subst (λ (f : ℕ). Slotted f (a .p .now) (slotsOf (a .state .now) (a .from .now) (a .upto .now))) e (s .pre .1)
+
+known : (s : tie.Start) {file : ℕ} → s .args .file ≡ file → let a = s .args in Known file (map (λ p. p .now) (a .records)) (map (λ p. p .now) (a .notes))
+known s e = let a = s .args in subst (λ (f : ℕ). Known f (map (λ p. p .now) (a .records)) (map (λ p. p .now) (a .notes))) e (s .pre .2)
 
 judge-type-requires : tie.Need-judge-type-requires
-judge-type-requires c κs = let s = c .before .before .before .before .before in (gathered s (c .match .keys1), s .pre .2 .prices)
+judge-type-requires c κs = let s = c .before .before in let e = c .match .keys1 in (slotted s e, known s e)
 
 judge-status-requires : tie.Need-judge-status-requires
-judge-status-requires c κs =
-    let s = c .before .before .before .before .before in let k = s .pre .2 in (gathered s (c .match .keys2), k .vehicleTypes, k .docks, s .pre .3, s .pre .4)
+judge-status-requires c κs = let s = c .before .before in let e = c .match .keys2 in (slotted s e, known s e, s .pre .3, s .pre .4)
 
 left : {file : ℕ} → Referring file → (file ≡ 1 → ⊥) → (file ≡ 3 → ⊥) → file ≡ 4
 left h i j = let a = h .least in let b = h .most in let c = h .other in omega arith
 
-is-bikes : (c : tie.At-match-rest) → c .before .before .before .before .before .args .file ≡ 4
-is-bikes c = let r = c .match .rest in left (c .before .before .before .before .before .pre .0) (r .0 .1) (r .1)
+is-bikes : (c : tie.At-match-rest) → c .before .before .args .file ≡ 4
+is-bikes c = let r = c .match .rest in left (c .before .before .pre .0) (r .0 .1) (r .1)
 
 judge-bike-requires : tie.Need-judge-bike-requires
-judge-bike-requires c κs =
-    let s = c .before .before .before .before .before in let k = s .pre .2 in (gathered s (is-bikes c), k .vehicleTypes, k .docks, k .prices)
+judge-bike-requires c κs = let s = c .before .before in let e = is-bikes c in (slotted s e, known s e)
 
 returns : tie.Need-returns
 unfolding faultsOf

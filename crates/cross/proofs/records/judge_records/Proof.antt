@@ -1,6 +1,7 @@
 -- `judge_records` walks over the records of a file without reading them. The loop's invariant: those passed are noted, and the least so far, with what the
 -- records left break, makes the least of all. A record's first slot is its id.
 use borrow.Author.Needs.{needs}
+use mathlib.Core.List.{map}
 use mathlib.Core.Path.{_≡_, sym, ap, subst, _∙_}
 use Prim.Native.Nat.{_+_, _-_, _≤_, _<_}
 use native.Mathlib.Omega.{arith}
@@ -16,7 +17,8 @@ use Rattle.schema.specs.Pick.{pick}
 use Rattle.fault.specs.Fault.{least as leastOf}
 use Rattle.fields.proofs.Sizes.{part-short}
 use Rattle.ids.proofs.Passing.{Noting, noting-start, noting-end, noting-room, noting-record, noting-more}
-use Rattle.cross.specs.inner.Judged.{broken}
+use Rattle.cross.specs.Cross.{faultsOf}
+use Rattle.cross.specs.inner.Judged.{filesBy}
 use Rattle.cross.proofs.Layouts.{id-slot}
 use Rattle.cross.proofs.Staging.{repeat-is}
 use Rattle.cross.proofs.Walked.{Goes, goes-start, goes-end, goes-more, left-among, left-whole}
@@ -24,24 +26,24 @@ use Rattle.cross.proofs.records.judge_records.Statement.{statement}
 use Rattle.cross.proofs.records.judge_records.Tie as tie
 
 abbrev Inv-loop : tie.InvT-loop
-Inv-loop file p notes₀ set types stations plans typeNotes stationNotes planNotes repeat₀ least₀ n₀ at₀ notes repeat least n at =
-    Noting file p notes repeat n at × Goes (broken set types stations plans file) (recordShape file) p n at least
+Inv-loop file p noted₀ rs notes repeat₀ least₀ n₀ at₀ noted repeat least n at =
+    Noting file p noted repeat n at × Goes (faultsOf (filesBy (map (λ q. q .now) rs)) file) (recordShape file) p n at least
 
 abbrev μ-loop : tie.MeasureT-loop
-μ-loop file p notes₀ set types stations plans typeNotes stationNotes planNotes repeat₀ least₀ n₀ at₀ notes repeat least n at = length p - at
+μ-loop file p noted₀ rs notes repeat₀ least₀ n₀ at₀ noted repeat least n at = length p - at
 
 loop-holds : tie.Need-loop-holds Inv-loop μ-loop
-loop-holds c = let x = c .before .before .before .before .pre in (noting-start (x .2) (x .1 .along), goes-start _ _ _ (x .1 .along))
+loop-holds c = let x = c .before .pre in (noting-start (x .2) (x .1 .along), goes-start _ _ _ (x .1 .along))
 
 returns : tie.Need-returns Inv-loop μ-loop
 returns c =
-    let t = c .before .before in let l = t .before in let s = l .before .before .before .before .before in let a = s .args in
+    let t = c .before .before in let l = t .before in let s = l .before .before in let a = s .args in
     let e = noting-end (l .loop .inv .0) (t .pass-item .ensures) (c .enum-told .given .1) in let most = s .pre .0 .most in (
       record {
         repeats = e .0 ∙ repeat-is (a .file) (omega arith) (a .p .now);
         breaks = goes-end _ _ _ (l .loop .n) (l .loop .at) (l .loop .least) (l .loop .inv .1) (t .pass-item .ensures) (c .enum-told .given .1);
       },
-      e .1,
+      record { least = s .pre .0 .least; most = omega arith; noted = e .1 },
     )
 
 -- where a record was found
@@ -49,7 +51,7 @@ abbrev Met : Type 0
 Met = tie.After-item Inv-loop μ-loop
 
 abbrev start : Met → tie.Start Inv-loop μ-loop
-start c = c .before .before .before .before .before .before .before .before
+start c = c .before .before .before .before .before
 
 placed : (c : Met) → ItemPlaced (start c .args .p .now) (c .before .before .before .loop .at) (c .item .given .0 .0)
 placed c = c .before .before .pass-item .ensures .placed _ (c .item .given .1)
@@ -75,14 +77,16 @@ note-record-requires : tie.Need-note-record-requires Inv-loop μ-loop
 note-record-requires c κs =
     let i = c .before in let v = i .before in let g = v .before .before .before .before .before in let d = g .before .before .before in let t = d .before .before in let l = t .before in let s = start d in
     let m = placed d in let h = s .pre .1 .short in (
-      omega arith,
-      omega arith,
-      i .id-place .ensures .0,
-      room d,
-      i .id-place .ensures .1 _ (whole d) .unmet,
-      noting-record (l .loop .inv .0) (t .pass-item .ensures) _ (d .item .given .1),
+      record {
+        room = room d;
+        starts = omega arith;
+        ends = omega arith;
+        looked = i .id-place .ensures .0;
+        unmet = i .id-place .ensures .1 _ (whole d) .unmet;
+        is = noting-record (l .loop .inv .0) (t .pass-item .ensures) _ (d .item .given .1);
+        holds = id-slot (whole d) (s .args .file) (s .pre .0) (g .gather-record .ensures) (v .value-in .ensures .0);
+      },
       l .loop .inv .0 .noted,
-      id-slot (whole d) (s .args .file) (s .pre .0) (g .gather-record .ensures) (v .value-in .ensures .0),
     )
 
 judge-record-requires : tie.Need-judge-record-requires Inv-loop μ-loop
@@ -100,7 +104,7 @@ loop-again : tie.Need-loop-again Inv-loop μ-loop
 loop-again c =
     let j = c .before in let i = j .before .before .before .before .before in let k = i .before in let d = met c in let t = d .before .before in let l = t .before in
     let a = start d .args in let m = d .item .given .0 .0 in let e = d .item .given .1 in
-    let faults = broken (a .set) (a .types .now) (a .stations .now) (a .plans .now) (a .file) in let σ = recordShape (a .file) in (
+    let faults = faultsOf (filesBy (map (λ q. q .now) (a .records))) (a .file) in let σ = recordShape (a .file) in (
       noting-more (l .loop .inv .0) (t .pass-item .ensures) m e (k .note-record .ensures .0) (k .note-record .ensures .1) (i .first-of .ensures),
       goes-more faults σ (a .p .now) (l .loop .n) (l .loop .at) (l .loop .least) (l .loop .inv .1) (t .pass-item .ensures) m e
           (j .judge-record .ensures (object d .0) (whole d) ∙ ap (λ x. leastOf (faults (l .loop .n + 1) (pick σ x))) (sym (object d .1)))

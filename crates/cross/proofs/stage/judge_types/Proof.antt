@@ -1,21 +1,25 @@
--- `judge_types` judges the types where no type is known: what they break does not depend on types.
+-- `judge_types` judges the types with the notes of stations and plans: types name no types.
 use borrow.Author.Needs.{needs}
+use mathlib.Core.Path.{refl, sym, subst}
 use native.Mathlib.Omega.{arith}
-use Rattle.ids.proofs.Entering.{blank}
-use Rattle.cross.proofs.Staging.{none-searchable, types-alone}
+use Rattle.cross.specs.inner.Staged.{Recorded}
+use Rattle.cross.proofs.Numbers.{searchable-by}
+use Rattle.cross.proofs.Staging.{found-in}
 use Rattle.cross.proofs.stage.judge_types.Statement.{statement}
 use Rattle.cross.proofs.stage.judge_types.Tie as tie
 
 judge-records-requires : tie.Need-judge-records-requires
 judge-records-requires c κs =
-    let x = c .before .before .before .before .before .before .pre in (
+    let f = c .before in let x = f .before .pre in (
       record { least = omega arith; most = omega arith; other = λ e. omega arith },
-      x .0,
+      subst Recorded (sym (f .file-in .ensures)) (x .0),
       x .1,
-      record { vehicleTypes = none-searchable 1 (omega arith) (omega arith) blank; docks = x .2; prices = x .3 },
+      record { types = λ h. absurd (h refl); stations = x .2 .stations; plans = x .2 .plans },
     )
 
+returns : tie.Need-returns
+returns c =
+    let e = c .before .before .file-in .ensures in let j = c .judge-records .ensures in (found-in e (j .0), searchable-by (sym e) refl (j .1))
+
 pub judge-types-spec : {M : Type 1} → statement M
-judge-types-spec =
-    tie.close
-    (tie.spec (λ c. search needs) judge-records-requires (λ c. (types-alone _ _ _ _ _ (c .judge-records .ensures .0), c .judge-records .ensures .1)))
+judge-types-spec = tie.close (tie.spec (λ c κs. search needs) judge-records-requires returns)

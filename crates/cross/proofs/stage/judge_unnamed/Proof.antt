@@ -1,10 +1,21 @@
 -- `judge_unnamed` judges the records with notes of its own, which are blank at first.
+use mathlib.Core.Path.{sym, subst}
+use native.Mathlib.Omega.{arith}
 use Rattle.ids.proofs.Entering.{blank}
+use Rattle.cross.specs.inner.Staged.{Recorded}
+use Rattle.cross.proofs.Staging.{found-in}
 use Rattle.cross.proofs.stage.judge_unnamed.Statement.{statement}
 use Rattle.cross.proofs.stage.judge_unnamed.Tie as tie
 
+file-in-requires : tie.Need-file-in-requires
+file-in-requires c κs = let h = c .pre .0 in let a = h .least in let b = h .most in (omega arith, omega arith)
+
 judge-records-requires : tie.Need-judge-records-requires
-judge-records-requires c κs = let x = c .before .before .before .before .before .pre in (x .0, x .1, blank, x .2)
+judge-records-requires c κs =
+    let f = c .before in let x = f .before .pre in (x .0, subst Recorded (sym (f .file-in .ensures)) (x .1), blank, x .2)
+
+returns : tie.Need-returns
+returns c = found-in (c .before .before .file-in .ensures) (c .judge-records .ensures .0)
 
 pub judge-unnamed-spec : {M : Type 1} → statement M
-judge-unnamed-spec = tie.close (tie.spec judge-records-requires (λ c. c .judge-records .ensures .0))
+judge-unnamed-spec = tie.close (tie.spec file-in-requires judge-records-requires returns)

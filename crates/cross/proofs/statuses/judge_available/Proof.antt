@@ -34,10 +34,11 @@ loop-holds c = let a = c .before .before .pre .2 in (omega arith, omega arith, s
 
 returns : tie.Need-returns Inv-loop μ-loop
 returns c =
-    let t = c .before .before in let k = t .before in let s = t .pass-item .ensures in let e = c .enum-told .given .1 in (
-      sums-end _ (k .loop .sum) (k .loop .at) (k .loop .inv .2) s e,
-      goes-end _ _ _ (k .loop .sub) (k .loop .at) (k .loop .least) (k .loop .inv .3) s e ∙ ap leastOf (available-each _ _ 1 _),
-    )
+    let t = c .before .before in let k = t .before in let s = t .pass-item .ensures in let e = c .enum-told .given .1 in
+    record {
+      sums = sums-end _ (k .loop .sum) (k .loop .at) (k .loop .inv .2) s e;
+      breaks = goes-end _ _ _ (k .loop .sub) (k .loop .at) (k .loop .least) (k .loop .inv .3) s e ∙ ap leastOf (available-each _ _ 1 _);
+    }
 
 -- where an item was found
 abbrev Met : Type 0

@@ -37,13 +37,13 @@ returns c =
     let a = r .before .before .before .before .args in
     let types = pickedItems (recordShape 1) (a .types .now) in let place = recordPlace (a .n) 0 in
     let sum : j .judge-available .result .sum ≡ sumOf (pickedItems available (arrayBy (a .available .now))) =
-    j .judge-available .ensures .0 ∙ ap (λ q. sumOf (pickedItems available q)) (r .array-in .ensures) in
+    j .judge-available .ensures .sums ∙ ap (λ q. sumOf (pickedItems available q)) (r .array-in .ensures) in
     both _ _ (c .lesser2 .ensures)
     (joined place 37 _ _ (l .lesser .ensures)
     (breaks place 37 (d .demanded .result) (b₁ .broken .ensures) (d .demanded .ensures))
     (breaks place 37 (k .sum-kind .result) (b .broken2 .ensures)
     (k .sum-kind .ensures ∙ ap (λ (x : ℕ). kindIf (thereBy (a .available .now) and not (eqb x (integerIn (spelledBy (a .bikes .now))))) sumDiffers) sum)))
-    (j .judge-available .ensures .1 ∙ ap (λ q. least (availableFaults types (a .n) 1 (pickedItems available q))) (r .array-in .ensures))
+    (j .judge-available .ensures .breaks ∙ ap (λ q. least (availableFaults types (a .n) 1 (pickedItems available q))) (r .array-in .ensures))
 
 pub judge-counts-spec : {M : Type 1} → statement M
 judge-counts-spec =

@@ -9,15 +9,17 @@ use Rattle.folder.proofs.verdict.parts_of.Tie as tie
 
 returns : tie.Need-returns
 returns c =
-    let v = c .before .before .before in
+    let r = c .before in
+    let v = r .before .before .before in
     let f6 = v .before .before in
     let f5 = f6 .before in
     let f4 = f5 .before in
     let f3 = f4 .before in
     let f2 = f3 .before in
     let f1 = f2 .before in
-    c .read-back .ensures
-    ∙ parts-said _ _ _ (omega arith) (omega (arith, c .before .before .word2 .given)) (v .verdict .ensures .1)
+    c .word-parts .ensures
+    ∙ ap (λ a. a .parts) (r .read .ensures)
+    ∙ parts-said _ _ _ (omega arith) (omega (arith, r .before .before .word2 .given)) (v .verdict .ensures .1)
     ∙ ap
     (λ s. said (verdictOf s))
     (same-set (f1 .file .ensures) (f2 .file2 .ensures) (f3 .file3 .ensures) (f4 .file4 .ensures) (f5 .file5 .ensures) (f6 .file6 .ensures))
@@ -35,5 +37,6 @@ parts-of-spec =
     (λ c. search needs)
     (λ c κs. search needs)
     (λ c. search needs)
+    (λ c κs. search needs)
     (λ c κs. search needs)
     returns)

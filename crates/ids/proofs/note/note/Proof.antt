@@ -9,13 +9,14 @@ use Rattle.limits.specs.Ceilings.{records, fileBytes}
 use Rattle.json.specs.Tree as tree
 use Rattle.json.specs.Tree.{Members}
 use Rattle.walk.specs.Part.{Whole}
-use Rattle.walk.proofs.Parts.{itemOf, item-whole}
+use Rattle.walk.proofs.Parts.{itemOf}
+use Rattle.walk.proofs.Left.{left-among, left-whole}
 use Rattle.walk.specs.inner.Along.{ItemPlaced}
 use Rattle.slots.specs.declared.Found.the-variants.{Twice}
 use Rattle.slots.specs.Found.{foundIn}
 use Rattle.fields.proofs.Sizes.{part-short}
 use Rattle.ids.specs.inner.Ids.{idName, idValue, Single, IdPlace}
-use Rattle.ids.proofs.Passing.{Noting, noting-start, noting-end, noting-found, noting-room, noting-among, noting-record, noting-more}
+use Rattle.ids.proofs.Passing.{Noting, noting-start, noting-end, noting-room, noting-record, noting-more}
 use Rattle.ids.proofs.note.note.Statement.{statement}
 use Rattle.ids.proofs.note.note.Tie as tie
 
@@ -46,24 +47,24 @@ room c = let t = c .before .before in noting-room (t .before .loop .inv) (t .pas
 
 -- it is one object, and has its id once
 single : (c : Met) → Single (start c .args .file) (itemOf (start c .args .p .now) (c .m .given .0 .0))
-single c = let t = c .before .before in start c .pre .4 (c .m .given .0 .0) (noting-among (t .before .loop .inv) (t .pass-item .ensures) _ (c .m .given .1))
+single c = let t = c .before .before in start c .pre .4 (c .m .given .0 .0) (left-among (t .before .loop .inv .left) (t .pass-item .ensures) (c .m .given .1))
 
 object : (c : Met) → let p = start c .args .p .now in (ms : Members) × Whole (itemOf p (c .m .given .0 .0)) (tree.object ms)
 object c =
     let t = c .before .before in let p = start c .args .p .now in let m = c .m .given .0 .0 in let o = single c .object in
-    (o .0, subst (Whole (itemOf p m)) (o .1) (item-whole p _ m (noting-found (t .before .loop .inv) (t .pass-item .ensures) _ (c .m .given .1))))
+    (o .0, subst (Whole (itemOf p m)) (o .1) (left-whole (t .before .loop .inv .left) (t .pass-item .ensures) (c .m .given .1)))
 
-short : (c : tie.After-cut Inv-loop μ-loop) → length (c .cut .result .now) ≤ fileBytes
+short : (c : tie.After-item-bytes Inv-loop μ-loop) → length (c .item-bytes .result .now) ≤ fileBytes
 short c =
     let d = c .before .before in let s = start d in let m = d .m .given .0 .0 in
-    omega (arith, s .pre .0, ap length (c .cut .ensures), part-short (s .args .p .now) (m .value) (m .«value_end»))
+    omega (arith, s .pre .0, ap length (c .item-bytes .ensures), part-short (s .args .p .now) (m .value) (m .«value_end»))
 
 -- where the member of its id is looked for
 place : (c : tie.After-id-place Inv-loop μ-loop) →
     let d = c .before .before .before in let a = start d .args in IdPlace (a .file) (itemOf (a .p .now) (d .m .given .0 .0)) (c .id-place .result)
 place c =
     let u = c .before in let d = u .before .before in let a = start d .args in let o = object d in
-    subst (λ (q : List ℕ). Whole q (tree.object (o .0)) → IdPlace (a .file) q (c .id-place .result)) (u .cut .ensures) (c .id-place .ensures .1 (o .0)) (o .1)
+    subst (λ (q : List ℕ). Whole q (tree.object (o .0)) → IdPlace (a .file) q (c .id-place .result)) (u .item-bytes .ensures) (c .id-place .ensures .1 (o .0)) (o .1)
 
 -- and what it holds
 value-is : (c : tie.After-id-value Inv-loop μ-loop) →
@@ -71,19 +72,21 @@ value-is : (c : tie.After-id-value Inv-loop μ-loop) →
 value-is c =
     let i = c .before in let u = i .before in let d = u .before .before in let a = start d .args in let o = object d in
     subst (λ (q : List ℕ). Whole q (tree.object (o .0)) → IdPlace (a .file) q (i .id-place .result) → (foundIn q (idName (a .file)) ≡ Twice → ⊥) → c .id-value .result .now ≡ idValue (a .file) q)
-    (u .cut .ensures) (c .id-value .ensures (a .file) (o .0)) (o .1) (place i) (single d .once)
+    (u .item-bytes .ensures) (c .id-value .ensures (a .file) (o .0)) (o .1) (place i) (single d .once)
 
 note-record-requires : tie.Need-note-record-requires Inv-loop μ-loop
 note-record-requires c κs =
     let v = c .before in let i = v .before in let d = i .before .before .before in let t = d .before .before in let l = t .before in let m = placed d in let h = start d .pre .0 in (
-      omega arith,
-      omega arith,
-      i .id-place .ensures .0,
-      room d,
-      place i .unmet,
-      noting-record (l .loop .inv) (t .pass-item .ensures) _ (d .m .given .1),
+      record {
+        room = room d;
+        starts = omega arith;
+        ends = omega arith;
+        looked = i .id-place .ensures .0;
+        unmet = place i .unmet;
+        is = noting-record (l .loop .inv) (t .pass-item .ensures) _ (d .m .given .1);
+        holds = value-is v;
+      },
       l .loop .inv .noted,
-      value-is v,
     )
 
 loop-again : tie.Need-loop-again Inv-loop μ-loop

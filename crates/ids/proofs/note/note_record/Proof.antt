@@ -20,9 +20,9 @@ use Rattle.ids.proofs.note.note_record.Tie as tie
 returns : tie.Need-returns
 returns c =
     let i = c .before .before in let k = i .before in let g = k .before .before .before in let a = g .args in
-    let e : idOf (a .file) (part (a .p .now) (a .from) (a .upto)) ≡ none = ap textBy (sym (g .pre .7)) ∙ text-none _ _ (k .code-of .ensures) (i .if1 .taken) in (
+    let e : idOf (a .file) (part (a .p .now) (a .from) (a .upto)) ≡ none = ap textBy (sym (g .pre .0 .holds)) ∙ text-none _ _ (k .code-of .ensures) (i .if1 .taken) in (
       repeated-none _ _ _ e,
-      subst (λ (l : List ℕ). Noted (a .file) (a .p .now) (a .n + 1) l) (sym (c .enter .ensures)) (noted-nameless (g .pre .6) (g .pre .3) _ (g .pre .5) e),
+      subst (λ (l : List ℕ). Noted (a .file) (a .p .now) (a .n + 1) l) (sym (c .enter .ensures)) (noted-nameless (g .pre .1) (g .pre .0 .room) _ (g .pre .0 .is) e),
     )
 
 -- the text of the id
@@ -30,22 +30,22 @@ text-is : (c : tie.After-unquoted) → let a = c .before .before .before .before
     idOf (a .file) (part (a .p .now) (a .from) (a .upto)) ≡ some (textOf (c .unquoted .result .now))
 text-is c =
     let i = c .before in let k = i .before in let g = k .before .before .before in
-    ap textBy (sym (g .pre .7)) ∙ text-some _ _ (k .code-of .ensures) (i .if1 .left) ∙ ap (λ q. some (textOf q)) (sym (c .unquoted .ensures))
+    ap textBy (sym (g .pre .0 .holds)) ∙ text-some _ _ (k .code-of .ensures) (i .if1 .left) ∙ ap (λ q. some (textOf q)) (sym (c .unquoted .ensures))
 
 search-requires : tie.Need-search-requires
 search-requires c κs =
     let d = c .before .before in let g = d .before .before .before .before .before .before in
-    (d .digest-of .ensures, from-head (g .pre .6) _ _ _ (d .digest-of .ensures) (c .last .ensures))
+    (d .digest-of .ensures, from-head (g .pre .1) _ _ _ (d .digest-of .ensures) (c .last .ensures))
 
 returns-2 : tie.Need-returns-2
 returns-2 c =
     let s = c .before .before in let l = s .before in let d = l .before .before in let u = d .before in let g = u .before .before .before .before .before in
     let a = g .args in let id = textOf (u .unquoted .result .now) in let e = text-is u in (
-      ap (ltb 0) (s .search .ensures ∙ head-all (g .pre .6) id _ _ (d .digest-of .ensures) (l .last .ensures))
+      ap (ltb 0) (s .search .ensures ∙ head-all (g .pre .1) id _ _ (d .digest-of .ensures) (l .last .ensures))
           ∙ any-last (a .file) id (recordBytes (a .p .now)) (a .n)
           ∙ repeated-some _ _ _ id e,
       subst (λ (x : List ℕ). Noted (a .file) (a .p .now) (a .n + 1) x) (sym (c .enter2 .ensures))
-          (noted-named (g .pre .6) (g .pre .3) _ (g .pre .5) (a .from) (a .upto) (a .member) refl (g .pre .4) id e _ (d .digest-of .ensures)),
+          (noted-named (g .pre .1) (g .pre .0 .room) _ (g .pre .0 .is) (a .from) (a .upto) (a .member) refl (g .pre .0 .unmet) id e _ (d .digest-of .ensures)),
     )
 
 pub note-record-spec : {M : Type 1} → statement M

@@ -1,4 +1,4 @@
--- `judge_positions` puts the first of what is found at positions into its field and record.
+-- What is no array has the wrong type; an array is judged by its positions.
 use borrow.Author.Needs.{needs}
 use mathlib.Core.Path.{_∙_}
 use Prim.Native.Nat.{_≤_}
@@ -19,22 +19,11 @@ returns c =
 
 returns-2 : tie.Need-returns-2
 returns-2 c =
-    let j = c .before .before in
-    let v = j .before .before in
+    let v = c .before .before in
     let b = v .before .before in
     let a = b .before .before .args in (
       skip-ends (a .p .now) _ (v .skip-value .ensures),
-      positions-are (a .place) (a .field) (a .p .now) (v .skip-value .result) (b .brackets .ensures) (v .before .if1 .left) (j .judge-coordinates .ensures) (c .enum-told .given .1),
-    )
-
-returns-3 : tie.Need-returns-3
-returns-3 c =
-    let j = c .before .before .before in
-    let v = j .before .before in
-    let b = v .before .before in
-    let a = b .before .before .args in (
-      skip-ends (a .p .now) _ (v .skip-value .ensures),
-      positions-are (a .place) (a .field) (a .p .now) (v .skip-value .result) (b .brackets .ensures) (v .before .if1 .left) (j .judge-coordinates .ensures) (c .before .number .given .1),
+      positions-are (a .place) (a .field) (a .p .now) (v .skip-value .result) (b .brackets .ensures) (v .before .if1 .left) (c .judge-coordinates .ensures),
     )
 
 cut-there : tie.Need-slice-aggregate-judge-coordinates
@@ -54,5 +43,4 @@ pub judge-positions-spec : {M : Type 1} → statement M
 judge-positions-spec =
     tie.close
     (tie.spec (λ c κs. search needs) (λ c κs. search needs) (λ c κs. search needs) returns (λ c κs. search needs)
-    cut-there judge-coordinates-requires (λ c. search needs) returns-2
-    (λ c. search needs) returns-3)
+    cut-there judge-coordinates-requires returns-2)

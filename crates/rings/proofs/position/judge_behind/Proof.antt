@@ -2,7 +2,7 @@
 use mathlib.Core.Path.{ap, _∙_}
 use native.Mathlib.Omega.{arith}
 use borrow.Author.Needs.{needs}
-use Rattle.rings.specs.inner.Least.{lesser}
+use Rattle.fault.specs.Fault.{lesser}
 use Rattle.rings.specs.inner.Parts.{numberShape}
 use Rattle.rings.proofs.Picked.{left-end, left-more}
 use Rattle.rings.proofs.Positions.{finds-position-as, finds-position-one, finds-position-more, broken-map}
@@ -11,10 +11,10 @@ use Rattle.rings.proofs.position.judge_behind.Tie as tie
 
 returns : tie.Need-returns
 returns c = (
-  broken-map _ _ (c .broken .ensures),
+  broken-map _ _ (c .broken2 .ensures),
   λ x l k h.
-      finds-position-one _ x _ k l _ _ _ (left-end numberShape _ _ l h (c .before .before .before .before .pass-item .ensures) (c .before .before .enum-told .given .1))
-      (c .before .lesser .ensures) (c .broken .ensures),
+      finds-position-one _ _ x _ k l _ _ _ _ (left-end numberShape _ _ l h (c .before .before .before .before .before .pass-item .ensures) (c .before .before .before .enum-told .given .1))
+      (c .before .before .broken .ensures) (c .before .lesser .ensures) (c .broken2 .ensures),
 )
 
 sub-read-coordinate : tie.Need-sub-read-coordinate
@@ -32,12 +32,12 @@ returns-2 c =
       record { east = omega (arith, n .before .before .before .before .pre); north = lat .0 },
       λ x l k h.
           let o = left-more numberShape _ _ l h (n .before .before .pass-item .ensures) _ (n .second .given .1) in
-          finds-position-as _ _ _ _ _ (c .lesser3 .ensures ∙ ap (lesser _) (c .before .lesser2 .ensures))
-          (finds-position-more _ x _ k l _ (o .rest) _ _ (o .is) (lat .1 _ (o .whole)) (c .before .before .judge-rest .ensures _ (o .left))),
+          finds-position-as _ _ _ _ _ _ (c .lesser3 .ensures ∙ ap (lesser _) (c .before .lesser2 .ensures))
+          (finds-position-more _ _ x _ k l _ (o .rest) _ _ (o .is) (lat .1 _ (o .whole)) (c .before .before .judge-rest .ensures _ (o .left))),
     )
 
 pub judge-behind-spec : {M : Type 1} → statement M
 judge-behind-spec =
     tie.close
-    (tie.spec (λ c κs. search needs) (λ c. search needs) (λ c. search needs) (λ c κs. search needs) (λ c κs. search needs) returns sub-read-coordinate
+    (tie.spec (λ c κs. search needs) (λ c. search needs) (λ c. search needs) (λ c κs. search needs) (λ c κs. search needs) (λ c κs. search needs) returns sub-read-coordinate
     part-read-coordinate-start part-read-coordinate-end (λ c κs. search needs) (λ c κs. search needs) (λ c κs. search needs) (λ c κs. search needs) returns-2)

@@ -13,10 +13,10 @@ use Rattle.rings.proofs.position.judge_numbers.Tie as tie
 
 returns : tie.Need-returns
 returns c = (
-  broken-map _ _ (c .broken .ensures),
+  broken-map _ _ (c .broken2 .ensures),
   λ w.
-      finds-position-empty _ _ _ _ (left-end numberShape _ _ _ (left-start numberShape _ w) (c .before .before .before .pass-item .ensures) (c .before .enum-told .given .1))
-      (c .broken .ensures),
+      finds-position-empty _ _ _ _ _ _ (left-end numberShape _ _ _ (left-start numberShape _ w) (c .before .before .before .before .pass-item .ensures) (c .before .before .enum-told .given .1))
+      (c .before .broken .ensures) (c .broken2 .ensures),
 )
 
 sub-read-coordinate : tie.Need-sub-read-coordinate
@@ -34,12 +34,12 @@ returns-2 c = (
   λ w.
       let n = c .before .before .before .before in
       let o = left-more numberShape _ _ _ (left-start numberShape _ w) (n .before .before .pass-item .ensures) _ (n .first .given .1) in
-      subst (λ (l : List Picked). FindsPosition (n .before .before .before .before .args .number) (listKinds l) (pointOf l) (c .judge-behind .result)) (sym (o .is))
+      subst (λ (l : List Picked). FindsPosition (n .before .before .before .before .args .field) (n .before .before .before .before .args .number) (listKinds l) (pointOf l) (c .judge-behind .result)) (sym (o .is))
       (c .judge-behind .ensures .1 _ (o .rest) (c .before .read-coordinate .ensures .1 _ (o .whole)) (o .left)),
 )
 
 pub judge-numbers-spec : {M : Type 1} → statement M
 judge-numbers-spec =
     tie.close
-    (tie.spec (λ c κs. search needs) (λ c. search needs) (λ c. search needs) (λ c κs. search needs) returns sub-read-coordinate
+    (tie.spec (λ c κs. search needs) (λ c. search needs) (λ c. search needs) (λ c κs. search needs) (λ c κs. search needs) returns sub-read-coordinate
     part-read-coordinate-start part-read-coordinate-end (λ c κs. search needs) (λ c κs. search needs) returns-2)

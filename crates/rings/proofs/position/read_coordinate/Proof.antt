@@ -13,19 +13,19 @@ use Rattle.rings.proofs.position.read_coordinate.Tie as tie
 
 returns : tie.Need-returns
 returns c = (
-  let e = ap (λ (o : CoordinateFound). o .value) (c .broken .ensures) in omega arith,
+  let e = ap (λ (o : CoordinateFound). o .value) (c .broken2 .ensures) in omega arith,
   λ x w.
-      measured-broken _ _ wrongType _ _ (no-number _ w (sym (c .before .before .is-number .ensures) ∙ not-true _ (c .before .if1 .taken))) (c .broken .ensures),
+      measured-broken _ _ _ wrongType _ _ _ (no-number _ w (sym (c .before .before .before .is-number .ensures) ∙ not-true _ (c .before .before .if1 .taken))) (c .before .broken .ensures) (c .broken2 .ensures),
 )
 
 returns-2 : tie.Need-returns-2
 returns-2 c = (
-  let e = ap (λ (o : CoordinateFound). o .value) (c .broken2 .ensures) in omega arith,
+  let e = ap (λ (o : CoordinateFound). o .value) (c .broken4 .ensures) in omega arith,
   λ x w.
-      measured-broken _ _ numberForm _ _
-      (unformed-kinds _ w (sym (c .before .before .before .before .before .is-number .ensures) ∙ not-false _ (c .before .before .before .before .if1 .left))
-      (sym (c .before .before .before .read-decimal .ensures) ∙ c .before .enum-told .given .1))
-      (c .broken2 .ensures),
+      measured-broken _ _ _ numberForm _ _ _
+      (unformed-kinds _ w (sym (c .before .before .before .before .before .before .is-number .ensures) ∙ not-false _ (c .before .before .before .before .before .if1 .left))
+      (sym (c .before .before .before .before .read-decimal .ensures) ∙ c .before .before .enum-told .given .1))
+      (c .before .broken3 .ensures) (c .broken4 .ensures),
 )
 
 within-requires : tie.Need-within-requires
@@ -33,12 +33,12 @@ within-requires c κs = number-formed _ _ (sym (c .before .before .before .read-
 
 returns-3 : tie.Need-returns-3
 returns-3 c = (
-  let e = ap (λ (o : CoordinateFound). o .value) (c .broken3 .ensures) in omega arith,
+  let e = ap (λ (o : CoordinateFound). o .value) (c .broken6 .ensures) in omega arith,
   λ x w.
-      measured-broken _ _ outOfRange _ _
-      (outside-kinds _ w (sym (c .before .before .before .before .before .before .before .before .is-number .ensures) ∙ not-false _ (c .before .before .before .before .before .before .before .if1 .left)) _
-      (sym (c .before .before .before .before .before .before .read-decimal .ensures) ∙ c .before .before .before .before .d .given .1) (sym (c .before .before .within .ensures) ∙ not-true _ (c .before .if2 .taken)))
-      (c .broken3 .ensures),
+      measured-broken _ _ _ outOfRange _ _ _
+      (outside-kinds _ w (sym (c .before .before .before .before .before .before .before .before .before .is-number .ensures) ∙ not-false _ (c .before .before .before .before .before .before .before .before .if1 .left)) _
+      (sym (c .before .before .before .before .before .before .before .read-decimal .ensures) ∙ c .before .before .before .before .before .d .given .1) (sym (c .before .before .before .within .ensures) ∙ not-true _ (c .before .before .if2 .taken)))
+      (c .before .broken5 .ensures) (c .broken6 .ensures),
 )
 
 coordinate-requires : tie.Need-coordinate-requires
@@ -50,11 +50,11 @@ returns-4 c = (
   inside-upto _ _ _ (sym (c .before .before .within .ensures) ∙ not-false _ (c .before .if2 .left)) (c .coordinate .ensures),
   λ x w.
       measured-inside _ w (sym (c .before .before .before .before .before .before .before .before .is-number .ensures) ∙ not-false _ (c .before .before .before .before .before .before .before .if1 .left)) _
-      (sym (c .before .before .before .before .before .before .read-decimal .ensures) ∙ c .before .before .before .before .d .given .1) _ _ (sym (c .before .before .within .ensures) ∙ not-false _ (c .before .if2 .left)) (c .coordinate .ensures),
+      (sym (c .before .before .before .before .before .before .read-decimal .ensures) ∙ c .before .before .before .before .d .given .1) _ _ _ (sym (c .before .before .within .ensures) ∙ not-false _ (c .before .if2 .left)) (c .coordinate .ensures),
 )
 
 pub read-coordinate-spec : {M : Type 1} → statement M
 read-coordinate-spec =
     tie.close
-    (tie.spec (λ c κs. search needs) (λ c κs. search needs) returns (λ c κs. search needs) (λ c. search needs) (λ c. search needs) (λ c κs. search needs)
-    returns-2 within-requires (λ c κs. search needs) returns-3 coordinate-requires returns-4)
+    (tie.spec (λ c κs. search needs) (λ c κs. search needs) (λ c κs. search needs) returns (λ c κs. search needs) (λ c. search needs) (λ c. search needs) (λ c κs. search needs) (λ c κs. search needs)
+    returns-2 within-requires (λ c κs. search needs) (λ c κs. search needs) returns-3 coordinate-requires returns-4)

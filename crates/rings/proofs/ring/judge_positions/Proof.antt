@@ -1,8 +1,8 @@
 -- The counts, the positions and the area, each with its own faults.
 use mathlib.Core.Path.{ap, ap₂, _∙_}
 use borrow.Author.Needs.{needs}
-use Rattle.rings.specs.inner.Least.{lesser}
-use Rattle.rings.specs.declared.LeastFound.{LeastFound}
+use Rattle.fault.specs.declared.Least.{Least}
+use Rattle.fault.specs.Fault.{lesser}
 use Rattle.rings.proofs.Areas.{ring-tells}
 use Rattle.rings.proofs.ring.judge_positions.Statement.{statement}
 use Rattle.rings.proofs.ring.judge_positions.Tie as tie
@@ -17,7 +17,7 @@ returns c =
       λ w.
           ring-tells (r .ensures .1 w) _
           (c .lesser3 .ensures
-          ∙ ap₂ lesser (c .before .before .lesser2 .ensures ∙ ap (λ (z : LeastFound). lesser z (r .result .least)) (c .before .before .before .lesser .ensures ∙ ap₂ lesser (c .before .before .before .before .before .unless .ensures) (c .before .before .before .before .unless2 .ensures)))
+          ∙ ap₂ lesser (c .before .before .lesser2 .ensures ∙ ap (λ (z : Least). lesser z (r .result .least)) (c .before .before .before .lesser .ensures ∙ ap₂ lesser (c .before .before .before .before .before .unless .ensures) (c .before .before .before .before .unless2 .ensures)))
           (c .before .judge-area .ensures)),
     )
 

@@ -14,20 +14,20 @@ use Rattle.rings.proofs.ring.read_ring.Statement.{statement}
 use Rattle.rings.proofs.ring.read_ring.Tie as tie
 
 abbrev Inv-loop : tie.InvT-loop
-Inv-loop p n lons₀ lats₀ count₀ least₀ at₀ lons lats count least at =
+Inv-loop p field n lons₀ lats₀ count₀ least₀ at₀ lons lats count least at =
     Passed p at count count × Charted lons lats
-    × (Listing p → (g : Going positionFound single positionShape n p at count count least) × Drawn lons lats count least (g .left) (partsOf positionShape p))
+    × (Listing p → (g : Going field positionFound single positionShape n p at count count least) × Drawn lons lats count least (g .left) (partsOf positionShape p))
 
 abbrev μ-loop : tie.MeasureT-loop
-μ-loop p n lons₀ lats₀ count₀ least₀ at₀ lons lats count least at = length p + 1 - at
+μ-loop p field n lons₀ lats₀ count₀ least₀ at₀ lons lats count least at = length p + 1 - at
 
 loop-holds : tie.Need-loop-holds Inv-loop μ-loop
-loop-holds c = (passed-start _, charted-start, λ w. (going-start positionFound single positionShape _ _ w, drawn-start _))
+loop-holds c = (passed-start _, charted-start, λ w. (going-start _ positionFound single positionShape _ _ w, drawn-start _))
 
 returns : tie.Need-returns Inv-loop μ-loop
 returns c =
     let (k, d, g) = c .before .before .before .loop .inv in
-    (record { within = passed-within k; charted = d }, λ w. ring-read _ _ (g w .0) (g w .1) (c .before .before .pass-item .ensures) (c .enum-told .given .1))
+    (record { within = passed-within k; charted = d }, λ w. ring-read _ _ _ (g w .0) (g w .1) (c .before .before .pass-item .ensures) (c .enum-told .given .1))
 
 -- where an item was found
 abbrev Met : Type 0
@@ -62,9 +62,9 @@ loop-again c =
       charted-stored _ _ (l .count) _ _ _ (l .inv .1) (r .0) east north,
       λ w.
           let (g, drawn) = l .inv .2 w in
-          let spotted = r .1 _ (going-whole positionFound single positionShape _ _ g f _ h) in
-          let o = going-next positionFound single positionShape _ _ g f _ h _ _ 1 (spotted .least) next refl in
-          (o .0, drawn-more drawn (l .inv .1) _ _ _ _ _ _ _ (o .1) spotted next east north),
+          let spotted = r .1 _ (going-whole _ positionFound single positionShape _ _ g f _ h) in
+          let o = going-next _ positionFound single positionShape _ _ g f _ h _ _ 1 (spotted .least) next refl in
+          (o .0, drawn-more drawn (l .inv .1) _ _ _ _ _ _ _ _ (o .1) spotted next east north),
     )
 
 pub read-ring-spec : {M : Type 1} → statement M

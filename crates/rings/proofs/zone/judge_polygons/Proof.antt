@@ -6,31 +6,30 @@ use lib.ListN.{length}
 use borrow.Author.Needs.{needs}
 use Rattle.walk.specs.inner.Along.{ItemPlaced}
 use Rattle.rings.specs.Rings.{polygon, polygonPositions, itemCount}
-use Rattle.rings.specs.inner.Least.{leastFound}
-use Rattle.rings.specs.inner.Parts.{polygonShape, Listing}
+use Rattle.rings.specs.inner.Parts.{leastFound, polygonShape, Listing}
 use Rattle.rings.proofs.Going.{Room, Passed, passed-start, passed-room, passed-more, Going, going-start, going-end, going-whole, going-more, Counting, counting-start, counting-end, counting-more}
 use Rattle.rings.proofs.Zones.{polygons-found, item-total}
 use Rattle.rings.proofs.zone.judge_polygons.Statement.{statement}
 use Rattle.rings.proofs.zone.judge_polygons.Tie as tie
 
 abbrev Inv-loop : tie.InvT-loop
-Inv-loop p n polygons₀ rings₀ positions₀ least₀ at₀ polygons rings positions least at =
+Inv-loop p field n polygons₀ rings₀ positions₀ least₀ at₀ polygons rings positions least at =
     Passed p at polygons positions × (rings < at)
-    × (Listing p → Going polygon polygonPositions polygonShape n p at polygons positions least × Counting itemCount polygonShape p at polygons rings)
+    × (Listing p → Going field polygon polygonPositions polygonShape n p at polygons positions least × Counting field itemCount polygonShape p at polygons rings)
 
 abbrev μ-loop : tie.MeasureT-loop
-μ-loop p n polygons₀ rings₀ positions₀ least₀ at₀ polygons rings positions least at = length p + 1 - at
+μ-loop p field n polygons₀ rings₀ positions₀ least₀ at₀ polygons rings positions least at = length p + 1 - at
 
 loop-holds : tie.Need-loop-holds Inv-loop μ-loop
 loop-holds c =
-    (passed-start _, omega arith, λ w. (going-start polygon polygonPositions polygonShape _ _ w, counting-start itemCount polygonShape _ w))
+    (passed-start _, omega arith, λ w. (going-start _ polygon polygonPositions polygonShape _ _ w, counting-start _ itemCount polygonShape _ w))
 
 returns : tie.Need-returns Inv-loop μ-loop
 returns c w =
     let l = c .before .before .before .loop in let f = c .before .before .pass-item .ensures in let g = l .inv .2 w in
-    let t = going-end polygon polygonPositions polygonShape _ _ (g .0) f (c .enum-told .given .1) in
-    let rings = counting-end itemCount polygonShape _ (g .1) f (c .enum-told .given .1) in
-    record { polygons = t .counted; rings = rings ∙ sym (item-total _); least = t .found ∙ ap leastFound (sym (polygons-found _ _)) }
+    let t = going-end _ polygon polygonPositions polygonShape _ _ (g .0) f (c .enum-told .given .1) in
+    let rings = counting-end _ itemCount polygonShape _ (g .1) f (c .enum-told .given .1) in
+    record { polygons = t .counted; rings = rings ∙ sym (item-total _); least = t .found ∙ ap (leastFound _) (sym (polygons-found _ _)) }
 
 -- where an item was found
 abbrev Met : Type 0
@@ -76,9 +75,9 @@ loop-again c =
       (let few = l .inv .1 in let m = placed d in omega (arith, few, m .later, m .value, m .next, k .size, r .0 .rings)),
       λ w.
           let g = l .inv .2 w in
-          let j = r .1 _ (going-whole polygon polygonPositions polygonShape _ _ (g .0) f _ h) in (
-            going-more polygon polygonPositions polygonShape _ _ (g .0) f _ h _ _ _ (j .least) (c .before .before .lesser .ensures) (j .positions),
-            counting-more itemCount polygonShape _ (g .1) f _ h _ (j .rings),
+          let j = r .1 _ (going-whole _ polygon polygonPositions polygonShape _ _ (g .0) f _ h) in (
+            going-more _ polygon polygonPositions polygonShape _ _ (g .0) f _ h _ _ _ (j .least) (c .before .before .lesser .ensures) (j .positions),
+            counting-more _ itemCount polygonShape _ (g .1) f _ h _ (j .rings),
           ),
     )
 

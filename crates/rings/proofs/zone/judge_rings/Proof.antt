@@ -6,30 +6,29 @@ use lib.ListN.{length}
 use borrow.Author.Needs.{needs}
 use Rattle.walk.specs.inner.Along.{ItemPlaced}
 use Rattle.rings.specs.Rings.{ring, itemCount}
-use Rattle.rings.specs.inner.Least.{leastFound}
-use Rattle.rings.specs.inner.Parts.{ringShape, Listing}
+use Rattle.rings.specs.inner.Parts.{leastFound, ringShape, Listing}
 use Rattle.rings.proofs.Going.{Room, Passed, passed-start, passed-within, passed-few, passed-room, passed-more, Going, going-start, going-end, going-whole, going-more}
 use Rattle.rings.proofs.Zones.{rings-found, item-total}
 use Rattle.rings.proofs.zone.judge_rings.Statement.{statement}
 use Rattle.rings.proofs.zone.judge_rings.Tie as tie
 
 abbrev Inv-loop : tie.InvT-loop
-Inv-loop p n rings₀ positions₀ least₀ at₀ rings positions least at =
-    Passed p at rings positions × (Listing p → Going ring itemCount ringShape n p at rings positions least)
+Inv-loop p field n rings₀ positions₀ least₀ at₀ rings positions least at =
+    Passed p at rings positions × (Listing p → Going field ring itemCount ringShape n p at rings positions least)
 
 abbrev μ-loop : tie.MeasureT-loop
-μ-loop p n rings₀ positions₀ least₀ at₀ rings positions least at = length p + 1 - at
+μ-loop p field n rings₀ positions₀ least₀ at₀ rings positions least at = length p + 1 - at
 
 loop-holds : tie.Need-loop-holds Inv-loop μ-loop
-loop-holds c = (passed-start _, λ w. going-start ring itemCount ringShape _ _ w)
+loop-holds c = (passed-start _, λ w. going-start _ ring itemCount ringShape _ _ w)
 
 returns : tie.Need-returns Inv-loop μ-loop
 returns c =
     let l = c .before .before .before .loop in (
       record { rings = passed-few (l .inv .0); positions = passed-within (l .inv .0) },
       λ w.
-          let t = going-end ring itemCount ringShape _ _ (l .inv .1 w) (c .before .before .pass-item .ensures) (c .enum-told .given .1) in
-          record { rings = t .counted; positions = t .numbered ∙ sym (item-total _); least = t .found ∙ ap leastFound (sym (rings-found _ _)) },
+          let t = going-end _ ring itemCount ringShape _ _ (l .inv .1 w) (c .before .before .pass-item .ensures) (c .enum-told .given .1) in
+          record { rings = t .counted; positions = t .numbered ∙ sym (item-total _); least = t .found ∙ ap (leastFound _) (sym (rings-found _ _)) },
     )
 
 -- where an item was found
@@ -70,8 +69,8 @@ loop-again c =
       passed-more (l .inv .0) (placed d) _ (omega (arith, k .size, r .0)),
       λ w.
           let g = l .inv .1 w in
-          let j = r .1 _ (going-whole ring itemCount ringShape _ _ g f _ h) in
-          going-more ring itemCount ringShape _ _ g f _ h _ _ _ (j .least) (c .before .lesser .ensures) (j .positions),
+          let j = r .1 _ (going-whole _ ring itemCount ringShape _ _ g f _ h) in
+          going-more _ ring itemCount ringShape _ _ g f _ h _ _ _ (j .least) (c .before .lesser .ensures) (j .positions),
     )
 
 pub judge-rings-spec : {M : Type 1} → statement M

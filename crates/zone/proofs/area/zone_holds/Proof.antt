@@ -10,7 +10,7 @@ use Rattle.fields.specs.inner.Values.{memberOf, arrayBy}
 use Rattle.zone.specs.Zone.{polygonsHold}
 use Rattle.zone.specs.inner.Clean.{CleanItems}
 use Rattle.zone.proofs.Zoned.{polygonBytes, zone-polygons}
-use Rattle.zone.proofs.Cleared.{geometry-whole, zone-clean}
+use Rattle.zone.proofs.Cleared.{geometry-whole, coordinates-clean}
 use Rattle.zone.proofs.area.zone_holds.Statement.{statement}
 use Rattle.zone.proofs.area.zone_holds.Tie as tie
 
@@ -25,7 +25,7 @@ found c =
 polygons-hold-requires : tie.Need-polygons-hold-requires
 polygons-hold-requires c κs =
     let s = c .before .before .before .before .before .before in
-    (subst (CleanItems polygonShape polygonsFound) (sym (found c)) (zone-clean (s .args .p .now) (s .pre .0)), s .pre .1)
+    (subst (CleanItems polygonShape polygonsFound) (sym (found c)) (coordinates-clean (s .args .p .now) (s .pre .0)), s .pre .1)
 
 returns : tie.Need-returns
 returns c =

@@ -1,80 +1,56 @@
 -- `names_type` looks for the type among the ids. The loop's invariant: it is among those that are left just where it is among all.
 use borrow.Author.Needs.{needs}
-use mathlib.Core.Path.{_≡_, sym, _∙_}
+use mathlib.Core.Path.{_≡_, sym, ap, _∙_}
 use Prim.Native.Nat.{_-_}
-use native.Mathlib.Omega.{arith}
 use lib.ListN.{length}
-use Rattle.walk.specs.inner.Along.{ItemPlaced}
+use Rattle.walk.specs.inner.Along.{AlongItems}
+use Rattle.walk.proofs.Left.{nearer, left-whole, Comes, comes-start, comes-end, comes-here, comes-more}
 use Rattle.rings.specs.inner.Parts.{picked, partsOf}
 use Rattle.document.specs.Document.{textIn}
-use Rattle.fields.specs.inner.Values.{isId}
+use Rattle.fields.specs.inner.Values.{textBy, isId}
 use Rattle.zone.specs.Zone.{anyText}
 use Rattle.zone.specs.inner.Values.{idShape}
 use Rattle.zone.proofs.Fields.{id-text}
-use Rattle.zone.proofs.Looping.{Loops, loop-start, loop-end, loop-whole, loop-here, loop-more}
 use Rattle.zone.proofs.Loops.{ids, any-none, any-here, any-later}
 use Rattle.zone.proofs.rules.names_type.Statement.{statement}
 use Rattle.zone.proofs.rules.names_type.Tie as tie
 
 abbrev Inv-loop : tie.InvT-loop
-Inv-loop p type-id at₀ at = Loops (ids type-id) p at tt (anyText (partsOf idShape p) type-id)
+Inv-loop p type-id at₀ at = Comes p (ids p type-id) at (anyText (partsOf idShape p) type-id)
 
 abbrev μ-loop : tie.MeasureT-loop
 μ-loop p type-id at₀ at = length p - at
 
 loop-holds : tie.Need-loop-holds Inv-loop μ-loop
-loop-holds c = let s = c .before .before in let a = s .args in loop-start (ids (a .type-id .now)) (a .p .now) tt (s .pre) tt
+unfolding partsOf
+loop-holds c = let s = c .before .before in comes-start (ids (s .args .p .now) (s .args .type-id .now)) (λ h. AlongItems.start (s .pre .whole h .1))
 
 returns : tie.Need-returns Inv-loop μ-loop
 returns c =
-    let n = c .before .before in let k = n .before in let a = k .before .before .before .args in
-    sym (any-none (a .type-id .now))
-    ∙ loop-end (ids (a .type-id .now)) (a .p .now) (k .loop .inv) (n .pass-item .ensures) (c .enum-told .given .1)
+    let n = c .before .before in
+    sym (any-none _) ∙ comes-end (n .before .loop .inv) (n .pass-item .ensures) (c .enum-told .given .1)
 
--- where an item was found
-abbrev Met : Type 0
-Met = tie.After-known-told Inv-loop μ-loop
-
-placed : (c : Met) →
-    ItemPlaced (c .before .before .before .before .before .before .before .args .p .now) (c .before .before .before .before .loop .at) (c .before .m .given .0 .0)
-placed c = let n = c .before .before .before in n .pass-item .ensures .placed _ (c .before .m .given .1)
-
--- what was asked of it
+-- what was asked of an item
 asked : (c : tie.After-is-id Inv-loop μ-loop) →
     let d = c .before .before .before in let a = d .before .before .before .before .before .before .args in
     c .is-id .result ≡ isId (a .type-id .now) (textIn (picked idShape (a .p .now) (d .m .given .0 .0)))
 asked c =
-    let d = c .before .before .before in let n = d .before .before in let k = n .before in let a = k .before .before .before .args in
-    c .is-id .ensures
-    ∙ id-text (loop-whole (ids (a .type-id .now)) (a .p .now) (k .loop .inv) (n .pass-item .ensures) (d .m .given .0 .0) (d .m .given .1)) (a .type-id .now)
+    let b = c .before in let d = b .before .before in let n = d .before .before in let k = n .before in let type = k .before .before .before .args .type-id .now in
+    c .is-id .ensures ∙ ap (λ q. isId type (textBy q)) (b .item-bytes .ensures)
+    ∙ id-text (left-whole (k .loop .inv .left) (n .pass-item .ensures) (d .m .given .1)) type
 
 returns-2 : tie.Need-returns-2 Inv-loop μ-loop
 returns-2 c =
-    let i = c .before in let d = i .before .before .before in let n = d .before .before in let k = n .before in let a = k .before .before .before .args in
-    loop-here (ids (a .type-id .now)) (a .p .now) (k .loop .inv) (n .pass-item .ensures) (d .m .given .0 .0) (d .m .given .1)
-    (λ l. any-here (a .type-id .now) _ l (sym (asked i) ∙ c .if1 .taken))
+    let i = c .before in let d = i .before .before .before in let n = d .before .before in
+    comes-here (n .before .loop .inv) (n .pass-item .ensures) (d .m .given .1) (λ l. any-here _ _ _ (sym (asked i) ∙ c .if1 .taken))
 
 loop-again : tie.Need-loop-again Inv-loop μ-loop
 loop-again c =
-    let i = c .before in let d = i .before .before .before in let n = d .before .before in let k = n .before in let a = k .before .before .before .args in
-    loop-more (ids (a .type-id .now)) (a .p .now) (k .loop .inv) (n .pass-item .ensures) (d .m .given .0 .0) (d .m .given .1) tt
-    (λ l. any-later (a .type-id .now) _ l (sym (asked i) ∙ c .if1 .left))
+    let i = c .before in let d = i .before .before .before in let n = d .before .before in
+    comes-more (n .before .loop .inv) (n .pass-item .ensures) (d .m .given .1) _ (λ l. any-later _ _ _ (sym (asked i) ∙ c .if1 .left))
 
 pub names-type-spec : {M : Type 1} → statement M
 names-type-spec =
     tie.close
-    (tie.spec
-    Inv-loop
-    μ-loop
-    loop-holds
-    (λ c κs. search needs)
-    (λ c. search needs)
-    returns
-    (λ c. search needs)
-    (λ c. let m = placed c in omega arith)
-    (λ c. let m = placed c in omega arith)
-    (λ c. let m = placed c in omega arith)
-    (λ c κs. search needs)
-    returns-2
-    (λ c. let m = placed (c .before .before .before) in omega arith)
-    loop-again)
+    (tie.spec Inv-loop μ-loop loop-holds (λ c κs. search needs) (λ c. search needs) returns (λ c. search needs) (λ c κs. search needs)
+    (λ c κs. search needs) returns-2 (λ c. let d = c .before .before .before .before in nearer (d .before .before .pass-item .ensures) (d .m .given .1)) loop-again)

@@ -1,0 +1,39 @@
+// The files of a set, one beside the other in the order of their numbers.
+use ids::Notes;
+ghost use mathlib.Core.List.{[], map};
+ghost use mathlib.Core.Path.{_≡_};
+ghost use Prim.Native.Nat.{_≤_, _<_};
+ghost use lib.Dec.{ltb};
+ghost use lib.ListN.{length, getD};
+ghost use Rattle.cross.specs.Stage.{fileCount, bytesOf};
+ghost use Rattle.cross.specs.inner.Judged.{filesBy};
+
+// How many there are.
+pub const FILES: usize = 6;
+
+// How many of them references name: vehicle types, stations and plans, in this order.
+pub const NAMED: usize = 3;
+
+// The file with this number; or its bytes from its records on, where these are handed over.
+pub fn file_in<'a>(files: [&'a [u8]; FILES], file: u8) -> &'a [u8]
+    requires { ⌜ (1 ≤ file) × (file ≤ fileCount) ⌝ }
+    ensures { λ r. ⌜ now r ≡ bytesOf (map now (files .entry)) file ⌝ }
+{
+    files[file as usize - 1]
+}
+
+// Whether it is there, by its records.
+pub fn is_here<'a>(records: [&'a [u8]; FILES], file: u8) -> bool
+    requires { ⌜ (1 ≤ file) × (file ≤ fileCount) ⌝ }
+    ensures { λ r. ⌜ r ≡ filesBy (map now (records .entry)) file .here ⌝ }
+{
+    0 < file_in(records, file).len()
+}
+
+// The notes of a file that references name.
+pub fn notes_in<'n>(notes: [&'n [u32; Notes::SIZE]; NAMED], i: usize) -> &'n [u32; Notes::SIZE]
+    requires { ⌜ i < 3 ⌝ }
+    ensures { λ r. ⌜ now r ≡ getD (map now (notes .entry)) i [] ⌝ }
+{
+    notes[i]
+}
