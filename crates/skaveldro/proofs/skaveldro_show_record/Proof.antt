@@ -1,5 +1,7 @@
 -- The number and the values are those of the answer, and the answer is the definition's.
 use borrow.Author.Needs.{needs}
+use mathlib.Core.Path.{_≡_}
+use Rattle.clean.specs.Show.{answer, shownOf}
 use Rattle.skaveldro.specs.Answers.{shownAnswer}
 use Rattle.skaveldro.proofs.skaveldro_show_record.Statement.{statement}
 use Rattle.skaveldro.proofs.skaveldro_show_record.Tie as tie
@@ -7,8 +9,9 @@ use Rattle.skaveldro.proofs.skaveldro_show_record.Tie as tie
 returns : tie.Need-returns
 unfolding shownAnswer
 returns c =
-    let g = c .before .before in let r = g .before .before .before in let p = r .before in let n = p .before in
-    rw (← n .before .show-record .ensures, ← n .number .ensures, ← p .word-parts .ensures, ← r .rest .ensures) (g .give .ensures)
+    let g = c .before .before in let r = g .before .before .before in let p = r .before in let n = p .before in let a = n .before .before .before .before .args in
+    let asked : answer (n .before .show-record .result) ≡ shownOf (a .file) (a .«record») (a .bytes .now) = n .before .show-record .ensures in
+    rw (← asked, ← n .number .ensures, ← p .word-parts .ensures, ← r .rest .ensures) (g .give .ensures)
 
 pub skaveldro-show-record-spec : {M : Type 1} → statement M
 skaveldro-show-record-spec =
