@@ -1,6 +1,5 @@
 -- The ceilings of document 01, "The feed set", and those of rings, document 02's request W13, one name each.
 use Prim.Native.Nat.{ℕ}
-use Rattle.limits.specs.declared.Limits.{Limits}
 
 -- bytes of a file
 abbrev pub fileBytes : ℕ
@@ -45,20 +44,3 @@ items = 64
 -- bytes of an id, its escapes decoded
 abbrev pub idBytes : ℕ
 idBytes = 100
-
--- all of them, as the value that the code's constants make
-abbrev pub ceilings : Limits
-ceilings =
-    record {
-      «file_bytes» = fileBytes;
-      depth = depth;
-      records = records;
-      segments = segments;
-      polygons = polygons;
-      rings = rings;
-      «zone_rings» = zoneRings;
-      rules = rules;
-      positions = positions;
-      items = items;
-      «id_bytes» = idBytes;
-    }

@@ -1,6 +1,6 @@
 // The ceilings of a feed set. Every layer above takes them from here.
 ghost use mathlib.Core.Path.{_≡_};
-ghost use Rattle.limits.specs.Ceilings.{ceilings};
+ghost use Rattle.limits.specs.inner.Constants.{ceilings};
 
 pub struct Limits {
     pub file_bytes: usize,
