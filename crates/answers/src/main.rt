@@ -7,9 +7,9 @@ mod print;
 mod questions;
 mod quote_trip;
 mod read_word;
+mod set;
 mod show;
 mod signed;
-mod verdict;
 mod words;
 mod zone_rule;
 

@@ -2,8 +2,8 @@
 use crate::print;
 use crate::quote_trip;
 use crate::read_word;
+use crate::set;
 use crate::show;
-use crate::verdict;
 use crate::words;
 use crate::zone_rule;
 
@@ -21,7 +21,7 @@ fn ask(line: &[u8], bytes: &mut [u8]) -> bool {
         return read_word::answer(line, bytes);
     }
     if words::same(name, b"verdict") {
-        return verdict::answer(line, bytes);
+        return set::answer(line, bytes);
     }
     if words::same(name, b"show") {
         return show::answer(line, bytes);

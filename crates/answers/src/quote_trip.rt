@@ -26,7 +26,7 @@ pub fn answer(line: &[u8], bytes: &mut [u8]) -> bool {
     )
 }
 
-// The same of the file and the id, with the words for the ride.
+// Answers a quote, of the file, the id and the words for seconds and metres; no where one is no number.
 fn ask(file: &[u8], id: &[u8], seconds: &[u8], metres: &[u8]) -> bool {
     let Number::Is(time) = number::parse(seconds) else {
         return false;

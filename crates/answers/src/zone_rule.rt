@@ -28,7 +28,7 @@ pub fn answer(line: &[u8], bytes: &mut [u8]) -> bool {
     )
 }
 
-// The same of the file and the type, with the line from the point on.
+// Answers a zone rule, of the file, the type and the line from the point on; no where it is not one.
 fn ask(file: &[u8], type_id: &[u8], rest: &[u8]) -> bool {
     let Signed::Is(lat) = signed::parse(words::at(rest, 0)) else {
         return false;
@@ -61,12 +61,12 @@ fn print_ruling(r: Ruling) {
 fn print_rule(r: Rule) {
     print::mark(r.ride);
     print::mark(r.through);
-    if r.limited {
+    if r.speed_given {
         print::next(r.speed);
     } else {
         print::nothing();
     }
-    if r.parks {
+    if r.parking_given {
         print::mark(r.parking);
     } else {
         print::nothing();

@@ -5,10 +5,10 @@ use mathlib.Core.Path.{_≡_, sym, _∙_, subst}
 use Prim.Native.Nat.{ℕ, _≤_, _<_, _+_, _-_, _*_}
 use native.Mathlib.Omega.{arith}
 use borrow.Author.Tests.{lt-ltb, le-ltb}
+use Rattle.notation.proofs.Booleans.{by-test}
 use Rattle.lexeme.specs.declared.Quad.{Quad}
 use Rattle.lexeme.specs.declared.Quad.the-variants.{Value, Short}
 use Rattle.lexeme.specs.Character.{byte, within, hexValue, hexadecimal, quad}
-use Rattle.lexeme.proofs.Steps.{by-test}
 
 module _ (b : ℕ) {t : Bool} (e : t ≡ within 0x30 0x39 b) where
   pub hex-digit : t ≡ true → b - 0x30 ≡ hexValue b

@@ -6,6 +6,7 @@ use Prim.Native.Nat.{ℕ, _+_, _-_, _≤_, _<_}
 use native.Mathlib.Omega.{arith}
 use lib.Dec.{eqb}
 use lib.ListN.{length, drop, length-drop}
+use Rattle.notation.proofs.Booleans.{by-test}
 use Rattle.lexeme.specs.declared.Char.{Char}
 use Rattle.lexeme.specs.declared.Next.{Next}
 use Rattle.lexeme.specs.declared.Next.the-variants.{Quote, Character, Fault}
@@ -15,7 +16,6 @@ use Rattle.lexeme.specs.declared.Trail.{Trail}
 use Rattle.lexeme.specs.declared.Trail.the-variants.{Low, Other}
 use Rattle.lexeme.specs.Character.{Surrogates, byte, within, quad, lowOf, trail, combined, encoded, alone, high, next}
 use Rattle.lexeme.specs.Character.Surrogates.{paired, lone}
-use Rattle.lexeme.proofs.Steps.{by-test}
 use Rattle.lexeme.proofs.Local.{Near, Way, near, far, next-way, encoded-char, QuadNear, quad-near}
 use Rattle.lexeme.proofs.Rests.{some-left}
 

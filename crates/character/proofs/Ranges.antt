@@ -5,8 +5,8 @@ use mathlib.Core.Path.{_≡_}
 use Prim.Native.Nat.{ℕ, _≤_, _<_}
 use lib.Dec.{leb}
 use borrow.Author.Tests.{le-leb, lt-leb, leb-true}
+use Rattle.notation.proofs.Booleans.{by-test, true-false}
 use Rattle.lexeme.specs.Character.{within}
-use Rattle.lexeme.proofs.Steps.{by-test, true-false}
 
 module _ (lo hi b : ℕ) where
   pub within-rest : lo ≤ b → leb b hi ≡ within lo hi b

@@ -6,10 +6,8 @@ use mathlib.Core.Path.{_≡_, refl, ap, ap₂, _∙_}
 use Prim.Native.Nat.{ℕ, _+_}
 use lib.Dec.{eqb, leb}
 use Rattle.notation.specs.Choice.{_and_}
+use Rattle.notation.proofs.Booleans.{true-false, and-left, and-right}
 use Rattle.word.specs.Kinds.{nameTwice, tooMany}
-use Rattle.lexeme.proofs.Steps.{true-false}
-use Rattle.json.specs.declared.Syntax.{Syntax}
-use Rattle.json.specs.declared.Syntax.the-variants as syntax
 use Rattle.json.specs.Text.{syntaxOf}
 use Rattle.json.specs.Tree as tree
 use Rattle.json.specs.Tree.{Json, Items, Members}
@@ -17,18 +15,17 @@ use Rattle.schema.specs.Shape as shape
 use Rattle.schema.specs.Shape.{Shape, Rows, Need, Numbering, fileShape}
 use Rattle.schema.specs.Table23.{table23}
 use Rattle.schema.specs.Pick.{Picked, PickedItems, Slots, Slot, missing, once, twice, unlessBlank, put, pickItems, pick, pickRows, find, listOf, elements}
-use Rattle.schema.proofs.Tests.{and-left, and-right}
 use Rattle.fault.specs.declared.Fault.{Fault}
-use Rattle.fault.specs.Fault.{least}
+use Rattle.fault.specs.Fault.{least, faulty}
+use Rattle.fault.specs.Outcome.{outcomeOf, orNext}
 use Rattle.scalar.specs.Scalars.{unless}
 use Rattle.rings.specs.Rings.{Found, count}
-use Rattle.judge.specs.declared.Place.{Place}
-use Rattle.judge.specs.Faults.{Judge, faulty, itemPlace, absence, eachItem, arrayFaults, objectFaults, slotFaults, faultsBy, rowFaultsBy, fileFaultsBy}
-use Rattle.document.specs.Document.{none, some, onceOnly, field, along}
-use Rattle.document.proofs.Fields as fields
-use Rattle.document.proofs.Fields.{Lists, over, at-row}
-use Rattle.clean.specs.declared.Outcome.the-variants.{Unbroken}
-use Rattle.clean.specs.Clean.{treeOf, repeats, broken, judgedBy, cleanBy}
+use Rattle.fault.specs.declared.Place.{Place}
+use Rattle.judge.specs.Faults.{Judge, itemPlace, absence, eachItem, arrayFaults, objectFaults, slotFaults, faultsBy, rowFaultsBy, fileFaultsBy}
+use Rattle.document.specs.Document.{some, onceOnly, field, along}
+use Rattle.document.proofs.Rows as fields
+use Rattle.document.proofs.Rows.{Lists, over, at-row}
+use Rattle.clean.specs.Clean.{treeOf, repeats, cleanBy, syntaxOutcome}
 
 -- no coordinates anywhere in it
 abbrev plainArray : Numbering → Bool → Bool
@@ -148,8 +145,6 @@ module _ (f g : PickedItems → List Found) where
       → cleanBy f file s ≡ cleanBy g file s
   unfolding cleanBy
   clean-alike file [] e = refl
-  clean-alike file (b ∷ s) e = go (syntaxOf (b ∷ s))
-    where
-      go : (x : Syntax) → judgedBy f file (b ∷ s) x ≡ judgedBy g file (b ∷ s) x
-      go (syntax.Fault kind offset) = refl
-      go syntax.Sound = ap (λ (l : List Fault). broken file (least l) (broken file (least (repeats file (pick (fileShape table23 file) (treeOf (b ∷ s))))) Unbroken)) e
+  clean-alike file (b ∷ s) e =
+      ap (λ (l : List Fault). orNext (syntaxOutcome file (syntaxOf (b ∷ s)))
+      (orNext (outcomeOf file (least l)) (outcomeOf file (least (repeats file (pick (fileShape table23 file) (treeOf (b ∷ s)))))))) e

@@ -9,6 +9,7 @@ use native.Mathlib.Omega.{arith}
 use lib.Dec.{leb}
 use lib.ListN.{length}
 use borrow.Author.Tests.{leb-true}
+use Rattle.notation.proofs.Lists.{cons-nil}
 use Rattle.word.specs.Kinds.{nameTwice, tooMany}
 use Rattle.json.specs.Tree as tree
 use Rattle.json.specs.Tree.{Json, Members}
@@ -19,15 +20,13 @@ use Rattle.schema.specs.Pick.{Picked, PickedItems, items, noItem, item, Slots, 
 use Rattle.fault.specs.declared.Fault.{Fault}
 use Rattle.scalar.specs.Scalars.{unless}
 use Rattle.rings.specs.Rings as rings
-use Rattle.judge.specs.declared.Place.{Place}
-use Rattle.judge.specs.Faults.{Judge, faulty, absence, itemPlace, byNumbering, eachItem, coordinateFaults, slotFaults, faultsBy, faults, rowFaultsBy, rowFaults}
+use Rattle.fault.specs.declared.Place.{Place}
+use Rattle.judge.specs.Faults.{Judge, absence, itemPlace, byNumbering, eachItem, coordinateFaults, slotFaults, faultsBy, faults, rowFaultsBy, rowFaults}
+use Rattle.fault.specs.Fault.{faulty}
 use Rattle.document.specs.Document.{none, some, onceOnly, field, fieldItems, along}
-use Rattle.document.proofs.Fields as fields
-use Rattle.document.proofs.Fields.{Lists, over, at-row}
+use Rattle.document.proofs.Rows as fields
+use Rattle.document.proofs.Rows.{Lists, over, at-row}
 use Rattle.document.proofs.Ways.{Requires, here, below, lists, Leads, arrived, into}
-
-cons-nil : {A B : Type 0} {x : A} {l : List A} → x ∷ l ≡ [] → B
-cons-nil e = let z : _≡_ {A = ℕ} 0 1 = cc in absurd (omega arith)
 
 -- where nothing is in two lists together, nothing is in either
 none-left : {A : Type 0} (xs ys : List A) → xs ++ ys ≡ [] → xs ≡ []

@@ -1,18 +1,18 @@
 -- The steps of a file's judgement: whether it is there, stage A, its value, and what is shown of a clean one.
 use mathlib.Core.Bool.{Bool, true, false}
 use mathlib.Core.List.{List, [], _∷_}
-use mathlib.Core.Path.{_≡_, refl, sym, ap, subst, _∙_}
-use Prim.Native.Nat.{ℕ, zero, suc, _-_, _≤_, _<_}
+use mathlib.Core.Path.{_≡_, refl, ap, subst}
+use Prim.Native.Nat.{ℕ, _-_, _≤_, _<_}
 use native.Mathlib.Omega.{arith}
-use lib.Dec.{leb, ltb}
+use lib.Dec.{leb, ltb, eqb}
 use lib.ListN.{length}
-use borrow.Author.Tests.{ltb-false, leb-true, le-leb, ne-eqb}
+use borrow.Author.Tests.{ltb-false, leb-true, le-leb}
 use Rattle.limits.specs.Ceilings.{fileBytes, depth}
-use Rattle.notation.specs.Choice.{_⇒_else_, _and_}
+use Rattle.notation.specs.Choice.{_⇒_else_}
+use Rattle.notation.proofs.Booleans.{by-test}
 use Rattle.lexeme.specs.Read.{Read, placed}
 use Rattle.lexeme.specs.Read.Read.{done, bad}
 use Rattle.lexeme.specs.Character.{paired}
-use Rattle.lexeme.proofs.Steps.{by-test}
 use Rattle.word.specs.Kinds.{idTwice}
 use Rattle.json.specs.declared.Syntax.{Syntax}
 use Rattle.json.specs.declared.Syntax.the-variants as syntax
@@ -20,25 +20,22 @@ use Rattle.json.specs.Tree.{Json}
 use Rattle.json.specs.Text.{text, syntaxBy, syntaxOf}
 use Rattle.walk.specs.Walk.{part}
 use Rattle.walk.specs.Part.{Whole}
-use Rattle.walk.proofs.Files.{Passed, passed, valueStart}
-use Rattle.schema.specs.Shape.{fileShape}
-use Rattle.schema.specs.Table23.{table23}
-use Rattle.schema.specs.Pick.{pick}
+use Rattle.walk.proofs.Files.{passed, valueStart}
 use Rattle.fault.specs.declared.Fault.{Fault}
-use Rattle.fault.specs.declared.Least.{Least}
 use Rattle.fault.specs.declared.Least.the-variants.{None, Is}
-use Rattle.fault.specs.Fault.{fault, least}
-use Rattle.judge.specs.Faults.{fileFaults}
-use Rattle.document.specs.declared.Span.{Span}
+use Rattle.fault.specs.declared.outcome.Outcome.{Outcome}
+use Rattle.fault.specs.declared.outcome.Outcome.the-variants.{Unbroken}
+use Rattle.fault.specs.Fault.{fault}
+use Rattle.fault.specs.inner.Narrow.{Narrow}
+use Rattle.fault.proofs.Outcomes.{never-broken}
+use Rattle.fault.specs.Outcome.{fileCount}
 use Rattle.document.specs.declared.Span.the-variants as span
 use Rattle.document.specs.Spans.{topSpan, recordSpan}
 use Rattle.document.proofs.Records.{top-is}
-use Rattle.ids.specs.inner.Ids.{idField}
-use Rattle.clean.specs.declared.Outcome.{Outcome}
-use Rattle.clean.specs.declared.Outcome.the-variants.{Unbroken, Broken}
 use Rattle.clean.specs.declared.Shown.the-variants.{NoFile}
-use Rattle.clean.specs.Clean.{treeOf, repeats, faultParts, broken, judged, cleanBy, cleanOf}
+use Rattle.clean.specs.Clean.{treeOf, cleanBy, cleanOf, syntaxOutcome}
 use Rattle.clean.specs.inner.Blamed.{blamed}
+use Rattle.clean.specs.inner.Judged.{judged}
 use Rattle.clean.specs.Show.{answer, ofClean, ofSpan, shownOf}
 use Rattle.clean.proofs.Repeated.{tree-is}
 
@@ -52,6 +49,11 @@ pub clean-there : (file : ℕ) (s : List ℕ) → (length s ≡ 0 → ⊥) → j
 unfolding cleanBy
 clean-there file [] h = absurd (h refl)
 clean-there file (b ∷ s) h = refl
+
+-- where stage A tells nothing it passes the file
+pub syntax-none : (file : ℕ) (x : Syntax) → syntaxOutcome file x ≡ Unbroken → x ≡ syntax.Sound
+syntax-none file syntax.Sound e = refl
+syntax-none file (syntax.Fault kind offset) e = never-broken e
 
 -- stage A's offset fits the word
 pub offset-fits : (s : List ℕ) (k o : ℕ) → syntaxOf s ≡ syntax.Fault k o → o ≤ fileBytes
@@ -84,31 +86,24 @@ module _ (s : List ℕ) (e : syntaxOf s ≡ syntax.Sound) where
         let b : t .end ≡ upto = cc in
         rw (tree-is s t) (subst (λ (z : ℕ). Whole (part s from z) (t .tree)) b (subst (λ (z : ℕ). Whole (part s z (t .end)) (t .tree)) a (t .whole)))
 
--- stage B's first fault, and where there is none the first of kind 12
-module _ (file : ℕ) (s : List ℕ) where
-  pub judged-on : (r : Outcome) → None ≡ least (fileFaults (fileShape table23 file) (treeOf s))
-      → r ≡ broken file (least (repeats file (pick (fileShape table23 file) (treeOf s)))) Unbroken → r ≡ judged file s syntax.Sound
-  judged-on r e h = h ∙ ap (λ (z : Least). broken file z (broken file (least (repeats file (pick (fileShape table23 file) (treeOf s)))) Unbroken)) e
-
-  pub judged-broken : (f : Fault) → Is f ≡ least (fileFaults (fileShape table23 file) (treeOf s)) → Broken (faultParts file f) ≡ judged file s syntax.Sound
-  judged-broken f e = ap (λ (z : Least). broken file z (broken file (least (repeats file (pick (fileShape table23 file) (treeOf s)))) Unbroken)) e
-
-module _ (file n : ℕ) (x : Least) (e : x ≡ blamed (idField file) n) where
-  pub ids-clean : n ≡ 0 → Unbroken ≡ broken file x Unbroken
-  ids-clean z = sym (ap (λ (y : Least). broken file y Unbroken) (e ∙ ap (blamed (idField file)) z))
-
-  pub ids-broken : (n ≡ 0 → ⊥) → Broken (faultParts file (fault n (idField file) 0 idTwice)) ≡ broken file x Unbroken
-  ids-broken z = sym (ap (λ (y : Least). broken file y Unbroken) (e ∙ ap (λ (t : Bool). t ⇒ None else Is (fault n (idField file) 0 idTwice)) (ne-eqb n 0 z)))
+-- a record that is blamed has a number of sixteen bits
+pub blamed-narrow : (field n : ℕ) → n < 65_536 → Narrow (blamed field n)
+blamed-narrow field n h f = go (eqb n 0)
+  where
+    go : (t : Bool) → (t ⇒ None else Is (fault n field 0 idTwice)) ≡ Is f → (f .«record» < 65_536) × (f .sub < 65_536)
+    go true e = let z : _≡_ {A = ℕ} 0 1 = cc in absurd (omega arith)
+    go false e =
+        let z : fault n field 0 idTwice ≡ f = cc in (omega (arith, h, ap (λ (g : Fault). g .«record») z), omega (arith, ap (λ (g : Fault). g .sub) z))
 
 -- what is shown
 module _ (f n : ℕ) (s : List ℕ) where
-  pub shown-none : (1 ≤ f → f ≤ 6 → ⊥) → answer NoFile ≡ shownOf f n s
+  pub shown-none : (1 ≤ f → f ≤ fileCount → ⊥) → answer NoFile ≡ shownOf f n s
   unfolding shownOf
   shown-none h =
       by-test (leb 1 f)
-      (λ t. by-test (leb f 6) (λ u. absurd (h (leb-true 1 f t) (leb-true f 6 u))) (λ u. rw (shownOf, t, u)))
+      (λ t. by-test (leb f fileCount) (λ u. absurd (h (leb-true 1 f t) (leb-true f fileCount u))) (λ u. rw (shownOf, t, u)))
       (λ t. rw (shownOf, t))
 
-  pub shown-of : 1 ≤ f → f ≤ 6 → (x : Outcome) → x ≡ cleanOf f s → ofClean x (ofSpan (recordSpan f s n)) ≡ shownOf f n s
+  pub shown-of : 1 ≤ f → f ≤ fileCount → (x : Outcome) → x ≡ cleanOf f s → ofClean x (ofSpan (recordSpan f s n)) ≡ shownOf f n s
   unfolding shownOf
-  shown-of h i x e = rw (shownOf, le-leb 1 f h, le-leb f 6 i, e)
+  shown-of h i x e = rw (shownOf, le-leb 1 f h, le-leb f fileCount i, e)

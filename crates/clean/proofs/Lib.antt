@@ -1,7 +1,7 @@
 pub mod Faultless
-pub mod Singles
+pub mod IdsOnce
 pub mod Repeated
 pub mod Judged
-pub mod Shows
 pub mod Cleans
+pub mod Shows
 pub mod Alike

@@ -1,56 +1,57 @@
 -- Kind 12 of a file without a stage B fault: its records in bytes have the ids that their picked values have, so the first record whose id one before
 -- it has in bytes is that of the least fault of all repeats.
-use mathlib.Core.Bool.{Bool, true, false}
+use mathlib.Core.Bool.{true, false}
 use mathlib.Core.List.{List, [], _∷_, map, List·Memᴰ, List·Memᴰ·head, List·Memᴰ·tail, List·Memᴰ·cases-cons, List·Memᴰ·not-nil, Memᴰ·map}
 use mathlib.Core.Logic.{⊎-elim}
 use mathlib.Core.Path.{_≡_, refl, sym, ap, subst, _∙_}
 use Prim.Native.Nat.{ℕ, _+_, _≤_}
 use native.Mathlib.Omega.{arith}
-use lib.Dec.{eqb}
 use lib.ListN.{length, length-map}
 use borrow.Author.Tests.{leb-true, ne-eqb}
 use Rattle.limits.specs.Ceilings as ceiling
 use Rattle.notation.specs.Choice.{_⇒_else_}
-use Rattle.lexeme.proofs.Steps.{by-test}
+use Rattle.notation.proofs.Booleans.{by-test}
 use Rattle.word.specs.Kinds.{idTwice}
 use Rattle.json.specs.declared.Syntax.the-variants.{Sound}
 use Rattle.json.specs.Tree.{Json}
 use Rattle.json.specs.Text.{syntaxOf}
 use Rattle.text.specs.Text.{same}
 use Rattle.walk.specs.declared.Item.{Item}
-use Rattle.walk.specs.Walk.{part, itemsOf}
+use Rattle.walk.specs.Walk.{itemsOf}
 use Rattle.walk.specs.inner.Along.{AlongItems}
 use Rattle.walk.specs.Part.{partTree}
 use Rattle.walk.proofs.Parts.{itemOf, items-whole}
 use Rattle.walk.proofs.Files.{Passed, passed}
 use Rattle.schema.specs.Shape as shape
-use Rattle.schema.specs.Shape.{Shape, fileShape}
+use Rattle.schema.specs.Shape.{fileShape}
 use Rattle.schema.specs.Table23.{table23}
 use Rattle.schema.specs.Records.{recordShape}
 use Rattle.schema.specs.Pick.{Picked, items, pick, listOf}
 use Rattle.fault.specs.declared.Fault.{Fault}
 use Rattle.fault.specs.declared.Least.the-variants.{None}
-use Rattle.fault.specs.Fault.{fault, least}
+use Rattle.fault.specs.Fault.{fault, least, top}
 use Rattle.fault.proofs.Order.{later-record}
 use Rattle.fault.proofs.Leasts.{least-one, least-none, none-least, least-early}
+use Rattle.fault.specs.Outcome.{fileCount}
 use Rattle.rings.specs.Rings as rings
-use Rattle.judge.specs.declared.Place.{Place}
-use Rattle.judge.specs.Faults.{top, faults, fileFaultsBy, fileFaults}
+use Rattle.fault.specs.declared.Place.{Place}
+use Rattle.judge.specs.Faults.{faults, fileFaultsBy, fileFaults}
 use Rattle.document.specs.Document as document
 use Rattle.document.specs.Document.{Maybe, none, some, elementsOf, along}
 use Rattle.document.specs.Spans.{recordsSpan}
 use Rattle.document.specs.inner.Spans.{RecordsFrom}
 use Rattle.document.proofs.Ways.{records-of}
 use Rattle.document.proofs.Rests.{rest-along, rest-picked}
-use Rattle.document.proofs.Records.{pickedItems, Records, records-stand}
-use Rattle.ids.specs.inner.Ids.{idField, idOf, Singles, recordBytes, anyHas, repeated, repeatFrom, firstRepeat}
+use Rattle.document.proofs.Records.{Records, records-stand}
+use Rattle.document.specs.inner.Items.{pickedItems}
+use Rattle.ids.specs.inner.Ids.{idField, idOf, AllIdsOnce, recordBytes, anyHas, repeated, repeatFrom, firstRepeat}
 use Rattle.ids.proofs.Passing.{repeated-none, repeated-some}
 use Rattle.ids.proofs.Picked.{Identified, id-of, id-picked, no-id}
 use Rattle.clean.specs.Clean as clean
 use Rattle.clean.specs.Clean.{recordsOf, usedBefore, repeatedId, repeatsFrom, repeatsIn, repeats}
 use Rattle.clean.specs.inner.Blamed.{blamed}
 use Rattle.clean.proofs.Faultless.{array-there, items-there, demands-there}
-use Rattle.clean.proofs.Singles.{single-id}
+use Rattle.clean.proofs.IdsOnce.{single-id}
 
 -- Repeats, by picked records and by bytes.
 
@@ -147,10 +148,10 @@ pub record Repeats (n : ℕ) (s p : List ℕ) : Type 0 where
   pub short : length p ≤ ceiling.fileBytes
   pub few : length (itemsOf p) ≤ ceiling.records
   pub along : AlongItems p 1
-  pub singles : Singles n p
+  pub singles : AllIdsOnce n p
   pub names : least (repeats n (pick (fileShape table23 n) (clean.treeOf s))) ≡ blamed (idField n) (firstRepeat n (recordBytes p))
 
-pub held : (n : ℕ) → 1 ≤ n → n ≤ 6 → (s : List ℕ) (t : Passed s) → fileFaults (fileShape table23 n) (t .tree) ≡ [] → Held n s (t .tree)
+pub held : (n : ℕ) → 1 ≤ n → n ≤ fileCount → (s : List ℕ) (t : Passed s) → fileFaults (fileShape table23 n) (t .tree) ≡ [] → Held n s (t .tree)
 unfolding fileFaultsBy recordsOf rings.count
 held n h i s t e =
     let r = records-of n h i in

@@ -8,10 +8,9 @@ use lib.Dec.{leb, ltb}
 use lib.ListN.{length, length-map}
 use borrow.Author.Tests.{leb-true, leb-false, ltb-true, ltb-false}
 use Rattle.limits.specs.Ceilings.{depth}
+use Rattle.notation.proofs.Booleans.{by-test}
 use Rattle.lexeme.specs.Read.{then}
 use Rattle.lexeme.specs.Tokens.{blanks}
-use Rattle.lexeme.proofs.Steps.{by-test}
-use Rattle.json.specs.declared.Syntax.{Syntax}
 use Rattle.json.specs.declared.Syntax.the-variants as syntax
 use Rattle.json.specs.Tree as tree
 use Rattle.json.specs.Tree.{Json}
@@ -22,15 +21,13 @@ use Rattle.walk.specs.Part as walk
 use Rattle.walk.specs.Part.{Whole}
 use Rattle.walk.proofs.Files.{passed}
 use Rattle.walk.proofs.Parts.{itemOf}
-use Rattle.schema.specs.Shape.{Shape, fileShape}
-use Rattle.schema.specs.Table23.{table23}
+use Rattle.schema.specs.Shape.{Shape}
 use Rattle.schema.specs.Records.{Way, wayTo, recordShape}
 use Rattle.schema.specs.Pick.{pick}
-use Rattle.fault.specs.declared.Least.{Least}
-use Rattle.fault.specs.declared.Least.the-variants.{None, Is}
-use Rattle.fault.specs.Fault.{least}
-use Rattle.fault.proofs.Leasts.{least-none}
-use Rattle.judge.specs.Faults.{fileFaults, faults}
+use Rattle.fault.specs.declared.outcome.Outcome.{Outcome}
+use Rattle.fault.specs.declared.outcome.Outcome.the-variants.{Unbroken, Broken}
+use Rattle.fault.specs.Outcome.{fileCount}
+use Rattle.judge.specs.Faults.{faults}
 use Rattle.document.specs.Document.{Maybe, none, some}
 use Rattle.document.specs.Spans.{recordSpan}
 use Rattle.document.specs.inner.Spans.{Listed}
@@ -39,38 +36,23 @@ use Rattle.document.proofs.Rests.{records-listed, no-record}
 use Rattle.document.proofs.Ways.{records-of}
 use Rattle.document.proofs.Records.{itemTrees, array, as-many, RecordAt, record-at, record-past, record-none}
 use Rattle.document.proofs.Trees.{object-braces, records-trees}
-use Rattle.clean.specs.declared.Outcome.{Outcome}
-use Rattle.clean.specs.declared.Outcome.the-variants.{Unbroken, Broken}
-use Rattle.clean.specs.Clean.{treeOf, broken, judged, cleanBy, cleanOf}
+use Rattle.clean.specs.Clean.{treeOf, cleanBy, cleanOf}
 use Rattle.clean.specs.Show.{Answer, shown, ofSpan, shownOf}
 use Rattle.clean.specs.ShowTree.{Has, IsRecord, ShowsRecords}
 use Rattle.clean.proofs.Faultless.{object-there}
-use Rattle.clean.proofs.Repeated.{Held, held, tree-is}
-use Rattle.clean.proofs.Judged.{clean-there, shown-none, shown-of}
+use Rattle.clean.proofs.Repeated.{Held, tree-is}
+use Rattle.clean.proofs.Judged.{shown-none, shown-of}
+use Rattle.clean.proofs.Cleans.{clean-sound, clean-held}
 
-never-broken : {A : Type 0} {p : _} → Broken p ≡ Unbroken → A
-never-broken e = let z : _≡_ {A = ℕ} 0 1 = cc in absurd (omega arith)
-
--- a clean file passes stages A and B
+-- a clean file that is there has its records
 module _ (file : ℕ) (s : List ℕ) (some : length s ≡ 0 → ⊥) (e : cleanOf file s ≡ Unbroken) where
   sound : syntaxOf s ≡ syntax.Sound
-  sound = go (syntaxOf s) refl (clean-there file s some ∙ e)
-    where
-      go : (x : Syntax) → syntaxOf s ≡ x → judged file s (syntaxOf s) ≡ Unbroken → syntaxOf s ≡ syntax.Sound
-      go syntax.Sound h k = h
-      go (syntax.Fault j o) h k = never-broken (ap (judged file s) (sym h) ∙ k)
+  sound = clean-sound file s some e .reads
 
-  unbroken : (x : Least) (next : Outcome) → broken file x next ≡ Unbroken → x ≡ None
-  unbroken None next h = refl
-  unbroken (Is f) next h = never-broken h
+  records : 1 ≤ file → file ≤ fileCount → Held file s (treeOf s)
+  records h i = clean-held file h i s (clean-sound file s some e)
 
-  records : 1 ≤ file → file ≤ 6 → Held file s (passed s sound .tree)
-  records h i =
-      let t = passed s sound in
-      held file h i s t (ap (fileFaults (fileShape table23 file)) (sym (tree-is s t))
-      ∙ least-none _ (unbroken _ _ (ap (judged file s) (sym sound) ∙ clean-there file s some ∙ e)))
-
-  module _ (h : 1 ≤ file) (i : file ≤ 6) where
+  module _ (h : 1 ≤ file) (i : file ≤ fileCount) where
     by-span : (n : ℕ) → shownOf file n s ≡ ofSpan (recordSpan file s n)
     by-span n = sym (shown-of file n s h i Unbroken (sym e))
 
@@ -121,7 +103,7 @@ module _ (file : ℕ) (s : List ℕ) (some : length s ≡ 0 → ⊥) (e : cleanO
     shown-zero = ap (λ (a : Answer). a .number) (by-span 0 ∙ ap ofSpan (record-none (records h i .there)))
 
 -- a clean file has its records in an array, or is not there
-pub listed : (file : ℕ) (s : List ℕ) → 1 ≤ file → file ≤ 6 → cleanOf file s ≡ Unbroken → Listed file s
+pub listed : (file : ℕ) (s : List ℕ) → 1 ≤ file → file ≤ fileCount → cleanOf file s ≡ Unbroken → Listed file s
 listed file [] h i e = Listed.absent refl
 listed file (b ∷ s) h i e =
     let some : length (b ∷ s) ≡ 0 → ⊥ = λ z. omega arith in
@@ -145,7 +127,7 @@ absent-none file = ap (recordTrees file) absent-null ∙ go (wayTo file)
     go none = refl
     go (some w) = none-along _
 
-absent-shown : (file n : ℕ) → 1 ≤ file → file ≤ 6 → shownOf file n [] .number ≡ 10
+absent-shown : (file n : ℕ) → 1 ≤ file → file ≤ fileCount → shownOf file n [] .number ≡ 10
 unfolding cleanBy
 absent-shown file n h i = ap (λ (a : Answer). a .number) (sym (shown-of file n [] h i Unbroken refl) ∙ ap ofSpan (no-record file n))
 
@@ -161,7 +143,7 @@ answers file zero s h = absurd (omega (arith, h .first))
 answers file (suc k) [] h = absurd (omega (arith, h .last, ap length (absent-none file)))
 answers file (suc k) (b ∷ s) h = shown-at file (b ∷ s) (λ z. omega arith) (h .clean) (h .least) (h .most) k (omega (arith, h .last))
 
-module _ (file : ℕ) (h : 1 ≤ file) (i : file ≤ 6) where
+module _ (file : ℕ) (h : 1 ≤ file) (i : file ≤ fileCount) where
   has-clean : (n : ℕ) (s : List ℕ) → cleanOf file s ≡ Unbroken → shownOf file n s .number ≡ 0 → Has file n s
   has-clean n [] c e = never (sym (absent-shown file n h i) ∙ e) (omega arith)
   has-clean zero (b ∷ s) c e = never (sym (shown-zero file (b ∷ s) (λ z. omega arith) c h i) ∙ e) (omega arith)
@@ -178,8 +160,8 @@ module _ (file : ℕ) (h : 1 ≤ file) (i : file ≤ 6) where
 only : (file n : ℕ) (s : List ℕ) → shownOf file n s .number ≡ 0 → Has file n s
 only file n s e =
     by-test (leb 1 file)
-    (λ t. by-test (leb file 6) (λ u. has file (leb-true 1 file t) (leb-true file 6 u) n s (cleanOf file s) refl e)
-    (λ u. never (ap (λ (a : Answer). a .number) (shown-none file n s (λ h i. omega (arith, leb-false file 6 u))) ∙ e) (omega arith)))
+    (λ t. by-test (leb file fileCount) (λ u. has file (leb-true 1 file t) (leb-true file fileCount u) n s (cleanOf file s) refl e)
+    (λ u. never (ap (λ (a : Answer). a .number) (shown-none file n s (λ h i. omega (arith, leb-false file fileCount u))) ∙ e) (omega arith)))
     (λ t. never (ap (λ (a : Answer). a .number) (shown-none file n s (λ h i. omega (arith, leb-false 1 file t))) ∙ e) (omega arith))
 
 pub shows-records : ShowsRecords

@@ -3,7 +3,6 @@ use mathlib.Core.List.{List, [], _∷_, _++_, map}
 use Prim.Native.Nat.{ℕ, _+_}
 use Rattle.notation.specs.Choice.{_⇒_else_}
 use Rattle.limits.specs.Ceilings.{depth}
-use Rattle.word.specs.declared.Parts.{Parts}
 use Rattle.word.specs.Kinds.{idTwice}
 use Rattle.lexeme.specs.Read.Read.{done, bad}
 use Rattle.lexeme.specs.Character.{paired}
@@ -17,15 +16,14 @@ use Rattle.schema.specs.Table23.{table23}
 use Rattle.schema.specs.Records.{wayTo, idKey}
 use Rattle.schema.specs.Pick.{Picked, PickedItems, pick}
 use Rattle.fault.specs.declared.Fault.{Fault}
-use Rattle.fault.specs.declared.Least.{Least}
-use Rattle.fault.specs.declared.Least.the-variants.{None, Is}
+use Rattle.fault.specs.declared.outcome.Outcome.{Outcome}
+use Rattle.fault.specs.declared.outcome.Outcome.the-variants.{Unbroken, Broken}
 use Rattle.fault.specs.Fault.{fault, least}
+use Rattle.fault.specs.Outcome.{syntaxParts, outcomeOf, orNext}
 use Rattle.document.specs.Document as document
 use Rattle.document.specs.Document.{none, some, elementsOf, along}
 use Rattle.rings.specs.Rings.{Found, coordinatesFound}
 use Rattle.judge.specs.Faults.{fileFaultsBy}
-use Rattle.clean.specs.declared.Outcome.{Outcome}
-use Rattle.clean.specs.declared.Outcome.the-variants.{Unbroken, Broken}
 
 -- the tree of a file that stage A passes
 unfoldable pub treeOf : List ℕ → Json
@@ -53,28 +51,24 @@ unfoldable pub repeatsFrom : ℕ → ℕ → List Picked → List Picked → Lis
 repeatsFrom f n passed [] = []
 repeatsFrom f n passed (x ∷ l) = repeatedId f n passed x ++ repeatsFrom f (n + 1) (x ∷ passed) l
 
--- of a file's records, and of a picked file
+-- kind 12 over all records of a file, by its records and by the picked file
 abbrev pub repeatsIn : ℕ → List Picked → List Fault
 repeatsIn file l = elim (idKey file) [ none ↦ [] | some k ↦ repeatsFrom (k .field) 1 [] l ]
 
 unfoldable pub repeats : ℕ → Picked → List Fault
 repeats file x = repeatsIn file (recordsOf file x)
 
--- the parts of a word for a fault of a file
-abbrev pub faultParts : ℕ → Fault → Parts
-faultParts file f = record { file = file; kind = f .kind; field = f .field; «record» = f .«record»; sub = f .sub; offset = 0 }
-
-abbrev pub broken : ℕ → Least → Outcome → Outcome
-broken file None next = next
-broken file (Is f) next = Broken (faultParts file f)
+-- what stage A tells of a file
+abbrev pub syntaxOutcome : ℕ → Syntax → Outcome
+syntaxOutcome file syntax.Sound = Unbroken
+syntaxOutcome file (syntax.Fault kind offset) = Broken (syntaxParts file kind offset)
 
 -- a file of which stage A finds this; `coordinates` tells what is found in field 73
 abbrev pub judgedBy : (coordinates : PickedItems → List Found) → ℕ → List ℕ → Syntax → Outcome
-judgedBy coordinates file s (syntax.Fault kind offset) =
-    Broken (record { file = file; kind = kind; field = 0; «record» = 0; sub = 0; offset = offset })
-judgedBy coordinates file s syntax.Sound =
-    broken file (least (fileFaultsBy coordinates (fileShape table23 file) (treeOf s)))
-    (broken file (least (repeats file (pick (fileShape table23 file) (treeOf s)))) Unbroken)
+judgedBy coordinates file s x =
+    orNext (syntaxOutcome file x)
+    (orNext (outcomeOf file (least (fileFaultsBy coordinates (fileShape table23 file) (treeOf s))))
+    (outcomeOf file (least (repeats file (pick (fileShape table23 file) (treeOf s))))))
 
 -- an absent file is clean
 unfoldable pub cleanBy : (coordinates : PickedItems → List Found) → ℕ → List ℕ → Outcome
@@ -83,6 +77,3 @@ cleanBy coordinates file (b ∷ s) = judgedBy coordinates file (b ∷ s) (syntax
 
 abbrev pub cleanOf : ℕ → List ℕ → Outcome
 cleanOf = cleanBy coordinatesFound
-
-abbrev pub judged : ℕ → List ℕ → Syntax → Outcome
-judged = judgedBy coordinatesFound

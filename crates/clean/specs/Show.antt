@@ -8,8 +8,9 @@ use Rattle.word.specs.Word.{noParts}
 use Rattle.document.specs.declared.Span.{Span}
 use Rattle.document.specs.declared.Span.the-variants.{None, Is}
 use Rattle.document.specs.Spans.{recordSpan}
-use Rattle.clean.specs.declared.Outcome.{Outcome}
-use Rattle.clean.specs.declared.Outcome.the-variants.{Unbroken, Broken}
+use Rattle.fault.specs.declared.outcome.Outcome.{Outcome}
+use Rattle.fault.specs.declared.outcome.Outcome.the-variants.{Unbroken, Broken}
+use Rattle.fault.specs.Outcome.{fileCount}
 use Rattle.clean.specs.declared.Shown.{Shown}
 use Rattle.clean.specs.declared.Shown.the-variants.{NoFile, NotClean, NoRecord, Record}
 use Rattle.clean.specs.Clean.{cleanOf}
@@ -47,6 +48,6 @@ ofClean (Broken p) next = refused 5 p
 -- record n of a file, of its bytes s
 unfoldable pub shownOf : (file n : ℕ) → List ℕ → Answer
 shownOf file n s =
-    leb 1 file and leb file 6 ⇒
+    leb 1 file and leb file fileCount ⇒
     ofClean (cleanOf file s) (ofSpan (recordSpan file s n))
     else refused 10 noParts

@@ -10,14 +10,15 @@ use Rattle.walk.specs.Walk.{part}
 use Rattle.walk.specs.Part.{Whole}
 use Rattle.document.specs.Document.{some}
 use Rattle.document.specs.Trees.{recordTrees, numbered}
-use Rattle.clean.specs.declared.Outcome.the-variants.{Unbroken}
+use Rattle.fault.specs.declared.outcome.Outcome.the-variants.{Unbroken}
+use Rattle.fault.specs.Outcome.{fileCount}
 use Rattle.clean.specs.Clean.{treeOf, cleanOf}
 use Rattle.clean.specs.Show.{shownOf}
 
 -- s are the bytes of a clean file of this number, which has a record n
 pub record Has (file n : ℕ) (s : List ℕ) : Type 0 where
   pub least : 1 ≤ file
-  pub most : file ≤ 6
+  pub most : file ≤ fileCount
   pub clean : cleanOf file s ≡ Unbroken
   pub first : 1 ≤ n
   pub last : n ≤ length (recordTrees file (treeOf s))

@@ -2,18 +2,20 @@
 use document::Span;
 use document::record_span;
 use document::top_span;
-use fault::Fault;
 use fault::Least;
+use fault::outcome::Outcome;
+use fault::outcome::outcome_of;
+use fault::outcome::syntax_parts;
 use ids::id::id_field;
 use json::Syntax;
 use json::check_syntax;
 use judge::judge_file;
+use repeats::blame;
 use repeats::repeat_of;
 use walk::cut;
 use word::Parts;
-use word::kind::Kind;
+use word::Word;
 ghost use mathlib.Core.Path.{_≡_};
-ghost use Prim.Native.Nat.{_<_};
 ghost use Rattle.json.specs.declared.Syntax.the-variants.{Sound};
 ghost use Rattle.json.specs.Text.{syntaxOf};
 ghost use Rattle.walk.specs.Walk.{part};
@@ -22,18 +24,13 @@ ghost use Rattle.schema.specs.Table23.{table23};
 ghost use Rattle.schema.specs.Pick.{pick};
 ghost use Rattle.fault.specs.declared.Least.the-variants.{None};
 ghost use Rattle.fault.specs.Fault.{least};
+ghost use Rattle.fault.specs.Outcome.{outcomeOf};
 ghost use Rattle.judge.specs.Faults.{fileFaults};
-ghost use Rattle.clean.specs.declared.Outcome.the-variants.{Unbroken};
-ghost use Rattle.clean.specs.Clean.{treeOf, repeats, faultParts, broken, judged, cleanOf};
+ghost use Rattle.clean.specs.Clean.{treeOf, repeats, syntaxOutcome, cleanOf};
 ghost use Rattle.clean.specs.Show.{answer, shownOf};
+ghost use Rattle.clean.specs.inner.Judged.{judged};
 
 pub mod repeats;
-
-// No rule is broken, or the first that is, as a word's parts.
-pub enum Outcome {
-    Unbroken,
-    Broken(Parts),
-}
 
 // The answer to "show record n of file f", without the bytes: there is no such file or record, the file is not clean, or where the record stands.
 pub enum Shown {
@@ -70,23 +67,18 @@ impl Shown {
     }
 }
 
-// The parts of a word for a fault of a file.
-pub fn parts_of(file: u8, f: Fault) -> Parts
-    requires { ⌜ (f .«record» < 65_536) × (f .sub < 65_536) ⌝ }
-    ensures { λ r. ⌜ r ≡ faultParts file f ⌝ }
+// Stage A of a file.
+pub fn check_text(file: u8, s: &[u8]) -> Outcome
+    ensures { λ r. ⌜ r ≡ syntaxOutcome file (syntaxOf (now (s .entry))) ⌝ }
 {
-    Parts {
-        file: file,
-        kind: f.kind,
-        field: f.field,
-        record: f.record as u16,
-        sub: f.sub as u16,
-        offset: 0,
+    match check_syntax(s) {
+        Syntax::Sound => Outcome::Unbroken,
+        Syntax::Fault(kind, offset) => { Outcome::Broken(syntax_parts(file, kind, offset as u32)) }
     }
 }
 
-// Stage B of a file that stage A passes.
-pub fn first_fault(file: u8, s: &[u8]) -> Least
+// The first fault of stage B in a file that stage A passes.
+fn first_fault(file: u8, s: &[u8]) -> Least
     requires { ⌜ syntaxOf (now s) ≡ Sound ⌝ }
     ensures { λ r. ⌜ r ≡ least (fileFaults (fileShape table23 file) (treeOf (now (s .entry)))) ⌝ }
 {
@@ -100,27 +92,23 @@ pub fn first_fault(file: u8, s: &[u8]) -> Least
     }
 }
 
-// Kind 12 of a file that stages A and B pass; there is none where its records have no ids.
-fn judge_ids(file: u8, s: &[u8]) -> Outcome
-    requires { ⌜ (syntaxOf (now s) ≡ Sound) × (least (fileFaults (fileShape table23 file) (treeOf (now s))) ≡ None) ⌝ }
-    ensures { λ r. ⌜ r ≡ broken file (least (repeats file (pick (fileShape table23 file) (treeOf (now (s .entry)))))) Unbroken ⌝ }
+// Stage B of a file that stage A passes.
+pub fn check_fields(file: u8, s: &[u8]) -> Outcome
+    requires { ⌜ syntaxOf (now s) ≡ Sound ⌝ }
+    ensures { λ r. ⌜ r ≡ outcomeOf file (least (fileFaults (fileShape table23 file) (treeOf (now (s .entry))))) ⌝ }
 {
-    let field = id_field(file);
-    if field == 0 {
+    outcome_of(file, first_fault(file, s))
+}
+
+// Kind 12 of a file that stages A and B pass; there is none where its records have no ids.
+fn check_ids(file: u8, s: &[u8]) -> Outcome
+    requires { ⌜ (syntaxOf (now s) ≡ Sound) × (least (fileFaults (fileShape table23 file) (treeOf (now s))) ≡ None) ⌝ }
+    ensures { λ r. ⌜ r ≡ outcomeOf file (least (repeats file (pick (fileShape table23 file) (treeOf (now (s .entry)))))) ⌝ }
+{
+    if id_field(file) == 0 {
         return Outcome::Unbroken;
     }
-    let n = repeat_of(file, s);
-    if n == 0 {
-        return Outcome::Unbroken;
-    }
-    Outcome::Broken(Parts {
-        file: file,
-        kind: Kind::ID_TWICE,
-        field: field,
-        record: n,
-        sub: 0,
-        offset: 0,
-    })
+    outcome_of(file, blame(file, repeat_of(file, s)))
 }
 
 // A file that stage A passes.
@@ -128,13 +116,9 @@ fn judge_passed(file: u8, s: &[u8]) -> Outcome
     requires { ⌜ syntaxOf (now s) ≡ Sound ⌝ }
     ensures { λ r. ⌜ r ≡ judged file (now (s .entry)) Sound ⌝ }
 {
-    match first_fault(file, s) {
-        Least::None => {
-            return judge_ids(file, s);
-        }
-        Least::Is(f) => {
-            return Outcome::Broken(parts_of(file, f));
-        }
+    match check_fields(file, s) {
+        Outcome::Broken(p) => Outcome::Broken(p),
+        Outcome::Unbroken => check_ids(file, s),
     }
 }
 
@@ -146,20 +130,9 @@ pub fn check_clean(file: u8, s: &[u8]) -> Outcome
     if s.len() == 0 {
         return Outcome::Unbroken;
     }
-    match check_syntax(s) {
-        Syntax::Sound => {
-            return judge_passed(file, s);
-        }
-        Syntax::Fault(kind, offset) => {
-            return Outcome::Broken(Parts {
-                file: file,
-                kind: kind,
-                field: 0,
-                record: 0,
-                sub: 0,
-                offset: offset as u32,
-            });
-        }
+    match check_text(file, s) {
+        Outcome::Broken(p) => Outcome::Broken(p),
+        Outcome::Unbroken => judge_passed(file, s),
     }
 }
 
@@ -171,7 +144,7 @@ pub fn show_record(file: u64, record: u64, s: &[u8]) -> Shown
     if file == 0 {
         return Shown::NoFile;
     }
-    if 6 < file {
+    if file > Word::FILES as u64 {
         return Shown::NoFile;
     }
     let f = file as u8;

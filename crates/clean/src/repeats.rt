@@ -1,7 +1,11 @@
 // Kind 12 in one file: no two of its records have one id.
 use document::records_from;
+use fault::Fault;
+use fault::Least;
 use ids::Notes;
+use ids::id::id_field;
 use ids::note::note;
+use word::kind::Kind;
 ghost use mathlib.Core.Path.{_≡_};
 ghost use Prim.Native.Nat.{_≤_, _<_};
 ghost use lib.ListN.{length};
@@ -16,24 +20,40 @@ ghost use Rattle.schema.specs.Pick.{pick};
 ghost use Rattle.fault.specs.declared.Least.the-variants.{None};
 ghost use Rattle.fault.specs.Fault.{least};
 ghost use Rattle.judge.specs.Faults.{fileFaults};
-ghost use Rattle.ids.specs.inner.Ids.{idField, Singles, recordBytes, firstRepeat};
+ghost use Rattle.ids.specs.inner.Ids.{idField, AllIdsOnce, recordBytes, firstRepeat};
 ghost use Rattle.clean.specs.Clean.{treeOf, repeats};
 ghost use Rattle.clean.specs.inner.Blamed.{blamed};
 
 // The number of the first record of the array `p` whose id one before it has; 0 where there is none.
 // Shut out: the earlier of two records blamed.
 fn first_repeat(file: u8, p: &[u8]) -> u16
-    requires { ⌜ (length (now p) ≤ fileBytes) × (length (itemsOf (now p)) ≤ records) × ((0 < length (now p)) → AlongItems (now p) 1) × Singles file (now p) ⌝ }
+    requires { ⌜ (length (now p) ≤ fileBytes) × (length (itemsOf (now p)) ≤ records) × ((0 < length (now p)) → AlongItems (now p) 1) × AllIdsOnce file (now p) ⌝ }
     ensures { λ r. ⌜ r ≡ firstRepeat file (recordBytes (now (p .entry))) ⌝ }
 {
     let mut notes: [u32; Notes::SIZE] = [0; Notes::SIZE];
     note(file, p, &mut notes)
 }
 
-// The same of a file whose records have ids, and which stages A and B pass: the record that is blamed for the least repeat.
+// The number of the first record whose id one before it has, or 0, of a file that stages A and B pass and whose records have ids.
 pub fn repeat_of(file: u8, s: &[u8]) -> u16
     requires { ⌜ (idField file ≡ 0 → ⊥) × (syntaxOf (now s) ≡ Sound) × (least (fileFaults (fileShape table23 file) (treeOf (now s))) ≡ None) ⌝ }
     ensures { λ r. ⌜ least (repeats file (pick (fileShape table23 file) (treeOf (now (s .entry))))) ≡ blamed (idField file) r ⌝ }
 {
     first_repeat(file, records_from(file, s))
+}
+
+// The rule that a record breaks whose id one before it has, by its number; none where that is 0.
+pub fn blame(file: u8, repeat: u16) -> Least
+    ensures { λ r. ⌜ r ≡ blamed (idField file) repeat ⌝ }
+{
+    if repeat == 0 {
+        return Least::None;
+    }
+    let field = id_field(file);
+    Least::Is(Fault {
+        record: repeat as u32,
+        field: field,
+        sub: 0,
+        kind: Kind::ID_TWICE,
+    })
 }

@@ -9,7 +9,7 @@ use lib.Dec.{eqb, ltb}
 use lib.ListN.{length, length-map}
 use borrow.Author.Tests.{ltb-false}
 use Rattle.notation.specs.Choice.{_and_}
-use Rattle.lexeme.proofs.Steps.{by-test}
+use Rattle.notation.proofs.Booleans.{by-test}
 use Rattle.word.specs.Kinds.{idTwice, dangling, condition, sumDiffers}
 use Rattle.json.specs.Tree.{Json}
 use Rattle.walk.specs.declared.Item.{Item}
@@ -21,24 +21,25 @@ use Rattle.schema.specs.Records.{recordShape, located}
 use Rattle.schema.specs.Pick.{Picked, pick}
 use Rattle.fault.specs.declared.Fault.{Fault}
 use Rattle.fault.specs.declared.Least.the-variants.{Is}
-use Rattle.fault.specs.Fault.{fault, least}
-use Rattle.judge.specs.declared.Place.{Place}
-use Rattle.judge.specs.Faults.{faulty, faults}
+use Rattle.fault.specs.Fault.{fault, least, faulty}
+use Rattle.fault.specs.Outcome.{fileCount}
+use Rattle.fault.specs.declared.Place.{Place}
+use Rattle.judge.specs.Faults.{faults}
 use Rattle.judge.specs.Bounds.{greatest, fields}
 use Rattle.judge.proofs.Holds.{All, none, more, only, all-append, Holds, nothing, holding, holds-is, holds-least, holds-append}
 use Rattle.document.specs.Document as document
 use Rattle.document.specs.Document.{Maybe, field, fieldItems, text, textIn, spelling, given}
-use Rattle.fields.specs.Values.{integerIn}
-use Rattle.fields.proofs.Fields.{rowOf, listed}
+use Rattle.document.specs.Values.{integerIn}
+use Rattle.document.proofs.FieldBytes.{rowOf, listed}
 use Rattle.ids.specs.inner.Ids.{recordBytes, repeated, repeatFrom, firstRepeat}
 use Rattle.ids.proofs.Picked.{id-field}
 use Rattle.clean.specs.inner.Blamed.{blamed}
 use Rattle.clean.proofs.Faultless.{field-sound, items-few}
-use Rattle.references.specs.References.{kindIf, anyWith, any, hasCapacity, motorized, named, refers, demanded}
-use Rattle.cross.specs.Cross.{Files, recordPlace, absentees, sumOf, availableFaults, idFaults, ruleFaults, typeFaults, statusFaults, bikeFaults, zoneFaults, eachRecord, faultsOf, crossFaults}
-use Rattle.cross.specs.Stage.{fileCount, fileOf}
+use Rattle.ids.specs.References.{kindIf, anyWith, any, hasCapacity, motorized, named, refers, demanded}
+use Rattle.cross.specs.Cross.{Files, recordPlace, missingFile, sumOf, availableFaults, idFaults, ruleFaults, typeFaults, statusFaults, bikeFaults, zoneFaults, eachRecord, faultsOf, crossFaults}
+use Rattle.cross.specs.Stage.{fileOf}
 use Rattle.cross.specs.inner.Staged.{repeatOf, idsLeast}
-use Rattle.cross.proofs.Numbers.{by-number}
+use Rattle.cross.proofs.Numbers.{by-number, Each}
 use Rattle.cross.proofs.Files.{InBytes}
 
 -- the kinds of stage C
@@ -142,15 +143,18 @@ module _ (n : ℕ) (h : n ≤ greatest) where
 
     record-fits : (file : ℕ) → 1 ≤ file → file ≤ fileCount → faults (recordShape file) q φ (pick (recordShape file) x) ≡ []
         → All Fitting (faultsOf s file n (pick (recordShape file) x))
-    unfolding faultsOf located status rowOf
+    unfolding Each faultsOf located status rowOf
     record-fits =
-        by-number (λ file. faults (recordShape file) q φ (pick (recordShape file) x) ≡ [] → All Fitting (faultsOf s file n (pick (recordShape file) x)))
-        (λ e. type-fits s _)
-        (λ e. none)
-        (λ e. status-fits s _ (omega (arith, items-few q φ x e (listed {f = 37} refl) (λ a b. refl))))
-        (λ e. bike-fits s _)
-        (λ e. none)
-        zone-fits
+        by-number (λ file. faults (recordShape file) q φ (pick (recordShape file) x) ≡ [] → All Fitting (faultsOf s file n (pick (recordShape file) x))) (
+          λ e. type-fits s _,
+          (
+            λ e. none,
+            (
+              λ e. status-fits s _ (omega (arith, items-few q φ x e (listed {f = 37} refl) (λ a b. refl))),
+              (λ e. bike-fits s _, (λ e. none, (zone-fits, tt))),
+            ),
+          ),
+        )
 
 -- Records one after another.
 each-fits : (faults′ : ℕ → Picked → List Fault) (g : Item → Picked) (n : ℕ) (ms : List Item) → n + length ms ≤ greatest + 1
@@ -186,7 +190,7 @@ module _ (files : Files) (file : ℕ) (h : 1 ≤ file) (i : file ≤ fileCount) 
   file-holds : Holds Fitting (least (crossFaults files file))
   unfolding crossFaults
   file-holds =
-      let kinds = when-kinds (absentees files file) condition (record { least = omega arith; most = omega arith }) in
+      let kinds = when-kinds (missingFile files file) condition (record { least = omega arith; most = omega arith }) in
       let presence = own-fits 0 (omega arith) 0 (omega arith) kinds in
       let few = b .recorded .few in
       rw (crossFaults, e, b .is)

@@ -14,7 +14,8 @@ use Rattle.lexeme.specs.Character.{within}
 use Rattle.lexeme.specs.Numbers.{digit}
 use Rattle.lexeme.specs.inner.Start.{start}
 use Rattle.json.specs.Tree.{Json}
-use Rattle.walk.specs.Part.{Whole, kindAt}
+use Rattle.walk.specs.Part.{Whole}
+use Rattle.walk.specs.inner.Kind.{kindAt}
 use Rattle.decimal.specs.declared.Number.{Number}
 use Rattle.decimal.specs.declared.Number.the-variants as number
 use Rattle.decimal.specs.Decimals.{numberOf}
@@ -24,15 +25,15 @@ use Rattle.schema.specs.Shape.{Shape, Rows, Sort, scalar}
 use Rattle.schema.specs.Table23.{available, rule, zone}
 use Rattle.schema.specs.Pick.{Picked, pick}
 use Rattle.fault.specs.declared.Fault.{Fault}
-use Rattle.judge.specs.Faults.{faulty}
+use Rattle.fault.specs.Fault.{faulty}
 use Rattle.document.specs.Document.{Maybe, none, some, field, fieldItems, text, textIn, spelling}
-use Rattle.document.proofs.Fields.{Lists}
-use Rattle.document.proofs.Records.{pickedItems}
-use Rattle.fields.specs.Values.{wholeOf, integerIn}
-use Rattle.fields.specs.inner.Values.{memberOf, spelledBy, textBy, arrayBy}
-use Rattle.fields.proofs.Values.{Holds, member-holds, holds-text, holds-items}
-use Rattle.fields.proofs.Fields.{field-spelled, field-text, field-items, rowOf, listed}
-use Rattle.references.specs.References.{kindIf, refers}
+use Rattle.document.proofs.Rows.{Lists}
+use Rattle.document.specs.inner.Items.{pickedItems}
+use Rattle.document.specs.Values.{wholeOf, integerIn}
+use Rattle.document.specs.inner.Values.{memberOf, spelledBy, textBy, arrayBy}
+use Rattle.document.proofs.Values.{Holds, member-holds, holds-text, holds-items}
+use Rattle.document.proofs.FieldBytes.{field-spelled, field-text, field-items, rowOf, listed}
+use Rattle.ids.specs.References.{kindIf, refers}
 use Rattle.cross.specs.Cross.{Files, recordPlace, eachRecord, availableFaults, idFaults, ruleFaults, zoneFaults, faultsOf}
 
 -- no bytes, no value

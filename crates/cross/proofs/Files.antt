@@ -8,7 +8,7 @@ use lib.Dec.{ltb}
 use lib.ListN.{length, drop, length-map, length-take}
 use borrow.Author.Tests.{ltb-true, ltb-false, lt-ltb}
 use Rattle.notation.specs.Maybe.{Maybe, none, some}
-use Rattle.lexeme.proofs.Steps.{by-test}
+use Rattle.notation.proofs.Booleans.{by-test}
 use Rattle.json.specs.declared.Syntax.the-variants.{Sound}
 use Rattle.json.specs.Text.{syntaxOf}
 use Rattle.json.specs.Tree as tree
@@ -19,29 +19,28 @@ use Rattle.walk.specs.Part.{partTree}
 use Rattle.walk.proofs.Parts.{itemOf}
 use Rattle.walk.proofs.Wholes.{whole-some}
 use Rattle.walk.proofs.Files.{passed}
-use Rattle.schema.specs.Shape as shape
-use Rattle.schema.specs.Shape.{Shape, Rows, fileShape}
+use Rattle.schema.specs.Shape.{Shape, fileShape}
 use Rattle.schema.specs.Table23.{table23}
 use Rattle.schema.specs.Records.{Key, recordShape, idKey}
 use Rattle.schema.specs.Pick.{Picked, pick}
 use Rattle.fault.specs.declared.Least.the-variants.{None}
 use Rattle.fault.specs.Fault.{least}
 use Rattle.fault.proofs.Leasts.{none-least}
-use Rattle.judge.specs.declared.Place.{Place}
+use Rattle.fault.specs.Outcome.{fileCount}
+use Rattle.fault.specs.declared.Place.{Place}
 use Rattle.judge.specs.Faults.{faults, fileFaults}
 use Rattle.document.specs.inner.Spans.{RecordsFrom}
 use Rattle.document.proofs.Ways.{records-of}
-use Rattle.document.proofs.Records.{pickedItems}
+use Rattle.document.specs.inner.Items.{pickedItems}
 use Rattle.document.proofs.Rests.{none-from, rest-is, rest-along, rest-picked}
-use Rattle.ids.specs.inner.Ids.{Singles, recordBytes, repeatFrom, firstRepeat}
+use Rattle.ids.specs.inner.Ids.{AllIdsOnce, recordBytes, repeatFrom, firstRepeat}
 use Rattle.clean.specs.Clean as clean
 use Rattle.clean.specs.Clean.{recordsOf, repeatsFrom, repeatsIn, repeats}
-use Rattle.clean.specs.inner.Blamed.{blamed}
 use Rattle.clean.proofs.Faultless.{object-there}
 use Rattle.clean.proofs.Repeated.{Held, held, tree-is, repeats-none, repeats-are}
-use Rattle.cross.specs.Stage.{fileCount, fileOf}
+use Rattle.cross.specs.Stage.{fileOf}
 use Rattle.cross.specs.inner.Judged.{fileBy}
-use Rattle.cross.specs.inner.Stage.{Through}
+use Rattle.cross.specs.inner.Stage.{PassesAB}
 use Rattle.cross.specs.inner.Staged.{Recorded, repeatOf, idsLeast}
 
 -- what is picked of the file s of number n, by the rest p from its records on
@@ -49,7 +48,7 @@ pub record InBytes (n : ℕ) (s p : List ℕ) : Type 0 where
   pub recorded : Recorded p
   pub is : fileOf n s ≡ fileBy n p
   pub repeated : least (repeatsIn n (pickedItems (recordShape n) p)) ≡ idsLeast n p
-  pub singles : n ≤ 5 → Singles n p
+  pub singles : n ≤ 5 → AllIdsOnce n p
   pub sound : (m : Item) → List·Memᴰ m (itemsOf p)
       → (q : Place) × (φ : ℕ) × (faults (recordShape n) q φ (pick (recordShape n) (partTree (itemOf p m))) ≡ [])
 
@@ -73,7 +72,7 @@ absent-bytes n =
     }
 
 -- A file that is there, with the rest p from its records on.
-module _ (n : ℕ) (h : 1 ≤ n) (i : n ≤ fileCount) (b : ℕ) (r : List ℕ) (t : Through n (b ∷ r)) {p : List ℕ} (f : RecordsFrom n (b ∷ r) p) where
+module _ (n : ℕ) (h : 1 ≤ n) (i : n ≤ fileCount) (b : ℕ) (r : List ℕ) (t : PassesAB n (b ∷ r)) {p : List ℕ} (f : RecordsFrom n (b ∷ r) p) where
   abbrev s : List ℕ
   s = b ∷ r
 
@@ -139,6 +138,6 @@ module _ (n : ℕ) (h : 1 ≤ n) (i : n ≤ fileCount) (b : ℕ) (r : List ℕ) 
         sound = sound-item;
       }
 
-pub file-bytes : (n : ℕ) → 1 ≤ n → n ≤ fileCount → (s : List ℕ) → Through n s → {p : List ℕ} → RecordsFrom n s p → InBytes n s p
+pub file-bytes : (n : ℕ) → 1 ≤ n → n ≤ fileCount → (s : List ℕ) → PassesAB n s → {p : List ℕ} → RecordsFrom n s p → InBytes n s p
 file-bytes n h i [] t f = subst (InBytes n []) (sym (none-from f refl)) (absent-bytes n)
 file-bytes n h i (b ∷ r) t f = there-bytes n h i b r t f

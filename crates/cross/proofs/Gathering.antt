@@ -16,22 +16,22 @@ use Rattle.walk.specs.Part.{Whole}
 use Rattle.walk.specs.inner.Along.{AlongItems}
 use Rattle.schema.specs.Shape as shape
 use Rattle.schema.specs.Table23.{vehicleType, available, status, bike}
+use Rattle.schema.specs.Later.{rowsOf}
 use Rattle.schema.specs.Pick.{Picked, pick}
 use Rattle.slots.specs.declared.Slots.{Slots}
 use Rattle.slots.specs.inner.Rows.{namesIn}
-use Rattle.slots.specs.inner.Slots.{Gathered}
 use Rattle.fault.specs.declared.Fault.{Fault}
-use Rattle.judge.specs.Faults.{faulty}
+use Rattle.fault.specs.Fault.{faulty}
 use Rattle.document.specs.Document.{Maybe, field, fieldItems, text, spelling, given}
-use Rattle.document.proofs.Records.{pickedItems}
-use Rattle.fields.specs.Values.{integerIn}
-use Rattle.fields.specs.inner.Values.{textBy, thereBy, arrayBy, spelledBy}
-use Rattle.fields.proofs.Arrays.{member-along}
-use Rattle.fields.proofs.Values.{member-holds, holds-there}
-use Rattle.fields.proofs.Fields.{field-text, field-given, field-spelled, field-items, rowOf, listed}
-use Rattle.references.specs.References.{kindIf, hasCapacity, motorized, notHuman, named, refers, demanded}
+use Rattle.document.specs.inner.Items.{pickedItems}
+use Rattle.document.specs.Values.{integerIn}
+use Rattle.document.specs.inner.Values.{textBy, thereBy, arrayBy, spelledBy}
+use Rattle.document.proofs.Arrays.{member-along}
+use Rattle.document.proofs.Values.{member-holds, holds-there}
+use Rattle.document.proofs.FieldBytes.{field-text, field-given, field-spelled, field-items, rowOf, listed}
+use Rattle.ids.specs.References.{kindIf, hasCapacity, motorized, notHuman, named, refers, demanded}
 use Rattle.cross.specs.Cross.{Files, recordPlace, sumOf, availableFaults, typeFaults, statusFaults, bikeFaults}
-use Rattle.cross.specs.inner.Judged.{Reads}
+use Rattle.cross.specs.inner.Judged.{Reads, Slotted}
 use Rattle.cross.proofs.Layouts.{slot-member, type-layout, status-layout, bike-layout}
 
 -- a vehicle type
@@ -46,9 +46,9 @@ module _ (f : Files) (n : ℕ) where
   abbrev pub typeBy : (motor range plan : List ℕ) → List Fault
   typeBy motor range plan = typeOf (textBy motor) (thereBy range) (textBy plan) (thereBy plan)
 
-  pub type-is : {p : List ℕ} {s : Slots} → Gathered p 5 5 s → {motor range plan : List ℕ} → Reads p s 2 motor → Reads p s 3 range → Reads p s 4 plan
+  pub type-is : {p : List ℕ} {s : Slots} → Slotted 1 p s → {motor range plan : List ℕ} → Reads p s 2 motor → Reads p s 3 range → Reads p s 4 plan
       → {ms : Members} → Whole p (tree.object ms) → typeBy motor range plan ≡ typeFaults f n (pick vehicleType (tree.object ms))
-  unfolding typeFaults vehicleType rowOf namesIn
+  unfolding typeFaults vehicleType rowsOf rowOf namesIn
   type-is g a b c w =
       let plan = slot-member g type-layout 4 (omega arith) c w in
       same-type (ap textBy (slot-member g type-layout 2 (omega arith) a w) ∙ field-text (listed refl) w)
@@ -70,10 +70,10 @@ module _ (f : Files) (n : ℕ) where
   abbrev pub statusBy : (station docks counts bikes : List ℕ) → List Fault
   statusBy station docks counts bikes = statusOf (textBy station) (thereBy docks) (thereBy counts) (pickedItems available (arrayBy counts)) (spelledBy bikes)
 
-  pub status-is : {p : List ℕ} {s : Slots} → Gathered p 25 10 s → {station docks counts bikes : List ℕ}
+  pub status-is : {p : List ℕ} {s : Slots} → Slotted 3 p s → {station docks counts bikes : List ℕ}
       → Reads p s 0 station → Reads p s 2 docks → Reads p s 7 counts → Reads p s 1 bikes → {ms : Members} → Whole p (tree.object ms)
       → statusBy station docks counts bikes ≡ statusFaults f n (pick status (tree.object ms))
-  unfolding statusFaults status rowOf namesIn
+  unfolding statusFaults status rowsOf rowOf namesIn
   status-is {p} g {station} {docks} {counts} {bikes} a b c d {ms} w =
       let listing = slot-member g status-layout 7 (omega arith) c w in let x = pick status (tree.object ms) in
       let e : statusBy station docks counts bikes ≡ statusOf (text 30 x) (given (field 32 x)) (given (field 37 x)) (fieldItems 37 x) (spelling 31 x) =
@@ -85,9 +85,9 @@ module _ (f : Files) (n : ℕ) where
       e ∙ simp append-assoc
 
 -- the counts of a status are a whole array, or there is nothing
-pub counts-along : {p : List ℕ} {s : Slots} → Gathered p 25 10 s → {counts : List ℕ} → Reads p s 7 counts → {ms : Members} → Whole p (tree.object ms)
+pub counts-along : {p : List ℕ} {s : Slots} → Slotted 3 p s → {counts : List ℕ} → Reads p s 7 counts → {ms : Members} → Whole p (tree.object ms)
     → 0 < length (arrayBy counts) → AlongItems (arrayBy counts) 1
-unfolding status namesIn
+unfolding status rowsOf namesIn
 counts-along g c w =
     subst (λ (q : List ℕ). 0 < length (arrayBy q) → AlongItems (arrayBy q) 1) (sym (slot-member g status-layout 7 (omega arith) c w)) (member-along _ _)
 
@@ -109,11 +109,11 @@ module _ (f : Files) (n : ℕ) where
   bikeBy lat lon type range station plan =
       bikeOf (thereBy lat) (thereBy lon) (textBy type) (thereBy type) (thereBy range) (textBy station) (thereBy station) (textBy plan)
 
-  pub bike-is : {p : List ℕ} {s : Slots} → Gathered p 40 10 s → {lat lon type range station plan : List ℕ}
+  pub bike-is : {p : List ℕ} {s : Slots} → Slotted 4 p s → {lat lon type range station plan : List ℕ}
       → Reads p s 1 lat → Reads p s 2 lon → Reads p s 5 type → Reads p s 6 range → Reads p s 7 station → Reads p s 8 plan
       → {ms : Members} → Whole p (tree.object ms)
       → bikeBy lat lon type range station plan ≡ bikeFaults f n (pick bike (tree.object ms))
-  unfolding bikeFaults bike rowOf namesIn
+  unfolding bikeFaults bike rowsOf rowOf namesIn
   bike-is g {lat} {lon} {type} {range} {station} {plan} a b c d e h {ms} w =
       let kind = slot-member g bike-layout 5 (omega arith) c w in let dock = slot-member g bike-layout 7 (omega arith) e w in
       let x = pick bike (tree.object ms) in

@@ -4,11 +4,10 @@ use mathlib.Core.Path.{_≡_, refl, sym, ap, ap₂, _∙_}
 use Prim.Native.Nat.{ℕ}
 use Rattle.fault.specs.declared.Fault.{Fault}
 use Rattle.fault.specs.declared.Least.{Least}
-use Rattle.fault.specs.Fault.{fault, lesser, least}
+use Rattle.fault.specs.Fault.{fault, lesser, least, faulty}
 use Rattle.fault.proofs.Leasts.{least-append}
-use Rattle.scalar.specs.inner.Listed.{listed}
-use Rattle.judge.specs.declared.Place.{Place}
-use Rattle.judge.specs.Faults.{faulty}
+use Rattle.word.specs.inner.Listed.{listed}
+use Rattle.fault.specs.declared.Place.{Place}
 
 -- of two lists
 pub both : {r a b : Least} (xs ys : List Fault) → r ≡ lesser a b → a ≡ least xs → b ≡ least ys → r ≡ least (xs ++ ys)

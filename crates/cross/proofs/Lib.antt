@@ -1,4 +1,4 @@
-pub mod Onward
+pub mod FromFile
 pub mod Numbers
 pub mod Joined
 pub mod Layouts

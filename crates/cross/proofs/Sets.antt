@@ -1,32 +1,26 @@
 -- Stage C of files that are through stages A and B: what the code answers of each from bytes is the least of what it breaks, so the first file that
 -- breaks a rule is stage C's; and its rule fits the word.
 use mathlib.Core.List.{List, _++_}
-use mathlib.Core.Path.{_≡_, refl, sym, ap, ap₂, _∙_}
-use Prim.Native.Nat.{ℕ, _≤_, _<_}
+use mathlib.Core.Path.{_≡_, refl, sym, ap, _∙_}
+use Prim.Native.Nat.{ℕ, _≤_}
 use native.Mathlib.Omega.{arith}
 use Rattle.word.specs.Kinds.{condition}
 use Rattle.schema.specs.Pick.{Picked}
 use Rattle.fault.specs.declared.Fault.{Fault}
 use Rattle.fault.specs.declared.Least.{Least}
-use Rattle.fault.specs.declared.Least.the-variants.{None, Is}
-use Rattle.fault.specs.Fault.{least, lesser}
+use Rattle.fault.specs.Fault.{least, lesser, top, faulty}
+use Rattle.fault.specs.Outcome.{fileCount, outcomeOf}
 use Rattle.fault.proofs.Leasts.{lesser-assoc, least-append}
-use Rattle.judge.specs.Faults.{top, faulty}
-use Rattle.clean.specs.declared.Outcome.{Outcome}
-use Rattle.clean.specs.declared.Outcome.the-variants.{Unbroken, Broken}
-use Rattle.clean.specs.Clean.{faultParts, broken, repeatsIn}
-use Rattle.references.specs.References.{kindIf}
-use Rattle.cross.specs.declared.stage.Crossed.{Crossed}
-use Rattle.cross.specs.declared.stage.Crossed.the-variants.{Nothing, At}
-use Rattle.cross.specs.Cross.{File, Files, typeFaults, statusFaults, bikeFaults, eachRecord, faultsOf, absentees, crossFaults}
-use Rattle.cross.specs.Stage.{Feeds, fileCount, bytesOf, picked}
+use Rattle.clean.specs.Clean.{repeatsIn}
+use Rattle.ids.specs.References.{kindIf}
+use Rattle.cross.specs.Cross.{Files, typeFaults, statusFaults, bikeFaults, eachRecord, faultsOf, missingFile, crossFaults}
+use Rattle.cross.specs.Stage.{Feeds, bytesOf, picked}
 use Rattle.cross.specs.inner.Judged.{filesBy}
 use Rattle.cross.specs.inner.Stage.{firstC}
-use Rattle.cross.specs.inner.Staged.{fileLeast, crossing, crossed}
-use Rattle.cross.proofs.Onward.{onward-same}
+use Rattle.cross.specs.inner.Staged.{fileLeast, setOutcome, AllNarrow}
+use Rattle.cross.proofs.FromFile.{first-same}
 use Rattle.cross.proofs.Files.{InBytes}
 use Rattle.cross.proofs.Bounds.{cross-fits}
-use Rattle.cross.proofs.Staging.{crossed-at}
 
 -- What a file breaks is a function of what the set has of its files.
 module _ (s t : Files) (e : (file : ℕ) → 1 ≤ file → file ≤ fileCount → s file ≡ t file) where
@@ -43,9 +37,9 @@ module _ (s t : Files) (e : (file : ℕ) → 1 ≤ file → file ≤ fileCount �
   unfolding faultsOf typeFaults statusFaults bikeFaults
   record-same file n x = rw (faultsOf, typeFaults, statusFaults, bikeFaults, at-1, at-2, at-5)
 
-  absent-same : (file : ℕ) → absentees s file ≡ absentees t file
-  unfolding absentees
-  absent-same file = rw (absentees, at-2, e 3 (omega arith) (omega arith), e 4 (omega arith) (omega arith))
+  absent-same : (file : ℕ) → missingFile s file ≡ missingFile t file
+  unfolding missingFile
+  absent-same file = rw (missingFile, at-2, e 3 (omega arith) (omega arith), e 4 (omega arith) (omega arith))
 
   pub cross-same : (file : ℕ) → 1 ≤ file → file ≤ fileCount → crossFaults s file ≡ crossFaults t file
   unfolding crossFaults
@@ -53,15 +47,6 @@ module _ (s t : Files) (e : (file : ℕ) → 1 ≤ file → file ≤ fileCount �
       faulty top 0 (kindIf (absent-same file j) condition) ++
       repeatsIn file (e file h i j .records) ++
       eachRecord (λ n x. record-same file n x j) 1 (e file h i j .records)
-
--- a file's rule as a word's parts
-abbrev pub cleanness : Crossed → Outcome
-cleanness Nothing = Unbroken
-cleanness (At file f) = Broken (faultParts file f)
-
-crossing-broken : (file : ℕ) (x : Least) (rest : Crossed) → cleanness (crossing file x rest) ≡ broken file x (cleanness rest)
-crossing-broken file None rest = refl
-crossing-broken file (Is f) rest = refl
 
 least-three : (xs ys zs : List Fault) → lesser (least xs) (lesser (least ys) (least zs)) ≡ least (xs ++ ys ++ zs)
 least-three xs ys zs =
@@ -78,14 +63,11 @@ module _ (s rs : Feeds) (all : AllInBytes s rs) where
       rw (fileLeast, ← all file h i .repeated) (least-three _ _ _)
       ∙ ap least (cross-same (filesBy rs) (picked s) (λ k a b. sym (all k a b .is)) file h i)
 
-  pub stage-is : cleanness (crossed rs) ≡ firstC (picked s)
+  pub outcome-is : setOutcome rs ≡ firstC (picked s)
   unfolding firstC
-  stage-is =
-      onward-same cleanness (λ file next. crossing file (fileLeast rs file) next) (λ file next. broken file (least (crossFaults (picked s) file)) next) Nothing
-      (λ k h i x. crossing-broken k (fileLeast rs k) x ∙ ap (λ (u : Least). broken k u (cleanness x)) (file-least k h i))
+  outcome-is = first-same _ _ (λ file h i. ap (outcomeOf file) (file-least file h i))
 
-  -- the rule of the first file fits the word
-  pub first-small : (file : ℕ) (f : Fault) → crossed rs ≡ At file f → (f .«record» < 65_536) × (f .sub < 65_536)
-  first-small file f e =
-      let (h, i, k) = crossed-at rs file f e in
-      let t = cross-fits (picked s) file h i refl (all file h i) f (sym (file-least file h i) ∙ k) in (omega (arith, t .rec), omega (arith, t .sub))
+  -- a word can have their numbers
+  pub all-narrow : AllNarrow rs
+  all-narrow file h i f e =
+      let t = cross-fits (picked s) file h i refl (all file h i) f (sym (file-least file h i) ∙ e) in (omega (arith, t .rec), omega (arith, t .sub))

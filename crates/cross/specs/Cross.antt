@@ -8,12 +8,12 @@ use Rattle.notation.specs.Choice.{_⇒_else_, _and_}
 use Rattle.word.specs.Kinds.{condition, sumDiffers}
 use Rattle.schema.specs.Pick.{Picked}
 use Rattle.fault.specs.declared.Fault.{Fault}
-use Rattle.judge.specs.declared.Place.{Place}
-use Rattle.judge.specs.Faults.{top, faulty}
+use Rattle.fault.specs.declared.Place.{Place}
+use Rattle.fault.specs.Fault.{top, faulty}
 use Rattle.document.specs.Document.{none, some, fieldItems, field, text, textIn, spelling, given}
-use Rattle.fields.specs.Values.{integerIn}
+use Rattle.document.specs.Values.{integerIn}
 use Rattle.clean.specs.Clean.{repeatsIn}
-use Rattle.references.specs.References.{kindIf, hasCapacity, motorized, named, refers, demanded}
+use Rattle.ids.specs.References.{kindIf, hasCapacity, motorized, named, refers, demanded}
 
 -- what a set has of a file: whether it is there, and its records
 pub record File : Type 0 where
@@ -89,8 +89,8 @@ faultsOf s file n x =
     eqb file 6 ⇒ zoneFaults (s 1 .records) n x else []
 
 -- a file that another one calls for: stations and statuses go together, and there are stations or bikes
-unfoldable pub absentees : Files → ℕ → Bool
-absentees s file =
+unfoldable pub missingFile : Files → ℕ → Bool
+missingFile s file =
     eqb file 2 ⇒ s 3 .here and not (s 2 .here) else
     eqb file 3 ⇒ s 2 .here and not (s 3 .here) else
     eqb file 4 ⇒ not (s 2 .here) and not (s 4 .here) else false
@@ -98,6 +98,6 @@ absentees s file =
 -- all of one file
 unfoldable pub crossFaults : Files → ℕ → List Fault
 crossFaults s file =
-    faulty top 0 (kindIf (absentees s file) condition) ++
+    faulty top 0 (kindIf (missingFile s file) condition) ++
     repeatsIn file (s file .records) ++
     eachRecord (faultsOf s file) 1 (s file .records)

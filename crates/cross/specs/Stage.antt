@@ -3,7 +3,6 @@ use mathlib.Core.Bool.{true, false}
 use mathlib.Core.List.{List, [], _∷_}
 use Prim.Native.Nat.{ℕ}
 use lib.ListN.{getD}
-use Rattle.word.specs.Form.{form1}
 use Rattle.schema.specs.Shape.{fileShape}
 use Rattle.schema.specs.Table23.{table23}
 use Rattle.schema.specs.Pick.{pick}
@@ -14,11 +13,7 @@ use Rattle.cross.specs.Cross.{File, Files}
 abbrev pub Feeds : Type 0
 Feeds = List (List ℕ)
 
--- how many files there are: the greatest number that a verdict word has for one
-abbrev pub fileCount : ℕ
-fileCount = form1 .files
-
--- the file with this number
+-- the bytes of the file with this number, counted from 1; none of 0 and of numbers past the last
 abbrev pub bytesOf : Feeds → ℕ → List ℕ
 bytesOf s file = getD ([] ∷ s) file []
 

@@ -5,20 +5,20 @@ use crate::set::file_in;
 use crate::set::notes_in;
 use crate::slotted::value_in;
 use fault::Least;
+use fault::Place;
 use fault::lesser;
 use ids::Notes;
-use judge::Place;
-use references::rules::demanded;
-use references::rules::demanded_by;
-use references::rules::refers;
+use ids::references::demanded;
+use ids::references::demanded_by;
+use ids::references::refers;
 use slots::Slots;
 ghost use mathlib.Core.List.{map};
 ghost use mathlib.Core.Path.{_≡_};
 ghost use Rattle.fault.specs.Fault.{least};
-ghost use Rattle.slots.specs.inner.Slots.{slotsOf, Gathered};
-ghost use Rattle.references.specs.inner.Known.{Searchable};
+ghost use Rattle.slots.specs.inner.Slots.{slotsOf};
+ghost use Rattle.ids.specs.inner.Known.{Searchable};
 ghost use Rattle.cross.specs.Cross.{bikeFaults};
-ghost use Rattle.cross.specs.inner.Judged.{fileBy, filesBy, Known, positionBy, vehicleBy, Judges};
+ghost use Rattle.cross.specs.inner.Judged.{fileBy, filesBy, Known, positionBy, vehicleBy, Judges, Slotted};
 
 // Fields 41 and 42, by their values and that of field 47.
 fn judge_position(station: &[u8], lat: &[u8], lon: &[u8], place: Place) -> Least
@@ -47,7 +47,7 @@ fn judge_vehicle(
     lesser(lesser(a, b), c)
 }
 
-// The n-th record `p` by its slots. Its rows begin at line 40 of the table.
+// The n-th record `p` by its slots.
 pub fn judge_bike<'a, 'n, 's>(
     p: &[u8],
     state: &'s [u8; Slots::ROWS],
@@ -57,7 +57,7 @@ pub fn judge_bike<'a, 'n, 's>(
     records: [&'a [u8]; FILES],
     notes: [&'n [u32; Notes::SIZE]; NAMED],
 ) -> Least
-    requires { ⌜ Gathered (now p) 40 10 (slotsOf (now state) (now from) (now upto)) × Known 4 (map now records) (map now notes) ⌝ }
+    requires { ⌜ Slotted 4 (now p) (slotsOf (now state) (now from) (now upto)) × Known 4 (map now records) (map now notes) ⌝ }
     ensures { λ r. ⌜ Judges 4 (bikeFaults (filesBy (map now (records .entry))) n) (now (p .entry)) r ⌝ }
 {
     let place = Place { record: n, sub: 0 };

@@ -19,11 +19,11 @@ ghost use mathlib.Core.List.{map};
 ghost use Prim.Native.Nat.{_≤_};
 ghost use lib.ListN.{length};
 ghost use Rattle.limits.specs.Ceilings.{fileBytes};
-ghost use Rattle.slots.specs.inner.Slots.{slotsOf, Gathered};
+ghost use Rattle.slots.specs.inner.Slots.{slotsOf};
 ghost use Rattle.ids.specs.inner.Notes.{Blank};
-ghost use Rattle.references.specs.inner.Known.{Searchable};
+ghost use Rattle.ids.specs.inner.Known.{Searchable};
 ghost use Rattle.cross.specs.Cross.{faultsOf};
-ghost use Rattle.cross.specs.inner.Judged.{Object, filesBy, Known, Referring, firstLine, lineCount, Slotted, Judges};
+ghost use Rattle.cross.specs.inner.Judged.{Object, filesBy, Known, Referring, Slotted, Judges};
 ghost use Rattle.cross.specs.inner.Staged.{Recorded, Finds};
 
 // What is found of a file's records: the number of the first whose id one before it has, or 0, and the first rule that one breaks otherwise.
@@ -32,9 +32,10 @@ pub struct Findings {
     pub least: Least,
 }
 
-// The slots of the record `p` of a file, for the rows of that file.
+// The slots of the record `p` of a file, at the lines of the table that its rows have.
 fn gather_record(file: u8, p: &[u8]) -> Slots
-    ensures { λ r. ⌜ Gathered (now (p .entry)) (firstLine file) (lineCount file) r ⌝ }
+    requires { ⌜ Referring file ⌝ }
+    ensures { λ r. ⌜ Slotted file (now (p .entry)) r ⌝ }
 {
     match file {
         1 => gather(p, 5, 5),

@@ -1,15 +1,16 @@
 // The files of a set, one beside the other in the order of their numbers.
 use ids::Notes;
+use word::Word;
 ghost use mathlib.Core.List.{[], map};
 ghost use mathlib.Core.Path.{_≡_};
 ghost use Prim.Native.Nat.{_≤_, _<_};
-ghost use lib.Dec.{ltb};
-ghost use lib.ListN.{length, getD};
-ghost use Rattle.cross.specs.Stage.{fileCount, bytesOf};
-ghost use Rattle.cross.specs.inner.Judged.{filesBy};
+ghost use lib.ListN.{getD};
+ghost use Rattle.fault.specs.Outcome.{fileCount};
+ghost use Rattle.cross.specs.Stage.{bytesOf};
+ghost use Rattle.cross.specs.inner.Judged.{filesBy, namedCount};
 
-// How many there are.
-pub const FILES: usize = 6;
+// How many files a set has.
+pub const FILES: usize = Word::FILES as usize;
 
 // How many of them references name: vehicle types, stations and plans, in this order.
 pub const NAMED: usize = 3;
@@ -22,7 +23,7 @@ pub fn file_in<'a>(files: [&'a [u8]; FILES], file: u8) -> &'a [u8]
     files[file as usize - 1]
 }
 
-// Whether it is there, by its records.
+// Whether the file with this number is there, by its records.
 pub fn is_here<'a>(records: [&'a [u8]; FILES], file: u8) -> bool
     requires { ⌜ (1 ≤ file) × (file ≤ fileCount) ⌝ }
     ensures { λ r. ⌜ r ≡ filesBy (map now (records .entry)) file .here ⌝ }
@@ -32,7 +33,7 @@ pub fn is_here<'a>(records: [&'a [u8]; FILES], file: u8) -> bool
 
 // The notes of a file that references name.
 pub fn notes_in<'n>(notes: [&'n [u32; Notes::SIZE]; NAMED], i: usize) -> &'n [u32; Notes::SIZE]
-    requires { ⌜ i < 3 ⌝ }
+    requires { ⌜ i < namedCount ⌝ }
     ensures { λ r. ⌜ now r ≡ getD (map now (notes .entry)) i [] ⌝ }
 {
     notes[i]

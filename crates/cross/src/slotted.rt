@@ -1,5 +1,5 @@
 // The values of a record by its slots, whose columns are lent.
-use fields::value_at;
+use document::fields::value_at;
 use slots::Slots;
 use slots::slot_in;
 ghost use Prim.Native.Nat.{_≤_};

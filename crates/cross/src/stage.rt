@@ -7,16 +7,16 @@ use crate::set::file_in;
 use crate::set::is_here;
 use crate::set::notes_in;
 use crate::zones::judge_zones;
-use clean::Outcome;
-use clean::parts_of;
+use clean::repeats::blame;
 use document::records_from;
-use fault::Fault;
 use fault::Least;
+use fault::Place;
 use fault::lesser;
+use fault::outcome::Outcome;
+use fault::outcome::outcome_of;
 use ids::Notes;
-use ids::id::id_field;
 use ids::note::note;
-use judge::Place;
+use word::Word;
 use word::kind::Kind;
 ghost use mathlib.Core.Bool.{not};
 ghost use mathlib.Core.List.{map};
@@ -27,25 +27,19 @@ ghost use Rattle.notation.specs.Choice.{_and_};
 ghost use Rattle.word.specs.Kinds.{condition};
 ghost use Rattle.walk.specs.Walk.{itemsOf};
 ghost use Rattle.fault.specs.declared.Least.the-variants.{None};
-ghost use Rattle.fault.specs.Fault.{least};
-ghost use Rattle.judge.specs.Faults.{top, faulty};
+ghost use Rattle.fault.specs.Fault.{least, top, faulty};
+ghost use Rattle.fault.specs.inner.Narrow.{Narrow};
+ghost use Rattle.fault.specs.Outcome.{fileCount};
 ghost use Rattle.document.specs.inner.Spans.{RecordsFrom};
-ghost use Rattle.ids.specs.inner.Ids.{idField, Singles};
+ghost use Rattle.ids.specs.inner.Ids.{AllIdsOnce};
 ghost use Rattle.ids.specs.inner.Notes.{Noted, Blank};
-ghost use Rattle.clean.specs.inner.Blamed.{blamed};
-ghost use Rattle.references.specs.References.{kindIf};
-ghost use Rattle.references.specs.inner.Known.{Searchable};
-ghost use Rattle.cross.specs.Cross.{absentees};
-ghost use Rattle.cross.specs.Stage.{fileCount, bytesOf, picked};
+ghost use Rattle.ids.specs.References.{kindIf};
+ghost use Rattle.ids.specs.inner.Known.{Searchable};
+ghost use Rattle.cross.specs.Cross.{missingFile};
+ghost use Rattle.cross.specs.Stage.{bytesOf, picked};
 ghost use Rattle.cross.specs.inner.Judged.{filesBy, Known, Referring};
-ghost use Rattle.cross.specs.inner.Stage.{AllThrough, firstC};
-ghost use Rattle.cross.specs.inner.Staged.{Recorded, AllRecorded, Others, Found, Ready, repeatOf, fileLeast, crossed};
-
-// The first broken rule of stage C, with its file; or none.
-pub enum Crossed {
-    Nothing,
-    At(u8, Fault),
-}
+ghost use Rattle.cross.specs.inner.Stage.{AllPassAB, firstC};
+ghost use Rattle.cross.specs.inner.Staged.{Recorded, AllRecorded, Others, Found, Ready, repeatOf, fileLeast, AllNarrow, fileOutcome, setOutcome};
 
 // What is found of the records of each file that references name.
 pub struct Named {
@@ -65,8 +59,8 @@ fn is_lacking(needed: bool, here: bool) -> bool
 }
 
 // Another file calls for this one, and it is not there.
-fn is_called_for<'a>(file: u8, records: [&'a [u8]; FILES]) -> bool
-    ensures { λ r. ⌜ r ≡ absentees (filesBy (map now (records .entry))) file ⌝ }
+fn is_missing<'a>(file: u8, records: [&'a [u8]; FILES]) -> bool
+    ensures { λ r. ⌜ r ≡ missingFile (filesBy (map now (records .entry))) file ⌝ }
 {
     match file {
         2 => is_lacking(is_here(records, 3), is_here(records, 2)),
@@ -78,45 +72,29 @@ fn is_called_for<'a>(file: u8, records: [&'a [u8]; FILES]) -> bool
 
 // The rule that a file breaks which is called for and not there; it stands in the header.
 fn judge_presence<'a>(file: u8, records: [&'a [u8]; FILES]) -> Least
-    ensures { λ r. ⌜ r ≡ least (faulty top 0 (kindIf (absentees (filesBy (map now (records .entry))) file) condition)) ⌝ }
+    ensures { λ r. ⌜ r ≡ least (faulty top 0 (kindIf (missingFile (filesBy (map now (records .entry))) file) condition)) ⌝ }
 {
     let header = Place { record: 0, sub: 0 };
-    if is_called_for(file, records) {
+    if is_missing(file, records) {
         return header.broken(0, Kind::CONDITION);
     }
     Least::None
 }
 
-// The rule that the first record breaks which repeats an id, by its number; none where that is 0.
-fn judge_ids(file: u8, repeat: u16) -> Least
-    ensures { λ r. ⌜ r ≡ blamed (idField file) repeat ⌝ }
-{
-    if repeat == 0 {
-        return Least::None;
-    }
-    let field = id_field(file);
-    Least::Is(Fault {
-        record: repeat as u32,
-        field: field,
-        sub: 0,
-        kind: Kind::ID_TWICE,
-    })
-}
-
 // One file of the set, by what is found of its records.
-fn judge_file<'a>(file: u8, found: Findings, records: [&'a [u8]; FILES]) -> Least
-    requires { ⌜ Found (map now records) file found ⌝ }
-    ensures { λ r. ⌜ r ≡ fileLeast (map now (records .entry)) file ⌝ }
+fn judge_file<'a>(file: u8, found: Findings, records: [&'a [u8]; FILES]) -> Outcome
+    requires { ⌜ Found (map now records) file found × Narrow (fileLeast (map now records) file) ⌝ }
+    ensures { λ r. ⌜ r ≡ fileOutcome (map now (records .entry)) file ⌝ }
 {
     let a = judge_presence(file, records);
-    let b = judge_ids(file, found.repeat);
+    let b = blame(file, found.repeat);
     let c = found.least;
-    lesser(a, lesser(b, c))
+    outcome_of(file, lesser(a, lesser(b, c)))
 }
 
 // The records of file 2 or 5, which break no rule but by their ids.
 fn note_records(file: u8, p: &[u8], notes: &mut [u32; Notes::SIZE]) -> Findings
-    requires { ⌜ (file ≤ 5) × Recorded (now p) × Blank (now notes) × Singles file (now p) ⌝ }
+    requires { ⌜ (file ≤ 5) × Recorded (now p) × Blank (now notes) × AllIdsOnce file (now p) ⌝ }
     ensures { λ r. ⌜ (r .repeat ≡ repeatOf file (now (p .entry))) × (r .least ≡ None) × Noted file (now (p .entry)) (length (itemsOf (now (p .entry)))) (now (notes .exit)) ⌝ }
 {
     Findings {
@@ -191,29 +169,29 @@ fn judge_noted<'a, 'n>(
     named: Named,
     records: [&'a [u8]; FILES],
     notes: [&'n [u32; Notes::SIZE]; NAMED],
-) -> Crossed
+) -> Outcome
     requires { ⌜ Ready (map now records) (map now notes) named ⌝ }
-    ensures { λ r. ⌜ r ≡ crossed (map now (records .entry)) ⌝ }
+    ensures { λ r. ⌜ r ≡ setOutcome (map now (records .entry)) ⌝ }
 {
     let mut file: u8 = 1;
-    while file <= 6 {
+    while file <= Word::FILES {
         let found = find(file, named, records, notes);
         match judge_file(file, found, records) {
-            Least::Is(f) => {
-                return Crossed::At(file, f);
+            Outcome::Broken(p) => {
+                return Outcome::Broken(p);
             }
-            Least::None => {
+            Outcome::Unbroken => {
                 file += 1;
             }
         }
     }
-    Crossed::Nothing
+    Outcome::Unbroken
 }
 
 // The first file with a broken rule, where nothing is noted yet.
-fn judge_parts<'a>(records: [&'a [u8]; FILES]) -> Crossed
-    requires { ⌜ AllRecorded (map now records) × Singles 2 (bytesOf (map now records) 2) × Singles 5 (bytesOf (map now records) 5) ⌝ }
-    ensures { λ r. ⌜ r ≡ crossed (map now (records .entry)) ⌝ }
+fn judge_parts<'a>(records: [&'a [u8]; FILES]) -> Outcome
+    requires { ⌜ AllRecorded (map now records) × AllIdsOnce 2 (bytesOf (map now records) 2) × AllIdsOnce 5 (bytesOf (map now records) 5) × AllNarrow (map now records) ⌝ }
+    ensures { λ r. ⌜ r ≡ setOutcome (map now (records .entry)) ⌝ }
 {
     let mut type_notes: [u32; Notes::SIZE] = [0; Notes::SIZE];
     let mut station_notes: [u32; Notes::SIZE] = [0; Notes::SIZE];
@@ -243,7 +221,7 @@ fn records_in<'a>(files: [&'a [u8]; FILES], file: u8) -> &'a [u8]
 // Stage C of a set of files that are through stages A and B.
 // Shut out: a file passed over because a later one breaks a rule too; a rule of one file named in another.
 pub fn judge_set<'a>(files: [&'a [u8]; FILES]) -> Outcome
-    requires { ⌜ AllThrough (map now files) ⌝ }
+    requires { ⌜ AllPassAB (map now files) ⌝ }
     ensures { λ r. ⌜ r ≡ firstC (picked (map now (files .entry))) ⌝ }
 {
     let records = [
@@ -254,8 +232,5 @@ pub fn judge_set<'a>(files: [&'a [u8]; FILES]) -> Outcome
         records_in(files, 5),
         records_in(files, 6),
     ];
-    match judge_parts(records) {
-        Crossed::Nothing => Outcome::Unbroken,
-        Crossed::At(file, f) => Outcome::Broken(parts_of(file, f)),
-    }
+    judge_parts(records)
 }

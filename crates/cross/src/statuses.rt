@@ -4,16 +4,16 @@ use crate::set::NAMED;
 use crate::set::file_in;
 use crate::set::notes_in;
 use crate::slotted::value_in;
+use document::fields::array_in;
+use document::fields::integer_in;
+use document::fields::member;
 use fault::Least;
+use fault::Place;
 use fault::lesser;
-use fields::array_in;
-use fields::integer_in;
-use fields::member;
 use ids::Notes;
-use judge::Place;
-use references::rules::demanded;
-use references::rules::demanded_by;
-use references::rules::refers;
+use ids::references::demanded;
+use ids::references::demanded_by;
+use ids::references::refers;
 use slots::Slots;
 use walk::ItemStep;
 use walk::pass_item;
@@ -27,19 +27,19 @@ ghost use Rattle.limits.specs.Ceilings.{fileBytes};
 ghost use lib.Dec.{eqb};
 ghost use Rattle.notation.specs.Choice.{_and_};
 ghost use Rattle.word.specs.Kinds.{sumDiffers};
-ghost use Rattle.scalar.specs.inner.Listed.{listed};
+ghost use Rattle.word.specs.inner.Listed.{listed};
 ghost use Rattle.walk.specs.inner.Along.{AlongItems};
 ghost use Rattle.schema.specs.Table23.{available as availableShape};
 ghost use Rattle.schema.specs.Records.{recordShape};
 ghost use Rattle.fault.specs.Fault.{least};
-ghost use Rattle.slots.specs.inner.Slots.{slotsOf, Gathered};
-ghost use Rattle.document.proofs.Records.{pickedItems};
-ghost use Rattle.fields.specs.Values.{integerIn};
-ghost use Rattle.fields.specs.inner.Values.{thereBy, arrayBy, spelledBy};
-ghost use Rattle.references.specs.References.{kindIf};
+ghost use Rattle.slots.specs.inner.Slots.{slotsOf};
+ghost use Rattle.document.specs.inner.Items.{pickedItems};
+ghost use Rattle.document.specs.Values.{integerIn};
+ghost use Rattle.document.specs.inner.Values.{thereBy, arrayBy, spelledBy};
+ghost use Rattle.ids.specs.References.{kindIf};
 ghost use Rattle.cross.specs.Cross.{statusFaults};
-ghost use Rattle.references.specs.inner.Known.{Searchable};
-ghost use Rattle.cross.specs.inner.Judged.{Object, fileBy, filesBy, Known, stationBy, countsBy, Judges};
+ghost use Rattle.ids.specs.inner.Known.{Searchable};
+ghost use Rattle.cross.specs.inner.Judged.{Object, fileBy, filesBy, Known, stationBy, countsBy, Judges, Slotted};
 ghost use Rattle.cross.specs.inner.Tallied.{Tallies};
 
 // What the types tell that are available: the sum of their counts, and the first rule that one breaks.
@@ -130,7 +130,7 @@ fn judge_counts(
     lesser(lesser(a, b), c)
 }
 
-// The n-th record `p` by its slots. Its rows begin at line 25 of the table.
+// The n-th record `p` by its slots.
 pub fn judge_status<'a, 'n, 's>(
     p: &[u8],
     state: &'s [u8; Slots::ROWS],
@@ -140,7 +140,7 @@ pub fn judge_status<'a, 'n, 's>(
     records: [&'a [u8]; FILES],
     notes: [&'n [u32; Notes::SIZE]; NAMED],
 ) -> Least
-    requires { ⌜ Gathered (now p) 25 10 (slotsOf (now state) (now from) (now upto)) × Known 3 (map now records) (map now notes) × (length (now p) ≤ fileBytes) × Object (now p) ⌝ }
+    requires { ⌜ Slotted 3 (now p) (slotsOf (now state) (now from) (now upto)) × Known 3 (map now records) (map now notes) × (length (now p) ≤ fileBytes) × Object (now p) ⌝ }
     ensures { λ r. ⌜ Judges 3 (statusFaults (filesBy (map now (records .entry))) n) (now (p .entry)) r ⌝ }
 {
     let place = Place { record: n, sub: 0 };

@@ -5,19 +5,19 @@ use crate::set::file_in;
 use crate::set::notes_in;
 use crate::slotted::value_in;
 use fault::Least;
+use fault::Place;
 use fault::lesser;
 use ids::Notes;
-use judge::Place;
-use references::rules::demanded;
-use references::rules::refers;
-use references::search::is_motorized;
+use ids::lookup::is_motorized;
+use ids::references::demanded;
+use ids::references::refers;
 use slots::Slots;
 ghost use mathlib.Core.List.{map};
-ghost use Rattle.slots.specs.inner.Slots.{slotsOf, Gathered};
+ghost use Rattle.slots.specs.inner.Slots.{slotsOf};
 ghost use Rattle.cross.specs.Cross.{typeFaults};
-ghost use Rattle.cross.specs.inner.Judged.{filesBy, Known, Judges};
+ghost use Rattle.cross.specs.inner.Judged.{filesBy, Known, Judges, Slotted};
 
-// The n-th record `p` by its slots. Its rows begin at line 5 of the table.
+// The n-th record `p` by its slots.
 pub fn judge_type<'a, 'n, 's>(
     p: &[u8],
     state: &'s [u8; Slots::ROWS],
@@ -27,7 +27,7 @@ pub fn judge_type<'a, 'n, 's>(
     records: [&'a [u8]; FILES],
     notes: [&'n [u32; Notes::SIZE]; NAMED],
 ) -> Least
-    requires { ⌜ Gathered (now p) 5 5 (slotsOf (now state) (now from) (now upto)) × Known 1 (map now records) (map now notes) ⌝ }
+    requires { ⌜ Slotted 1 (now p) (slotsOf (now state) (now from) (now upto)) × Known 1 (map now records) (map now notes) ⌝ }
     ensures { λ r. ⌜ Judges 1 (typeFaults (filesBy (map now (records .entry))) n) (now (p .entry)) r ⌝ }
 {
     let place = Place { record: n, sub: 0 };

@@ -1,11 +1,11 @@
 // The records of file 6: the types that their rules name.
+use document::fields::array_in;
+use document::fields::member;
 use fault::Least;
+use fault::Place;
 use fault::lesser;
-use fields::array_in;
-use fields::member;
 use ids::Notes;
-use judge::Place;
-use references::rules::refers;
+use ids::references::refers;
 use walk::ItemStep;
 use walk::pass_item;
 ghost use mathlib.Core.Path.{_≡_};
@@ -18,9 +18,9 @@ ghost use Rattle.schema.specs.Shape.{Sort, scalar};
 ghost use Rattle.schema.specs.Table23.{rule as ruleShape};
 ghost use Rattle.schema.specs.Records.{recordShape};
 ghost use Rattle.fault.specs.Fault.{least};
-ghost use Rattle.document.proofs.Records.{pickedItems};
+ghost use Rattle.document.specs.inner.Items.{pickedItems};
 ghost use Rattle.cross.specs.Cross.{eachRecord, idFaults, ruleFaults, zoneFaults};
-ghost use Rattle.references.specs.inner.Known.{Searchable};
+ghost use Rattle.ids.specs.inner.Known.{Searchable};
 ghost use Rattle.cross.specs.inner.Judged.{Judges};
 ghost use Rattle.cross.specs.inner.Staged.{Recorded};
 

@@ -1,14 +1,15 @@
 -- Every decimal that is read is in the form: a run of n digits is below 10 ^ n, and the sign is kept only on a number that is not 0.
 use mathlib.Core.Bool.{Bool, true, false, not}
 use mathlib.Core.List.{List, [], _∷_}
-use mathlib.Core.Path.{_≡_, refl, sym, ap, subst, _∙_}
+use mathlib.Core.Path.{_≡_, refl, ap, subst, _∙_}
 use Prim.Native.Nat.{ℕ, _+_, _-_, _*_, _^_, _<_, _≤_}
-use native.Mathlib.Nat.{le-mul-of-pos-right, mul-lt-mul-of-pos-right}
+use native.Mathlib.Nat.{le-mul-of-pos-right, mul-lt-mul-of-pos-right, one-le-pow}
 use native.Mathlib.Omega.{arith}
 use lib.Dec.{eqb, leb}
 use lib.ListN.{length, drop}
 use borrow.Author.Tests.{eqb-false, leb-true, not-true}
 use Rattle.notation.specs.Choice.{_⇒_else_, _and_}
+use Rattle.notation.proofs.Booleans.{and-both}
 use Rattle.radix.proofs.Digits.{at-most}
 use Rattle.lexeme.specs.Read.Read.{done}
 use Rattle.lexeme.specs.Numbers.{digits, both as both′, integer, fraction}
@@ -22,19 +23,12 @@ use Rattle.decimal.specs.inner.Formed.{Formed}
 use Rattle.decimal.specs.inner.Spelling.{front}
 use Rattle.decimal.proofs.Runs.{digits-front, front-value, power-split, value-from}
 
-both : (s t : Bool) → (s and t) ≡ true → (s ≡ true) × (t ≡ true)
-both true t e = (refl, e)
-both false t e = let z : _≡_ {A = ℕ} 0 1 = cc in absurd (omega arith)
-
 chosen : (t : Bool) (x : Number) (d : Decimal) → (t ⇒ x else Unformed) ≡ Value d → (t ≡ true) × (x ≡ Value d)
 chosen true x d e = (refl, e)
 chosen false x d e = let z : _≡_ {A = ℕ} 0 1 = cc in absurd (omega arith)
 
 none : {d : Decimal} → Unformed ≡ Value d → Formed d
 none e = let z : _≡_ {A = ℕ} 0 1 = cc in absurd (omega arith)
-
-some-power : (k : ℕ) → 0 < 10 ^ k
-some-power k = let z : 0 < 10 ^ 0 = omega arith in at-most 10 {i = 0} (omega arith) (omega arith) z
 
 -- the digits before the point are the run of some text l, and those behind it of some text t
 module _ (negative : Bool) (l t : List ℕ) (h : length (front l) ≤ 12) (k : length (front t) ≤ 18) where
@@ -48,7 +42,7 @@ module _ (negative : Bool) (l t : List ℕ) (h : length (front l) ≤ 12) (k : l
   unfolding power
   part-below =
       rw (value-from, power-split (length (front t)) k) at
-      (mul-lt-mul-of-pos-right (front-value t) (some-power (18 - length (front t))))
+      (mul-lt-mul-of-pos-right (front-value t) (one-le-pow (18 - length (front t)) 10 (omega arith)))
 
   decimal-formed : Formed (decimalOf negative (front l) (front t))
   unfolding decimalOf
@@ -62,8 +56,8 @@ module _ (negative : Bool) (l t : List ℕ) (h : length (front l) ≤ 12) (k : l
 
       positive : (negative and not (eqb (v + f) 0)) ≡ true → 0 < v * unit + f * 10 ^ (18 - length (front t))
       positive e =
-          let n = eqb-false (v + f) 0 (not-true (eqb (v + f) 0) (both negative (not (eqb (v + f) 0)) e .1)) in
-          omega (arith, n, le-mul-of-pos-right f (some-power (18 - length (front t))))
+          let n = eqb-false (v + f) 0 (not-true (eqb (v + f) 0) (and-both negative (not (eqb (v + f) 0)) e .1)) in
+          omega (arith, n, le-mul-of-pos-right f (one-le-pow (18 - length (front t)) 10 (omega arith)))
 
 module _ (negative : Bool) (l : List ℕ) (d : Decimal) where
   formed-formed : (t : List ℕ) → formed negative (front l) (front t) ≡ Value d → Formed d
@@ -71,7 +65,7 @@ module _ (negative : Bool) (l : List ℕ) (d : Decimal) where
   formed-formed t e =
       let within = leb (length (front l)) 12 and leb (length (front t)) 18 in
       let made = chosen within (Value (decimalOf negative (front l) (front t))) d e in
-      let tests = both (leb (length (front l)) 12) (leb (length (front t)) 18) (made .0) in
+      let tests = and-both (leb (length (front l)) 12) (leb (length (front t)) 18) (made .0) in
       let same : decimalOf negative (front l) (front t) ≡ d = cc in
       subst Formed same (decimal-formed negative l t (leb-true _ _ (tests .0)) (leb-true _ _ (tests .1)))
 

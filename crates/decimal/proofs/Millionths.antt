@@ -9,7 +9,7 @@ use lib.Signed.{leZ}
 use borrow.Author.Tests.{le-leb, leb-true}
 use Rattle.signed.specs.Signed.{signed}
 use Rattle.signed.proofs.Gap.{gap-pos, gap-neg, gap-back, gap-same, gap-mul, gap-minus, gap-size, gap-le, signed-size, signed-negated, signed-le, signed-across}
-use Rattle.signed.proofs.Sums.{parts, up-size, down-size}
+use Rattle.signed.proofs.Parts.{parts, up-size, down-size}
 use Rattle.decimal.specs.declared.Decimal.{Decimal}
 use Rattle.decimal.specs.Exact.{unit, size, exact, inRange, millionth, nearest, millionths}
 use Rattle.decimal.specs.Rounding.{opposite, Rounding}

@@ -5,13 +5,9 @@ use mathlib.Core.Path.{_≡_, refl, sym, ap, subst, _∙_}
 use Prim.Native.Nat.{ℕ, _+_, _-_, _*_, _^_, _<_, _≤_, min}
 use native.Mathlib.Omega.{arith}
 use lib.Dec.{eqb, leb, ltb}
-use lib.ListN.{take}
-use lib.Seq.{take-all}
 use borrow.Author.Tests.{eq-eqb, ne-eqb, leb-true, ltb-true, ltb-false, lt-ltb, le-ltb}
 use Rattle.notation.specs.Choice.{_⇒_else_, _and_}
 use Rattle.radix.proofs.Digits.{one-more}
-use Rattle.lexeme.specs.declared.Char.{Char}
-use Rattle.lexeme.specs.Character.{bytesOf}
 use Rattle.lexeme.specs.Numbers.{digit}
 use Rattle.decimal.specs.declared.Decimal.{Decimal}
 use Rattle.decimal.specs.declared.Price.the-variants.{Value, Unformed, NoNumber}
@@ -146,10 +142,3 @@ module _ (p : Progress) (d : Decimal) where
       go true true h e = (leb-true _ _ h, cc)
       go true false h e = let z : _≡_ {A = ℕ} 0 1 = cc in absurd (omega arith)
       go false b h e = let z : _≡_ {A = ℕ} 0 1 = cc in absurd (omega arith)
-
--- the bytes of a character, of which `len` count
-pub first-bytes : (p : Progress) (x : Char) (n : ℕ) → x .len ≡ n → steps p (take n (x .b0 ∷ x .b1 ∷ x .b2 ∷ x .b3 ∷ [])) ≡ steps p (bytesOf x)
-first-bytes p x n e = ap (λ (k : ℕ). steps p (take k (x .b0 ∷ x .b1 ∷ x .b2 ∷ x .b3 ∷ []))) (sym e)
-
-pub four-bytes : (p : Progress) (x : Char) → 4 ≤ x .len → steps p (x .b0 ∷ x .b1 ∷ x .b2 ∷ x .b3 ∷ []) ≡ steps p (bytesOf x)
-four-bytes p x h = ap (steps p) (sym (take-all (x .len) (x .b0 ∷ x .b1 ∷ x .b2 ∷ x .b3 ∷ []) h))

@@ -5,13 +5,12 @@ use mathlib.Core.List.{List, [], _∷_, map}
 use mathlib.Core.Path.{_≡_, refl, sym, ap, _∙_}
 use Prim.Native.Nat.{ℕ, zero, suc, _+_, _-_, _*_, _^_, _<_, _≤_}
 use native.Mathlib.Nat.{add-zero, pow-succ', zero-add}
-use native.Mathlib.Numerals.{add-one}
 use native.Mathlib.Omega.{arith}
 use lib.Dec.{leb}
 use lib.ListN.{length, getD, take, drop, drop-of-length-le}
 use lib.Pow.{pow-add}
-use lib.Seq.{drop-cons}
 use borrow.Author.Tests.{le-leb, lt-leb, leb-true, leb-false}
+use Rattle.notation.proofs.Lists.{at-cons}
 use Rattle.radix.specs.Radix.{weight, numberFrom, number, Fit}
 use Rattle.radix.proofs.Digits.{number-below}
 use Rattle.lexeme.specs.Read.{made}
@@ -128,10 +127,6 @@ front-value l = rw (← tens-weight (front l)) (unfold number in number-below _ 
 pub value-from : (ds : List ℕ) → valueFrom 0 ds ≡ valueOf ds
 unfolding valueFrom valueOf number
 value-from ds = refl
-
--- the text from place i on
-pub at-cons : (s : List ℕ) (i : ℕ) → i < length s → drop i s ≡ getD s i 0 ∷ drop (i + 1) s
-at-cons s i h = rw (add-one, drop-cons s i 0)
 
 -- The loop over a run: at place i, where the digits before it spell v.
 module _ (s : List ℕ) (i v : ℕ) where

@@ -12,6 +12,7 @@ use lib.ListN.{length, getD, take, drop, drop-of-length-le, length-take, length-
 use lib.Seq.{take-all}
 use borrow.Author.Tests.{eq-eqb, ne-eqb, le-leb, lt-leb}
 use Rattle.notation.specs.Choice.{_⇒_else_, _and_}
+use Rattle.notation.proofs.Lists.{at-cons}
 use Rattle.radix.specs.Radix.{numberFrom}
 use Rattle.lexeme.specs.Read.{Read}
 use Rattle.lexeme.specs.Read.Read.{done, bad}
@@ -23,7 +24,7 @@ use Rattle.decimal.specs.declared.spelling.Run.{Run}
 use Rattle.decimal.specs.Decimals.{decimalOf, formed, behindPoint, behindWhole, numberOf, hasPoint}
 use Rattle.decimal.specs.inner.Spelling.{front, valueFrom, runFrom, made, fractionOf}
 use Rattle.decimal.specs.inner.Formed.{IsNumber}
-use Rattle.decimal.proofs.Runs.{digit-range, at-cons, digits-front, front-length, front-at, front-all, front-take, value-from, run-count, run-value}
+use Rattle.decimal.proofs.Runs.{digit-range, digits-front, front-length, front-at, front-all, front-take, value-from, run-count, run-value}
 
 no-value : {A : Type 0} {d : Decimal} → Unformed ≡ Value d → A
 no-value e = let z : _≡_ {A = ℕ} 0 1 = cc in absurd (omega arith)
@@ -59,7 +60,7 @@ module _ (negative : Bool) (whole : ℕ) (l : List ℕ) where
     unfolding fractionOf
     fraction-digits q = rw (le-leb (length l) 18 h, eq-eqb (length (front l)) (length l) q)
 
--- the same by the run that the code found
+-- a fraction by the run that the code found
 module _ (negative : Bool) (whole : ℕ) (l : List ℕ) (h : length l ≤ 18) (r : Run) (e : r ≡ runFrom 0 0 l) where
   fraction-count : r .count ≡ length (front l)
   fraction-count = ap (λ (x : Run). x .count) e ∙ run-count l
@@ -131,7 +132,10 @@ module _ (negative : Bool) (before t : List ℕ) where
       go (no k) (no a) = point-some (omega arith) ∙ fraction-long negative w t (omega arith)
 
 -- the code's run over at most twelve bytes
-module _ (negative : Bool) (l : List ℕ) (m : ℕ) (a : m ≡ min 12 (length l)) (r : Run) (e : r ≡ runFrom 0 0 (take m l)) where
+module _ (negative : Bool) (l : List ℕ) (r : Run) (e : r ≡ runFrom 0 0 (take (min 12 (length l)) l)) where
+  abbrev m : ℕ
+  m = min 12 (length l)
+
   -- it is the run of all digits, cut to twelve
   counted : r .count ≡ min 12 (length (front l))
   counted =

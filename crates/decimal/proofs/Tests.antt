@@ -10,6 +10,7 @@ use lib.IntN.{pos, negℤ}
 use lib.Signed.{leZ}
 use borrow.Author.Tests.{eq-eqb, ne-eqb, le-leb, lt-leb, lt-ltb, le-ltb}
 use Rattle.notation.specs.Choice.{_⇒_else_, _and_}
+use Rattle.notation.proofs.Booleans.{and-true}
 use Rattle.signed.specs.Signed.{signed}
 use Rattle.signed.proofs.Gap.{gap-neg, gap-natural, signed-le, signed-across}
 use Rattle.decimal.specs.declared.Decimal.{Decimal}
@@ -17,10 +18,6 @@ use Rattle.decimal.specs.declared.Amount.{Amount}
 use Rattle.decimal.specs.declared.Money.the-variants.{Is, Outside}
 use Rattle.decimal.specs.Exact.{unit, size, exact, natural, portion, inRange, amountOf, moneyOf}
 use Rattle.decimal.specs.inner.Formed.{Formed}
-
-and-true : (t : Bool) → (t and true) ≡ t
-and-true true = refl
-and-true false = refl
 
 natural-signed : (s : Bool) (n : ℕ) → (s ≡ true → 0 < n) → not s ≡ leZ (pos 0) (signed s n)
 natural-signed true n h = sym (gap-natural (gap-neg n) ∙ lt-leb n 0 (h refl))

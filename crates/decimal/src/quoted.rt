@@ -16,7 +16,7 @@ ghost use Rattle.text.specs.Text.{textOf};
 ghost use Rattle.decimal.specs.declared.Price.the-variants.{Value};
 ghost use Rattle.decimal.specs.Decimals.{priceOf};
 ghost use Rattle.decimal.specs.inner.Spelling.{made};
-ghost use Rattle.decimal.specs.inner.Priced.{longer, beginning, start as startOf, lost as lostOf, onDigit, onPoint, step as stepOf, steps, priceSo, finished, Held};
+ghost use Rattle.decimal.specs.inner.Priced.{none, longer, beginning, progress, start as startOf, onDigit, onPoint, step as stepOf, steps, priceSo, finished, Held};
 ghost use Rattle.decimal.specs.inner.Formed.{IsPrice};
 
 // How far a text is a number: nothing yet, a single 0, whole digits, a point and what follows it; or it is none.
@@ -63,21 +63,12 @@ fn begun(b: u8) -> Phase
 }
 
 impl Progress {
-    fn start() -> Progress
-        ensures { λ r. ⌜ r ≡ startOf ⌝ }
+    // No digits.
+    fn empty(phase: Phase) -> Progress
+        ensures { λ r. ⌜ r ≡ progress phase none none ⌝ }
     {
         Progress {
-            phase: Phase::Start,
-            whole: Run { value: 0, count: 0 },
-            part: Run { value: 0, count: 0 },
-        }
-    }
-
-    fn lost() -> Progress
-        ensures { λ r. ⌜ r ≡ lostOf ⌝ }
-    {
-        Progress {
-            phase: Phase::Lost,
+            phase,
             whole: Run { value: 0, count: 0 },
             part: Run { value: 0, count: 0 },
         }
@@ -99,7 +90,7 @@ impl Progress {
                 };
             }
             Phase::Zero => {
-                return Progress::lost();
+                return Progress::empty(Phase::Lost);
             }
             Phase::Whole => {
                 return Progress {
@@ -116,7 +107,7 @@ impl Progress {
                 };
             }
             Phase::Lost => {
-                return Progress::lost();
+                return Progress::empty(Phase::Lost);
             }
         }
     }
@@ -129,7 +120,7 @@ impl Progress {
         let part = self.part;
         match phase {
             Phase::Start => {
-                return Progress::lost();
+                return Progress::empty(Phase::Lost);
             }
             Phase::Zero => {
                 return Progress {
@@ -146,10 +137,10 @@ impl Progress {
                 };
             }
             Phase::Part => {
-                return Progress::lost();
+                return Progress::empty(Phase::Lost);
             }
             Phase::Lost => {
-                return Progress::lost();
+                return Progress::empty(Phase::Lost);
             }
         }
     }
@@ -164,7 +155,7 @@ impl Progress {
         if b == b'.' {
             return self.point();
         }
-        return Progress::lost();
+        return Progress::empty(Phase::Lost);
     }
 
     // The number of the digits so far, no more of them behind the point than there may be.
@@ -226,7 +217,7 @@ impl Progress {
 fn progress_of(spelled: &[u8]) -> Progress
     ensures { λ r. ⌜ r ≡ steps startOf (textOf (now (spelled .entry))) ⌝ }
 {
-    let mut p = Progress::start();
+    let mut p = Progress::empty(Phase::Start);
     let mut c = cursor_at(0);
     loop {
         match next_byte(spelled, c) {
@@ -249,7 +240,7 @@ pub fn read_price(spelled: &[u8]) -> Price
     progress_of(spelled).finish()
 }
 
-// The same of a text that is known to be a price in the form.
+// The price that a text stands for which is known to be one in the form.
 pub fn formed_price(spelled: &[u8]) -> Decimal
     requires { ⌜ IsPrice (priceOf (textOf (now spelled))) ⌝ }
     ensures { λ r. ⌜ Value r ≡ priceOf (textOf (now (spelled .entry))) ⌝ }

@@ -5,7 +5,7 @@ ghost use mathlib.Core.Bool.{true, not};
 ghost use mathlib.Core.Path.{_≡_};
 ghost use Prim.Native.Nat.{_+_, _-_, _*_, _^_, _≤_, _<_, min};
 ghost use lib.Dec.{eqb};
-ghost use lib.ListN.{length};
+ghost use lib.ListN.{length, take};
 ghost use Rattle.notation.specs.Choice.{_and_};
 ghost use Rattle.lexeme.specs.Numbers.{digit, digits};
 ghost use Rattle.decimal.specs.Decimals.{behindWhole, numberOf, hasPoint};
@@ -114,12 +114,19 @@ fn fraction(s: &[u8], negative: bool, whole: u64) -> Number
     return Number::Value(decimal(negative, whole, run));
 }
 
+// The digits at the front of a number without its sign, no more of them than may stand before its point.
+fn whole_run(s: &[u8]) -> Run
+    ensures { λ r. ⌜ r ≡ runFrom 0 0 (take (min 12 (length (now (s .entry)))) (now (s .entry))) ⌝ }
+{
+    let most = least(Decimal::WHOLE_DIGITS, s.len());
+    Run::of(&s[..most])
+}
+
 // The number without its sign. A digit too many shows itself as a byte that is no point.
 fn unsigned(s: &[u8], negative: bool) -> Number
     ensures { λ r. ⌜ r ≡ behindWhole negative (digits (now (s .entry))) ⌝ }
 {
-    let most = least(Decimal::WHOLE_DIGITS, s.len());
-    let run = Run::of(&s[..most]);
+    let run = whole_run(s);
     let at = run.count;
     if s.len() <= at {
         return Number::Value(decimal(negative, run.value, Run { value: 0, count: 0 }));
@@ -144,13 +151,12 @@ pub fn read_decimal(s: &[u8]) -> Number
     return unsigned(s, false);
 }
 
-// The same of a spelling that is known to be in the form: behind its whole digits stands nothing, or a point with digits to the end.
+// The value of a spelling without its sign that is known to be in the form: behind its whole digits stands nothing, or a point with digits to the end.
 fn formed_unsigned(s: &[u8], negative: bool) -> Decimal
     requires { ⌜ IsNumber (behindWhole negative (digits (now s))) ⌝ }
     ensures { λ r. ⌜ Value r ≡ behindWhole negative (digits (now (s .entry))) ⌝ }
 {
-    let most = least(Decimal::WHOLE_DIGITS, s.len());
-    let run = Run::of(&s[..most]);
+    let run = whole_run(s);
     let at = run.count;
     if s.len() <= at {
         return decimal(negative, run.value, Run { value: 0, count: 0 });

@@ -36,12 +36,12 @@ unfolding foundIn
 found-none p name w h = sym (ap (foldl (noted p name) Missing) (no-members w h))
 
 -- a value that was found once is kept, or there are two
-abbrev Kept : ℕ → Found → Type 0
-Kept a Missing = ⊥
-Kept a (Once b e) = a ≡ b
-Kept a Twice = Unit {0}
+abbrev StaysFound : ℕ → Found → Type 0
+StaysFound a Missing = ⊥
+StaysFound a (Once b e) = a ≡ b
+StaysFound a Twice = Unit {0}
 
-keeps : (a : ℕ) (t : Bool) (from upto : ℕ) (o : Found) → Kept a o → Kept a (t ⇒ oneMore o from upto else o)
+keeps : (a : ℕ) (t : Bool) (from upto : ℕ) (o : Found) → StaysFound a o → StaysFound a (t ⇒ oneMore o from upto else o)
 keeps a false from upto o h = h
 keeps a true from upto Missing h = absurd h
 keeps a true from upto (Once b e) h = tt
@@ -49,8 +49,8 @@ keeps a true from upto Twice h = tt
 
 once-kept : (q name : List ℕ) (ms : List Member) (a b c d : ℕ) → foldl (noted q name) (Once a b) ms ≡ Once c d → a ≡ c
 once-kept q name ms a b c d e =
-    subst (Kept a) e
-    (fold-keeps (Kept a) (noted q name) ms
+    subst (StaysFound a) e
+    (fold-keeps (StaysFound a) (noted q name) ms
     (λ o m i. keeps a (same (textOf (part q (m .name) (m .«name_end»))) name) (m .value) (m .«value_end») o) (Once a b) refl)
 
 -- the object that the first n bytes of p are has the name once
@@ -64,8 +64,8 @@ pub record Ahead (p name : List ℕ) (n from upto at : ℕ) : Type 0 where
   pub along : AlongMembers (take n p) at
   pub left : Walk (memberSteps (take n p)) (noted (take n p) name) Missing at (Once from upto)
 
-abbrev pub Unmet : (p name : List ℕ) → ℕ → Type 0
-Unmet p name at = (n from upto : ℕ) → Holds p name n from upto → Ahead p name n from upto at
+abbrev pub NotFoundBefore : (p name : List ℕ) → ℕ → Type 0
+NotFoundBefore p name at = (n from upto : ℕ) → Holds p name n from upto → Ahead p name n from upto at
 
 missing-once : {from upto : ℕ} → Missing ≡ Once from upto → ⊥
 missing-once e = let z : _≡_ {A = ℕ} 0 1 = cc in omega arith
@@ -77,7 +77,7 @@ module _ (p name : List ℕ) where
   pub unmet-none : (byte p 0 ≡ 0x7b → ⊥) → (n from upto : ℕ) → Holds p name n from upto → ⊥
   unmet-none h n from upto k = missing-once (found-none (take n p) name (k .whole) (λ e. h (sym (first-same n (k .whole)) ∙ e)) ∙ k .found)
 
-  pub unmet-start : byte p 0 ≡ 0x7b → Unmet p name 1
+  pub unmet-start : byte p 0 ≡ 0x7b → NotFoundBefore p name 1
   unfolding foundIn
   unmet-start h n from upto k =
       let q = take n p in
@@ -87,7 +87,7 @@ module _ (p name : List ℕ) where
         left = subst (Walk (memberSteps q) (noted q name) Missing 1) (k .found) (members-start q (noted q name) Missing);
       }
 
-  module _ (at : ℕ) (u : Unmet p name at) where
+  module _ (at : ℕ) (u : NotFoundBefore p name at) where
     pub unmet-end : MemberPassed p at members.End → (n from upto : ℕ) → Holds p name n from upto → ⊥
     unmet-end f n from upto k =
         let q = take n p in
@@ -121,7 +121,7 @@ module _ (p name : List ℕ) where
           let w = rw t at (more n from upto k) in
           ap (λ (z : Named). drop (z .value) p) j ∙ ap (λ (i : ℕ). drop i p) (once-kept (take n p) name (membersFrom (w .0) (take n p) (m .next)) (m .value) (m .«value_end») from upto (w .2))
 
-      pub unmet-next : same (textOf (part p (o .name) (o .«name_end»))) name ≡ false → (m : Member) → MemberPassed p at (members.Found m) → Unmet p name (m .next)
+      pub unmet-next : same (textOf (part p (o .name) (o .«name_end»))) name ≡ false → (m : Member) → MemberPassed p at (members.Found m) → NotFoundBefore p name (m .next)
       unmet-next t m h n from upto k =
           let q = take n p in
           let a = u n from upto k in

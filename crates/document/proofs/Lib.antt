@@ -1,7 +1,12 @@
 pub mod Along
-pub mod Fields
+pub mod Rows
 pub mod First
 pub mod Ways
 pub mod Records
 pub mod Rests
 pub mod Trees
+pub mod Arrays
+pub mod FieldBytes
+pub mod Sizes
+pub mod Values
+pub mod ByKind

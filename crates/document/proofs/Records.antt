@@ -5,6 +5,7 @@ use Prim.Native.Nat.{ℕ, zero, suc, _+_, _-_, _≤_, _<_}
 use native.Mathlib.Omega.{arith}
 use lib.ListN.{length, drop, length-map}
 use Rattle.limits.specs.Ceilings as ceiling
+use Rattle.notation.proofs.Maybes.{none-some, some-some}
 use Rattle.json.specs.Tree as tree
 use Rattle.json.specs.Tree.{Json, Items}
 use Rattle.walk.specs.declared.Item.{Item}
@@ -18,7 +19,7 @@ use Rattle.walk.proofs.Trees.{array-parts}
 use Rattle.walk.proofs.Open.{front-map}
 use Rattle.walk.proofs.Files.{valueStart, Passed}
 use Rattle.schema.specs.Shape as shape
-use Rattle.schema.specs.Shape.{Shape, Rows, fileShape}
+use Rattle.schema.specs.Shape.{Shape, fileShape}
 use Rattle.schema.specs.Table23.{table23}
 use Rattle.schema.specs.Records.{Key, recordShape}
 use Rattle.schema.specs.Pick.{Picked, PickedItems, items, pick, pickItems, listOf}
@@ -27,10 +28,11 @@ use Rattle.document.specs.declared.Span.the-variants.{None, Is}
 use Rattle.document.specs.Document.{Maybe, none, some, field, along}
 use Rattle.document.specs.Trees as trees
 use Rattle.document.specs.Trees.{numbered}
+use Rattle.document.proofs.Rows.{field-held, Stands, reached}
+use Rattle.document.specs.inner.Items.{pickedItems}
 use Rattle.document.specs.Spans.{membersAlong, topSpan, recordsSpan, nth, nthIn}
 use Rattle.walk.proofs.Cuts.{part-part, part-inside}
 use Rattle.document.proofs.Along.{top-found, nth-zero}
-use Rattle.document.proofs.Fields.{none-some, some-some, field-held, Stands, reached}
 use Rattle.document.proofs.Ways.{lists, Leads, arrived, into, Recorded}
 
 -- the value of a file that passes
@@ -71,11 +73,7 @@ leads-on (into {f = f} {name = name} {rows = rows} {ks = ks} l r) s from upto x 
     let q = leads-on r s (v .start) (v .end) (d .value) (v .there) y (ap (along fs) (d .picked) ∙ t .2) in
     record { start = q .start; end = q .end; tree = q .tree; is = ap (membersAlong s names) (v .is) ∙ q .is; there = q .there; picked = q .picked }
 
--- the items of the array p, picked
-abbrev pub pickedItems : Shape → List ℕ → List Picked
-pickedItems σ p = map (λ m. pick σ (partTree (itemOf p m))) (itemsOf p)
-
--- their trees
+-- the trees of the items of the array p
 abbrev pub itemTrees : List ℕ → List Json
 itemTrees p = map (λ m. partTree (itemOf p m)) (itemsOf p)
 

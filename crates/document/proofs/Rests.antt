@@ -1,5 +1,5 @@
 -- The rest of a file from its records on, name by name: where the span of a value is one, the rest that the code has come to begins with that value.
-use mathlib.Core.List.{List, [], _∷_, map, List·Memᴰ}
+use mathlib.Core.List.{List, [], _∷_, map}
 use mathlib.Core.Path.{_≡_, refl, sym, ap, subst, _∙_}
 use Prim.Native.Nat.{ℕ, _+_, _-_, _≤_}
 use native.Mathlib.Omega.{arith}
@@ -12,14 +12,12 @@ use Rattle.json.specs.Tree.{Json}
 use Rattle.json.specs.Text.{syntaxOf}
 use Rattle.json.proofs.Values.{value-empty}
 use Rattle.lexeme.specs.Tokens.{blanks}
-use Rattle.walk.specs.declared.Item.{Item}
 use Rattle.walk.specs.Walk.{offsetOf, part, itemsOf}
 use Rattle.walk.specs.Part.{Whole, partTree}
 use Rattle.walk.specs.inner.Along.{AlongItems}
 use Rattle.walk.proofs.Files.{passed}
 use Rattle.walk.proofs.Wholes.{whole-some}
-use Rattle.walk.proofs.Parts.{itemOf}
-use Rattle.walk.proofs.Open.{front-items, front-each}
+use Rattle.walk.proofs.Open.{front-items}
 use Rattle.schema.specs.Shape.{Shape}
 use Rattle.schema.specs.Records.{Way, wayTo}
 use Rattle.schema.specs.Pick.{Picked}
@@ -31,8 +29,9 @@ use Rattle.document.specs.declared.Span.the-variants.{None, Is}
 use Rattle.document.specs.Spans.{moved, memberSpan, membersAlong, topSpan, recordsSpan, nth, nthIn, recordSpan}
 use Rattle.document.specs.inner.Spans.{Listed, ValueFrom, RecordsFrom}
 use Rattle.walk.proofs.Cuts.{part-rest}
-use Rattle.document.proofs.Fields.{Stands, stands-found}
-use Rattle.document.proofs.Records.{top-is, top-stands, pickedItems, open-items, Records}
+use Rattle.document.proofs.Rows.{Stands, stands-found}
+use Rattle.document.proofs.Records.{top-is, top-stands, open-items, Records}
+use Rattle.document.specs.inner.Items.{pickedItems}
 
 pub record Begins (s : List ℕ) (span : Span) (p : List ℕ) : Type 0 where
   pub inside : length p ≤ length s
@@ -104,18 +103,8 @@ module _ {file : ℕ} {s p : List ℕ} {σ : Shape} {l : List Picked} (f : Recor
   pub rest-along : AlongItems p 1
   rest-along = AlongItems.front (r .end - r .start) front
 
-  pub rest-items : itemsOf p ≡ itemsOf (part s (r .start) (r .end))
-  rest-items = ap itemsOf rest-is ∙ front-items (drop (r .start) s) (r .end - r .start) (r .there .whole)
-
   pub rest-picked : l ≡ pickedItems σ p
   rest-picked = r .picked ∙ sym (ap (pickedItems σ) rest-is ∙ open-items σ s (r .start) (r .end) (r .there .whole))
-
-  -- what holds of each record, by its bytes in the array
-  pub rest-each : (P : Item → List ℕ → Type 0) → let q = part s (r .start) (r .end) in
-      ((m : Item) → List·Memᴰ m (itemsOf q) → P m (itemOf q m)) → (m : Item) → List·Memᴰ m (itemsOf p) → P m (itemOf p m)
-  rest-each P h =
-      subst (λ (z : List ℕ). (m : Item) → List·Memᴰ m (itemsOf z) → P m (itemOf z m)) (sym rest-is)
-      (front-each (drop (r .start) s) (r .end - r .start) P (r .there .whole) h)
 
 pub records-listed : {file : ℕ} {s : List ℕ} {σ : Shape} {l : List Picked} → syntaxOf s ≡ Sound → Records s (recordsSpan file s) σ l → Listed file s
 records-listed sound r = Listed.listed (r .start) (r .end) sound (r .is) (r .there .whole)

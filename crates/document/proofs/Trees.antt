@@ -8,18 +8,17 @@ use lib.Dec.{eqb}
 use borrow.Author.Tests.{eqb-true, eqb-false}
 use Rattle.notation.specs.Ascii.{bytes}
 use Rattle.limits.specs.Ceilings.{depth}
+use Rattle.notation.proofs.Booleans.{by-test}
 use Rattle.lexeme.specs.Character.{byte}
-use Rattle.lexeme.proofs.Steps.{by-test}
 use Rattle.json.specs.Tree as tree
 use Rattle.json.specs.Tree.{Json, Members}
 use Rattle.json.specs.Spelling.{Plain, Nested}
 use Rattle.json.proofs.Spellings.{value-spells}
 use Rattle.walk.specs.declared.Member.{Member}
 use Rattle.walk.specs.declared.ValueKind.the-variants as kind
-use Rattle.walk.specs.Walk.{part, itemsOf}
+use Rattle.walk.specs.Walk.{part}
 use Rattle.walk.specs.Part.{Whole, partTree, kindOf}
 use Rattle.walk.proofs.Wholes.{whole-tree}
-use Rattle.walk.proofs.Parts.{itemOf}
 use Rattle.walk.proofs.Trees.{array-parts}
 use Rattle.walk.proofs.Memberless.{first-object, no-members}
 use Rattle.walk.proofs.Files.{valueStart, Passed}
@@ -35,7 +34,7 @@ use Rattle.document.specs.declared.Span.the-variants.{None, Is}
 use Rattle.document.specs.Document.{Maybe, none, some, onceOnly}
 use Rattle.document.specs.Spans.{moved, membersAlong, topSpan, recordsSpan}
 use Rattle.document.specs.Trees.{member, valueAlong, listed, itemsIn, recordTrees}
-use Rattle.document.proofs.Fields.{Stands, stands-found}
+use Rattle.document.proofs.Rows.{Stands, stands-found}
 use Rattle.document.proofs.Records.{top-is, top-stands, itemTrees, Records}
 use Rattle.document.proofs.Rests.{none-along}
 

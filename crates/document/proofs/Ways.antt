@@ -14,8 +14,8 @@ use Rattle.schema.specs.Shape as shape
 use Rattle.schema.specs.Shape.{Shape, Rows, Need, fileShape}
 use Rattle.schema.specs.Table23.{table23, listing, file, vehicleType, station, status, bike, plan, zone}
 use Rattle.schema.specs.Records.{Key, Way, wayTo, recordShape, located}
-use Rattle.document.proofs.Fields as fields
-use Rattle.document.proofs.Fields.{Lists}
+use Rattle.document.proofs.Rows as fields
+use Rattle.document.proofs.Rows.{Lists}
 
 -- the first row of the field f is required, and has this name and shape
 pub data Requires (f : ℕ) (name : List ℕ) (σ : Shape) : Rows → Type 0 where

@@ -1,4 +1,5 @@
 pub mod Document
 pub mod Spans
 pub mod Trees
+pub mod Values
 pub mod inner

@@ -1,2 +1,4 @@
 -- Definitions that follow the code. Contracts of inner functions cite them; nobody has to believe them.
+pub mod Items
 pub mod Spans
+pub mod Values

@@ -5,7 +5,7 @@ ghost use Prim.Native.Nat.{_+_, _<_};
 ghost use lib.ListN.{length};
 ghost use Rattle.notation.specs.Choice.{_⇒_else_};
 ghost use Rattle.json.specs.Tree.{Json};
-ghost use Rattle.walk.specs.Walk.{part, itemsOf};
+ghost use Rattle.walk.specs.Walk.{itemsOf};
 ghost use Rattle.walk.specs.Part.{Whole};
 ghost use Rattle.walk.specs.inner.Along.{AlongItems};
 ghost use Rattle.slots.specs.Found.{oneMore, foundIn};
@@ -25,6 +25,8 @@ use walk::pass_name;
 use walk::pass_value;
 use walk::tail::last_end;
 
+pub mod fields;
+
 // A part of a file's bytes, from one place up to another; or none.
 pub enum Span {
     None,
@@ -42,7 +44,7 @@ fn one_more(found: Found, from: usize, upto: usize) -> Found
     }
 }
 
-// The same where the name is the one that is looked for.
+// What was found, with this value where its name is the one that is looked for.
 fn counted(named: bool, found: Found, from: usize, upto: usize) -> Found
     ensures { λ r. ⌜ r ≡ (named ⇒ oneMore found from upto else found) ⌝ }
 {

@@ -1,5 +1,5 @@
 -- What is asked of a rider is never negative, and is the sum where that is not: `clamped` leaves every other number as it is.
-use mathlib.Core.Bool.{true, false, true≢false}
+use mathlib.Core.Bool.{true, true≢false}
 use mathlib.Core.List.{List}
 use mathlib.Core.Path.{_≡_, refl, sym}
 use native.Mathlib.Omega.{arith}

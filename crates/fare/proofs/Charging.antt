@@ -13,10 +13,10 @@ use Rattle.fare.specs.declared.Marks.{Marks}
 use Rattle.fare.specs.declared.Charged.{Charged}
 use Rattle.fare.specs.inner.Folds.{withCharge, withCharges, unmarked, withEnd, withEnds, marked, listed, withAll}
 use Rattle.fare.specs.inner.Room.{mostRide, Room, Payable, Modest, Chargeable}
-use Rattle.fare.proofs.Fold.{tells-start}
+use Rattle.fare.proofs.Fold.{marked-past}
 use Rattle.fare.proofs.Bound.{room-less, room-next, payable}
 
-pub record Going (list : List Segment) (count ride : ℕ) (sum : Sum) (marks : Marks) (i : ℕ) (r : Charged) : Type 0 where
+pub record Charging (list : List Segment) (count ride : ℕ) (sum : Sum) (marks : Marks) (i : ℕ) (r : Charged) : Type 0 where
   pub within : i ≤ count
   pub filled : count ≡ length (take count list)
   pub modest : Modest (drop i (take count list))
@@ -24,13 +24,13 @@ pub record Going (list : List Segment) (count ride : ℕ) (sum : Sum) (marks : M
   pub summed : withCharges sum (drop i (take count list)) ride ≡ r .sum
   pub told : marked (withEnds marks (drop i (take count list))) ride ≡ r .past
 
-pub going-start : {sum : Sum} {l : Segments} {ride : ℕ} → Chargeable sum l ride → Going (l .list) (l .count) ride sum unmarked 0 (withAll sum (listed l) ride)
-going-start {sum} {l} {ride} c =
-    record { within = omega arith; filled = c .filled; modest = c .modest; room = room-less (l .count - 0) (omega arith) (c .room); summed = refl; told = tells-start (listed l) ride }
+pub charging-start : {sum : Sum} {l : Segments} {ride : ℕ} → Chargeable sum l ride → Charging (l .list) (l .count) ride sum unmarked 0 (withAll sum (listed l) ride)
+charging-start {sum} {l} {ride} c =
+    record { within = omega arith; filled = c .filled; modest = c .modest; room = room-less (l .count - 0) (omega arith) (c .room); summed = refl; told = marked-past (listed l) ride }
 
-module _ {list : List Segment} {count ride : ℕ} {sum : Sum} {marks : Marks} {i : ℕ} {r : Charged} (g : Going list count ride sum marks i r) where
-  pub going-end : count ≤ i → record { sum = sum; past = marked marks ride } ≡ r
-  going-end h =
+module _ {list : List Segment} {count ride : ℕ} {sum : Sum} {marks : Marks} {i : ℕ} {r : Charged} (g : Charging list count ride sum marks i r) where
+  pub charging-end : count ≤ i → record { sum = sum; past = marked marks ride } ≡ r
+  charging-end h =
       let z : length (take count list) ≤ i = omega (arith, g .filled) in
       let none = drop-of-length-le (take count list) z in
       let a : sum ≡ r .sum = ap (λ (l : List Segment). withCharges sum l ride) (sym none) ∙ g .summed in
@@ -51,11 +51,11 @@ module _ {list : List Segment} {count ride : ℕ} {sum : Sum} {marks : Marks} {i
     room-left = room-less (suc (count - (i + 1))) (omega arith) (g .room)
 
     module _ (short : ride ≤ mostRide) where
-      pub going-payable : Payable sum (getD list i d) ride
-      going-payable = payable (getD list i d) ride (left (getD list i d) (List·Memᴰ·head refl)) short room-left
+      pub charging-payable : Payable sum (getD list i d) ride
+      charging-payable = payable (getD list i d) ride (left (getD list i d) (List·Memᴰ·head refl)) short room-left
 
-      pub going-more : Going list count ride (withCharge sum (getD list i d) ride) (withEnd marks (getD list i d)) (i + 1) r
-      going-more =
+      pub charging-more : Charging list count ride (withCharge sum (getD list i d) ride) (withEnd marks (getD list i d)) (i + 1) r
+      charging-more =
           record {
             within = omega arith;
             filled = g .filled;

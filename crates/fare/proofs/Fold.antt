@@ -1,6 +1,6 @@
--- Loops over the segments of a list: what was folded so far and what is left make the whole. For the charges (`Makes`) and for the mark
--- (`Tells`) there are three lemmas: where a loop starts, its step, and what is known at its end.
-use mathlib.Core.Bool.{Bool, true, false}
+-- Loops over the segments of a list: what was folded so far and what is left make the whole, of the charges (`Makes`) from the first segment on to the last, and of
+-- the mark.
+use mathlib.Core.Bool.{Bool, true}
 use mathlib.Core.List.{List, [], _∷_}
 use mathlib.Core.Path.{_≡_, refl, sym, ap, ap₂, _∙_}
 use Prim.Native.Nat.{ℕ, max}
@@ -8,6 +8,7 @@ use native.Mathlib.Omega.{arith}
 use lib.Dec.{leb}
 use lib.IntN.{ℤ, _+ℤ_, +ℤ-assoc, +ℤ-idr}
 use Rattle.notation.specs.Choice.{_and_}
+use Rattle.notation.proofs.Booleans.{and-true, and-assoc}
 use Rattle.decimal.specs.declared.Amount.{Amount}
 use Rattle.decimal.specs.Exact.{tenThousandths}
 use Rattle.fare.specs.declared.Minutes.{Minutes}
@@ -51,18 +52,7 @@ sum-kept price perMinute perKilometre minutes kilometres =
     ∙ ap (λ (z : ℤ). z +ℤ charges perKilometre (kilometres .count))
     (charges-summed (ofPrice price) perMinute (minutes .count) ∙ ap (λ (z : ℤ). z +ℤ charges perMinute (minutes .count)) (worth-price price))
 
--- the mark is b when what is left was seen too
-abbrev pub Tells : Bool → ℕ → Marks → List Segment → Type 0
-Tells b ride m l = marked (withEnds m l) ride ≡ b
-
-and-assoc : (a b c : Bool) → ((a and b) and c) ≡ (a and (b and c))
-and-assoc true b c = refl
-and-assoc false b c = refl
-
-and-true : (a : Bool) → (a and true) ≡ a
-and-true true = refl
-and-true false = refl
-
+-- The mark after all segments of a list: by the greatest of their ends, and whether all have one.
 marked-from : (ride : ℕ) (l : List Segment) (m : Marks) → m .some ≡ true
     → marked (withEnds m l) ride ≡ ((m .ended and allEnded l) and leb (max (m .end) (greatestEnd l)) ride)
 unfolding marked allEnded greatestEnd
@@ -73,16 +63,10 @@ marked-from ride (s ∷ l) m e =
     marked-from ride l (withEnd m s) refl
     ∙ ap₂ (λ (a : Bool) (n : ℕ). a and leb n ride) (and-assoc (m .ended) (s .ended) (allEnded l)) z
 
-pub tells-start : (l : List Segment) (ride : ℕ) → Tells (past l ride) ride unmarked l
+pub marked-past : (l : List Segment) (ride : ℕ) → marked (withEnds unmarked l) ride ≡ past l ride
 unfolding marked past allEnded greatestEnd
-tells-start [] ride = refl
-tells-start (s ∷ l) ride =
+marked-past [] ride = refl
+marked-past (s ∷ l) ride =
     let z : max (max 0 (s .end)) (greatestEnd l) ≡ max (s .end) (greatestEnd l) = omega arith in
     marked-from ride l (withEnd unmarked s) refl
     ∙ ap (λ (n : ℕ). (s .ended and allEnded l) and leb n ride) z
-
-pub tells-next : (b : Bool) (ride : ℕ) (m : Marks) (s : Segment) (l : List Segment) → Tells b ride m (s ∷ l) → Tells b ride (withEnd m s) l
-tells-next b ride m s l h = h
-
-pub tells-end : (b : Bool) (ride : ℕ) (m : Marks) → Tells b ride m [] → marked m ride ≡ b
-tells-end b ride m h = h

@@ -6,21 +6,22 @@ use mathlib.Core.Path.{_≡_, refl, sym, ap₂, _∙_}
 use Prim.Native.Nat.{ℕ, zero, suc, _+_, _*_, _≤_}
 use native.Mathlib.Nat.{mul-le-mul-left, le-trans}
 use native.Mathlib.Omega.{arith}
-use lib.Dec.{eqb, leb, ltb}
+use lib.Dec.{eqb, leb}
 use lib.IntN.{ℤ, pos, negsuc, _+ℤ_, _*ℤ_}
 use lib.ListN.{length}
 use lib.Signed.{leZ}
 use borrow.Author.Tests.{le-leb, leb-true}
-use Rattle.notation.specs.Choice.{_⇒_else_, _and_}
+use Rattle.notation.specs.Choice.{_⇒_else_}
+use Rattle.notation.proofs.Booleans.{and-left, and-right}
 use Rattle.signed.proofs.Gap.{gap-pos, gap-add, gap-le}
-use Rattle.signed.proofs.Sums.{up, down, parts}
+use Rattle.signed.proofs.Parts.{up, down, parts}
 use Rattle.decimal.specs.Exact.{tenThousandths}
 use Rattle.fare.specs.declared.Minutes.{Minutes}
 use Rattle.fare.specs.declared.Kilometres.{Kilometres}
 use Rattle.fare.specs.declared.Segment.{Segment}
-use Rattle.fare.specs.Charges.{charged, momentsFrom, moments, charge, charges, sum, clamped, amount, allEnded, greatestEnd, past}
+use Rattle.fare.specs.Charges.{charged, momentsFrom, moments, charge, charges, sum, clamped, amount, past}
 use Rattle.fare.specs.Longer.{NoNegativeRate, Settled}
-use Rattle.fare.proofs.Past.{and-left, and-right, charges-same, past-set, past-ends}
+use Rattle.fare.proofs.Past.{charges-same, past-set, past-ends}
 
 -- a moment that is charged stays charged, and so there are no fewer
 module _ (s : Segment) (a b : ℕ) (h : a ≤ b) where

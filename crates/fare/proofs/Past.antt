@@ -1,6 +1,6 @@
 -- Past the greatest end nothing more is charged: where every segment has an end, its bound is that end for every ride at or past it. So the
 -- charges are those at the greatest end, and the mark says so.
-use mathlib.Core.Bool.{Bool, true, false, true≢false}
+use mathlib.Core.Bool.{true, true≢false}
 use mathlib.Core.List.{List, [], _∷_}
 use mathlib.Core.Path.{_≡_, refl, sym, ap, ap₂, _∙_}
 use Prim.Native.Nat.{ℕ, _≤_}
@@ -8,7 +8,7 @@ use native.Mathlib.Omega.{arith}
 use lib.Dec.{leb}
 use lib.IntN.{ℤ, pos, _+ℤ_, _*ℤ_}
 use borrow.Author.Tests.{le-leb, leb-true}
-use Rattle.notation.specs.Choice.{_and_}
+use Rattle.notation.proofs.Booleans.{and-left, and-right}
 use Rattle.decimal.specs.Exact.{tenThousandths}
 use Rattle.fare.specs.declared.Minutes.{Minutes}
 use Rattle.fare.specs.declared.Kilometres.{Kilometres}
@@ -16,14 +16,6 @@ use Rattle.fare.specs.declared.Segment.{Segment}
 use Rattle.fare.specs.Charges.{charge, charges, sum, amount, allEnded, greatestEnd, past}
 use Rattle.fare.specs.inner.Folds.{countBelow}
 use Rattle.fare.proofs.Moments.{bound-end, moments-counted}
-
-pub and-left : (a b : Bool) → a and b ≡ true → a ≡ true
-and-left true b e = refl
-and-left false b e = e
-
-pub and-right : (a b : Bool) → a and b ≡ true → b ≡ true
-and-right true b e = e
-and-right false b e = absurd (true≢false (sym e))
 
 charge-past : (s : Segment) (a b : ℕ) → s .ended ≡ true → s .end ≤ a → s .end ≤ b → charge s a ≡ charge s b
 unfolding charge

@@ -8,7 +8,7 @@ use native.Mathlib.Omega.{arith}
 use lib.ListN.{length}
 use lib.IntN.{ℤ, pos, negsuc, natAbs, _+ℤ_}
 use Rattle.signed.proofs.Gap.{gap-add, gap-size, signed-size}
-use Rattle.signed.proofs.Sums.{parts, up-size, down-size}
+use Rattle.signed.proofs.Parts.{parts, up-size, down-size}
 use Rattle.decimal.specs.declared.Amount.{Amount}
 use Rattle.decimal.specs.Exact.{tenThousandths}
 use Rattle.fare.specs.declared.Minutes.{Minutes}

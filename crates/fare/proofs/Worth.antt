@@ -53,7 +53,7 @@ pub charge-is : (sum : Sum) (s : Segment) (ride n : ℕ) → n ≡ length (momen
 unfolding withCharge
 charge-is sum s ride n e = rw e
 
--- a size and its sign, so many times
+-- n times a size with its sign
 pub signed-times : (negative : Bool) (size n : ℕ) → signed negative (size * n) ≡ signed negative size *ℤ pos n
 signed-times true size n = gap-same (gap-neg (size * n)) (gap-mul (gap-neg size) (gap-pos n)) (omega arith)
 signed-times false size n = gap-same (gap-pos (size * n)) (gap-mul (gap-pos size) (gap-pos n)) (omega arith)

@@ -22,7 +22,7 @@ kilometresOf metres = record { count = metres / 1000 }
 unfoldable pub charged : Segment → ℕ → ℕ → Bool
 charged s ride t = leb t ride and (s .ended ⇒ ltb t (s .end) else true)
 
--- the moments start, start + interval, .. that are charged, at most so many
+-- the moments start, start + interval, .. that are charged, at most `most` of them
 unfoldable pub momentsFrom : Segment → ℕ → ℕ → ℕ → List ℕ
 momentsFrom s ride zero t = []
 momentsFrom s ride (suc most) t =

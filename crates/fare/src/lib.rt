@@ -24,7 +24,7 @@ pub struct Segment {
     pub end: u64,
 }
 
-// The segments of one sort: so many of the places, from the first on.
+// The segments of one sort: they fill the first `count` places.
 pub struct Segments {
     pub list: [Segment; Segments::PLACES],
     pub count: usize,

@@ -1,18 +1,17 @@
--- The least fault of a list, for judges that find faults part by part: it may be taken of parts and in any order, it is the one fault of
--- the list that no other comes before, and a map that keeps the order keeps it.
+-- The least fault of a list, for judges that find faults part by part: it may be taken of parts and in any order, and it is a fault of the list that no other
+-- comes before.
 use mathlib.Core.Bool.{true, false}
-use mathlib.Core.List.{List, [], _∷_, _++_, map, List·Memᴰ, List·Memᴰ·head, List·Memᴰ·tail, List·Memᴰ·not-nil, List·Memᴰ·cases-cons}
+use mathlib.Core.List.{List, [], _∷_, _++_, List·Memᴰ, List·Memᴰ·head, List·Memᴰ·tail, List·Memᴰ·not-nil, List·Memᴰ·cases-cons}
 use mathlib.Core.Logic.{⊎-elim}
 use mathlib.Core.Path.{_≡_, refl, sym, ap, subst, _∙_}
-use Prim.Native.Nat.{ℕ, _+_}
+use Prim.Native.Nat.{ℕ}
 use native.Mathlib.Omega.{arith}
-use lib.Dec.{ltb}
-use borrow.Author.Tests.{ltb-true, ltb-false, lt-ltb, le-ltb}
+use Rattle.notation.proofs.Booleans.{by-test}
 use Rattle.fault.specs.declared.Fault.{Fault}
 use Rattle.fault.specs.declared.Least.{Least}
 use Rattle.fault.specs.declared.Least.the-variants.{None, Is}
-use Rattle.fault.specs.Fault.{fault, before, lesser, least}
-use Rattle.fault.proofs.Order.{by-test, before-asym, before-even, before-irrefl, before-trans, before-after}
+use Rattle.fault.specs.Fault.{before, lesser, least}
+use Rattle.fault.proofs.Order.{before-asym, before-even, before-irrefl, before-trans, before-after}
 
 -- of two
 module _ (a b : Fault) where
@@ -32,10 +31,6 @@ lesser-none (Is a) = refl
 pub none-lesser : (x : Least) → lesser None x ≡ x
 unfolding lesser
 none-lesser x = refl
-
-pub lesser-same : (x : Least) → lesser x x ≡ x
-lesser-same None = none-lesser None
-lesser-same (Is a) = lesser-first a a (before-irrefl a)
 
 pub lesser-comm : (x y : Least) → lesser x y ≡ lesser y x
 lesser-comm None y = none-lesser y ∙ sym (lesser-none y)
@@ -80,10 +75,6 @@ pub record First (a : Fault) (l : List Fault) : Type 0 where
 
 pub none-is : {A : Type 0} {a : Fault} → None ≡ Is a → A
 none-is e = let z : _≡_ {A = ℕ} 0 1 = cc in absurd (omega arith)
-
--- there is but one
-pub first-only : (a b : Fault) (l : List Fault) → First a l → First b l → a ≡ b
-first-only a b l f g = before-even a b (g .first a (f .stands)) (f .first b (g .stands))
 
 -- a fault is never hidden
 some : {A : Type 0} (a : Fault) (y : Least) → lesser (Is a) y ≡ None → A
@@ -149,13 +140,6 @@ least-first (c ∷ l) a e = go (least l) refl e (least-first l)
         (λ t. at (sym (lesser-second c b t) ∙ k) (first-later c l b (ih b h) t))
         (λ f. at (sym (lesser-first c b f) ∙ k) (first-here c l b (ih b h) f))
 
-pub first-least : (l : List Fault) (a : Fault) → First a l → least l ≡ Is a
-first-least l a f = go (least l) refl
-  where
-    go : (x : Least) → least l ≡ x → least l ≡ Is a
-    go None h = absurd (List·Memᴰ·not-nil (subst (List·Memᴰ a) (least-none l h) (f .stands)))
-    go (Is b) h = h ∙ ap Is (first-only b a l (least-first l b h) f)
-
 -- what stands before all that follows hides it
 pub least-early : (xs ys : List Fault) (a : Fault) → least xs ≡ Is a → ((b : Fault) → List·Memᴰ b ys → before b a ≡ false) →
     least (xs ++ ys) ≡ Is a
@@ -164,39 +148,3 @@ least-early xs ys a e later = least-append xs ys ∙ ap (λ (x : Least). lesser 
     go : (y : Least) → least ys ≡ y → lesser (Is a) y ≡ Is a
     go None h = lesser-none (Is a)
     go (Is b) h = lesser-first a b (later b (least-first ys b h .stands))
-
--- the fault, if any, taken elsewhere
-abbrev pub moved : (Fault → Fault) → Least → Least
-moved f None = None
-moved f (Is a) = Is (f a)
-
--- A map keeps the order where of two faults the one that is not after is not after when both are mapped.
-abbrev pub Keeps : (Fault → Fault) → Type 0
-Keeps f = (a b : Fault) → before a b ≡ false → before (f a) (f b) ≡ false
-
-module _ (f : Fault → Fault) (keeps : Keeps f) where
-  lesser-moved : (a : Fault) (y : Least) → lesser (Is (f a)) (moved f y) ≡ moved f (lesser (Is a) y)
-  lesser-moved a None = lesser-none (Is (f a)) ∙ ap (moved f) (sym (lesser-none (Is a)))
-  lesser-moved a (Is b) =
-      by-test (before b a)
-      (λ t. lesser-comm (Is (f a)) (Is (f b)) ∙ lesser-first (f b) (f a) (keeps a b (before-asym b a t)) ∙ ap (moved f) (sym (lesser-second a b t)))
-      (λ u. lesser-first (f a) (f b) (keeps b a u) ∙ ap (moved f) (sym (lesser-first a b u)))
-
-  pub least-map : (l : List Fault) → least (map f l) ≡ moved f (least l)
-  unfolding least
-  least-map [] = refl
-  least-map (a ∷ l) = ap (lesser (Is (f a))) (least-map l) ∙ lesser-moved a (least l)
-
--- so where positions are counted from n on
-unfoldable pub shifted : ℕ → Fault → Fault
-shifted n a = fault (a .«record») (a .field) (a .sub + n) (a .kind)
-
-pub shifted-keeps : (n : ℕ) → Keeps (shifted n)
-unfolding shifted before
-shifted-keeps n a b e = rw (same-order (a .sub) (b .sub), same-order (b .sub) (a .sub)) e
-  where
-    same-order : (x y : ℕ) → ltb (x + n) (y + n) ≡ ltb x y
-    same-order x y =
-        by-test (ltb x y)
-        (λ t. let h = ltb-true x y t in lt-ltb (x + n) (y + n) (omega arith) ∙ sym t)
-        (λ f. let h = ltb-false x y f in le-ltb (x + n) (y + n) (omega arith) ∙ sym f)

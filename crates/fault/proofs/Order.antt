@@ -8,17 +8,9 @@ use native.Mathlib.Omega.{arith}
 use lib.Dec.{ltb}
 use borrow.Author.Tests.{ltb-true, ltb-false, lt-ltb, le-ltb}
 use Rattle.notation.specs.Choice.{_⇒_else_}
+use Rattle.notation.proofs.Booleans.{by-test, true-false}
 use Rattle.fault.specs.declared.Fault.{Fault}
 use Rattle.fault.specs.Fault.{before}
-
-pub true-false : {A : Type 0} {t : Bool} → t ≡ true → t ≡ false → A
-true-false e f =
-    let z : _≡_ {A = Bool} true false = cc in
-    let n : _≡_ {A = ℕ} 0 1 = cc in absurd (omega arith)
-
-pub by-test : {A : Type 0} (t : Bool) → (t ≡ true → A) → (t ≡ false → A) → A
-by-test true f g = f refl
-by-test false f g = g refl
 
 -- two numbers, one way or the other
 data Compared (x y : ℕ) : Type 0 where

@@ -5,11 +5,21 @@ use Prim.Native.Nat.{ℕ}
 use lib.Dec.{ltb}
 use Rattle.notation.specs.Choice.{_⇒_else_}
 use Rattle.fault.specs.declared.Fault.{Fault}
+use Rattle.fault.specs.declared.Place.{Place}
 use Rattle.fault.specs.declared.Least.{Least}
 use Rattle.fault.specs.declared.Least.the-variants.{None, Is}
 
 abbrev pub fault : (rec field sub kind : ℕ) → Fault
 fault rec field sub kind = record { «record» = rec; field = field; sub = sub; kind = kind }
+
+-- the top value stands in no record
+abbrev pub top : Place
+top = record { «record» = 0; sub = 0 }
+
+-- faults of a field at a place
+unfoldable pub faulty : Place → ℕ → List ℕ → List Fault
+faulty p field [] = []
+faulty p field (k ∷ ks) = fault (p .«record») field (p .sub) k ∷ faulty p field ks
 
 -- a comes before b
 unfoldable pub before : Fault → Fault → Bool

@@ -1,6 +1,9 @@
 // Broken rules of one file and their order.
 ghost use mathlib.Core.Path.{_≡_};
+ghost use Rattle.word.specs.inner.Listed.{listed};
 ghost use Rattle.fault.specs.Fault as spec;
+
+pub mod outcome;
 
 // A broken rule: the record, the field, the sub and the kind. Record 0 is the header.
 pub struct Fault {
@@ -31,6 +34,29 @@ impl Fault {
             return self.sub < other.sub;
         }
         self.kind < other.kind
+    }
+}
+
+// Where a value stands: in a record, and in an item of it. Record 0 is the header.
+pub struct Place {
+    pub record: u32,
+    pub sub: u32,
+}
+
+impl Place {
+    // A field's fault, or none where the kind is 0.
+    pub fn broken(self, field: u8, kind: u8) -> Least
+        ensures { λ r. ⌜ r ≡ spec.least (spec.faulty self field (listed kind)) ⌝ }
+    {
+        if kind == 0 {
+            return Least::None;
+        }
+        Least::Is(Fault {
+            record: self.record,
+            field: field,
+            sub: self.sub,
+            kind: kind,
+        })
     }
 }
 

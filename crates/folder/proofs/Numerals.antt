@@ -3,7 +3,7 @@ use mathlib.Core.Bool.{Bool, true, false}
 use mathlib.Core.List.{List, [], _∷_, _++_}
 use mathlib.Core.Path.{_≡_, refl, sym, ap, subst, _∙_}
 use Prim.Native.Nat.{ℕ, zero, suc, _-_, _/_, _%_, _^_, _≤_, _<_}
-use native.Mathlib.Nat.{pow-suc, pow-le-pow-right}
+use native.Mathlib.Nat.{pow-suc, pow-le-pow-right, one-le-pow}
 use native.Mathlib.Omega.{arith}
 use lib.Dec.{leb}
 use borrow.Author.Tests.{lt-ltb, le-ltb, leb-true, leb-false}
@@ -16,11 +16,6 @@ glyph-digit n h = rw (lt-ltb n 10 h)
 -- a number's last digit, below ten too
 ones : (n : ℕ) → n < 10 → glyph (n % 10) ≡ digit n
 ones n h = let e : n % 10 ≡ n = omega arith in rw e (glyph-digit n h)
-
--- a power of ten is no less than one
-ten-pos : (k : ℕ) → 0 < 10 ^ k
-ten-pos zero = omega arith
-ten-pos (suc k) = omega (arith, pow-suc 10 k, ten-pos k)
 
 -- the two ways through a numeral
 within-one : (bound n : ℕ) → n < 10 → numeralWithin (suc bound) n ≡ digit n ∷ []
@@ -36,9 +31,9 @@ unfolding numeralWithin
 spelt zero zero n h g b = ap (λ (d : ℕ). d ∷ []) (ones n (omega arith))
 spelt zero (suc bound) n h g b = let l : n < 10 = omega arith in ap (λ (d : ℕ). d ∷ []) (ones n l) ∙ sym (within-one bound n l)
 spelt (suc k) zero n h g b =
-    let p = ten-pos (suc k) in let q = g (omega arith) in absurd (omega arith)
+    let p = one-le-pow (suc k) 10 (omega arith) in let q = g (omega arith) in absurd (omega arith)
 spelt (suc k) (suc bound) n h g b =
-    let p = ten-pos k in
+    let p = one-le-pow k 10 (omega arith) in
     let q = g (omega arith) in
     let r = pow-suc 10 k in
     let s = pow-suc 10 (suc k) in

@@ -34,8 +34,8 @@ placed-within size room places k end h e p i l =
     let q = subst (Placed size places) e p i l in (q .0, omega (arith, q .1))
 
 -- files stand in order, and the next one's place is within the buffer
-abbrev pub Standing : (files size : ℕ) (places : List ℕ) → Type 0
-Standing files size places = (getD places files 0 ≤ size) × InOrder files size places
+abbrev pub PlacesInOrder : (files size : ℕ) (places : List ℕ) → Type 0
+PlacesInOrder files size places = (getD places files 0 ≤ size) × InOrder files size places
 
 module _ (i end : ℕ) (places : List ℕ) (h : i + 1 < length places) where
   placed : getD (set places (i + 1) end) (i + 1) 0 ≡ end
@@ -46,7 +46,7 @@ module _ (i end : ℕ) (places : List ℕ) (h : i + 1 < length places) where
 
   -- a file more behind them
   pub standing-next : (size : ℕ) (before after : List ℕ) (r : Taken) → length before ≡ size + 1 → r ≡ To end → Appended (getD places i 0) before after r
-      → Standing i size places → Standing (i + 1) size (set places (i + 1) end)
+      → PlacesInOrder i size places → PlacesInOrder (i + 1) size (set places (i + 1) end)
   standing-next size before after r f e a s =
       let b = subst (Appended (getD places i 0) before after) e a in
       let ended : (getD places i 0 ≤ end) × (end ≤ size) = (b .1, omega (arith, b .2)) in (

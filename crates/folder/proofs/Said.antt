@@ -4,14 +4,15 @@ use mathlib.Core.Path.{_≡_, sym, ap, _∙_}
 use Prim.Native.Nat.{ℕ, _≤_}
 use lib.ListN.{length, take}
 use lib.Seq.{take-all}
+use Rattle.word.specs.Form.{wordSize}
 use Rattle.word.specs.Word.{readWord}
-use Rattle.gbfs.specs.Verdict.{said, verdictOf, bufferOf}
-use Rattle.gbfs.proofs.ReadBack.{verdict-read}
+use Rattle.verdict.specs.Verdict.{said, verdictOf, bufferOf}
+use Rattle.verdict.proofs.ReadBack.{verdict-read}
 
-pub parts-said : (s : List (List ℕ)) (before after : List ℕ) → 8 ≤ length before → length after ≤ 8 → after ≡ bufferOf s before
+pub parts-said : (s : List (List ℕ)) (before after : List ℕ) → wordSize ≤ length before → length after ≤ wordSize → after ≡ bufferOf s before
     → readWord after .parts ≡ said (verdictOf s)
 parts-said s before after room h e =
-    ap (λ a. a .parts) (ap readWord (sym (take-all 8 after h)) ∙ ap (λ l. readWord (take 8 l)) e ∙ verdict-read s before room)
+    ap (λ a. a .parts) (ap readWord (sym (take-all wordSize after h)) ∙ ap (λ l. readWord (take wordSize l)) e ∙ verdict-read s before room)
 
 -- the same files make the same set
 pub same-set : {t s u b p z t′ s′ u′ b′ p′ z′ : List ℕ} → t ≡ t′ → s ≡ s′ → u ≡ u′ → b ≡ b′ → p ≡ p′ → z ≡ z′

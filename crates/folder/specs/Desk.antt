@@ -3,7 +3,7 @@
 use mathlib.Core.List.{List}
 use mathlib.Core.Path.{_≡_}
 use Prim.Native.Nat.{ℕ, _+_}
-use Rattle.gbfs.specs.Verdict.{said, verdictOf}
+use Rattle.verdict.specs.Verdict.{said, verdictOf}
 use Rattle.folder.specs.declared.Answer.{Answer}
 use Rattle.folder.specs.declared.Answer.the-variants.{Nothing, TooLarge, Says}
 use Rattle.folder.specs.declared.reading.Taken.{Taken}

@@ -2,8 +2,8 @@
 mod files;
 mod print;
 mod reading;
+mod set;
 mod text;
-mod verdict;
 
 use reading::Taken;
 use word::Parts;
@@ -51,6 +51,6 @@ fn answer_in(taken: Taken, bytes: &[u8], places: &[usize; 7]) -> Answer
     match taken {
         Taken::Unread => Answer::Nothing,
         Taken::Full => Answer::TooLarge,
-        Taken::To(_) => Answer::Says(verdict::parts_of(bytes, places)),
+        Taken::To(_) => Answer::Says(set::parts_of(bytes, places)),
     }
 }

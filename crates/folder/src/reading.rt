@@ -45,7 +45,7 @@ pub fn read_named(name: &[u8], bytes: &mut [u8], from: usize, left: &mut isize) 
     }
 }
 
-// The same of an open file, which is closed then.
+// Reads an open file from a place of the buffer on, and closes it.
 fn read_open(fd: i32, name: &[u8], bytes: &mut [u8], from: usize, left: &mut isize) -> Taken
     requires { ⌜ from < length (now bytes) ⌝ }
     ensures { λ r. ⌜ Decides (turnOf (now (left .exit))) r × Appended from (now (bytes .entry)) (now (bytes .exit)) r ⌝ }

@@ -1,7 +1,7 @@
 -- What the code adds up, and its value. The moved coordinates give the same sum over any line that closes: so three points give their
--- side, and a line that starts and ends at the origin its area. Each edge adds at most a lon times a lat, so there is room for 284.
+-- side, and a line that starts and ends at the origin its area. Each edge adds at most a lon times a lat, so there is room for 284 edges.
 use mathlib.Core.Path.{_≡_}
-use Prim.Native.Nat.{ℕ, _+_, _*_, _≤_}
+use Prim.Native.Nat.{ℕ, _+_, _≤_}
 use native.Mathlib.Nat.{mul-le-mul}
 use native.Mathlib.Omega.{arith}
 use lib.IntN.{pos, _+ℤ_}
@@ -9,13 +9,9 @@ use Rattle.signed.proofs.Gap.{gap, gap-pos, gap-same, gap-add, gap-minus, gap-m
 use Rattle.geometry.specs.Ring.{turn}
 use Rattle.geometry.specs.Held.{side}
 use Rattle.geometry.specs.inner.Shifted.{Fits, OnMap, added, halfLat, halfLon, noBalance, origin, point, value}
+use Rattle.geometry.specs.inner.Outline.{Room}
 use Rattle.geometry.specs.declared.Balance.{Balance}
 use Rattle.geometry.specs.declared.Position.{Position}
-
--- of at most k edges
-pub record Room (s : Balance) (k : ℕ) : Type 0 where
-  pub plus : s .plus ≤ k * 64_800_000_000_000_000
-  pub minus : s .minus ≤ k * 64_800_000_000_000_000
 
 pub room-none : {s : Balance} → s ≡ noBalance → Room s 0
 room-none e = rw e (record { plus = omega arith; minus = omega arith })
@@ -44,9 +40,9 @@ side-added a b q =
     (gap-minus (gap-mul (gap-minus bx ax) (gap-minus qy ay)) (gap-mul (gap-minus by ay) (gap-minus qx ax)))
     (omega arith)
 
--- a line that ends at the origin: its first point, and one point more
-pub area-first : (p : Position) → value (added (added noBalance origin p) p origin) ≡ pos 0
-area-first p = gap-same (gap _ _) (gap-pos 0) (omega arith)
+-- a line that ends at the origin: no point yet, and one point more
+pub area-none : value (added noBalance origin origin) ≡ pos 0
+area-none = gap-same (gap _ _) (gap-pos 0) (omega arith)
 
 pub area-added : (s : Balance) (a b : Position)
     → value (added s a origin) +ℤ turn (point a) (point b) ≡ value (added (added s a b) b origin)

@@ -1,10 +1,10 @@
 -- Closed rings: a list that ends in its first point. Such a ring is sound where it has an area, and every sound ring is such a list.
-use mathlib.Core.Bool.{Bool, true, false, not}
+use mathlib.Core.Bool.{true, false, not}
 use mathlib.Core.List.{List, [], _∷_, _++_, reverse, reverse-cons, reverse-append}
-use mathlib.Core.Path.{_≡_, refl, sym, ap, _∙_}
+use mathlib.Core.Path.{_≡_, sym, ap, _∙_}
 use lib.IntN.{ℤ, pos}
 use lib.Signed.{leZ}
-use Rattle.notation.specs.Choice.{_and_}
+use Rattle.notation.proofs.Booleans.{and-left, and-right}
 use Rattle.geometry.specs.Ring.{Point, equal, areaSum, samePoint, endsAt, sound}
 use Rattle.geometry.proofs.Tests.{differ, le-self, equal-same}
 
@@ -14,14 +14,6 @@ closed a l = a ∷ l ++ a ∷ []
 
 pub closed-reversed : (a : Point) (l : List Point) → reverse (closed a l) ≡ closed a (reverse l)
 closed-reversed a l = reverse-cons a (l ++ a ∷ []) ∙ ap (λ r. r ++ a ∷ []) (reverse-append l (a ∷ []))
-
-and-left : (s t : Bool) → (s and t) ≡ true → s ≡ true
-and-left true t e = refl
-and-left false t e = e
-
-and-right : (s t : Bool) → (s and t) ≡ true → t ≡ true
-and-right true t e = e
-and-right false t e = absurd (differ e)
 
 same-self : (a : Point) → samePoint a a ≡ true
 unfolding samePoint

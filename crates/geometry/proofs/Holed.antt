@@ -1,50 +1,13 @@
 -- A polygon's rings one after the other: the first says which side is held, a further one takes its inside away, and an edge of any settles it. What is known so
 -- far, with the rings that are left, decides.
-use mathlib.Core.Bool.{Bool, true, false, not}
+use mathlib.Core.Bool.{Bool, true, false}
 use mathlib.Core.List.{List, [], _∷_}
-use mathlib.Core.Path.{_≡_, refl, sym, ap, _∙_}
+use mathlib.Core.Path.{_≡_, refl, _∙_}
 use Rattle.notation.specs.Choice.{_⇒_else_}
-use Rattle.geometry.specs.Ring.{Point, clockwise}
+use Rattle.geometry.specs.Ring.{Point}
 use Rattle.geometry.specs.Held.{onRing, odd, sideOf, onAny, inAny, polygonHolds}
-use Rattle.geometry.specs.inner.Shifted.{placeOf, stands}
-use Rattle.geometry.specs.declared.Place.{Place}
-use Rattle.geometry.specs.declared.Place.the-variants as at
-use Rattle.geometry.specs.declared.Standing.{Standing}
+use Rattle.geometry.specs.inner.Shifted.{stands}
 use Rattle.geometry.specs.declared.Standing.the-variants.{Edge, Is}
-
--- the ways through one ring, by where the point lies to it
-abbrev standing : Place → (first held way : Bool) → Standing
-standing at.Edge first held way = Edge
-standing at.Inside first held way = Is (first ⇒ (way ⇒ true else false) else false)
-standing at.Outside first held way = Is (first ⇒ (way ⇒ false else true) else held)
-
-module _ (first held : Bool) (l : List Point) (q : Point) where
-  stands-place : (o : Place) → o ≡ placeOf l q → standing o first held (clockwise l) ≡ stands first held l q
-  unfolding placeOf stands
-  stands-place o e = ap (λ (x : Place). standing x first held (clockwise l)) e ∙ go (onRing l q) (odd l q) first (clockwise l)
-    where
-      go : (on inside first way : Bool) → standing (on ⇒ at.Edge else inside ⇒ at.Inside else at.Outside) first held way
-          ≡ (on ⇒ Edge else Is (first ⇒ (way ⇒ inside else not inside) else inside ⇒ false else held))
-      go true inside first way = refl
-      go false true true way = refl
-      go false true false way = refl
-      go false false true way = refl
-      go false false false way = refl
-
-  pub stands-edge : at.Edge ≡ placeOf l q → Edge ≡ stands first held l q
-  stands-edge e = stands-place at.Edge e
-
-  pub inside-first : first ≡ true → at.Inside ≡ placeOf l q → Is (clockwise l ⇒ true else false) ≡ stands first held l q
-  inside-first f e = ap (λ (b : Bool). Is (b ⇒ (clockwise l ⇒ true else false) else false)) (sym f) ∙ stands-place at.Inside e
-
-  pub inside-further : first ≡ false → at.Inside ≡ placeOf l q → Is false ≡ stands first held l q
-  inside-further f e = ap (λ (b : Bool). Is (b ⇒ (clockwise l ⇒ true else false) else false)) (sym f) ∙ stands-place at.Inside e
-
-  pub outside-first : first ≡ true → at.Outside ≡ placeOf l q → Is (clockwise l ⇒ false else true) ≡ stands first held l q
-  outside-first f e = ap (λ (b : Bool). Is (b ⇒ (clockwise l ⇒ false else true) else held)) (sym f) ∙ stands-place at.Outside e
-
-  pub outside-further : first ≡ false → at.Outside ≡ placeOf l q → Is held ≡ stands first held l q
-  outside-further f e = ap (λ (b : Bool). Is (b ⇒ (clockwise l ⇒ false else true) else held)) (sym f) ∙ stands-place at.Outside e
 
 -- from the rings that were asked on to those that are left
 unfoldable pub heldFrom : (first held : Bool) → List (List Point) → Point → Bool

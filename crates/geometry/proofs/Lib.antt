@@ -5,9 +5,8 @@ pub mod Closed
 pub mod Started
 pub mod Reversed
 pub mod Moved
-pub mod Ends
 pub mod Added
-pub mod Rest
+pub mod Outlines
 pub mod Ways
 pub mod Holed
 pub mod Signs

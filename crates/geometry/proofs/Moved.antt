@@ -7,7 +7,7 @@ use native.Mathlib.Omega.{arith}
 use lib.IntN.{ℤ, pos, _+ℤ_, _-ℤ_, _*ℤ_, +ℤ-assoc, +ℤ-negℤ-cancel}
 use Rattle.notation.specs.Choice.{_and_}
 use Rattle.signed.proofs.Gap.{gap-same, gap-add, gap-minus, gap-mul}
-use Rattle.signed.proofs.Sums.{parts}
+use Rattle.signed.proofs.Parts.{parts}
 use Rattle.geometry.specs.Ring.{Point, equal, turn, areaSum, clockwise, sound}
 use Rattle.geometry.specs.Held.{side, between, onEdge, crosses, onRing, odd, holds}
 use Rattle.geometry.specs.Polygon.{moved}

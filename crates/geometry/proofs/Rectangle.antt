@@ -10,7 +10,7 @@ use lib.Signed.{leZ, ltZ}
 use borrow.Author.Tests.{le-leb, lt-leb}
 use Rattle.notation.specs.Choice.{_⇒_else_, _and_}
 use Rattle.signed.proofs.Gap.{gap-le, gap-same, gap-pos, gap-add, gap-minus, gap-mul}
-use Rattle.signed.proofs.Sums.{up, down, parts}
+use Rattle.signed.proofs.Parts.{up, down, parts}
 use Rattle.geometry.specs.Ring.{Point, turn, areaSum, clockwise}
 use Rattle.geometry.specs.Held.{side, between, onEdge, crosses, onRing, odd, holds}
 use Rattle.geometry.proofs.Edges.{some, flip}

@@ -8,7 +8,7 @@ use lib.IntN.{ℤ, pos, negℤ, negℤ-+ℤ, _+ℤ_, _-ℤ_, _*ℤ_}
 use lib.Signed.{leZ, ltZ}
 use Rattle.notation.specs.Choice.{_⇒_else_, _and_}
 use Rattle.signed.proofs.Gap.{gap-same, gap-minus, gap-mul, gap-negated}
-use Rattle.signed.proofs.Sums.{parts}
+use Rattle.signed.proofs.Parts.{parts}
 use Rattle.geometry.specs.Ring.{Point, equal, turn, areaSum, clockwise, sound}
 use Rattle.geometry.specs.Held.{side, onEdge, crosses, onRing, odd, holds}
 use Rattle.geometry.proofs.Closed.{closed, closed-reversed, sound-area, sound-closed}

@@ -9,7 +9,7 @@ use lib.Signed.{leZ, ltZ}
 use borrow.Author.Tests.{lt-ltb, le-ltb}
 use Rattle.notation.specs.Choice.{_and_}
 use Rattle.signed.proofs.Gap.{gap-same, gap-minus, gap-mul, gap-negated, gap-lt, gap-above, gap-below}
-use Rattle.signed.proofs.Sums.{up, down, parts}
+use Rattle.signed.proofs.Parts.{up, down, parts}
 use Rattle.geometry.specs.Ring.{equal}
 use Rattle.geometry.proofs.Tests.{differ, less-is, above-negated}
 

@@ -11,7 +11,7 @@ use borrow.Author.Tests.{leb-true, leb-false, ltb-true, ltb-false, eqb-false, le
 use Rattle.notation.specs.Choice.{_⇒_else_, _and_}
 use Rattle.signed.specs.inner.Difference.{isZero}
 use Rattle.signed.proofs.Gap.{Gap, gap-same, gap-add, gap-minus, gap-negated, gap-le, gap-lt, gap-natural, gap-zero, gap-above, gap-below}
-use Rattle.signed.proofs.Sums.{up, down, parts}
+use Rattle.signed.proofs.Parts.{up, down, parts}
 use Rattle.geometry.specs.Ring.{equal}
 use Rattle.geometry.specs.Held.{between}
 

@@ -7,7 +7,7 @@ use lib.IntN.{pos, negℤ}
 use Rattle.notation.specs.Case.{Case, Answers}
 use Rattle.signed.specs.inner.Difference.{difference}
 use Rattle.geometry.specs.Ring.{Point, samePoint, turn, areaSum, clockwise, endsAt, sound}
-use Rattle.geometry.specs.inner.Shifted.{points}
+use Rattle.geometry.specs.inner.Shifted.{shifted}
 use Rattle.geometry.specs.Held.{side, onEdge, crosses, onRing, odd, sideOf, holds, onAny, inAny, polygonHolds}
 
 -- opens every definition of this layer
@@ -165,6 +165,6 @@ unfolding holding
 soundness-answered = refl
 
 -- coordinates are kept moved up, so that the least are 0
-lowest : points (0 ∷ 181_000_000 ∷ []) (0 ∷ 92_000_000 ∷ []) ≡ record { lon = negℤ (pos 180_000_000); lat = negℤ (pos 90_000_000) } ∷ degrees 1 2 ∷ []
-unfolding points difference
+lowest : shifted 0 0 ≡ record { lon = negℤ (pos 180_000_000); lat = negℤ (pos 90_000_000) }
+unfolding difference
 lowest = refl

@@ -1,5 +1,5 @@
-// Rings and points on a flat plane, exactly. A ring is two slices of one length, the lon and the lat of its points in millionths of a
-// degree, each moved up by half its range so that none is negative: by 180 and by 90 degrees.
+// Rings and points on a flat plane, exactly. Coordinates are millionths of a degree, each moved up by half its range so that none is negative: by 180 and by
+// 90 degrees. A ring is taken point by point, and what is kept of it is its outline.
 pub mod edge;
 pub mod held;
 pub mod points;
@@ -18,11 +18,13 @@ pub struct Balance {
     pub minus: u64,
 }
 
-// Where a point lies to a ring, whichever way round that goes.
-pub enum Place {
-    Edge,
-    Inside,
-    Outside,
+// What is kept of a ring whose points are taken one after the other: how many were taken, the first, the last, and the area sum of a line from the origin over
+// them, as far as the ceiling of positions.
+pub struct Outline {
+    pub count: u32,
+    pub first: Position,
+    pub last: Position,
+    pub area: Balance,
 }
 
 // Where a point stands to those rings of a polygon that were asked: on an edge of one, or held by them or not.

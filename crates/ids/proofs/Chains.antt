@@ -9,14 +9,14 @@ use lib.Dec.{eqb}
 use lib.ListN.{getD}
 use borrow.Author.Tests.{eq-eqb, ne-eqb, eqb-true, eqb-false}
 use Rattle.limits.specs.Ceilings.{records}
-use Rattle.lexeme.proofs.Steps.{by-test}
+use Rattle.notation.proofs.Booleans.{by-test}
 use Rattle.text.specs.Text.{same}
 use Rattle.text.specs.inner.Digest.{digest}
 use Rattle.text.proofs.Laws.{digest-same}
 use Rattle.walk.specs.Walk.{part}
 use Rattle.document.specs.Document.{Maybe, none, some}
-use Rattle.fields.specs.inner.Values.{isId}
-use Rattle.ids.specs.inner.Ids.{idOf, Unmet, hasId, recordBytes, lastWith}
+use Rattle.document.specs.inner.Values.{isId}
+use Rattle.ids.specs.inner.Ids.{idOf, NoIdBefore, hasId, recordBytes, lastWith}
 use Rattle.ids.specs.inner.Notes.{buckets, digestAt, startAt, endAt, memberStart, linkAt, headAt, lastIn, kept, Noted, Searched}
 
 -- the last entry of a bucket
@@ -138,7 +138,7 @@ module _ {file : ℕ} {p notes : List ℕ} {j : ℕ} {id : List ℕ} (s : Search
   pub chain-entry : part p (startAt notes (j - 1)) (endAt notes (j - 1)) ≡ kept file (getD (recordBytes p) (j - 1) [])
   chain-entry = s .noted .entries (j - 1) inside .there
 
-  pub chain-unmet : Unmet file (part p (startAt notes (j - 1)) (endAt notes (j - 1))) (memberStart notes (j - 1))
+  pub chain-unmet : NoIdBefore file (part p (startAt notes (j - 1)) (endAt notes (j - 1))) (memberStart notes (j - 1))
   chain-unmet = s .noted .entries (j - 1) inside .unmet
 
   pub chain-apart : (digestAt notes (j - 1) ≡ digest id → ⊥) → hasId file id (getD (recordBytes p) (j - 1) []) ≡ false

@@ -8,19 +8,14 @@ use native.Mathlib.Omega.{arith}
 use lib.ListN.{length, getD, set, replicate, length-replicate, length-set}
 use lib.Seq.{getD-set-same, getD-set-other}
 use Rattle.limits.specs.Ceilings.{records}
+use Rattle.notation.proofs.Lists.{zeros}
 use Rattle.text.specs.inner.Digest.{digest}
 use Rattle.walk.specs.Walk.{part}
 use Rattle.document.specs.Document.{Maybe, none, some}
-use Rattle.ids.specs.inner.Ids.{idOf, Unmet, recordBytes}
+use Rattle.ids.specs.inner.Ids.{idOf, NoIdBefore, recordBytes}
 use Rattle.ids.specs.inner.Notes.{buckets, size, digestAt, startAt, endAt, memberStart, linkAt, headAt, lastIn, entered, kept, Entry, Noted, Blank}
-use Rattle.ids.proofs.Single.{unmet-none, unmet-at}
+use Rattle.ids.proofs.IdOnce.{unmet-none, unmet-at}
 use Rattle.ids.proofs.Chains.{last-here, last-before}
-
--- with nothing noted
-zeros : (n i : ℕ) → _≡_ {A = ℕ} (getD (replicate n 0) i 0) 0
-zeros zero i = refl
-zeros (suc n) zero = refl
-zeros (suc n) (suc i) = zeros n i
 
 pub blank : Blank (replicate size 0)
 blank = record { long = length-replicate {A = ℕ} size 0; zeros = zeros size }
@@ -158,7 +153,7 @@ module _ (notes : List ℕ) (n d a e x : ℕ) (long : length notes ≡ size) (h 
 
 -- one record more is noted
 module _ {file : ℕ} {p : List ℕ} {n : ℕ} {notes : List ℕ} (w : Noted file p n notes) (h : n < records) (d a e x : ℕ)
-    (there : part p a e ≡ kept file (getD (recordBytes p) n [])) (unmet : Unmet file (part p a e) x) (digested : (id : List ℕ) → idOf file (getD (recordBytes p) n []) ≡ some id → d ≡ digest id) where
+    (there : part p a e ≡ kept file (getD (recordBytes p) n [])) (unmet : NoIdBefore file (part p a e) x) (digested : (id : List ℕ) → idOf file (getD (recordBytes p) n []) ≡ some id → d ≡ digest id) where
   part-new : part p (startAt (entered notes n d a e x) n) (endAt (entered notes n d a e x) n) ≡ part p a e
   part-new = ap₂ (part p) (start-new notes n d a e x (w .long) h) (end-new notes n d a e x (w .long) h)
 
@@ -215,7 +210,7 @@ module _ {file : ℕ} {p : List ℕ} {n : ℕ} {notes : List ℕ} (w : Noted fil
       noted-more w h 0 0 0 0 (kept-by none e) (unmet-none file 0) (λ id i.
       let k : none ≡ some id = sym e ∙ ap (λ (x : List ℕ). idOf file x) is ∙ i in let z : _≡_ {A = ℕ} 0 1 = cc in absurd (omega arith))
 
-  pub noted-named : (a b x : ℕ) → q ≡ part p a b → Unmet file q x → (id : List ℕ) → idOf file q ≡ some id → (d : ℕ) → d ≡ digest id → Noted file p (n + 1) (entered notes n d a b x)
+  pub noted-named : (a b x : ℕ) → q ≡ part p a b → NoIdBefore file q x → (id : List ℕ) → idOf file q ≡ some id → (d : ℕ) → d ≡ digest id → Noted file p (n + 1) (entered notes n d a b x)
   noted-named a b x there unmet id e d i =
       noted-more w h d a b x (sym there ∙ kept-by (some id) e) (unmet-at (sym there) refl unmet) (λ o j.
       let k : some id ≡ some o = sym e ∙ ap (λ (y : List ℕ). idOf file y) is ∙ j in let z : id ≡ o = cc in i ∙ ap digest z)

@@ -12,7 +12,7 @@ use lib.Seq.{drop-cons}
 use borrow.Author.Tests.{lt-ltb, eqb-true, ne-eqb}
 use Rattle.limits.specs.Ceilings.{records}
 use Rattle.notation.specs.Choice.{_⇒_else_, _and_}
-use Rattle.lexeme.proofs.Steps.{by-test}
+use Rattle.notation.proofs.Booleans.{by-test}
 use Rattle.walk.specs.declared.Item.{Item}
 use Rattle.walk.specs.declared.ItemStep.{ItemStep}
 use Rattle.walk.specs.declared.ItemStep.the-variants as step

@@ -8,7 +8,7 @@ use native.Mathlib.Omega.{arith}
 use lib.Dec.{ltb}
 use borrow.Author.Tests.{ltb-true, ltb-false}
 use Rattle.notation.specs.Maybe.{none, some}
-use Rattle.lexeme.proofs.Steps.{by-test}
+use Rattle.notation.proofs.Booleans.{by-test}
 use Rattle.json.specs.Tree.{Json}
 use Rattle.walk.specs.Part.{Whole}
 use Rattle.schema.specs.Shape as shape
@@ -20,7 +20,7 @@ use Rattle.schema.specs.Later.{rowsOf}
 use Rattle.schema.proofs.Computed.{no-file}
 use Rattle.document.specs.Document.{text}
 use Rattle.document.proofs.Ways.{Requires, here, lists}
-use Rattle.fields.proofs.Fields.{field-text}
+use Rattle.document.proofs.FieldBytes.{field-text}
 use Rattle.ids.specs.inner.Ids.{idField, idName, idValue, idOf}
 
 -- a file whose records have ids

@@ -1,6 +1,6 @@
 -- Ids of arrays of records, computed. In the texts ' stands for a quotation mark.
 use mathlib.Core.List.{List, [], _∷_, map}
-use mathlib.Core.Path.{_≡_, refl}
+use mathlib.Core.Path.{refl}
 use Prim.Native.Nat.{ℕ}
 use Prim.Native.String.{String}
 use lib.Dec.{eqb}
@@ -10,8 +10,7 @@ use Rattle.notation.specs.Choice.{_⇒_else_}
 use Rattle.schema.specs.Records.{identified}
 use Rattle.slots.specs.Cases.{gathering}
 use Rattle.slots.specs.Found.{foundIn}
-use Rattle.slots.specs.inner.Blank.{blankText}
-use Rattle.fields.specs.inner.Values.{memberOf, textBy}
+use Rattle.document.specs.inner.Values.{memberOf, textBy}
 use Rattle.ids.specs.inner.Ids.{idName, idValue, recordBytes, lastWith, anyHas, repeatFrom, firstRepeat, earlier}
 use Rattle.ids.specs.inner.Notes.{lastIn}
 

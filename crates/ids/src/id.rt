@@ -1,8 +1,8 @@
 // The id of a record.
-use fields::STRING;
-use fields::code_of;
-use fields::unquoted;
-use fields::value_at;
+use document::fields::STRING;
+use document::fields::code_of;
+use document::fields::unquoted;
+use document::fields::value_at;
 use slots::Found;
 use text::compare::same_text;
 use text::compare::text_is;
@@ -17,7 +17,7 @@ ghost use Rattle.json.specs.Tree as tree;
 ghost use Rattle.json.specs.Tree.{Members};
 ghost use Rattle.walk.specs.Part.{Whole};
 ghost use Rattle.text.specs.Text.{textOf, same};
-ghost use Rattle.fields.specs.inner.Values.{textBy, isId};
+ghost use Rattle.document.specs.inner.Values.{textBy, isId};
 ghost use Rattle.ids.specs.inner.Ids.{idField, idName, IdPlace, IdAt};
 
 // The field of a file's own ids; 0 where its records have none.

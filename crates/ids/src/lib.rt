@@ -3,7 +3,9 @@ use limits::Limits;
 
 pub mod columns;
 pub mod id;
+pub mod lookup;
 pub mod note;
+pub mod references;
 pub mod search;
 
 // The notes of a file are an array of `SIZE` numbers: five columns with an entry for each record, and one with a head for each bucket.
@@ -12,10 +14,10 @@ pub struct Notes {
 }
 
 impl Notes {
-    // As many entries as a file has records. The first column has the digests.
+    // How many entries a column has: one for each record of a file. The first column has the digests.
     pub const ENTRIES: usize = Limits::RECORDS as usize;
 
-    // As many chains.
+    // How many chains there are.
     pub const BUCKETS: usize = 4_096;
 
     // Where the other columns begin: where records start, where they end, where the members of their ids are looked for, links and heads of chains.

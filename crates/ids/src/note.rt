@@ -5,9 +5,9 @@ use crate::columns::last;
 use crate::id::id_place;
 use crate::id::id_value;
 use crate::search::search;
-use fields::STRING;
-use fields::code_of;
-use fields::unquoted;
+use document::fields::STRING;
+use document::fields::code_of;
+use document::fields::unquoted;
 use text::digest::digest_of;
 use walk::ItemStep;
 use walk::item_bytes;
@@ -20,7 +20,7 @@ ghost use Rattle.notation.specs.Choice.{_⇒_else_, _and_};
 ghost use Rattle.limits.specs.Ceilings.{records, fileBytes};
 ghost use Rattle.walk.specs.Walk.{part, itemsOf};
 ghost use Rattle.walk.specs.inner.Along.{AlongItems};
-ghost use Rattle.ids.specs.inner.Ids.{Singles, recordBytes, repeated, earlier, firstRepeat};
+ghost use Rattle.ids.specs.inner.Ids.{AllIdsOnce, recordBytes, repeated, earlier, firstRepeat};
 ghost use Rattle.ids.specs.inner.Notes.{Next, Noted, Blank};
 
 // Notes the record between two places of `p` behind the `n` that are noted; whether one of those has its id. `value` is what it holds as its id, and the
@@ -66,7 +66,7 @@ pub fn first_of(first: u16, repeats: bool, n: usize) -> u16
 // Notes the records of the array `p`; the number of the first record whose id one before it has, or 0.
 // Shut out: the earlier of two records blamed; a record left out because its id repeats.
 pub fn note(file: u8, p: &[u8], notes: &mut [u32; Notes::SIZE]) -> u16
-    requires { ⌜ (length (now p) ≤ fileBytes) × (length (itemsOf (now p)) ≤ records) × Blank (now notes) × ((0 < length (now p)) → AlongItems (now p) 1) × Singles file (now p) ⌝ }
+    requires { ⌜ (length (now p) ≤ fileBytes) × (length (itemsOf (now p)) ≤ records) × Blank (now notes) × ((0 < length (now p)) → AlongItems (now p) 1) × AllIdsOnce file (now p) ⌝ }
     ensures { λ r. ⌜ (r ≡ firstRepeat file (recordBytes (now (p .entry)))) × Noted file (now (p .entry)) (length (itemsOf (now (p .entry)))) (now (notes .exit)) ⌝ }
 {
     let mut first: u16 = 0;

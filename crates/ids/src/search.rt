@@ -6,7 +6,7 @@ use crate::columns::member_at;
 use crate::columns::record_at;
 use crate::id::is_this;
 use crate::id::names_id;
-use fields::value_at;
+use document::fields::value_at;
 use slots::Found;
 use walk::MemberStep;
 use walk::cut;

@@ -7,11 +7,10 @@ use Prim.Native.Nat.{ℕ, zero, suc, _+_, _<_}
 use native.Mathlib.Omega.{arith}
 use lib.Dec.{eqb}
 use borrow.Author.Tests.{eqb-true, ne-eqb}
-use Rattle.notation.specs.Ascii.{bytes}
+use Rattle.notation.proofs.Booleans.{by-test}
 use Rattle.lexeme.specs.Character.{within}
 use Rattle.lexeme.specs.Numbers.{digit, either}
 use Rattle.lexeme.specs.Tokens.{blank}
-use Rattle.lexeme.proofs.Steps.{by-test}
 use Rattle.json.specs.Spelling.{Blanks, Padded}
 use Rattle.json.specs.Grammar.{Digits, Int, Frac, Exp, Number, tail, hexDigit, Char, Chars, String, Scalar, Elements, Enclosed, Member, Nested, Value}
 use Rattle.json.specs.Places.{Place, outside, inside, fromOutside, fromInside, step, along, placing}
@@ -31,22 +30,22 @@ unfolding along
 onwards p b t e f = ap (λ (x : Place). along x t) e ∙ f
 
 -- outside strings: the place after s is the place before it
-abbrev pub Still : List ℕ → Type 0
-Still s = (n : ℕ) → along (outside n) s ≡ outside n
+abbrev pub Balanced : List ℕ → Type 0
+Balanced s = (n : ℕ) → along (outside n) s ≡ outside n
 
-still-none : Still []
+balanced-none : Balanced []
 unfolding along
-still-none n = refl
+balanced-none n = refl
 
-still-append : (s t : List ℕ) → Still s → Still t → Still (s ++ t)
-still-append s t e f n = further (outside n) s t (e n) (f n)
+balanced-append : (s t : List ℕ) → Balanced s → Balanced t → Balanced (s ++ t)
+balanced-append s t e f n = further (outside n) s t (e n) (f n)
 
 -- bytes that open and close nothing
 abbrev Quiet : ℕ → Type 0
 Quiet b = (n : ℕ) → step (outside n) b ≡ outside n
 
-still-cons : (b : ℕ) (s : List ℕ) → Quiet b → Still s → Still (b ∷ s)
-still-cons b s e f n = onwards (outside n) b s (e n) (f n)
+balanced-cons : (b : ℕ) (s : List ℕ) → Quiet b → Balanced s → Balanced (b ∷ s)
+balanced-cons b s e f n = onwards (outside n) b s (e n) (f n)
 
 quiet : (b : ℕ) → (b ≡ 0x22 → ⊥) → (b ≡ 0x5b → ⊥) → (b ≡ 0x7b → ⊥) → (b ≡ 0x5d → ⊥) → (b ≡ 0x7d → ⊥) → Quiet b
 unfolding placing
@@ -72,9 +71,9 @@ blank-quiet b e =
     by-test (either 0x20 0x09 b) (λ h. either-of Quiet 0x20 0x09 b (λ n. refl) (λ n. refl) h)
     (λ h. either-of Quiet 0x0a 0x0d b (λ n. refl) (λ n. refl) (rw (h, blank) at e))
 
-pub blanks-still : {w : List ℕ} → Blanks w → Still w
-blanks-still Blanks.none = still-none
-blanks-still (Blanks.some {b} {w} h k) = still-cons b w (blank-quiet b h) (blanks-still k)
+pub blanks-balanced : {w : List ℕ} → Blanks w → Balanced w
+blanks-balanced Blanks.none = balanced-none
+blanks-balanced (Blanks.some {b} {w} h k) = balanced-cons b w (blank-quiet b h) (blanks-balanced k)
 
 pub comma-quiet : (n : ℕ) → step (outside n) 0x2c ≡ outside n
 unfolding placing
@@ -93,22 +92,22 @@ unfolding placing
 quote-closes n = refl
 
 -- numbers
-digits-still : {s : List ℕ} → Digits s → Still s
-digits-still (Digits.one {b} h) = still-cons b [] (digit-quiet b h) still-none
-digits-still (Digits.more {b} {s} h k) = still-cons b s (digit-quiet b h) (digits-still k)
+digits-balanced : {s : List ℕ} → Digits s → Balanced s
+digits-balanced (Digits.one {b} h) = balanced-cons b [] (digit-quiet b h) balanced-none
+digits-balanced (Digits.more {b} {s} h k) = balanced-cons b s (digit-quiet b h) (digits-balanced k)
 
 first-quiet : (b : ℕ) → within 0x31 0x39 b ≡ true → Quiet b
 first-quiet b h = let p = bounds 0x31 0x39 b h in low-quiet b (omega arith) (omega arith)
 
-int-still : {s : List ℕ} → Int s → Still s
+int-balanced : {s : List ℕ} → Int s → Balanced s
 unfolding placing
-int-still Int.naught = λ n. refl
-int-still (Int.single {b} h) = still-cons b [] (first-quiet b h) still-none
-int-still (Int.several {b} {s} h k) = still-cons b s (first-quiet b h) (digits-still k)
+int-balanced Int.naught = λ n. refl
+int-balanced (Int.single {b} h) = balanced-cons b [] (first-quiet b h) balanced-none
+int-balanced (Int.several {b} {s} h k) = balanced-cons b s (first-quiet b h) (digits-balanced k)
 
-frac-still : {s : List ℕ} → Frac s → Still s
-frac-still Frac.none = still-none
-frac-still (Frac.point {s} k) = still-cons 0x2e s (low-quiet 0x2e (omega arith) (omega arith)) (digits-still k)
+frac-balanced : {s : List ℕ} → Frac s → Balanced s
+frac-balanced Frac.none = balanced-none
+frac-balanced (Frac.point {s} k) = balanced-cons 0x2e s (low-quiet 0x2e (omega arith) (omega arith)) (digits-balanced k)
 
 letter-quiet : (e : ℕ) → either 0x65 0x45 e ≡ true → Quiet e
 unfolding placing
@@ -118,15 +117,15 @@ sign-quiet : (g : ℕ) → either 0x2b 0x2d g ≡ true → Quiet g
 unfolding placing
 sign-quiet g = either-of Quiet 0x2b 0x2d g (λ n. refl) (λ n. refl)
 
-exp-still : {s : List ℕ} → Exp s → Still s
-exp-still Exp.none = still-none
-exp-still (Exp.bare {e} {s} h k) = still-cons e s (letter-quiet e h) (digits-still k)
-exp-still (Exp.signed {e} {g} {s} h i k) = still-cons e (g ∷ s) (letter-quiet e h) (still-cons g s (sign-quiet g i) (digits-still k))
+exp-balanced : {s : List ℕ} → Exp s → Balanced s
+exp-balanced Exp.none = balanced-none
+exp-balanced (Exp.bare {e} {s} h k) = balanced-cons e s (letter-quiet e h) (digits-balanced k)
+exp-balanced (Exp.signed {e} {g} {s} h i k) = balanced-cons e (g ∷ s) (letter-quiet e h) (balanced-cons g s (sign-quiet g i) (digits-balanced k))
 
-number-still : {s : List ℕ} → Number s → Still s
-number-still (Number.plain {i} {f} {e} a b c) = still-append i (f ++ e) (int-still a) (still-append f e (frac-still b) (exp-still c))
-number-still (Number.minus {i} {f} {e} a b c) =
-    still-cons 0x2d (i ++ (f ++ e)) (low-quiet 0x2d (omega arith) (omega arith)) (still-append i (f ++ e) (int-still a) (still-append f e (frac-still b) (exp-still c)))
+number-balanced : {s : List ℕ} → Number s → Balanced s
+number-balanced (Number.plain {i} {f} {e} a b c) = balanced-append i (f ++ e) (int-balanced a) (balanced-append f e (frac-balanced b) (exp-balanced c))
+number-balanced (Number.minus {i} {f} {e} a b c) =
+    balanced-cons 0x2d (i ++ (f ++ e)) (low-quiet 0x2d (omega arith) (omega arith)) (balanced-append i (f ++ e) (int-balanced a) (balanced-append f e (frac-balanced b) (exp-balanced c)))
 
 -- inside a string
 abbrev Within : List ℕ → Type 0
@@ -198,46 +197,46 @@ pub chars-within : {s : List ℕ} → Chars s → Within s
 chars-within Chars.end = within-none
 chars-within (Chars.then {s} {t} c k) = λ n. further (inside n) s t (char-within c n) (chars-within k n)
 
-pub string-still : {s : List ℕ} → Chars s → (n : ℕ) → along (inside n) (s ++ (0x22 ∷ [])) ≡ outside n
-string-still {s} k n = further (inside n) s (0x22 ∷ []) (chars-within k n) (onwards (inside n) 0x22 [] (quote-closes n) (still-none n))
+pub string-balanced : {s : List ℕ} → Chars s → (n : ℕ) → along (inside n) (s ++ (0x22 ∷ [])) ≡ outside n
+string-balanced {s} k n = further (inside n) s (0x22 ∷ []) (chars-within k n) (onwards (inside n) 0x22 [] (quote-closes n) (balanced-none n))
 
-quoted-still : {s : List ℕ} → String s → Still s
-quoted-still (String.quoted {s} k) n = onwards (outside n) 0x22 (s ++ (0x22 ∷ [])) (quote-opens n) (string-still k n)
+quoted-balanced : {s : List ℕ} → String s → Balanced s
+quoted-balanced (String.quoted {s} k) n = onwards (outside n) 0x22 (s ++ (0x22 ∷ [])) (quote-opens n) (string-balanced k n)
 
 -- values
-scalar-still : {s : List ℕ} → Scalar s → Still s
+scalar-balanced : {s : List ℕ} → Scalar s → Balanced s
 unfolding placing
-scalar-still Scalar.no n = refl
-scalar-still Scalar.null n = refl
-scalar-still Scalar.yes n = refl
-scalar-still (Scalar.number k) n = number-still k n
-scalar-still (Scalar.string k) n = quoted-still k n
+scalar-balanced Scalar.no n = refl
+scalar-balanced Scalar.null n = refl
+scalar-balanced Scalar.yes n = refl
+scalar-balanced (Scalar.number k) n = number-balanced k n
+scalar-balanced (Scalar.string k) n = quoted-balanced k n
 
 -- two tokens with a sign between them and blanks around that
-between-still : {w u : List ℕ} (v : List ℕ) (c : ℕ) (s : List ℕ) → Still v → Blanks w → Quiet c → Blanks u → Still s → Still (v ++ w ++ (c ∷ []) ++ u ++ s)
-between-still {w} {u} v c s e a q b f =
-    still-append (v ++ w ++ (c ∷ []) ++ u) s
-    (still-append (v ++ w ++ (c ∷ [])) u (still-append (v ++ w) (c ∷ []) (still-append v w e (blanks-still a)) (still-cons c [] q still-none)) (blanks-still b)) f
+between-balanced : {w u : List ℕ} (v : List ℕ) (c : ℕ) (s : List ℕ) → Balanced v → Blanks w → Quiet c → Blanks u → Balanced s → Balanced (v ++ w ++ (c ∷ []) ++ u ++ s)
+between-balanced {w} {u} v c s e a q b f =
+    balanced-append (v ++ w ++ (c ∷ []) ++ u) s
+    (balanced-append (v ++ w ++ (c ∷ [])) u (balanced-append (v ++ w) (c ∷ []) (balanced-append v w e (blanks-balanced a)) (balanced-cons c [] q balanced-none)) (blanks-balanced b)) f
 
-padded-still : {S : List ℕ → Type 0} → ((s : List ℕ) → S s → Still s) → {s : List ℕ} → Padded S s → Still s
-padded-still f (Padded.padded {w} {s} {u} a k b) = still-append (w ++ s) u (still-append w s (blanks-still a) (f s k)) (blanks-still b)
+padded-balanced : {S : List ℕ → Type 0} → ((s : List ℕ) → S s → Balanced s) → {s : List ℕ} → Padded S s → Balanced s
+padded-balanced f (Padded.padded {w} {s} {u} a k b) = balanced-append (w ++ s) u (balanced-append w s (blanks-balanced a) (f s k)) (blanks-balanced b)
 
-module _ {S : List ℕ → Type 0} (f : (s : List ℕ) → S s → Still s) where
-  elements-still : (s : List ℕ) → Elements S s → Still s
-  elements-still s (Elements.last k) = f s k
-  elements-still _ (Elements.comma {s} {w} {u} {t} k a b ks) = between-still s 0x2c t (f s k) a comma-quiet b (elements-still t ks)
+module _ {S : List ℕ → Type 0} (f : (s : List ℕ) → S s → Balanced s) where
+  elements-balanced : (s : List ℕ) → Elements S s → Balanced s
+  elements-balanced s (Elements.last k) = f s k
+  elements-balanced _ (Elements.comma {s} {w} {u} {t} k a b ks) = between-balanced s 0x2c t (f s k) a comma-quiet b (elements-balanced t ks)
 
-  enclosed-still : {s : List ℕ} → Enclosed S s → Still s
-  enclosed-still (Enclosed.nothing a) = blanks-still a
-  enclosed-still (Enclosed.elements k) = padded-still elements-still k
+  enclosed-balanced : {s : List ℕ} → Enclosed S s → Balanced s
+  enclosed-balanced (Enclosed.nothing a) = blanks-balanced a
+  enclosed-balanced (Enclosed.elements k) = padded-balanced elements-balanced k
 
-  member-still : (s : List ℕ) → Member S s → Still s
-  member-still _ (Member.colon {n} {w} {u} {v} k a b x) = between-still n 0x3a v (quoted-still k) a colon-quiet b (f v x)
+  member-balanced : (s : List ℕ) → Member S s → Balanced s
+  member-balanced _ (Member.colon {n} {w} {u} {v} k a b x) = between-balanced n 0x3a v (quoted-balanced k) a colon-quiet b (f v x)
 
-bracket-still : (first close : ℕ) (s : List ℕ) → ((n : ℕ) → step (outside n) first ≡ outside (n + 1)) → ((n : ℕ) → step (outside (n + 1)) close ≡ outside n)
-    → Still s → Still ((first ∷ []) ++ s ++ (close ∷ []))
-bracket-still first close s up down e n =
-    onwards (outside n) first (s ++ (close ∷ [])) (up n) (further (outside (n + 1)) s (close ∷ []) (e (n + 1)) (onwards (outside (n + 1)) close [] (down n) (still-none n)))
+bracket-balanced : (first close : ℕ) (s : List ℕ) → ((n : ℕ) → step (outside n) first ≡ outside (n + 1)) → ((n : ℕ) → step (outside (n + 1)) close ≡ outside n)
+    → Balanced s → Balanced ((first ∷ []) ++ s ++ (close ∷ []))
+bracket-balanced first close s up down e n =
+    onwards (outside n) first (s ++ (close ∷ [])) (up n) (further (outside (n + 1)) s (close ∷ []) (e (n + 1)) (onwards (outside (n + 1)) close [] (down n) (balanced-none n)))
 
 pub opens-array : (n : ℕ) → step (outside n) 0x5b ≡ outside (n + 1)
 unfolding placing
@@ -255,11 +254,11 @@ closes-object : (n : ℕ) → step (outside (n + 1)) 0x7d ≡ outside n
 unfolding placing
 closes-object n = ap outside (omega arith)
 
-nested-still : {S : List ℕ → Type 0} → ((s : List ℕ) → S s → Still s) → (s : List ℕ) → Nested S s → Still s
-nested-still f s (Nested.scalar k) = scalar-still k
-nested-still f _ (Nested.array {s} k) = bracket-still 0x5b 0x5d s opens-array closes-array (enclosed-still f k)
-nested-still f _ (Nested.object {s} k) = bracket-still 0x7b 0x7d s opens-object closes-object (enclosed-still (member-still f) k)
+nested-balanced : {S : List ℕ → Type 0} → ((s : List ℕ) → S s → Balanced s) → (s : List ℕ) → Nested S s → Balanced s
+nested-balanced f s (Nested.scalar k) = scalar-balanced k
+nested-balanced f _ (Nested.array {s} k) = bracket-balanced 0x5b 0x5d s opens-array closes-array (enclosed-balanced f k)
+nested-balanced f _ (Nested.object {s} k) = bracket-balanced 0x7b 0x7d s opens-object closes-object (enclosed-balanced (member-balanced f) k)
 
-pub value-still : (d : ℕ) (s : List ℕ) → Value d s → Still s
-value-still zero s k = scalar-still k
-value-still (suc d) s k = nested-still (value-still d) s k
+pub value-balanced : (d : ℕ) (s : List ℕ) → Value d s → Balanced s
+value-balanced zero s k = scalar-balanced k
+value-balanced (suc d) s k = nested-balanced (value-balanced d) s k

@@ -7,12 +7,12 @@ use Prim.Native.Nat.{ℕ, zero, suc, _≤_, _<_}
 use native.Mathlib.Omega.{arith}
 use lib.ListN.{length}
 use lib.Dec.{eqb}
+use Rattle.notation.proofs.Booleans.{by-test}
 use Rattle.word.specs.Kinds.{notJson}
 use Rattle.lexeme.specs.Read.{Read, made}
 use Rattle.lexeme.specs.Read.Read.{done, bad}
 use Rattle.lexeme.specs.Tokens.{blanks}
-use Rattle.lexeme.proofs.Reading.{Eats}
-use Rattle.lexeme.proofs.Steps.{by-test}
+use Rattle.lexeme.proofs.Reading.{Consumes}
 use Rattle.lexeme.proofs.Shrinks.{blanks-shrinks}
 use Rattle.json.specs.Text.{After, after, elementsUpTo}
 use Rattle.json.specs.Text.After.{closed, more, wrong}
@@ -64,7 +64,7 @@ pub data Run {A : Type 0} (close : ℕ) (element : List ℕ → Read A) : List �
       → element l ≡ done x r → after close r ≡ more q → Run close element q o → Run close element l (made (λ xs. x ∷ xs) o)
   broken : {l r q : List ℕ} {x : A} → element l ≡ done x r → after close r ≡ wrong q → Run close element l (bad notJson q)
 
-module _ {A : Type 0} (close : ℕ) (element : List ℕ → Read A) (eats : Eats element) where
+module _ {A : Type 0} (close : ℕ) (element : List ℕ → Read A) (consumes : Consumes element) where
   pub run : (most : ℕ) (l : List ℕ) → length l < most → Run close element l (elementsUpTo close most element l)
   run zero l h = absurd (omega arith)
   run (suc most) l h = first (run most) (element l) refl
@@ -78,7 +78,7 @@ module _ {A : Type 0} (close : ℕ) (element : List ℕ → Read A) (eats : Eats
           second (closed q) i = rw (elements-closed close most element l x r q e i) (last e i)
           second (wrong q) i = rw (elements-wrong close most element l x r q e i) (broken e i)
           second (more q) i =
-              rw (elements-more close most element l x r q e i) (next e i (ih q (omega (arith, eats l r x e, after-less close r i))))
+              rw (elements-more close most element l x r q e i) (next e i (ih q (omega (arith, consumes l r x e, after-less close r i))))
 
   pub run-reads : {l : List ℕ} {o : Read (List A)} → Run close element l o → (most : ℕ) → length l < most → elementsUpTo close most element l ≡ o
   run-reads {l} u zero h = absurd (omega arith)
@@ -86,7 +86,7 @@ module _ {A : Type 0} (close : ℕ) (element : List ℕ → Read A) (eats : Eats
   run-reads {l} (last {r = r} {q = q} {x = x} e i) (suc most) h = elements-closed close most element l x r q e i
   run-reads {l} (broken {r = r} {q = q} {x = x} e i) (suc most) h = elements-wrong close most element l x r q e i
   run-reads {l} (next {r = r} {q = q} {x = x} e i u) (suc most) h =
-      elements-more close most element l x r q e i ∙ ap (made (λ xs. x ∷ xs)) (run-reads u most (omega (arith, eats l r x e, after-less close r i)))
+      elements-more close most element l x r q e i ∙ ap (made (λ xs. x ∷ xs)) (run-reads u most (omega (arith, consumes l r x e, after-less close r i)))
 
   pub elements-bound : (most other : ℕ) (l : List ℕ) → length l < most → length l < other → elementsUpTo close most element l ≡ elementsUpTo close other element l
   elements-bound most other l h k = run-reads (run other l k) most h
@@ -96,4 +96,4 @@ module _ {A : Type 0} (close : ℕ) (element : List ℕ → Read A) (eats : Eats
       → all close element l ≡ made (λ xs. x ∷ xs) (all close element q)
   elements-next l r q x e i =
       elements-more close (length l) element l x r q e i
-      ∙ ap (made (λ xs. x ∷ xs)) (elements-bound (length l) (suc (length q)) q (omega (arith, eats l r x e, after-less close r i)) (omega arith))
+      ∙ ap (made (λ xs. x ∷ xs)) (elements-bound (length l) (suc (length q)) q (omega (arith, consumes l r x e, after-less close r i)) (omega arith))

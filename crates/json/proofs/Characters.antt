@@ -14,7 +14,7 @@ use Rattle.lexeme.specs.Character.{paired, bytesOf, next}
 use Rattle.lexeme.specs.Strings.{string}
 use Rattle.lexeme.proofs.Steps.{bad-done, done-what, done-rest, made-done, made-reads, string-empty, string-inside, string-quote, string-fault, string-character, string-skip}
 use Rattle.lexeme.proofs.Local.{character-near, quote-byte}
-use Rattle.lexeme.proofs.Takes.{closes}
+use Rattle.lexeme.proofs.StrongPrefixes.{closes}
 use Rattle.json.specs.Spelling as Spelling
 use Rattle.json.specs.Spelling.{Characters}
 

@@ -1,32 +1,29 @@
 -- RFC 8259's strings and the reader of strings where lone surrogates pass: each character of the grammar is passed over, and what is taken as one
 -- character is one of the grammar, or two where a high and a low surrogate escape are read as a pair.
-use mathlib.Core.Bool.{Bool, true, false}
-use mathlib.Core.List.{List, [], _∷_, _++_, append-assoc, append-nil, append-cancel-right}
-use mathlib.Core.Logic.{_⊎_, inl, inr, ⊎-elim}
-use mathlib.Core.Path.{_≡_, refl, sym, ap, subst, _∙_}
+use mathlib.Core.Bool.{true}
+use mathlib.Core.List.{List, [], _∷_, _++_, append-assoc, append-cancel-right}
+use mathlib.Core.Path.{_≡_, refl, sym, ap, _∙_}
 use Prim.Native.Nat.{ℕ, _+_, _-_, _*_}
 use native.Mathlib.Omega.{arith}
-use lib.Dec.{eqb, ltb}
-use lib.ListN.{length, drop}
-use borrow.Author.Tests.{eqb-true, lt-ltb, ltb-true}
+use lib.Dec.{eqb}
+use lib.ListN.{drop}
+use borrow.Author.Tests.{eqb-true, lt-ltb}
+use Rattle.notation.proofs.Booleans.{by-test, true-false}
 use Rattle.lexeme.specs.declared.Char.{Char}
-use Rattle.lexeme.specs.declared.Next.{Next}
-use Rattle.lexeme.specs.declared.Next.the-variants.{Quote, Character, Fault}
-use Rattle.lexeme.specs.declared.Quad.{Quad}
-use Rattle.lexeme.specs.declared.Quad.the-variants.{Value, Short}
+use Rattle.lexeme.specs.declared.Quad.the-variants.{Value}
 use Rattle.lexeme.specs.Read.{made}
 use Rattle.lexeme.specs.Read.Read.{done}
-use Rattle.lexeme.specs.Character.{lone, byte, within, char1, char2, char3, char4, utf2, utf3, utf4, encoded, hexValue, hexadecimal, quad, trail, alone, high, unit, unicode, short, escape, next}
+use Rattle.lexeme.specs.Character.{lone, within, char1, char2, char3, char4, utf2, utf3, utf4, hexValue, hexadecimal, quad, alone, unit, unicode, short, escape, next}
 use Rattle.lexeme.specs.inner.Lead.{Lead, lead, nextBy}
-use Rattle.lexeme.specs.inner.Lead.Lead.{plain, quote, backslash, wrong, two, threeE0, three, threeED, fourF0, four, fourF4}
+use Rattle.lexeme.specs.inner.Lead.Lead.{threeE0, three, threeED, fourF0, four, fourF4}
 use Rattle.lexeme.specs.Numbers.{digit, either}
 use Rattle.lexeme.specs.Strings.{string}
-use Rattle.lexeme.proofs.Steps.{by-test, true-false, made-done, string-quote, string-skip}
-use Rattle.lexeme.proofs.Takes.{closes, string-spelled}
+use Rattle.lexeme.proofs.Steps.{made-done, string-quote, string-skip}
+use Rattle.lexeme.proofs.StrongPrefixes.{closes, string-spelled}
 use Rattle.lexeme.proofs.Lone.{bare, character-passes, encoded-passes, high-passes}
 use Rattle.json.specs.Grammar as Grammar
 use Rattle.json.specs.Grammar.{tail, hexDigit, escapable, Chars}
-use Rattle.json.proofs.Leads.{between, bounds, lead-plain, lead-two, lead-three, lead-four}
+use Rattle.json.proofs.Leads.{bounds, lead-plain, lead-two, lead-three, lead-four}
 use Rattle.lexeme.proofs.Leads.{next-led}
 
 -- UTF-8 of two, three and four bytes, by its ranges

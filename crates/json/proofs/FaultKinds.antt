@@ -5,6 +5,7 @@ use mathlib.Core.Path.{_≡_, refl, sym, _∙_}
 use Prim.Native.Nat.{ℕ, _+_, _≤_, _<_}
 use lib.ListN.{length}
 use lib.Dec.{eqb}
+use Rattle.notation.proofs.Booleans.{by-test}
 use Rattle.word.specs.Kinds.{notJson, unpaired, tooDeep}
 use Rattle.lexeme.specs.Read.{Read, then, made}
 use Rattle.lexeme.specs.Read.Read.{done, bad}
@@ -12,10 +13,10 @@ use Rattle.lexeme.specs.Character.{Surrogates, paired, lone}
 use Rattle.lexeme.specs.Strings.{string}
 use Rattle.lexeme.specs.Numbers.{digit, digits, someDigits, optional, both, nothing, integer, minus, fraction, exponent, number}
 use Rattle.lexeme.specs.Tokens.{literal}
-use Rattle.lexeme.proofs.Reading.{Goes}
-use Rattle.lexeme.proofs.Reading.Goes.{same, further}
-use Rattle.lexeme.proofs.Steps.{by-test, digits-more, digits-stop, someDigits-more, someDigits-none, integer-zero, integer-digits, optional-there, optional-absent, literal-match, literal-differs, bad-kind}
-use Rattle.lexeme.proofs.Goes.{string-goes}
+use Rattle.lexeme.proofs.Reading.{Relaxed}
+use Rattle.lexeme.proofs.Reading.Relaxed.{same, further}
+use Rattle.lexeme.proofs.Steps.{digits-more, digits-stop, someDigits-more, someDigits-none, integer-zero, integer-digits, optional-there, optional-absent, literal-match, literal-differs, bad-kind}
+use Rattle.lexeme.proofs.Relaxed.{string-relaxed}
 use Rattle.lexeme.proofs.Faults.{lone-kind}
 
 -- a reading whose fault, if it met one, is of kind 2
@@ -90,8 +91,8 @@ pub data Kind (ρ : Surrogates) (d n k : ℕ) (r : List ℕ) : Type 0 where
 
 pub string-kind : (ρ : Surrogates) (i d m k : ℕ) (l r : List ℕ) → string ρ i l ≡ bad k r → Kind ρ d m k r
 string-kind lone i d m k l r e = grammar (lone-kind i l r k e)
-string-kind paired i d m k l r e = go (string-goes i l) e
+string-kind paired i d m k l r e = go (string-relaxed i l) e
   where
-    go : {o : Read (List ℕ)} → Goes (λ n. n ≡ unpaired) o (string lone i l) → o ≡ bad k r → Kind paired d m k r
+    go : {o : Read (List ℕ)} → Relaxed (λ n. n ≡ unpaired) o (string lone i l) → o ≡ bad k r → Kind paired d m k r
     go same f = grammar (lone-kind i l r k f)
     go (further h less) f = surrogate refl (sym (bad-kind f) ∙ h)

@@ -8,6 +8,8 @@ use native.Mathlib.Omega.{arith}
 use lib.ListN.{length, drop}
 use lib.Dec.{eqb}
 use borrow.Author.Tests.{eqb-true, eq-eqb}
+use Rattle.notation.proofs.Booleans.{by-test}
+use Rattle.notation.proofs.Lists.{no-cons}
 use Rattle.word.specs.Kinds.{notJson, tooDeep}
 use Rattle.lexeme.specs.Read.{Read, then, made}
 use Rattle.lexeme.specs.Read.Read.{done, bad}
@@ -17,19 +19,19 @@ use Rattle.lexeme.specs.Numbers as Numbers
 use Rattle.lexeme.specs.Numbers.{either}
 use Rattle.lexeme.specs.Tokens.{blank, blanks}
 use Rattle.lexeme.specs.inner.Start.{Start, start}
-use Rattle.lexeme.proofs.Reading.{Eats, Any, Ok, numeric, Stops, Took, Takes, Faulted, Faults}
+use Rattle.lexeme.proofs.Reading.{Consumes, Any, Ok, numeric, Stops, Consumed, StrongPrefix, Faulted, Faults}
 use Rattle.lexeme.proofs.Reading.Ok.{alike, stops}
-use Rattle.lexeme.proofs.Steps.{by-test, blanks-stop, then-done, bad-done, done-bad, no-cons, bad-kind, bad-rest, made-reads, made-fails, made-bad, then-reads, then-fails}
-use Rattle.lexeme.proofs.Takes.{string-takes, blanks-of, solid-first}
+use Rattle.lexeme.proofs.Steps.{blanks-stop, then-done, bad-done, done-bad, bad-kind, bad-rest, made-reads, made-fails, made-same, made-bad, then-reads, then-fails}
+use Rattle.lexeme.proofs.StrongPrefixes.{string-takes, blanks-of, solid-first}
 use Rattle.lexeme.proofs.Starts.{blank-other}
-use Rattle.lexeme.proofs.Faults.{made-faults, cons-faulted, end-faulted, byte-faulted, string-faults, number-faults, literal-faults}
+use Rattle.lexeme.proofs.Faults.{behind-faulted, made-faults, cons-faulted, end-faulted, byte-faulted, string-faults, number-faults, literal-faults}
 use Rattle.json.specs.Cases.{reading}
 use Rattle.json.specs.Tree.{Json}
 use Rattle.json.specs.Text.{expect, after, contents, bracketed, member, valueBy, value, finish, text}
 use Rattle.json.specs.Text.After.{closed, wrong}
 use Rattle.json.proofs.Steps.{expect-end, expect-here, expect-other, after-closed, after-wrong, elements-bad, elements-closed, elements-wrong, contents-end, contents-none, contents-some, named, chosen, valueAt, value-start}
 use Rattle.json.proofs.Bound.{Follows, at-end, at-other, follows-as, all, Run, faulty, last, next, broken, run, elements-next}
-use Rattle.json.proofs.Takes.{joins, agree, ok-part, Solid, blanks-solid, blanks-frame, continues, blanks-takes, expect-takes, member-takes, member-eats, value-takes, value-eats}
+use Rattle.json.proofs.StrongPrefixes.{joins, agree, ok-part, Solid, blanks-solid, blanks-frame, continues, blanks-takes, expect-takes, member-takes, member-consumes, value-takes, value-consumes}
 
 -- something that f reads whole
 pub record Starts {A : Type 0} (f : List ℕ → Read A) : Type 0 where
@@ -78,17 +80,17 @@ opened-failing : {A B : Type 0} (g : A → B) (f : List ℕ → Read A) → Faul
 opened-failing g f faults b l r e = later (cons-faulted b (λ m. refl) (made-faults g f faults l r e))
 
 -- a fault handed on, as another reading's
-handed : {A B : Type 0} {o : Read A} {k n : ℕ} {q r : List ℕ} → o ≡ bad k q → _≡_ {A = Read B} (bad k q) (bad n r) → o ≡ bad n r
+pub handed : {A B : Type 0} {o : Read A} {k n : ℕ} {q r : List ℕ} → o ≡ bad k q → _≡_ {A = Read B} (bad k q) (bad n r) → o ≡ bad n r
 handed e i = cc (e, bad-kind i, bad-rest i)
 
 -- reading to the end carries over to a longer text, where what follows may follow
-pub extend : {A : Type 0} {C : List ℕ → List ℕ → Type 0} (f : List ℕ → Read A) → Takes C f
+pub extend : {A : Type 0} {C : List ℕ → List ℕ → Type 0} (f : List ℕ → Read A) → StrongPrefix C f
     → (p z : List ℕ) (x : A) → f (p ++ z) ≡ done x [] → (q : List ℕ) → C [] q → f (p ++ (z ++ q)) ≡ done x q
 extend f takes p z x e q o =
     let t = takes (p ++ z) [] x e in
     ap f (sym (append-assoc p z q)) ∙ ap (λ (m : List ℕ). f (m ++ q)) (t .splits ∙ append-nil (t .part)) ∙ t .frame q o
 
-then-faults : {A B : Type 0} (f : List ℕ → Read A) (g : A → List ℕ → Read B) → Takes Any f → Faults f → ((x : A) → Faults (g x)) → ((x : A) → Starts (g x)) → Faults (λ l. then (f l) g)
+then-faults : {A B : Type 0} (f : List ℕ → Read A) (g : A → List ℕ → Read B) → StrongPrefix Any f → Faults f → ((x : A) → Faults (g x)) → ((x : A) → Starts (g x)) → Faults (λ l. then (f l) g)
 then-faults {A} {B} f g takes first second starts l r e = go (f l) refl
   where
     go : (o : Read A) → f l ≡ o → Faulted (λ m. then (f m) g) l r
@@ -107,16 +109,7 @@ then-faults {A} {B} f g takes first second starts l r e = go (f l) refl
     go (done x q) h =
         let t = takes l q x h in
         let u = second x q r (sym (then-reads g h) ∙ e) in
-        let reads : (z : List ℕ) → then (f ((t .part ++ u .part) ++ z)) g ≡ g x (u .part ++ z) =
-        λ z. then-reads g (ap f (append-assoc (t .part) (u .part) z) ∙ t .frame (u .part ++ z) tt) in
-        record {
-          part = t .part ++ u .part;
-          splits = joins (t .part) (u .part) r (t .splits) (u .splits);
-          dead = λ b w i v. reads (b ∷ v) ∙ u .dead b w i v;
-          ending = u .ending;
-          what = u .what;
-          alive = reads (u .ending) ∙ u .alive;
-        }
+        behind-faulted (λ y. y) (t .part) (t .splits) u (λ q. Unit {0}) (λ q s. then-reads g (t .frame (u .part ++ q) tt) ∙ sym (made-same _)) (λ b w v i. tt) tt
 
 -- the byte at the fault begins as the text there did
 solid-dead : (p r : List ℕ) (b : ℕ) (w v : List ℕ) → Solid (p ++ r) → r ≡ b ∷ w → Solid (p ++ (b ∷ v))
@@ -128,16 +121,8 @@ blanks-faults f firm faults l r e =
     let k = blanks-of l in
     let u = faults (blanks l) r e in
     let solid = subst Solid (u .splits) (blanks-solid l) in
-    let reads : (z : List ℕ) → Solid (u .part ++ z) → f (blanks ((k .part ++ u .part) ++ z)) ≡ f (u .part ++ z) =
-    λ z s. ap (λ (m : List ℕ). f (blanks m)) (append-assoc (k .part) (u .part) z) ∙ ap f (blanks-frame l (u .part ++ z) s) in
-    record {
-      part = k .part ++ u .part;
-      splits = joins (k .part) (u .part) r (k .splits) (u .splits);
-      dead = λ b w i v. reads (b ∷ v) (solid-dead (u .part) r b w v solid i) ∙ u .dead b w i v;
-      ending = u .ending;
-      what = u .what;
-      alive = reads (u .ending) (firm _ [] (u .what) (u .alive)) ∙ u .alive;
-    }
+    behind-faulted (λ y. y) (k .part) (k .splits) u Solid (λ q s. ap f (blanks-frame l (u .part ++ q) s) ∙ sym (made-same _))
+    (λ b w v i. solid-dead (u .part) r b w v solid i) (firm _ [] (u .what) (u .alive))
 
 solid-blanks : (m : List ℕ) → Solid m → blanks m ≡ m
 unfolding blanks
@@ -205,8 +190,8 @@ ok-ending (c ∷ p) r z e s = rw e alike
 
 -- what a reader of elements is
 pub record Reader {A : Type 0} (f : List ℕ → Read A) : Type 0 where
-  pub eats : Eats f
-  pub takes : Takes Ok f
+  pub consumes : Consumes f
+  pub takes : StrongPrefix Ok f
   pub faults : Faults f
   pub firm : Firm f
 
@@ -225,6 +210,9 @@ pub curly : Closing 0x7d
 unfolding reading numeric start
 curly = record { solid = refl; halts = refl; parts = refl; other = refl }
 
+pub closes-at-once : (close : ℕ) → Closing close → after close (close ∷ []) ≡ closed []
+closes-at-once close c = after-closed close (close ∷ []) close [] (blanks-stop close [] (c .solid)) (eq-eqb close close refl)
+
 module _ {A : Type 0} (close : ℕ) (c : Closing close) (element : List ℕ → Read A) (rd : Reader element) where
   run-firm : {l : List ℕ} {o : Read (List A)} → Run close element l o → (xs : List A) (r : List ℕ) → o ≡ done xs r → Solid l
   run-firm (faulty e) xs r i = bad-done i
@@ -233,10 +221,7 @@ module _ {A : Type 0} (close : ℕ) (c : Closing close) (element : List ℕ → 
   run-firm {l} (next {r = m} {x = x} e j u) xs r i = rd .firm l m x e
 
   all-run : (l : List ℕ) → Run close element l (all close element l)
-  all-run l = run close element (rd .eats) (suc (length l)) l (omega arith)
-
-  closes-at-once : after close (close ∷ []) ≡ closed []
-  closes-at-once = after-closed close (close ∷ []) close [] (blanks-stop close [] (c .solid)) (eq-eqb close close refl)
+  all-run l = run close element (rd .consumes) (suc (length l)) l (omega arith)
 
   run-faults : {l : List ℕ} {o : Read (List A)} → Run close element l o → (r : List ℕ) → o ≡ bad notJson r → Faulted (all close element) l r
   run-faults (last e j) r i = done-bad i
@@ -250,7 +235,7 @@ module _ {A : Type 0} (close : ℕ) (c : Closing close) (element : List ℕ → 
         what = u .what ∷ [];
         alive =
             elements-closed close _ element _ (u .what) (close ∷ []) []
-            (extend element (rd .takes) (u .part) (u .ending) (u .what) (u .alive) (close ∷ []) (stops (c .halts))) closes-at-once;
+            (extend element (rd .takes) (u .part) (u .ending) (u .what) (u .alive) (close ∷ []) (stops (c .halts))) (closes-at-once close c);
       }
   run-faults {l} (broken {r = m} {q = q} {x = x} e j) r i =
       let t = rd .takes l m x e in
@@ -271,22 +256,13 @@ module _ {A : Type 0} (close : ℕ) (c : Closing close) (element : List ℕ → 
       let t = rd .takes l m x e in
       let s = continues close m j in
       let u = run-faults n r (made-bad (λ xs. x ∷ xs) o notJson r i) in
-      let reads : (z : List ℕ) → Solid (u .part ++ z)
-      → all close element ((t .part ++ (s .part ++ u .part)) ++ z) ≡ made (λ xs. x ∷ xs) (all close element (u .part ++ z)) =
-      λ z solid.
-      ap (all close element) (append-assoc (t .part) (s .part ++ u .part) z ∙ ap (λ (w : List ℕ). t .part ++ w) (append-assoc (s .part) (u .part) z))
-      ∙ elements-next close element (rd .eats) _ (s .part ++ (u .part ++ z)) (u .part ++ z) x
-      (t .frame _ (ok-part (s .part) q (u .part ++ z) (s .some) (s .splits))) (s .frame (u .part ++ z) solid) in
-      record {
-        part = t .part ++ (s .part ++ u .part);
-        splits = joins (t .part) (s .part ++ u .part) r (t .splits) (joins (s .part) (u .part) r (s .splits) (u .splits));
-        dead = λ b w k v.
-            reads (b ∷ v) (solid-dead (u .part) r b w v (subst Solid (u .splits) (s .solid)) k) ∙ made-fails (λ xs. x ∷ xs) (u .dead b w k v);
-        ending = u .ending;
-        what = x ∷ u .what;
-        alive =
-            reads (u .ending) (run-firm (all-run (u .part ++ u .ending)) (u .what) [] (u .alive)) ∙ made-reads (λ xs. x ∷ xs) (u .alive);
-      }
+      behind-faulted (λ xs. x ∷ xs) (t .part ++ s .part) (joins (t .part) (s .part) q (t .splits) (s .splits)) u Solid
+      (λ z solid.
+      ap (all close element) (append-assoc (t .part) (s .part) (u .part ++ z))
+      ∙ elements-next close element (rd .consumes) _ (s .part ++ (u .part ++ z)) (u .part ++ z) x
+      (t .frame _ (ok-part (s .part) q (u .part ++ z) (s .some) (s .splits))) (s .frame (u .part ++ z) solid))
+      (λ b w v k. solid-dead (u .part) r b w v (subst Solid (u .splits) (s .solid)) k)
+      (run-firm (all-run (u .part ++ u .ending)) (u .what) [] (u .alive))
 
   contents-starts : Starts (contents close element)
   contents-starts = record { word = close ∷ []; what = []; reads = contents-none close element close [] (eq-eqb close close refl) }
@@ -347,7 +323,7 @@ module _ (f : List ℕ → Read Json) (starts : Starts f) (rd : Reader f) where
 
   member-reader : Reader (member lone f)
   member-reader =
-      record { eats = member-eats lone f (rd .eats); takes = member-takes lone f (rd .eats) (rd .takes); faults = member-faults; firm = member-firm }
+      record { consumes = member-consumes lone f (rd .consumes); takes = member-takes lone f (rd .consumes) (rd .takes); faults = member-faults; firm = member-firm }
 
 module _ (arrays objects : List ℕ → Read Json) where
   value-by-starts : Starts (valueBy lone arrays objects)
@@ -391,7 +367,7 @@ pub value-reader : (d : ℕ) → Reader (value lone d)
 unfolding value
 value-reader zero =
     record {
-      eats = value-eats lone zero;
+      consumes = value-consumes lone zero;
       takes = value-takes lone zero;
       faults = value-by-faults (bad tooDeep) (bad tooDeep) too-deep too-deep;
       firm = value-by-firm (bad tooDeep) (bad tooDeep);
@@ -399,7 +375,7 @@ value-reader zero =
 value-reader (suc d) =
     let rd = value-reader d in
     record {
-      eats = value-eats lone (suc d);
+      consumes = value-consumes lone (suc d);
       takes = value-takes lone (suc d);
       faults =
           value-by-faults _ _
@@ -436,8 +412,8 @@ text-faults d l r e = go (f l) refl
         }
     go (done x m) h = rest (blanks m) refl
       where
-        t : Took Ok f l x m
-        t = blanks-takes (value lone d) (rd .eats) (rd .takes) l m x h
+        t : Consumed Ok f l x m
+        t = blanks-takes (value lone d) (rd .consumes) (rd .takes) l m x h
 
         k : List ℕ
         k = blanks-of m .part

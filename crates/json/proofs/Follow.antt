@@ -5,7 +5,8 @@ use Prim.Native.Nat.{ℕ, _+_, _-_, _≤_, _<_}
 use native.Mathlib.Omega.{arith}
 use lib.ListN.{length, drop, getD, drop-of-length-le}
 use borrow.Author.Tests.{eq-eqb, ne-eqb}
-use Rattle.lexeme.proofs.Rests.{at-cons, place-at}
+use Rattle.notation.proofs.Lists.{at-cons}
+use Rattle.lexeme.proofs.Rests.{place-at}
 use Rattle.lexeme.proofs.Spans.{Skipped}
 use Rattle.word.specs.Kinds.{notJson}
 use Rattle.lexeme.specs.declared.Scan.{Scan}
@@ -54,8 +55,8 @@ stops s o (closed q) e = at-bracket {q = q} (cc)
 stops s o (more q) e = let z : _≡_ {A = ℕ} 0 1 = cc in absurd (omega arith)
 stops s o (wrong q) e = at-fault {q = q} (cc)
 
-pub goes-on : (s : List ℕ) (n : ℕ) (a : After) → Next n ≡ turnAt s a → (q : List ℕ) × (a ≡ more q) × (n ≡ length s - length q)
+pub next-at : (s : List ℕ) (n : ℕ) (a : After) → Next n ≡ turnAt s a → (q : List ℕ) × (a ≡ more q) × (n ≡ length s - length q)
 unfolding turnAt
-goes-on s n (closed q) e = let z : _≡_ {A = ℕ} 0 1 = cc in absurd (omega arith)
-goes-on s n (more q) e = (q, refl, (cc))
-goes-on s n (wrong q) e = let z : _≡_ {A = ℕ} 0 1 = cc in absurd (omega arith)
+next-at s n (closed q) e = let z : _≡_ {A = ℕ} 0 1 = cc in absurd (omega arith)
+next-at s n (more q) e = (q, refl, (cc))
+next-at s n (wrong q) e = let z : _≡_ {A = ℕ} 0 1 = cc in absurd (omega arith)

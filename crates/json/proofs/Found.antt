@@ -3,23 +3,26 @@
 use mathlib.Core.Bool.{Bool, true, false}
 use mathlib.Core.List.{List, [], _∷_, _++_, append-assoc}
 use mathlib.Core.Logic.{⊎-elim}
-use mathlib.Core.Path.{_≡_, refl, sym, ap, subst, _∙_}
+use mathlib.Core.Path.{_≡_, refl, sym, ap, _∙_}
 use Prim.Native.Nat.{ℕ, zero, suc, _+_, _≤_, _<_}
 use native.Mathlib.Omega.{arith}
 use lib.Dec.{eqb}
-use lib.ListN.{length, length-append}
-use borrow.Author.Tests.{eqb-true, lt-leb}
+use lib.ListN.{length, drop, length-append}
+use borrow.Author.Tests.{eqb-true}
+use Rattle.notation.proofs.Booleans.{by-test, true-false}
 use Rattle.lexeme.specs.declared.Char.{Char}
 use Rattle.lexeme.specs.declared.Next.{Next}
 use Rattle.lexeme.specs.declared.Next.the-variants.{Quote, Character, Fault}
-use Rattle.lexeme.specs.Read.{made}
 use Rattle.lexeme.specs.Read.Read.{done}
-use Rattle.lexeme.specs.Character.{lone, within, utf2, utf3, utf4, hexValue, hexadecimal, quad, unicode, short, escape, next}
+use Rattle.word.specs.Kinds.{notJson}
+use Rattle.lexeme.specs.declared.Quad.the-variants.{Short}
+use Rattle.lexeme.specs.Character.{lone, byte, within, char2, char3, char4, utf2, utf3, utf4, hexValue, hexadecimal, quad, unicode, short, escape, next}
 use Rattle.lexeme.specs.inner.Lead.{Lead, lead, nextBy}
 use Rattle.lexeme.specs.inner.Lead.Lead.{plain, quote, backslash, wrong, two, threeE0, three, threeED, fourF0, four, fourF4}
 use Rattle.lexeme.specs.Numbers.{either}
 use Rattle.lexeme.specs.Strings.{string}
-use Rattle.lexeme.proofs.Steps.{by-test, true-false, bad-done, done-rest, made-done, made-reads, string-empty, string-quote, string-fault}
+use Rattle.lexeme.proofs.Steps.{bad-done, done-rest, made-done, made-reads, string-empty, string-quote, string-fault}
+use Rattle.lexeme.proofs.Rows.{front, front-splits, row, Strict, Each, Decided, all-met, failed, decided}
 use Rattle.lexeme.proofs.Local.{quote-byte}
 use Rattle.lexeme.proofs.Lone.{bare}
 use Rattle.json.specs.Grammar as Grammar
@@ -42,76 +45,30 @@ record First (l : List ℕ) : Type 0 where
   splits : l ≡ part ++ rest
   is : Grammar.Char part
 
--- the bytes after a first one, in their ranges
-none-below : (lo hi : ℕ) → 0 < lo → within lo hi 0 ≡ false
-unfolding within
-none-below lo hi h = rw (lt-leb lo 0 h, within)
-
-module _ (a : ℕ) (x : Char) where
-  first2 : (m : List ℕ) → utf2 (a ∷ m) ≡ Character x → ((b : ℕ) → tail b ≡ true → Grammar.Char (a ∷ b ∷ [])) → First (a ∷ m)
-  unfolding utf2 tail within
-  first2 [] e k = never e
-  first2 (b ∷ q) e k =
-      by-test (within 0x80 0xbf b) (λ h. record { part = a ∷ b ∷ []; rest = q; splits = refl; is = k b h }) (λ h. never (rw (h, utf2) at e))
-
-  module _ (lo hi : ℕ) (some : 0 < lo) where
-    first3 : (m : List ℕ) → utf3 lo hi (a ∷ m) ≡ Character x
-        → ((b c : ℕ) → within lo hi b ≡ true → tail c ≡ true → Grammar.Char (a ∷ b ∷ c ∷ [])) → First (a ∷ m)
-    unfolding utf3 tail
-    first3 [] e k = never (rw (none-below lo hi some, utf3) at e)
-    first3 (b ∷ []) e k =
-        by-test (within lo hi b) (λ h. never (rw (h, none-below 0x80 0xbf (omega arith), utf3) at e)) (λ h. never (rw (h, utf3) at e))
-    first3 (b ∷ c ∷ q) e k =
-        by-test (within lo hi b)
-        (λ h. by-test (within 0x80 0xbf c) (λ i. record { part = a ∷ b ∷ c ∷ []; rest = q; splits = refl; is = k b c h i }) (λ i. never (rw (h, i, utf3) at e)))
-        (λ h. never (rw (h, utf3) at e))
-
-    first4 : (m : List ℕ) → utf4 lo hi (a ∷ m) ≡ Character x
-        → ((b c d : ℕ) → within lo hi b ≡ true → tail c ≡ true → tail d ≡ true → Grammar.Char (a ∷ b ∷ c ∷ d ∷ [])) → First (a ∷ m)
-    unfolding utf4 tail
-    first4 [] e k = never (rw (none-below lo hi some, utf4) at e)
-    first4 (b ∷ []) e k =
-        by-test (within lo hi b) (λ h. never (rw (h, none-below 0x80 0xbf (omega arith), utf4) at e)) (λ h. never (rw (h, utf4) at e))
-    first4 (b ∷ c ∷ []) e k =
-        by-test (within lo hi b)
-        (λ h. by-test (within 0x80 0xbf c) (λ i. never (rw (h, i, none-below 0x80 0xbf (omega arith), utf4) at e)) (λ i. never (rw (h, i, utf4) at e)))
-        (λ h. never (rw (h, utf4) at e))
-    first4 (b ∷ c ∷ d ∷ q) e k =
-        by-test (within lo hi b)
-        (λ h. by-test (within 0x80 0xbf c)
-        (λ i. by-test (within 0x80 0xbf d) (λ j. record { part = a ∷ b ∷ c ∷ d ∷ []; rest = q; splits = refl; is = k b c d h i j }) (λ j. never (rw (h, i, j, utf4) at e)))
-        (λ i. never (rw (h, i, utf4) at e)))
-        (λ h. never (rw (h, utf4) at e))
+-- the bytes of the text l that meet the tests, from its second on, make one
+row-first : {x : Char} (whole : Next) (ts : List (ℕ → Bool)) → Strict ts → (l : List ℕ) → 0 < length l → row (Fault notJson) ts 1 whole l ≡ Character x
+    → (Each ts 1 l → Grammar.Char (front (1 + length ts) 0 l)) → First l
+row-first whole ts s l some e char = go (decided (Fault notJson) ts s 1 l some)
+  where
+    go : Decided (Fault notJson) ts 1 l → First l
+    go (all-met p each f) =
+        record { part = front (1 + length ts) 0 l; rest = drop (1 + length ts) l; splits = front-splits (1 + length ts) l p; is = char each }
+    go (failed n i p f) = never (sym (f whole l (λ j k. refl)) ∙ e)
 
 -- an escape
-no-digit : hexadecimal 0 ≡ false
-unfolding hexadecimal hexValue within
-no-digit = refl
-
 first-unicode : (m : List ℕ) (x : Char) (l : List ℕ) → unicode lone l (quad m) ≡ Character x → First (0x5c ∷ 0x75 ∷ m)
-unfolding unicode quad
-first-unicode [] x l e = never (rw (no-digit, quad) at e)
-first-unicode (a ∷ []) x l e = by-test (hexadecimal a) (λ h. never (rw (h, no-digit, quad) at e)) (λ h. never (rw (h, quad) at e))
-first-unicode (a ∷ b ∷ []) x l e =
-    by-test (hexadecimal a)
-    (λ h. by-test (hexadecimal b) (λ i. never (rw (h, i, no-digit, quad) at e)) (λ i. never (rw (h, i, quad) at e)))
-    (λ h. never (rw (h, quad) at e))
-first-unicode (a ∷ b ∷ c ∷ []) x l e =
-    by-test (hexadecimal a)
-    (λ h. by-test (hexadecimal b)
-    (λ i. by-test (hexadecimal c) (λ j. never (rw (h, i, j, no-digit, quad) at e)) (λ j. never (rw (h, i, j, quad) at e)))
-    (λ i. never (rw (h, i, quad) at e)))
-    (λ h. never (rw (h, quad) at e))
-first-unicode (a ∷ b ∷ c ∷ d ∷ q) x l e =
-    by-test (hexadecimal a)
-    (λ h. by-test (hexadecimal b)
-    (λ i. by-test (hexadecimal c)
-    (λ j. by-test (hexadecimal d)
-    (λ k. record { part = 0x5c ∷ 0x75 ∷ a ∷ b ∷ c ∷ d ∷ []; rest = q; splits = refl; is = Grammar.Char.unicode (hex-back a h) (hex-back b i) (hex-back c j) (hex-back d k) })
-    (λ k. never (rw (h, i, j, k, quad) at e)))
-    (λ j. never (rw (h, i, j, quad) at e)))
-    (λ i. never (rw (h, i, quad) at e)))
-    (λ h. never (rw (h, quad) at e))
+unfolding unicode quad row hexadecimal hexValue within
+first-unicode m x l e = go (decided Short (hexadecimal ∷ hexadecimal ∷ hexadecimal ∷ hexadecimal ∷ []) (refl, (refl, (refl, (refl, tt)))) 0 m (omega arith))
+  where
+    go : Decided Short (hexadecimal ∷ hexadecimal ∷ hexadecimal ∷ hexadecimal ∷ []) 0 m → First (0x5c ∷ 0x75 ∷ m)
+    go (all-met p h f) =
+        record {
+          part = 0x5c ∷ 0x75 ∷ front 4 0 m;
+          rest = drop 4 m;
+          splits = ap (λ q. 0x5c ∷ 0x75 ∷ q) (front-splits 4 m p);
+          is = Grammar.Char.unicode (hex-back _ (h .0)) (hex-back _ (h .1 .0)) (hex-back _ (h .1 .1 .0)) (hex-back _ (h .1 .1 .1 .0));
+        }
+    go (failed n i p f) = never (sym (ap (unicode lone l) (f _ m (λ j k. refl))) ∙ e)
 
 short-back : (b : ℕ) → eqb (short b) 0 ≡ false → escapable b ≡ true
 unfolding short escapable either
@@ -137,23 +94,33 @@ first-escape (b ∷ q) x e =
 
 -- every character
 first-char : (b : ℕ) (m : List ℕ) (x : Char) → next lone (b ∷ m) ≡ Character x → First (b ∷ m)
-unfolding nextBy tail
+unfolding nextBy tail utf2 utf3 utf4 row within
 first-char b m x e = go (lead b) refl (sym (next-by lone (b ∷ m)) ∙ e)
   where
+    three-first : (lo hi : ℕ) → within lo hi 0 ≡ false → utf3 lo hi (b ∷ m) ≡ Character x
+        → (Each (within lo hi ∷ tail ∷ []) 1 (b ∷ m) → Grammar.Char (front 3 0 (b ∷ m))) → First (b ∷ m)
+    three-first lo hi s = row-first (char3 b (byte m 0) (byte m 1) 2) (within lo hi ∷ tail ∷ []) (s, (refl, tt)) (b ∷ m) (omega arith)
+
+    four-first : (lo hi : ℕ) → within lo hi 0 ≡ false → utf4 lo hi (b ∷ m) ≡ Character x
+        → (Each (within lo hi ∷ tail ∷ tail ∷ []) 1 (b ∷ m) → Grammar.Char (front 4 0 (b ∷ m))) → First (b ∷ m)
+    four-first lo hi s = row-first (char4 b (byte m 0) (byte m 1) (byte m 2) 3) (within lo hi ∷ tail ∷ tail ∷ []) (s, (refl, (refl, tt))) (b ∷ m) (omega arith)
+
     go : (t : Lead) → lead b ≡ t → nextBy lone (b ∷ m) t ≡ Character x → First (b ∷ m)
     go plain h i = record { part = b ∷ []; rest = m; splits = refl; is = Grammar.Char.utf1 (ranged b h) }
     go quote h i = no-quote i
     go backslash h i = rw (ranged b h) (first-escape m x (rw (ranged b h) at i))
     go wrong h i = never i
-    go two h i = first2 b x m i (λ c t. Grammar.Char.utf2 (ranged b h) t)
-    go threeE0 h i = rw (ranged b h) (first3 0xe0 x 0xa0 0xbf (omega arith) m (rw (ranged b h) at i) (λ c d u t. Grammar.Char.utf3-e0 u t))
+    go two h i =
+        row-first (char2 b (byte m 0) 1) (tail ∷ []) (refl, tt) (b ∷ m) (omega arith)
+        (by-test (tail (byte m 0)) (λ a. rw a) (λ a. rw a) ∙ i) (λ t. Grammar.Char.utf2 (ranged b h) (t .0))
+    go threeE0 h i = three-first 0xa0 0xbf refl i (λ t. rw (ranged b h) (Grammar.Char.utf3-e0 (t .0) (t .1 .0)))
     go three h i =
-        ⊎-elim (λ w. first3 b x 0x80 0xbf (omega arith) m i (λ c d u t. Grammar.Char.utf3-e1 w u t))
-        (λ w. first3 b x 0x80 0xbf (omega arith) m i (λ c d u t. Grammar.Char.utf3-ee w u t)) (ranged b h)
-    go threeED h i = rw (ranged b h) (first3 0xed x 0x80 0x9f (omega arith) m (rw (ranged b h) at i) (λ c d u t. Grammar.Char.utf3-ed u t))
-    go fourF0 h i = rw (ranged b h) (first4 0xf0 x 0x90 0xbf (omega arith) m (rw (ranged b h) at i) (λ c d f u t v. Grammar.Char.utf4-f0 u t v))
-    go four h i = first4 b x 0x80 0xbf (omega arith) m i (λ c d f u t v. Grammar.Char.utf4-f1 (ranged b h) u t v)
-    go fourF4 h i = rw (ranged b h) (first4 0xf4 x 0x80 0x8f (omega arith) m (rw (ranged b h) at i) (λ c d f u t v. Grammar.Char.utf4-f4 u t v))
+        three-first 0x80 0xbf refl i (λ t.
+        ⊎-elim (λ w. Grammar.Char.utf3-e1 w (t .0) (t .1 .0)) (λ w. Grammar.Char.utf3-ee w (t .0) (t .1 .0)) (ranged b h))
+    go threeED h i = three-first 0x80 0x9f refl i (λ t. rw (ranged b h) (Grammar.Char.utf3-ed (t .0) (t .1 .0)))
+    go fourF0 h i = four-first 0x90 0xbf refl i (λ t. rw (ranged b h) (Grammar.Char.utf4-f0 (t .0) (t .1 .0) (t .1 .1 .0)))
+    go four h i = four-first 0x80 0xbf refl i (λ t. Grammar.Char.utf4-f1 (ranged b h) (t .0) (t .1 .0) (t .1 .1 .0))
+    go fourF4 h i = four-first 0x80 0x8f refl i (λ t. rw (ranged b h) (Grammar.Char.utf4-f4 (t .0) (t .1 .0) (t .1 .1 .0)))
 
 -- a string up to its closing quote, in a text of at most n bytes
 abbrev Closed : List ℕ → List ℕ → Type 0

@@ -1,17 +1,15 @@
 -- RFC 3629's ranges of first bytes, and RFC 8259's unescaped characters of one byte, against `lead`, both ways.
-use mathlib.Core.Bool.{Bool, true, false}
-use mathlib.Core.List.{List, [], _∷_, _++_}
+use mathlib.Core.Bool.{true}
 use mathlib.Core.Logic.{_⊎_, inl, inr}
-use mathlib.Core.Path.{_≡_, refl, sym, ap, subst, _∙_}
-use Prim.Native.Nat.{ℕ, suc, _+_, _≤_, _<_}
+use mathlib.Core.Path.{_≡_, subst}
+use Prim.Native.Nat.{ℕ, _≤_, _<_}
 use native.Mathlib.Omega.{arith}
 use lib.Dec.{eqb, leb, ltb}
 use borrow.Author.Tests.{eqb-true, ne-eqb, eqb-false, lt-ltb, le-ltb, le-leb, leb-true, ltb-true, ltb-false}
-use Rattle.notation.specs.Choice.{_⇒_else_}
+use Rattle.notation.proofs.Booleans.{by-test, true-false}
 use Rattle.lexeme.specs.Character.{within}
 use Rattle.lexeme.specs.inner.Lead.{Lead, lead}
 use Rattle.lexeme.specs.inner.Lead.Lead.{plain, quote, backslash, wrong, two, threeE0, three, threeED, fourF0, four, fourF4}
-use Rattle.lexeme.proofs.Steps.{by-test, true-false}
 use Rattle.json.specs.Grammar.{unescaped}
 
 -- a number between two bounds
@@ -72,7 +70,7 @@ module _ (b : ℕ) where
   lead-four e = let p = bounds 0xf1 0xf3 b e in
       rw (ne-eqb b 0x22 (λ z. omega arith), ne-eqb b 0x5c (λ z. omega arith), le-ltb b 0x20 (omega arith), le-ltb b 0x80 (omega arith), le-ltb b 0xc2 (omega arith), le-ltb b 0xe0 (omega arith), ne-eqb b 0xe0 (λ z. omega arith), ne-eqb b 0xed (λ z. omega arith), le-ltb b 0xf0 (omega arith), ne-eqb b 0xf0 (λ z. omega arith), lt-ltb b 0xf4 (omega arith), lead)
 
--- and back: what a first byte is, by its lead
+-- what a first byte is, by its lead
 abbrev Range : ℕ → Lead → Type 0
 Range b plain = unescaped b ≡ true
 Range b quote = b ≡ 0x22

@@ -11,14 +11,14 @@ use Rattle.word.specs.Kinds.{tooLong, notJson, unpaired, tooDeep}
 use Rattle.lexeme.specs.Read.{Read}
 use Rattle.lexeme.specs.Read.Read.{bad}
 use Rattle.lexeme.specs.Character.{Surrogates, paired, lone}
-use Rattle.lexeme.proofs.Reading.{rest, Goes}
+use Rattle.lexeme.proofs.Reading.{rest, Relaxed}
 use Rattle.json.specs.declared.Syntax.the-variants.{Fault}
 use Rattle.json.specs.Tree.{Json}
 use Rattle.json.specs.Text.{text, syntaxOf}
 use Rattle.json.proofs.FaultKinds.{Kind, grammar, surrogate, levels}
 use Rattle.json.proofs.Shrinks.{Ends, text-ends}
-use Rattle.json.proofs.Goes.{text-goes-surrogates, text-goes-depth, text-goes-both, faults-too, goes-past}
-use Rattle.json.proofs.Verdict.{Met, met}
+use Rattle.json.proofs.Relaxed.{text-relaxed-surrogates, text-relaxed-depth, text-relaxed-both, faults-too, relaxed-past}
+use Rattle.json.proofs.Verdict.{FaultRead, met}
 
 -- the rules, by the kinds of their faults
 abbrev pub Grammar : ℕ → Type 0
@@ -80,12 +80,12 @@ any-kind d n k r (levels i some f) = inr (inr i)
 
 -- a laxer reading whose kinds are those that it does not drop
 by : {K D : ℕ → Type 0} {k : ℕ} {r : List ℕ} {o p : Read Json}
-    → Goes D o p → o ≡ bad k r → ((n : ℕ) (q : List ℕ) → p ≡ bad n q → K n) → (D k → K k → ⊥) → By K k r p
+    → Relaxed D o p → o ≡ bad k r → ((n : ℕ) (q : List ℕ) → p ≡ bad n q → K n) → (D k → K k → ⊥) → By K k r p
 by {k = k} {r} goes e only apart =
     record {
       only = only;
       meets = λ has. faults-too goes e (λ dropped. apart dropped has);
-      passes = λ lacks. goes-past goes e (λ i. lacks (only k r i));
+      passes = λ lacks. relaxed-past goes e (λ i. lacks (only k r i));
     }
 
 pub least : (s : List ℕ) (k : ℕ) (r : List ℕ) → text paired depth s ≡ bad k r → Least s k r
@@ -94,9 +94,9 @@ least s k r e =
     record {
       kind = any-kind depth (length s) k r (all .1);
       inside = all .0;
-      byGrammar = λ d h long. by (text-goes-both h s) e (λ n q i. only-grammar d (length s) n q long (kind-of lone d n s q i .1)) both;
-      byPairing = λ d h long. by (text-goes-depth paired h s) e (λ n q i. only-pairing d (length s) n q long (kind-of paired d n s q i .1)) deep;
-      byLevels = by (text-goes-surrogates depth s) e (λ n q i. only-levels depth (length s) n q (kind-of lone depth n s q i .1)) alone;
+      byGrammar = λ d h long. by (text-relaxed-both h s) e (λ n q i. only-grammar d (length s) n q long (kind-of lone d n s q i .1)) both;
+      byPairing = λ d h long. by (text-relaxed-depth paired h s) e (λ n q i. only-pairing d (length s) n q long (kind-of paired d n s q i .1)) deep;
+      byLevels = by (text-relaxed-surrogates depth s) e (λ n q i. only-levels depth (length s) n q (kind-of lone depth n s q i .1)) alone;
     }
   where
     both : (k ≡ unpaired) ⊎ (k ≡ tooDeep) → Grammar k → ⊥
@@ -111,6 +111,6 @@ least s k r e =
     alone i (inl h) = omega arith
     alone i (inr h) = omega arith
 
--- the same of the verdict: its offset is where the fault's rest begins
-pub verdict-least : (s : List ℕ) (k n : ℕ) → syntaxOf s ≡ Fault k n → (k ≡ tooLong → ⊥) → (m : Met s k n) × Least s k (m .rest)
+-- the verdict: its offset is where the fault's rest begins
+pub verdict-least : (s : List ℕ) (k n : ℕ) → syntaxOf s ≡ Fault k n → (k ≡ tooLong → ⊥) → (m : FaultRead s k n) × Least s k (m .rest)
 verdict-least s k n e other = let m = met s k n e other in (m, least s k (m .rest) (m .reads))

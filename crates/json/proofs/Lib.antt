@@ -1,10 +1,11 @@
+pub mod StringEnds
 pub mod Steps
 pub mod Bound
-pub mod Takes
+pub mod StrongPrefixes
 pub mod FaultKinds
 pub mod Shrinks
 pub mod Local
-pub mod Goes
+pub mod Relaxed
 pub mod Follow
 pub mod Loops
 pub mod Values
@@ -23,5 +24,5 @@ pub mod Prefix
 pub mod Least
 pub mod Balanced
 pub mod Surrogates
-pub mod Holds
+pub mod FaultPlaces
 pub mod Places

@@ -11,7 +11,7 @@ use Rattle.lexeme.specs.Character.{Surrogates}
 use Rattle.lexeme.proofs.Reading.Ok.{stops}
 use Rattle.json.specs.Tree.{Json}
 use Rattle.json.specs.Text.{value}
-use Rattle.json.proofs.Takes.{value-takes}
+use Rattle.json.proofs.StrongPrefixes.{value-takes}
 
 module _ (ρ : Surrogates) (d : ℕ) (x : Json) where
   pub value-local : (p q : List ℕ) → value ρ d (p ++ q) ≡ done x q → value ρ d p ≡ done x []

@@ -6,14 +6,14 @@ use mathlib.Core.Path.{_≡_, refl, sym, ap, subst, _∙_}
 use Prim.Native.Nat.{ℕ}
 use native.Mathlib.Omega.{arith}
 use lib.Dec.{eqb}
-use borrow.Author.Tests.{eqb-true, eqb-false, ne-eqb, eq-eqb}
-use Rattle.notation.specs.Ascii.{bytes}
-use Rattle.lexeme.specs.Read.{Read, made}
+use borrow.Author.Tests.{eqb-true, eqb-false, ne-eqb}
+use Rattle.notation.proofs.Booleans.{by-test}
+use Rattle.lexeme.specs.Read.{Read}
 use Rattle.lexeme.specs.Read.Read.{done}
 use Rattle.lexeme.specs.Character.{within}
 use Rattle.lexeme.specs.Numbers.{digit, either, digits, someDigits, optional, both, nothing, integer, minus, fraction, exponent, number}
-use Rattle.lexeme.proofs.Steps.{by-test, true-false, bad-done, done-what, done-rest, made-done, made-reads, digits-more, digits-stop, someDigits-more, someDigits-none, integer-zero, integer-digits, optional-there, optional-absent, both-reads}
-use Rattle.lexeme.proofs.Takes.{both-done}
+use Rattle.lexeme.proofs.Steps.{bad-done, done-what, made-done, made-reads, digits-more, digits-stop, someDigits-more, someDigits-none, integer-zero, integer-digits, optional-there, optional-absent, both-reads}
+use Rattle.lexeme.proofs.StrongPrefixes.{both-done}
 use Rattle.json.specs.Grammar.{Digits, Int, Frac, Exp, Number}
 use Rattle.json.proofs.Leads.{between, bounds}
 
@@ -120,7 +120,7 @@ number-passed (Number.plain a b c) = both-reads minus _ _ (no-minus a _) ∙ mad
 number-passed (Number.minus a b c) =
     both-reads minus _ _ (optional-there 0x2d (λ b. eqb b 0x2d) nothing _ refl ∙ made-reads {x = []} (λ y. 0x2d ∷ y) refl) ∙ made-reads (λ y. (0x2d ∷ []) ++ y) (parts-run a b c)
 
--- and back
+-- what is read as a number is one of the grammar's
 digits-found : (l : List ℕ) (b : ℕ) → digit b ≡ true → (x r : List ℕ) → digits l ≡ done x r → Digits (b ∷ x)
 digits-found [] b d x r e = unfold digits in subst (λ (z : List ℕ). Digits (b ∷ z)) (done-what e) (Digits.one d)
 digits-found (c ∷ l) b d x r e =

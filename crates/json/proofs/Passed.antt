@@ -11,7 +11,7 @@ use Rattle.lexeme.specs.Character.{lone}
 use Rattle.lexeme.specs.Strings as Strings
 use Rattle.lexeme.specs.Tokens.{blanks}
 use Rattle.lexeme.specs.inner.Start.{start}
-use Rattle.lexeme.proofs.Reading.{Eats, Stops}
+use Rattle.lexeme.proofs.Reading.{Consumes, Stops}
 use Rattle.lexeme.proofs.Steps.{bad-done, made-reads, made-done, then-reads, then-done, blanks-stop}
 use Rattle.json.specs.Cases.{reading}
 use Rattle.json.specs.Tree.{Json, asItems, asMembers}
@@ -20,17 +20,17 @@ use Rattle.json.specs.Spelling as Spelling
 use Rattle.json.specs.Spelling.{Padded, Listed}
 use Rattle.json.specs.Grammar.{String, Scalar, Elements, Enclosed, Member, Nested, Value, IsText}
 use Rattle.json.proofs.Steps.{expect-here, named, member-then}
-use Rattle.json.proofs.Takes.{value-eats, member-eats}
+use Rattle.json.proofs.StrongPrefixes.{value-consumes, member-consumes}
 use Rattle.json.proofs.Faults.{Closing, square, curly}
 use Rattle.json.proofs.Numerals.{number-passed, number-found}
 use Rattle.json.proofs.Chars.{chars-read}
 use Rattle.json.proofs.Found.{string-found}
 use Rattle.json.proofs.Spelled.{skipped, before-stops, Begun, begun-solid, Reads, Accepts, between-begun, between-more, colon-solid, number-begun, enclosed-read, plain-value, number-reads, array-opens, object-opens}
-use Rattle.json.proofs.Spellings.{Front, Finds, blanks-front, front-of, joined, bracketed-finds, expect-done, finish-done, padded-front, value-by-finds}
+use Rattle.json.proofs.Spellings.{between, Front, Finds, blanks-front, front-of, joined, bracketed-finds, expect-done, finish-done, padded-front, value-by-finds}
 
 -- Forwards. f reads something off every text of the rule S, and each begins as a value does.
 record Passes {A : Type 0} (f : List ℕ → Read A) (S : List ℕ → Type 0) : Type 0 where
-  eats : Eats f
+  consumes : Consumes f
   begins : (s : List ℕ) → S s → Begun s
   reads : (s : List ℕ) → S s → (x : A) × Reads f x s
 
@@ -40,7 +40,7 @@ module _ {A : Type 0} {f : List ℕ → Read A} {S : List ℕ → Type 0} (k : P
   With x s = S s × Reads f x s
 
   accepts : Accepts f With
-  accepts = record { eats = k .eats; begins = λ x s h. k .begins s (h .0); reads = λ x s h. h .1 }
+  accepts = record { consumes = k .consumes; begins = λ x s h. k .begins s (h .0); reads = λ x s h. h .1 }
 
   listed : {s : List ℕ} → Elements S s → (xs : List A) × Listed With xs s
   listed (Elements.last {s} y) = let r = k .reads s y in (r .0 ∷ [], Listed.last (y, r .1))
@@ -66,7 +66,7 @@ string-passed (String.quoted {s} k) =
     )
 
 members : {f : List ℕ → Read Json} {S : List ℕ → Type 0} → Passes f S → Passes (member lone f) (Member S)
-members {f} {S} k = record { eats = member-eats lone f (k .eats); begins = first; reads = all-of }
+members {f} {S} k = record { consumes = member-consumes lone f (k .consumes); begins = first; reads = all-of }
   where
     first : (s : List ℕ) → Member S s → Begun s
     first s (Member.colon {n} {w} {u} {v} name a b y) = between-begun n w (0x3a ∷ []) u v (string-begun name)
@@ -130,8 +130,8 @@ nested-reads d k (Nested.object {s} ms) =
     )
 
 values : (d : ℕ) → Passes (value lone d) (Value d)
-values zero = record { eats = value-eats lone zero; begins = λ s. scalar-begun; reads = λ s. scalar-reads zero }
-values (suc d) = let k = values d in record { eats = value-eats lone (suc d); begins = λ s. nested-begun; reads = λ s. nested-reads d k }
+values zero = record { consumes = value-consumes lone zero; begins = λ s. scalar-begun; reads = λ s. scalar-reads zero }
+values (suc d) = let k = values d in record { consumes = value-consumes lone (suc d); begins = λ s. nested-begun; reads = λ s. nested-reads d k }
 
 padded-read : (d : ℕ) {s : List ℕ} → Padded (Value d) s → (x : Json) × (text lone d s ≡ done x [])
 unfolding text finish blanks
@@ -154,13 +154,7 @@ enclosed-of (Spelling.Enclosed.nothing w) = Enclosed.nothing w
 enclosed-of (Spelling.Enclosed.elements (Padded.padded a ys d)) = Enclosed.elements (Padded.padded a (listed-of ys) d)
 
 quoted-front : (l y r : List ℕ) → Strings.string lone 0 l ≡ done y r → Front String (0x22 ∷ l) r
-quoted-front l y r e =
-    let c = string-found l y r e in
-    record {
-      part = bytes "\"" ++ c .0 ++ bytes "\"";
-      splits = ap (λ (m : List ℕ). 0x22 ∷ m) (c .1 ∙ sym (append-assoc (c .0) (0x22 ∷ []) r));
-      spells = String.quoted (c .2);
-    }
+quoted-front l y r e = let c = string-found l y r e in between 0x22 0x22 (c .0) (c .1) (String.quoted (c .2))
 
 member-finds : {f : List ℕ → Read Json} {S : List ℕ → Type 0} → Finds f (λ x. S) → Finds (member lone f) (λ m. Member S)
 unfolding member
@@ -198,16 +192,16 @@ value-finds zero =
     Scalar.yes Scalar.no Scalar.null (λ l r x e. bad-done e) (λ l r x e. bad-done e)
 value-finds (suc d) =
     let ih = value-finds d in
-    let eats = value-eats lone d in
+    let consumes = value-consumes lone d in
     value-by-finds lone _ _ (λ x. Nested (Value d)) (λ l y r e. widened (λ s k. Nested.scalar (Scalar.string k)) (quoted-front l y r e))
     (λ n e. Nested.scalar (Scalar.number (number-found n n [] e))) (Nested.scalar Scalar.yes) (Nested.scalar Scalar.no) (Nested.scalar Scalar.null)
     (λ l r x e.
     let m = made-done (λ xs. Json.array (asItems xs)) (bracketed 0x5d (value lone d) l) x r e in
-    closing 0x5b 0x5d (λ s k. Nested.array (enclosed-of k)) (bracketed-finds 0x5d eats ih l r (m .0) (m .1)))
+    closing 0x5b 0x5d (λ s k. Nested.array (enclosed-of k)) (bracketed-finds 0x5d consumes ih l r (m .0) (m .1)))
     (λ l r x e.
     let m = made-done (λ ms. Json.object (asMembers ms)) (bracketed 0x7d (member lone (value lone d)) l) x r e in
     closing 0x7b 0x7d (λ s k. Nested.object (enclosed-of k))
-    (bracketed-finds 0x7d (member-eats lone (value lone d) eats) (member-finds ih) l r (m .0) (m .1)))
+    (bracketed-finds 0x7d (member-consumes lone (value lone d) consumes) (member-finds ih) l r (m .0) (m .1)))
 
 -- The theorem, both ways: a text is of the grammar exactly where, with enough levels, the lax reader reads some tree to its end.
 pub grammar-reads : {l : List ℕ} → IsText l → (levels : ℕ) × (tree : Json) × (text lone levels l ≡ done tree [])

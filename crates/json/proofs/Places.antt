@@ -15,7 +15,7 @@ use Rattle.lexeme.specs.Strings as Strings
 use Rattle.lexeme.specs.Tokens.{blanks}
 use Rattle.lexeme.proofs.Reading.{rest}
 use Rattle.lexeme.proofs.Steps.{then-done, bad-kind, bad-rest}
-use Rattle.lexeme.proofs.Goes.{string-goes}
+use Rattle.lexeme.proofs.Relaxed.{string-relaxed}
 use Rattle.json.specs.Cases.{reading}
 use Rattle.json.specs.declared.Syntax.the-variants.{Fault}
 use Rattle.json.specs.Tree.{Json}
@@ -24,7 +24,7 @@ use Rattle.json.specs.Grammar.{IsText, Begins}
 use Rattle.json.specs.Spelling.{Spells}
 use Rattle.json.specs.Places.{outside, inside, along, Unpaired, UnpairedAt, TooDeepAt}
 use Rattle.json.proofs.FaultKinds.{Kind, grammar, surrogate, levels, string-kind}
-use Rattle.json.proofs.Goes.{ends-too}
+use Rattle.json.proofs.Relaxed.{ends-too}
 use Rattle.json.proofs.Faults.{text-faults}
 use Rattle.json.proofs.Found.{string-found}
 use Rattle.json.proofs.Spellings.{finish-done, read-spells}
@@ -34,16 +34,16 @@ use Rattle.json.proofs.Prefix.{before}
 use Rattle.json.proofs.Least.{By, Grammar, least}
 use Rattle.json.proofs.Balanced.{chars-within}
 use Rattle.json.proofs.Surrogates.{string-stuck}
-use Rattle.json.proofs.Holds.{Held, Holds, Bracket, text-holds}
+use Rattle.json.proofs.FaultPlaces.{FaultPlace, FaultPlaces, Bracket, text-places}
 
 -- Kind 3: a quotation mark can stand at the fault, inside a string, at any level.
 abbrev AnyLevel : ℕ → ℕ → Type 0
 AnyLevel d m = Unit {0}
 
-strings-unpaired : (d : ℕ) → Holds unpaired Unpaired 0x22 inside AnyLevel inside (Strings.string paired 0) d
+strings-unpaired : (d : ℕ) → FaultPlaces unpaired Unpaired 0x22 inside AnyLevel inside (Strings.string paired 0) d
 strings-unpaired d l r e =
     let s = string-stuck 0 l r e in
-    let c = string-found (s .part ++ (0x22 ∷ [])) (s .decoded) [] (ends-too (string-goes 0 (s .part ++ (0x22 ∷ []))) (s .reads)) in
+    let c = string-found (s .part ++ (0x22 ∷ [])) (s .decoded) [] (ends-too (string-relaxed 0 (s .part ++ (0x22 ∷ []))) (s .reads)) in
     record {
       part = s .part;
       splits = s .splits;
@@ -56,10 +56,10 @@ strings-unpaired d l r e =
       alive = s .reads;
     }
 
-text-unpaired : (d : ℕ) → Holds unpaired Unpaired 0x22 inside AnyLevel outside (text paired d) d
+text-unpaired : (d : ℕ) → FaultPlaces unpaired Unpaired 0x22 inside AnyLevel outside (text paired d) d
 unfolding reading
 text-unpaired =
-    text-holds unpaired Unpaired 0x22 inside AnyLevel (λ i. omega arith) refl refl refl (λ d m i. tt) strings-unpaired
+    text-places unpaired Unpaired 0x22 inside AnyLevel (λ i. omega arith) refl refl refl (λ d m i. tt) strings-unpaired
     (λ b l r h i. absurd (let n : _≡_ {A = ℕ} 4 3 = bad-kind i in omega arith))
 
 -- Kind 4: a bracket, at which a number could stand, with all levels open.
@@ -81,7 +81,7 @@ no-level l r e = go (string-kind paired 0 0 0 tooDeep l r e)
     go (levels i some f) = omega arith
 
 at-bracket : (b : ℕ) (l r : List ℕ) → Bracket b → _≡_ {A = Read Json} (bad tooDeep (b ∷ l)) (bad tooDeep r)
-    → Held tooDeep Opens 0x30 outside AllOpen outside (value paired 0) 0 (b ∷ l) r
+    → FaultPlace tooDeep Opens 0x30 outside AllOpen outside (value paired 0) 0 (b ∷ l) r
 unfolding reading along
 at-bracket b l r h e =
     record {
@@ -96,10 +96,10 @@ at-bracket b l r h e =
       alive = refl;
     }
 
-text-deep : (d : ℕ) → Holds tooDeep Opens 0x30 outside AllOpen outside (text paired d) d
+text-deep : (d : ℕ) → FaultPlaces tooDeep Opens 0x30 outside AllOpen outside (text paired d) d
 unfolding reading
 text-deep =
-    text-holds tooDeep Opens 0x30 outside AllOpen (λ i. omega arith) refl refl refl (λ d m i. omega arith) (λ d l r e. absurd (no-level l r e)) at-bracket
+    text-places tooDeep Opens 0x30 outside AllOpen (λ i. omega arith) refl refl refl (λ d m i. omega arith) (λ d l r e. absurd (no-level l r e)) at-bracket
 
 -- the two sides of the place n
 module _ (s p r : List ℕ) (n : ℕ) (e : s ≡ p ++ r) (at : length s - length r ≡ n) where
@@ -113,9 +113,9 @@ module _ (s p r : List ℕ) (n : ℕ) (e : s ≡ p ++ r) (at : length s - length
   onward = ap (drop n) e ∙ drop-at p r n size
 
 -- what stands before, with another byte behind it, is read to its end: so it spells its tree
-going-on : (s p : List ℕ) (c : ℕ) (v : List ℕ) (n : ℕ) (x : Json) → take n s ≡ p → text paired depth (p ++ (c ∷ v)) ≡ done x []
+front-text : (s p : List ℕ) (c : ℕ) (v : List ℕ) (n : ℕ) (x : Json) → take n s ≡ p → text paired depth (p ++ (c ∷ v)) ≡ done x []
     → Spells depth x (take n s ++ (c ∷ []) ++ v)
-going-on s p c v n x e reads =
+front-text s p c v n x e reads =
     subst (Spells depth x) (ap (λ (m : List ℕ). m ++ (c ∷ v)) (sym e) ∙ sym (append-assoc (take n s) (c ∷ []) v)) (read-spells depth x (p ++ (c ∷ v)) reads)
 
 pub verdict-unpaired : (s : List ℕ) (n : ℕ) → syntaxOf s ≡ Fault unpaired n → UnpairedAt s n
@@ -129,7 +129,7 @@ verdict-unpaired s n e =
       within-string = ap (along (outside 0)) front ∙ u .leads 0;
       ending = u .ending;
       tree = u .what;
-      before = going-on s (u .part) 0x22 (u .ending) n (u .what) front (u .alive);
+      before = front-text s (u .part) 0x22 (u .ending) n (u .what) front (u .alive);
     }
 
 -- a part of what some JSON text begins with
@@ -189,5 +189,5 @@ verdict-deep s n e =
           (allowed s (m .rest) (m .reads) (omega (arith, ap length (b .begins))) (omega (arith, ap length (u .splits) ∙ length-append (u .part) (m .rest))));
       ending = u .ending;
       tree = u .what;
-      before = going-on s (u .part) 0x30 (u .ending) n (u .what) front (u .alive);
+      before = front-text s (u .part) 0x30 (u .ending) n (u .what) front (u .alive);
     }

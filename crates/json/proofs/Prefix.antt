@@ -13,7 +13,7 @@ use Rattle.lexeme.proofs.Steps.{bad-done}
 use Rattle.json.specs.declared.Syntax.the-variants.{Fault}
 use Rattle.json.specs.Text.{text, syntaxOf}
 use Rattle.json.specs.Grammar.{Begins, Longest}
-use Rattle.json.proofs.Goes.{text-goes-surrogates, text-goes-depth, ends-too, faults-too}
+use Rattle.json.proofs.Relaxed.{text-relaxed-surrogates, text-relaxed-depth, ends-too, faults-too}
 use Rattle.json.proofs.Faults.{text-faults}
 use Rattle.json.proofs.Passed.{grammar-reads, reads-grammar}
 use Rattle.json.proofs.Verdict.{met}
@@ -32,7 +32,7 @@ module _ (s r : List ℕ) (e : text paired depth s ≡ bad notJson r) where
   -- the grammar alone has the same fault, at any number of levels that is enough
   pub by-grammar : (d : ℕ) → depth ≤ d → text lone d s ≡ bad notJson r
   by-grammar d h =
-      faults-too (text-goes-depth lone h s) (faults-too (text-goes-surrogates depth s) e (λ i. omega arith)) (λ i. omega arith)
+      faults-too (text-relaxed-depth lone h s) (faults-too (text-relaxed-surrogates depth s) e (λ i. omega arith)) (λ i. omega arith)
 
   none-longer : (b : ℕ) (w : List ℕ) → r ≡ b ∷ w → Begins (take (length s - length (b ∷ w) + 1) s) → ⊥
   none-longer b w i g =
@@ -43,7 +43,7 @@ module _ (s r : List ℕ) (e : text paired depth s ≡ bad notJson r) where
       let more = before-more s (u .part) b w (u .splits ∙ ap (λ (m : List ℕ). u .part ++ m) i) in
       let same : take (length s - length (b ∷ w) + 1) s ++ v ≡ u .part ++ (b ∷ v) = ap (λ (m : List ℕ). m ++ v) more ∙ append-assoc (u .part) (b ∷ []) v in
       let whole : text lone d (u .part ++ (b ∷ v)) ≡ done (t .1) [] =
-      ends-too (text-goes-depth lone {d = t .0} {e = d} (omega arith) _) (ap (text lone (t .0)) (sym same) ∙ t .2) in
+      ends-too (text-relaxed-depth lone {d = t .0} {e = d} (omega arith) _) (ap (text lone (t .0)) (sym same) ∙ t .2) in
       bad-done (sym (u .dead b w i v) ∙ whole)
 
   pub prefix : Longest s (length s - length r)
@@ -63,6 +63,6 @@ module _ (s r : List ℕ) (e : text paired depth s ≡ bad notJson r) where
       ends [] i h g = omega (arith, ap length i)
       ends (b ∷ w) i h g = none-longer b w i (subst (λ (q : List ℕ). Begins (take (length s - length q + 1) s)) i g)
 
--- the same of the verdict
+-- the offset of kind 2 in the verdict is the longest prefix's length
 pub verdict-prefix : (s : List ℕ) (n : ℕ) → syntaxOf s ≡ Fault notJson n → Longest s n
 verdict-prefix s n e = let m = met s notJson n e (λ i. omega arith) in subst (Longest s) (m .place) (prefix s (m .rest) (m .reads))

@@ -5,6 +5,7 @@ use Prim.Native.Nat.{ℕ, zero, suc, _≤_}
 use native.Mathlib.Omega.{arith}
 use lib.ListN.{length, drop}
 use lib.Dec.{eqb}
+use Rattle.notation.proofs.Booleans.{by-test}
 use Rattle.word.specs.Kinds.{notJson, tooDeep}
 use Rattle.lexeme.specs.Read.{Read, then, made}
 use Rattle.lexeme.specs.Read.Read.{done, bad}
@@ -13,7 +14,6 @@ use Rattle.lexeme.specs.Strings
 use Rattle.lexeme.specs.Numbers
 use Rattle.lexeme.specs.Tokens.{blanks, literal}
 use Rattle.lexeme.proofs.Reading.{rest, Shrinks}
-use Rattle.lexeme.proofs.Steps.{by-test}
 use Rattle.lexeme.proofs.Shrinks.{blanks-shrinks, string-shrinks, number-shrinks, literal-shrinks}
 use Rattle.json.specs.Tree.{Json}
 use Rattle.json.specs.Text.{expect, After, after, elementsUpTo, contents, bracketed, member, valueBy, value, finish, text}

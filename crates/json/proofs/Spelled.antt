@@ -7,6 +7,7 @@ use Prim.Native.Nat.{ℕ, zero, suc}
 use native.Mathlib.Omega.{arith}
 use lib.Dec.{eqb}
 use borrow.Author.Tests.{eqb-true, eq-eqb}
+use Rattle.notation.proofs.Booleans.{by-test, true-false}
 use Rattle.lexeme.specs.Read.{Read, made}
 use Rattle.lexeme.specs.Read.Read.{done}
 use Rattle.lexeme.specs.Character.{Surrogates, paired}
@@ -14,10 +15,10 @@ use Rattle.lexeme.specs.Strings as Strings
 use Rattle.lexeme.specs.Numbers as Numbers
 use Rattle.lexeme.specs.Tokens.{blank, blanks}
 use Rattle.lexeme.specs.inner.Start.{Start, start}
-use Rattle.lexeme.proofs.Reading.{Eats, numeric, Stops}
+use Rattle.lexeme.proofs.Reading.{Consumes, numeric, Stops}
 use Rattle.lexeme.proofs.Reading.Ok.{stops}
-use Rattle.lexeme.proofs.Steps.{by-test, true-false, done-what, made-reads, then-reads, blanks-pass, blanks-stop}
-use Rattle.lexeme.proofs.Takes.{number-takes, number-eats}
+use Rattle.lexeme.proofs.Steps.{done-what, made-reads, then-reads, blanks-pass, blanks-stop}
+use Rattle.lexeme.proofs.StrongPrefixes.{number-takes, number-consumes}
 use Rattle.lexeme.proofs.Starts.{blank-other, blank-stops, number-starts}
 use Rattle.json.specs.Cases.{reading}
 use Rattle.json.specs.Tree.{Json, asItems, asMembers}
@@ -26,7 +27,7 @@ use Rattle.json.specs.Text.After.{more}
 use Rattle.json.specs.Spelling.{Blanks, Padded, Quoted, Plain, Listed, Enclosed, Member, Nested, Value, Spells}
 use Rattle.json.proofs.Steps.{expect-here, after-closed, after-more, elements-closed, contents-none, contents-some, named, member-then, valueAt, value-start}
 use Rattle.json.proofs.Bound.{all, elements-next}
-use Rattle.json.proofs.Takes.{value-eats, member-eats}
+use Rattle.json.proofs.StrongPrefixes.{value-consumes, member-consumes}
 use Rattle.json.proofs.Values.{begun}
 use Rattle.json.proofs.Faults.{Closing, square, curly}
 use Rattle.json.proofs.Characters.{characters-read}
@@ -68,7 +69,7 @@ Reads f x s = (q : List ℕ) → Stops q → f (s ++ q) ≡ done x q
 
 -- f reads every spelling in S, and each begins as a value does
 pub record Accepts {A : Type 0} (f : List ℕ → Read A) (S : A → List ℕ → Type 0) : Type 0 where
-  pub eats : Eats f
+  pub consumes : Consumes f
   pub begins : (x : A) (s : List ℕ) → S x s → Begun s
   pub reads : (x : A) (s : List ℕ) → S x s → Reads f x s
 
@@ -105,7 +106,7 @@ module _ {A : Type 0} {close : ℕ} (c : Closing close) {element : List ℕ → 
       let rest = e ++ (close ∷ q) in
       let next : List ℕ = 0x2c ∷ (u ++ (t ++ rest)) in
       ap (all close element) (between-more s w (0x2c ∷ []) u t rest)
-      ∙ elements-next close element (k .eats) _ _ (t ++ rest) x (k .reads x s y (w ++ next) (before-stops a next comma-stops))
+      ∙ elements-next close element (k .consumes) _ _ (t ++ rest) x (k .reads x s y (w ++ next) (before-stops a next comma-stops))
       (after-more close (w ++ next) 0x2c (u ++ (t ++ rest)) (skipped a next ∙ blanks-stop 0x2c _ comma-solid) (c .parts) refl
       ∙ ap more (skipped b (t ++ rest) ∙ begun-solid t rest (listed-begun ys)))
       ∙ made-reads (λ xs. x ∷ xs) (listed-read ys d q)
@@ -132,7 +133,7 @@ quoted-reads (Quoted.quoted {s = s} k) q =
     expect-here 0x22 _ 0x22 ((s ++ (0x22 ∷ [])) ++ q) refl ∙ ap (Strings.string paired 0) (append-assoc s (0x22 ∷ []) q) ∙ characters-read k q
 
 members : {f : List ℕ → Read Json} {S : Json → List ℕ → Type 0} → Accepts f S → Accepts (member paired f) (Member S)
-members {f} {S} k = record { eats = member-eats paired f (k .eats); begins = first; reads = all-of }
+members {f} {S} k = record { consumes = member-consumes paired f (k .consumes); begins = first; reads = all-of }
   where
     first : (m : List ℕ × Json) (s : List ℕ) → Member S m s → Begun s
     first m s (Member.colon {n = n} {w} {u} {v} name a b y) = between-begun n w (0x3a ∷ []) u v (quoted-begun name)
@@ -156,7 +157,7 @@ plain-value ρ (suc d) l h = h _ _
 
 pub number-reads : (ρ : Surrogates) (d : ℕ) (n : List ℕ) → Numbers.number n ≡ done n [] → Reads (value ρ d) (Json.number n) n
 unfolding valueAt
-number-reads ρ d [] e q h = absurd (omega (arith, number-eats [] [] [] e))
+number-reads ρ d [] e q h = absurd (omega (arith, number-consumes [] [] [] e))
 number-reads ρ d (b ∷ l) e q h =
     let t = number-takes (b ∷ l) [] (b ∷ l) e in
     let own : b ∷ l ≡ t .part = t .splits ∙ append-nil (t .part) in
@@ -165,7 +166,7 @@ number-reads ρ d (b ∷ l) e q h =
     (made-reads Json.number (ap (λ (m : List ℕ). Numbers.number (m ++ q)) own ∙ t .frame q (stops h))))
 
 pub number-begun : (n : List ℕ) → Numbers.number n ≡ done n [] → Begun n
-number-begun [] e = omega (arith, number-eats [] [] [] e)
+number-begun [] e = omega (arith, number-consumes [] [] [] e)
 number-begun (b ∷ l) e = ap begun (number-starts b l _ _ e)
 
 plain-begun : {x : Json} {s : List ℕ} → Plain x s → Begun s
@@ -215,8 +216,8 @@ nested-reads d k (Nested.object {s = s} ms) q h =
     ap (λ (l : List ℕ). value paired (suc d) (0x7b ∷ l)) (append-assoc s (0x7d ∷ []) q) ∙ object-opens paired d _ ∙ made-reads _ (enclosed-read curly (members k) ms q)
 
 values : (d : ℕ) → Accepts (value paired d) (Value d)
-values zero = record { eats = value-eats paired zero; begins = λ x s. plain-begun; reads = λ x s. plain-reads zero }
-values (suc d) = let k = values d in record { eats = value-eats paired (suc d); begins = λ x s. nested-begun; reads = λ x s. nested-reads d k }
+values zero = record { consumes = value-consumes paired zero; begins = λ x s. plain-begun; reads = λ x s. plain-reads zero }
+values (suc d) = let k = values d in record { consumes = value-consumes paired (suc d); begins = λ x s. nested-begun; reads = λ x s. nested-reads d k }
 
 padded-read : (d : ℕ) (x : Json) {s : List ℕ} → Padded (Value d x) s → text paired d s ≡ done x []
 unfolding text finish blanks
@@ -245,6 +246,6 @@ module _ {d : ℕ} {x : Json} where
       → text paired d (at s) ≡ text paired d (at t)
   spelling-free at y place {s} {t} h k = respelled (place s h) (place t k)
 
--- and a text spells one tree only
+-- a text spells one tree only
 pub spelled-once : {d : ℕ} {x y : Json} {s : List ℕ} → Spells d x s → Spells d y s → x ≡ y
 spelled-once h k = done-what (sym (spelled-read h) ∙ spelled-read k)

@@ -11,6 +11,7 @@ use borrow.Author.Tests.{eqb-true}
 use Rattle.limits.specs.Ceilings.{fileBytes, depth}
 use Rattle.word.specs.Kinds.{tooLong}
 use Rattle.notation.specs.Ascii.{bytes}
+use Rattle.notation.proofs.Booleans.{by-test}
 use Rattle.lexeme.specs.Read.{Read, placed}
 use Rattle.lexeme.specs.Read.Read.{done, bad}
 use Rattle.lexeme.specs.Character.{Surrogates, paired}
@@ -18,10 +19,10 @@ use Rattle.lexeme.specs.Strings as Strings
 use Rattle.lexeme.specs.Numbers as Numbers
 use Rattle.lexeme.specs.Tokens.{blank, blanks, literal}
 use Rattle.lexeme.specs.inner.Start.{Start, start}
-use Rattle.lexeme.proofs.Reading.{Eats}
+use Rattle.lexeme.proofs.Reading.{Consumes}
 use Rattle.lexeme.proofs.Reading.Ok.{stops}
-use Rattle.lexeme.proofs.Steps.{by-test, bad-done, done-what, done-rest, made-done, then-done, blanks-pass, blanks-stop}
-use Rattle.lexeme.proofs.Takes.{number-takes}
+use Rattle.lexeme.proofs.Steps.{bad-done, done-what, done-rest, made-done, then-done, blanks-pass, blanks-stop}
+use Rattle.lexeme.proofs.StrongPrefixes.{number-takes}
 use Rattle.lexeme.proofs.Starts.{string-byte, array-byte, object-byte}
 use Rattle.lexeme.proofs.Spells.{number-spells, literal-spells}
 use Rattle.json.specs.declared.Syntax.the-variants.{Sound, Fault}
@@ -31,7 +32,7 @@ use Rattle.json.specs.Text.After.{closed, more}
 use Rattle.json.specs.Spelling.{Blanks, Padded, Quoted, Plain, Listed, Enclosed, Member, Nested, Value, Spells}
 use Rattle.json.proofs.Steps.{expect-end, expect-here, expect-other, contents-end, contents-none, contents-some, named, valueAt, value-start}
 use Rattle.json.proofs.Bound.{Follows, at-close, at-comma, follows-as, Run, faulty, last, next, broken, run}
-use Rattle.json.proofs.Takes.{value-eats, member-eats}
+use Rattle.json.proofs.StrongPrefixes.{value-consumes, member-consumes}
 use Rattle.json.proofs.Texts.{judged}
 use Rattle.json.proofs.Characters.{string-characters}
 use Rattle.json.proofs.Spelled.{spelled-read}
@@ -56,7 +57,7 @@ blanks-front (b ∷ l) =
     })
     (λ h. record { part = []; splits = sym (blanks-stop b l h); spells = Blanks.none })
 
--- the same of texts that are equal
+-- a front, where the texts are equal to others
 pub front-of : {S : List ℕ → Type 0} {l m r q : List ℕ} → l ≡ m → r ≡ q → Front S m r → Front S l q
 front-of e f k = record { part = k .part; splits = e ∙ k .splits ∙ ap (λ (z : List ℕ). k .part ++ z) f; spells = k .spells }
 
@@ -80,7 +81,7 @@ record Closed {A : Type 0} (close : ℕ) (S : A → List ℕ → Type 0) (l r : 
   spells : Listed S xs part
   empty : Blanks gap
 
-module _ {A : Type 0} (close : ℕ) {element : List ℕ → Read A} {S : A → List ℕ → Type 0} (eats : Eats element) (finds : Finds element S) where
+module _ {A : Type 0} (close : ℕ) {element : List ℕ → Read A} {S : A → List ℕ → Type 0} (consumes : Consumes element) (finds : Finds element S) where
   closed-last : {l m q : List ℕ} {x : A} → element l ≡ done x m → Follows close m (closed q) → Closed close S l q (x ∷ [])
   closed-last {l} {m} {q} {x} e (at-close i h) =
       let k = finds l m x e in
@@ -108,7 +109,7 @@ module _ {A : Type 0} (close : ℕ) {element : List ℕ → Read A} {S : A → L
       let p = made-done (λ ys. x ∷ ys) o xs r i in
       rw (← p .2) (closed-next e (follows-as close m j) (run-finds u (p .0) r (p .1)))
 
-  -- and what stands between brackets, up to the closing one
+  -- what stands between brackets, up to the closing one
   contents-finds : (w l r : List ℕ) (xs : List A) → Blanks w → contents close element l ≡ done xs r
       → (s : List ℕ) × (w ++ l ≡ s ++ (close ∷ r)) × Enclosed S xs s
   contents-finds w [] r xs k e = bad-done (sym (contents-end close element) ∙ e)
@@ -118,7 +119,7 @@ module _ {A : Type 0} (close : ℕ) {element : List ℕ → Read A} {S : A → L
       let p : done [] l ≡ done xs r = sym (contents-none close element b l h) ∙ e in
       (w, ap (λ (m : List ℕ). w ++ m) (rw (eqb-true b close h) (ap (λ (m : List ℕ). close ∷ m) (done-rest p))), rw (← done-what p) (Enclosed.nothing k)))
       (λ h.
-      let c = run-finds (run close element eats (suc (length (b ∷ l))) (b ∷ l) (omega arith)) xs r (sym (contents-some close element b l h) ∙ e) in (
+      let c = run-finds (run close element consumes (suc (length (b ∷ l))) (b ∷ l) (omega arith)) xs r (sym (contents-some close element b l h) ∙ e) in (
         w ++ c .part ++ c .gap,
         ap (λ (m : List ℕ). w ++ m) (c .splits) ∙ simp append-assoc,
         Enclosed.elements (Padded.padded k (c .spells) (c .empty)),
@@ -131,15 +132,18 @@ module _ {A : Type 0} (close : ℕ) {element : List ℕ → Read A} {S : A → L
       let c = contents-finds (k .part) (blanks l) r xs (k .spells) e in
       (c .0, k .splits ∙ c .1, c .2)
 
+-- the part s between a byte a and a byte z
+pub between : {S : List ℕ → Type 0} (a z : ℕ) {l : List ℕ} (s : List ℕ) {r : List ℕ} → l ≡ s ++ (z ∷ r) → S (a ∷ (s ++ (z ∷ []))) → Front S (a ∷ l) r
+between a z s {r} e spells =
+    record {
+      part = a ∷ (s ++ (z ∷ []));
+      splits = ap (λ (m : List ℕ). a ∷ m) (e ∙ sym (append-assoc s (z ∷ []) r));
+      spells = spells;
+    }
+
 -- strings, and members named by them
 quoted-front : (l y r : List ℕ) → Strings.string paired 0 l ≡ done y r → Front (Quoted y) (0x22 ∷ l) r
-quoted-front l y r e =
-    let c = string-characters l y r e in
-    record {
-      part = bytes "\"" ++ c .0 ++ bytes "\"";
-      splits = ap (λ (m : List ℕ). 0x22 ∷ m) (c .1 ∙ sym (append-assoc (c .0) (0x22 ∷ []) r));
-      spells = Quoted.quoted (c .2);
-    }
+quoted-front l y r e = let c = string-characters l y r e in between 0x22 0x22 (c .0) (c .1) (Quoted.quoted (c .2))
 
 pub expect-done : {A : Type 0} (c : ℕ) (f : List ℕ → Read A) (l r : List ℕ) (x : A) → expect c f l ≡ done x r → (m : List ℕ) × (l ≡ c ∷ m) × (f m ≡ done x r)
 expect-done c f [] r x e = bad-done (sym (expect-end c f) ∙ e)
@@ -215,25 +219,6 @@ string-front : {S : Json → List ℕ → Type 0} → ((x : Json) (s : List ℕ)
     → (l y r : List ℕ) → Strings.string paired 0 l ≡ done y r → Front (S (Json.string y)) (0x22 ∷ l) r
 string-front plain l y r e = let k = quoted-front l y r e in record { part = k .part; splits = k .splits; spells = plain _ _ (Plain.string (k .spells)) }
 
--- brackets around elements that are spelled
-array-front : {S : Json → List ℕ → Type 0} (l r : List ℕ) (xs : List Json) → (s : List ℕ) × (l ≡ s ++ (0x5d ∷ r)) × Enclosed S xs s
-    → Front (Nested S (Json.array (asItems xs))) (0x5b ∷ l) r
-array-front l r xs c =
-    record {
-      part = bytes "[" ++ c .0 ++ bytes "]";
-      splits = ap (λ (m : List ℕ). 0x5b ∷ m) (c .1 ∙ sym (append-assoc (c .0) (bytes "]") r));
-      spells = Nested.array (c .2);
-    }
-
-object-front : {S : Json → List ℕ → Type 0} (l r : List ℕ) (ms : List (List ℕ × Json)) → (s : List ℕ) × (l ≡ s ++ (0x7d ∷ r)) × Enclosed (Member S) ms s
-    → Front (Nested S (Json.object (asMembers ms))) (0x7b ∷ l) r
-object-front l r ms c =
-    record {
-      part = bytes "{" ++ c .0 ++ bytes "}";
-      splits = ap (λ (m : List ℕ). 0x7b ∷ m) (c .1 ∙ sym (append-assoc (c .0) (bytes "}") r));
-      spells = Nested.object (c .2);
-    }
-
 -- all values, level by level
 value-finds : (d : ℕ) → Finds (value paired d) (Value d)
 unfolding value
@@ -242,16 +227,18 @@ value-finds zero =
     (λ l r x e. bad-done e) (λ l r x e. bad-done e)
 value-finds (suc d) =
     let ih = value-finds d in
-    let eats = value-eats paired d in
+    let consumes = value-consumes paired d in
     value-by-finds paired _ _ (Nested (Value d)) (string-front {S = Nested (Value d)} (λ x s k. Nested.plain k)) (λ n e. Nested.plain (Plain.number e))
     (Nested.plain Plain.yes) (Nested.plain Plain.no) (Nested.plain Plain.null)
     (λ l r x e.
     let m = made-done (λ xs. Json.array (asItems xs)) (bracketed 0x5d (value paired d) l) x r e in
-    subst (λ z. Front (Nested (Value d) z) (0x5b ∷ l) r) (m .2) (array-front l r (m .0) (bracketed-finds 0x5d eats ih l r (m .0) (m .1))))
+    subst (λ z. Front (Nested (Value d) z) (0x5b ∷ l) r) (m .2)
+    (let c = bracketed-finds 0x5d consumes ih l r (m .0) (m .1) in between 0x5b 0x5d (c .0) (c .1) (Nested.array (c .2))))
     (λ l r x e.
     let m = made-done (λ ms. Json.object (asMembers ms)) (bracketed 0x7d (member paired (value paired d)) l) x r e in
     subst (λ z. Front (Nested (Value d) z) (0x7b ∷ l) r) (m .2)
-    (object-front l r (m .0) (bracketed-finds 0x7d (member-eats paired (value paired d) eats) (member-finds ih) l r (m .0) (m .1))))
+    (let c = bracketed-finds 0x7d (member-consumes paired (value paired d) consumes) (member-finds ih) l r (m .0) (m .1) in
+    between 0x7b 0x7d (c .0) (c .1) (Nested.object (c .2))))
 
 pub value-spells : (d : ℕ) (x : Json) (l r : List ℕ) → value paired d l ≡ done x r → (s : List ℕ) × (l ≡ s ++ r) × Value d x s
 value-spells d x l r e = let k = value-finds d l r x e in (k .part, k .splits, k .spells)

@@ -8,6 +8,7 @@ use lib.Dec.{eqb}
 use borrow.Author.Tests.{eqb-true}
 use Rattle.word.specs.Kinds.{notJson}
 use Rattle.notation.specs.Ascii.{bytes}
+use Rattle.notation.proofs.Booleans.{by-test, true-false}
 use Rattle.lexeme.specs.Read.{Read, then, made}
 use Rattle.lexeme.specs.Read.Read.{done, bad}
 use Rattle.lexeme.specs.Character.{Surrogates, within}
@@ -16,7 +17,7 @@ use Rattle.lexeme.specs.Numbers
 use Rattle.lexeme.specs.Numbers.{digit}
 use Rattle.lexeme.specs.Tokens.{blanks, literal}
 use Rattle.lexeme.specs.inner.Start.{Start, start}
-use Rattle.lexeme.proofs.Steps.{by-test, true-false, then-reads, then-fails, made-fails}
+use Rattle.lexeme.proofs.Steps.{then-reads, then-fails, made-fails}
 use Rattle.lexeme.proofs.Starts.{number-none}
 use Rattle.json.specs.Tree.{Json}
 use Rattle.json.specs.Text.{expect, separator, after, elementsUpTo, contents, member, valueBy}
@@ -147,7 +148,7 @@ digit-apart : (b : ℕ) → digit b ≡ true → NoLetter b
 unfolding digit within
 digit-apart b h = (digit-other b 0x74 refl h, digit-other b 0x66 refl h, digit-other b 0x6e refl h)
 
--- the same as the definition's tests have it; a byte that begins no value begins no number either, and is where reading one fails
+-- `valueAt` is what the definition's tests come to; a byte that begins no value begins no number either, and is where reading one fails
 pub value-start : (ρ : Surrogates) (arrays objects : List ℕ → Read Json) (b : ℕ) (r : List ℕ) → valueBy ρ arrays objects (b ∷ r) ≡ valueAt ρ arrays objects b r
 unfolding valueBy valueAt start
 value-start ρ arrays objects b r =

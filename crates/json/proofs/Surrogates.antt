@@ -8,6 +8,7 @@ use native.Mathlib.Omega.{arith}
 use lib.ListN.{length, drop, List·getD-append}
 use lib.Dec.{eqb}
 use borrow.Author.Tests.{eqb-true}
+use Rattle.notation.proofs.Booleans.{by-test}
 use Rattle.word.specs.Kinds.{notJson, unpaired}
 use Rattle.lexeme.specs.declared.Next.{Next}
 use Rattle.lexeme.specs.declared.Next.the-variants.{Quote, Character, Fault}
@@ -18,9 +19,9 @@ use Rattle.lexeme.specs.Character.{byte, within, bytesOf, utf2, utf3, utf4, enc
 use Rattle.lexeme.specs.inner.Lead.{Lead, lead, nextBy}
 use Rattle.lexeme.specs.inner.Lead.Lead.{plain, quote, backslash, wrong, two, threeE0, three, threeED, fourF0, four, fourF4}
 use Rattle.lexeme.specs.Strings.{string}
-use Rattle.lexeme.proofs.Steps.{by-test, done-bad, bad-kind, bad-rest, made-bad, made-reads, string-empty, string-inside, string-quote, string-fault, string-character}
+use Rattle.lexeme.proofs.Steps.{done-bad, bad-kind, bad-rest, made-bad, made-reads, string-empty, string-inside, string-quote, string-fault, string-character}
 use Rattle.lexeme.proofs.Local.{Agree, encoded-char, character-near}
-use Rattle.lexeme.proofs.Takes.{closes}
+use Rattle.lexeme.proofs.StrongPrefixes.{closes}
 use Rattle.json.specs.Places.{Escape, Low, Unpaired}
 use Rattle.json.proofs.Chars.{hex-back, quad-of}
 use Rattle.json.proofs.Leads.{ranged}

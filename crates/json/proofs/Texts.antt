@@ -5,12 +5,12 @@ use Prim.Native.Nat.{ℕ, _≤_, _<_}
 use lib.ListN.{length, drop, drop-of-length-le}
 use borrow.Author.Tests.{lt-ltb, le-ltb}
 use Rattle.limits.specs.Ceilings.{fileBytes, depth}
+use Rattle.notation.proofs.Lists.{at-cons}
 use Rattle.word.specs.Kinds.{tooLong, notJson}
 use Rattle.lexeme.specs.declared.Scan.{Scan}
 use Rattle.lexeme.specs.Read.{placed}
 use Rattle.lexeme.specs.Read.Read.{done, bad}
 use Rattle.lexeme.specs.Character.{paired}
-use Rattle.lexeme.proofs.Rests.{at-cons}
 use Rattle.lexeme.proofs.Spans.{Skipped}
 use Rattle.lexeme.proofs.Steps.{then-reads, then-fails}
 use Rattle.json.specs.Tree.{Json}

@@ -10,8 +10,10 @@ use lib.ListN.{length, drop, length-drop}
 use borrow.Author.Tests.{eq-eqb, ne-eqb}
 use Rattle.word.specs.Kinds.{notJson, tooDeep}
 use Rattle.notation.specs.Ascii.{bytes}
+use Rattle.notation.proofs.Booleans.{true-false}
+use Rattle.lexeme.specs.declared.Scan.the-variants.{End, Fault}
 use Rattle.lexeme.specs.Read.{Read, made, placed}
-use Rattle.lexeme.specs.Read.Read.{done, bad}
+use Rattle.lexeme.specs.Read.Read.{bad}
 use Rattle.lexeme.specs.Character.{paired, byte, within}
 use Rattle.lexeme.specs.inner.Class.{startOf, Classed}
 use Rattle.lexeme.specs.Strings as Strings
@@ -19,12 +21,16 @@ use Rattle.lexeme.specs.Numbers as Numbers
 use Rattle.lexeme.specs.Tokens.{blanks, literal}
 use Rattle.lexeme.specs.inner.Start.{Start, start}
 use Rattle.lexeme.proofs.Rests.{shows, next-drop}
-use Rattle.lexeme.proofs.Placed.{placed-made}
-use Rattle.lexeme.proofs.Spans.{Skipped}
-use Rattle.lexeme.proofs.Steps.{true-false, then-reads, then-fails}
+use Rattle.lexeme.proofs.Placed.{placed-made, faults-at, Leaves, Lands, lands, takes-leaves}
+use Rattle.lexeme.proofs.Reading.{Any}
+use Rattle.lexeme.proofs.StrongPrefixes.{string-takes}
+use Rattle.lexeme.proofs.Starts.{string-byte}
+use Rattle.lexeme.proofs.Spans.{skipped}
+use Rattle.lexeme.proofs.Steps.{then-reads, then-fails}
 use Rattle.lexeme.proofs.Words.{literal-placed}
 use Rattle.json.specs.Tree.{Json, asItems, asMembers}
 use Rattle.json.specs.Text.{expect, bracketed, member, valueBy, value}
+use Rattle.json.proofs.StrongPrefixes.{expect-takes}
 use Rattle.json.proofs.Steps.{expect-end, expect-here, expect-other, valueAt, value-start}
 
 -- arrays and objects from their bracket on, as `value` reads them
@@ -68,83 +74,87 @@ begun Start.letterN = true
 begun Start.other = false
 
 -- where it does, it stands in the text
-begins : (l : List ℕ) (t : Start) → start (byte l 0) ≡ t → begun t ≡ true → l ≡ byte l 0 ∷ drop 1 l
+there : (l : List ℕ) (t : Start) → start (byte l 0) ≡ t → begun t ≡ true → l ≡ byte l 0 ∷ drop 1 l
 unfolding start Numbers.digit within
-begins [] t e h = true-false h (ap begun (sym e))
-begins (b ∷ r) t e h = refl
+there [] t e h = true-false h (ap begun (sym e))
+there (b ∷ r) t e h = refl
 
-pub start-inside : (s : List ℕ) (at : ℕ) (t : Start) → start (byte (drop at s) 0) ≡ t → begun t ≡ true → at < length s
-start-inside s at t e h = omega (arith, ap length (begins (drop at s) t e h), length-drop at s)
+-- what the byte at a place says, and that by its class
+pub record Begins (s : List ℕ) (at : ℕ) (t : Start) : Type 0 where
+  pub says : start (byte (drop at s) 0) ≡ t
 
--- by the class of the byte at a place
-pub began : (s : List ℕ) (at b c n : ℕ) → b ≡ byte (drop at s) 0 → Classed b c → c ≡ n → start (byte (drop at s) 0) ≡ startOf n
-began s at b c n e k h = ap start (sym e) ∙ sym (k .start) ∙ ap startOf h
+pub begins : (s : List ℕ) (at : ℕ) {b c n : ℕ} → b ≡ byte (drop at s) 0 → Classed b c → c ≡ n → Begins s at (startOf n)
+begins s at e k h = record { says = ap start (sym e) ∙ sym (k .start) ∙ ap startOf h }
 
-pub classless : (c : ℕ) → (c ≡ 2 → ⊥) → (c ≡ 4 → ⊥) → (c ≡ 6 → ⊥) → (c ≡ 8 → ⊥) → (c ≡ 10 → ⊥) → (c ≡ 12 → ⊥) → (c ≡ 14 → ⊥) → startOf c ≡ Start.other
+pub no-start : (c : ℕ) → (c ≡ 2 → ⊥) → (c ≡ 4 → ⊥) → (c ≡ 6 → ⊥) → (c ≡ 8 → ⊥) → (c ≡ 10 → ⊥) → (c ≡ 12 → ⊥) → (c ≡ 14 → ⊥) → startOf c ≡ Start.other
 unfolding startOf
-classless c n2 n4 n6 n8 n10 n12 n14 =
+no-start c n2 n4 n6 n8 n10 n12 n14 =
     rw (startOf, ne-eqb _ _ n2, ne-eqb _ _ n4, ne-eqb _ _ n6, ne-eqb _ _ n8, ne-eqb _ _ n10, ne-eqb _ _ n12, ne-eqb _ _ n14)
 
--- a value by its first byte
-module _ (s : List ℕ) (at d : ℕ) where
-  value-of : (t : Start) → begun t ≡ true → start (byte (drop at s) 0) ≡ t → value paired d (drop at s) ≡ valueAt paired (arrays d) (objects d) (byte (drop at s) 0) (drop 1 (drop at s))
-  value-of t h e = value-by d (drop at s) ∙ ap (valueBy paired (arrays d) (objects d)) (begins (drop at s) t e h) ∙ value-start paired (arrays d) (objects d) _ _
+-- a value by its first byte: g reads it
+module _ {s : List ℕ} {at : ℕ} {t : Start} (k : Begins s at t) (h : begun t ≡ true) where
+  pub begins-inside : at < length s
+  begins-inside = omega (arith, ap length (there (drop at s) t (k .says) h), length-drop at s)
 
-  pub value-string : start (byte (drop at s) 0) ≡ Start.string → placed s (value paired d (drop at s)) ≡ placed s (Strings.string paired 0 (drop (at + 1) s))
+  read-by : (d : ℕ) (g : List ℕ → Read Json)
+      → valueAt paired (arrays d) (objects d) (byte (drop at s) 0) (drop 1 (drop at s)) ≡ g (byte (drop at s) 0 ∷ drop 1 (drop at s))
+      → value paired d (drop at s) ≡ g (drop at s)
+  read-by d g e =
+      let i = there (drop at s) t (k .says) h in
+      value-by d (drop at s)
+      ∙ ap (valueBy paired (arrays d) (objects d)) i
+      ∙ value-start paired (arrays d) (objects d) _ _
+      ∙ e
+      ∙ ap g (sym i)
+
+module _ {s : List ℕ} {at : ℕ} (d : ℕ) where
+  pub value-string : Begins s at Start.string → placed s (value paired d (drop at s)) ≡ placed s (Strings.string paired 0 (drop (at + 1) s))
   unfolding valueAt
-  value-string e =
-      ap (placed s) (value-of Start.string refl e ∙ rw (valueAt, e))
+  value-string k =
+      ap (placed s) (read-by k refl d (λ l. made Json.string (Strings.string paired 0 (drop 1 l))) (rw (valueAt, k .says)))
       ∙ placed-made s Json.string _
       ∙ ap (λ (l : List ℕ). placed s (Strings.string paired 0 l)) (next-drop s at)
 
-  pub value-number : start (byte (drop at s) 0) ≡ Start.number → placed s (value paired d (drop at s)) ≡ placed s (Numbers.number (drop at s))
+  pub value-number : Begins s at Start.number → placed s (value paired d (drop at s)) ≡ placed s (Numbers.number (drop at s))
   unfolding valueAt
-  value-number e =
-      ap (placed s) (value-of Start.number refl e ∙ rw (valueAt, e))
-      ∙ placed-made s Json.number _
-      ∙ ap (λ (l : List ℕ). placed s (Numbers.number l)) (sym (begins (drop at s) Start.number e refl))
+  value-number k =
+      ap (placed s) (read-by k refl d (λ l. made Json.number (Numbers.number l)) (rw (valueAt, k .says))) ∙ placed-made s Json.number _
 
-  value-array : start (byte (drop at s) 0) ≡ Start.array → value paired d (drop at s) ≡ arrays d (drop at s)
+  value-array : Begins s at Start.array → value paired d (drop at s) ≡ arrays d (drop at s)
   unfolding valueAt
-  value-array e = value-of Start.array refl e ∙ rw (valueAt, e) (ap (arrays d) (sym (begins (drop at s) Start.array e refl)))
+  value-array k = read-by k refl d (arrays d) (rw (valueAt, k .says))
 
-  value-object : start (byte (drop at s) 0) ≡ Start.object → value paired d (drop at s) ≡ objects d (drop at s)
+  value-object : Begins s at Start.object → value paired d (drop at s) ≡ objects d (drop at s)
   unfolding valueAt
-  value-object e = value-of Start.object refl e ∙ rw (valueAt, e) (ap (objects d) (sym (begins (drop at s) Start.object e refl)))
+  value-object k = read-by k refl d (objects d) (rw (valueAt, k .says))
 
-  pub array-deep : start (byte (drop at s) 0) ≡ Start.array → d ≡ 0 → value paired d (drop at s) ≡ bad tooDeep (drop at s)
+  pub array-deep : Begins s at Start.array → d ≡ 0 → value paired d (drop at s) ≡ bad tooDeep (drop at s)
   unfolding arrays
-  array-deep e z = value-array e ∙ nested-deep _ 0x5d (value paired) d (drop at s) z
+  array-deep k z = value-array k ∙ nested-deep _ 0x5d (value paired) d (drop at s) z
 
-  pub object-deep : start (byte (drop at s) 0) ≡ Start.object → d ≡ 0 → value paired d (drop at s) ≡ bad tooDeep (drop at s)
+  pub object-deep : Begins s at Start.object → d ≡ 0 → value paired d (drop at s) ≡ bad tooDeep (drop at s)
   unfolding objects
-  object-deep e z = value-object e ∙ nested-deep _ 0x7d (λ n. member paired (value paired n)) d (drop at s) z
+  object-deep k z = value-object k ∙ nested-deep _ 0x7d (λ n. member paired (value paired n)) d (drop at s) z
 
-  pub array-opened : start (byte (drop at s) 0) ≡ Start.array → (d ≡ 0 → ⊥) → placed s (value paired d (drop at s)) ≡ placed s (bracketed 0x5d (value paired (d - 1)) (drop (at + 1) s))
+  pub array-opened : Begins s at Start.array → (d ≡ 0 → ⊥) → placed s (value paired d (drop at s)) ≡ placed s (bracketed 0x5d (value paired (d - 1)) (drop (at + 1) s))
   unfolding arrays
-  array-opened e n = ap (placed s) (value-array e) ∙ nested-opened _ 0x5d (value paired) d s at n
+  array-opened k n = ap (placed s) (value-array k) ∙ nested-opened _ 0x5d (value paired) d s at n
 
-  pub object-opened : start (byte (drop at s) 0) ≡ Start.object → (d ≡ 0 → ⊥) → placed s (value paired d (drop at s)) ≡ placed s (bracketed 0x7d (member paired (value paired (d - 1))) (drop (at + 1) s))
+  pub object-opened : Begins s at Start.object → (d ≡ 0 → ⊥) → placed s (value paired d (drop at s)) ≡ placed s (bracketed 0x7d (member paired (value paired (d - 1))) (drop (at + 1) s))
   unfolding objects
-  object-opened e n = ap (placed s) (value-object e) ∙ nested-opened _ 0x7d (λ m. member paired (value paired m)) d s at n
+  object-opened k n = ap (placed s) (value-object k) ∙ nested-opened _ 0x7d (λ m. member paired (value paired m)) d s at n
 
-  word : (t : Start) → begun t ≡ true → start (byte (drop at s) 0) ≡ t → (w : List ℕ) (x : Json)
-      → valueAt paired (arrays d) (objects d) (byte (drop at s) 0) (drop 1 (drop at s)) ≡ literal w x (byte (drop at s) 0 ∷ drop 1 (drop at s))
-      → placed s (value paired d (drop at s)) ≡ placed s (literal w (tt {0}) (drop at s))
-  word t h e w x p =
-      ap (placed s) (value-of t h e ∙ p ∙ ap (literal w x) (sym (begins (drop at s) t e h))) ∙ literal-placed w x tt (drop at s) s
-
-  pub value-true : start (byte (drop at s) 0) ≡ Start.letterT → placed s (value paired d (drop at s)) ≡ placed s (literal (bytes "true") (tt {0}) (drop at s))
+  pub value-true : Begins s at Start.letterT → placed s (value paired d (drop at s)) ≡ placed s (literal (bytes "true") (tt {0}) (drop at s))
   unfolding valueAt
-  value-true e = word Start.letterT refl e _ (Json.boolean true) (rw (valueAt, e))
+  value-true k = ap (placed s) (read-by k refl d (literal _ (Json.boolean true)) (rw (valueAt, k .says))) ∙ literal-placed _ _ tt (drop at s) s
 
-  pub value-false : start (byte (drop at s) 0) ≡ Start.letterF → placed s (value paired d (drop at s)) ≡ placed s (literal (bytes "false") (tt {0}) (drop at s))
+  pub value-false : Begins s at Start.letterF → placed s (value paired d (drop at s)) ≡ placed s (literal (bytes "false") (tt {0}) (drop at s))
   unfolding valueAt
-  value-false e = word Start.letterF refl e _ (Json.boolean false) (rw (valueAt, e))
+  value-false k = ap (placed s) (read-by k refl d (literal _ (Json.boolean false)) (rw (valueAt, k .says))) ∙ literal-placed _ _ tt (drop at s) s
 
-  pub value-null : start (byte (drop at s) 0) ≡ Start.letterN → placed s (value paired d (drop at s)) ≡ placed s (literal (bytes "null") (tt {0}) (drop at s))
+  pub value-null : Begins s at Start.letterN → placed s (value paired d (drop at s)) ≡ placed s (literal (bytes "null") (tt {0}) (drop at s))
   unfolding valueAt
-  value-null e = word Start.letterN refl e _ Json.null (rw (valueAt, e))
+  value-null k = ap (placed s) (read-by k refl d (literal _ Json.null) (rw (valueAt, k .says))) ∙ literal-placed _ _ tt (drop at s) s
 
 pub value-empty : (d : ℕ) → value paired d [] ≡ bad notJson []
 unfolding valueBy
@@ -168,6 +178,14 @@ module _ {A : Type 0} (c : ℕ) (f : List ℕ → Read A) (s : List ℕ) (at : �
       go [] n = expect-end c f
       go (b ∷ r) n = expect-other c f b r (ne-eqb _ _ n)
 
+-- a string, from its quote on
+pub value-quoted : {s : List ℕ} {at : ℕ} (d : ℕ) → Begins s at Start.string → placed s (expect 0x22 (Strings.string paired 0) (drop at s)) ≡ placed s (value paired d (drop at s))
+value-quoted {s} {at} d k = ap (placed s) (expect-there 0x22 (Strings.string paired 0) s at refl (string-byte _ (k .says))) ∙ sym (value-string d k)
+
+-- the name at the front
+name-leaves : Leaves (expect 0x22 (Strings.string paired 0))
+name-leaves = takes-leaves Any (expect 0x22 (Strings.string paired 0)) (expect-takes 0x22 (Strings.string paired 0) (string-takes paired 0))
+
 -- a member, and a value inside it
 module _ (v : List ℕ → Read Json) where
   pub member-empty : member paired v [] ≡ bad notJson []
@@ -178,16 +196,24 @@ module _ (v : List ℕ → Read Json) where
   unfolding member
   member-unnamed l k r e = then-fails _ e
 
-  module _ (s : List ℕ) (at j i : ℕ) (x : List ℕ) (named : expect 0x22 (Strings.string paired 0) (drop at s) ≡ done x (drop j s)) (k : Skipped s j i) where
-    member-named : member paired v (drop at s) ≡ expect 0x3a (λ q. made (λ y. (x, y)) (v (blanks q))) (drop i s)
+  -- its name ends at j; blanks follow up to i, and there the byte b
+  module _ (s : List ℕ) (at : ℕ) {j i b : ℕ} (named : End j ≡ placed s (expect 0x22 (Strings.string paired 0) (drop at s)))
+      (k : i ≡ length s - length (blanks (drop j s))) (f : b ≡ byte (drop i s) 0) where
+    named-at : Lands (expect 0x22 (Strings.string paired 0)) s at j
+    named-at = lands (expect 0x22 (Strings.string paired 0)) s at j name-leaves named
+
+    member-named : member paired v (drop at s) ≡ expect 0x3a (λ q. made (λ y. (named-at .what, y)) (v (blanks q))) (drop i s)
     unfolding member
-    member-named = then-reads _ named ∙ ap (expect 0x3a (λ q. made (λ y. (x, y)) (v (blanks q)))) (sym (k .rest))
+    member-named =
+        then-reads _ (named-at .reads) ∙ ap (expect 0x3a (λ q. made (λ y. (named-at .what, y)) (v (blanks q)))) (sym (skipped s j i k .rest))
 
-    pub member-wrong : (byte (drop i s) 0 ≡ 0x3a → ⊥) → member paired v (drop at s) ≡ bad notJson (drop i s)
-    member-wrong n = member-named ∙ expect-absent 0x3a _ s i n
+    pub member-wrong : (b ≡ 0x3a → ⊥) → Fault notJson i ≡ placed s (member paired v (drop at s))
+    member-wrong n = faults-at s i _ (skipped s j i k .upto) notJson (member-named ∙ expect-absent 0x3a _ s i (λ z. n (f ∙ z)))
 
-    pub member-value : byte (drop i s) 0 ≡ 0x3a → (n : ℕ) → Skipped s (i + 1) n → placed s (member paired v (drop at s)) ≡ placed s (v (drop n s))
-    member-value e n w =
-        ap (placed s) (member-named ∙ expect-there 0x3a _ s i refl e)
+    pub member-value : b ≡ 0x3a → {n : ℕ} → n ≡ length s - length (blanks (drop (i + 1) s))
+        → placed s (v (drop n s)) ≡ placed s (member paired v (drop at s))
+    member-value e {n} w =
+        sym
+        (ap (placed s) (member-named ∙ expect-there 0x3a _ s i refl (sym f ∙ e))
         ∙ placed-made s _ (v (blanks (drop (i + 1) s)))
-        ∙ ap (λ (l : List ℕ). placed s (v l)) (sym (w .rest))
+        ∙ ap (λ (l : List ℕ). placed s (v l)) (sym (skipped s (i + 1) n w .rest)))

@@ -6,7 +6,6 @@ use mathlib.Core.List.{List, [], _∷_, _++_}
 use mathlib.Core.Path.{_≡_}
 use Prim.Native.Nat.{ℕ, zero, suc, _+_, _≤_, _<_}
 use lib.ListN.{length, take}
-use lib.Dec.{eqb}
 use Rattle.notation.specs.Choice.{_⇒_else_}
 use Rattle.notation.specs.Ascii.{bytes}
 use Rattle.lexeme.specs.Character.{within}

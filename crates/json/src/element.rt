@@ -1,6 +1,5 @@
 // What follows an element of an array or object.
 ghost use mathlib.Core.Path.{_≡_};
-ghost use lib.ListN.{drop};
 ghost use Rattle.lexeme.specs.inner.Class.{Classifies};
 ghost use Rattle.json.specs.inner.Turns.{turn};
 use lexeme::Scan;

@@ -4,6 +4,7 @@ ghost use Rattle.json.specs.Text.{syntaxOf};
 
 pub mod element;
 pub mod reader;
+pub mod strings;
 
 use lexeme::Scan;
 use limits::Limits;

@@ -9,6 +9,8 @@ ghost use Rattle.lexeme.specs.Strings.{string};
 ghost use Rattle.json.specs.Text.{expect, bracketed, member, value, text};
 use super::element::Turn;
 use super::element::after_element;
+use super::strings::plain_end;
+use super::strings::read_string;
 use lexeme::Scan;
 use lexeme::blank::skip_blanks_by;
 use lexeme::class::Class;
@@ -18,8 +20,6 @@ use lexeme::front::first;
 use lexeme::front::place;
 use lexeme::literal::read_literal;
 use lexeme::number::read_number;
-use strings::plain_end;
-use strings::read_string;
 use word::kind::Kind;
 
 // The value at `at`.
@@ -143,14 +143,6 @@ fn string_by(table: &[u8; 256], s: &[u8], at: usize) -> Scan
         return Scan::End(i + 1);
     }
     read_string(table, s, i)
-}
-
-// The value at `at`, for a caller that reads no other.
-pub fn read_value(s: &[u8], at: usize, levels: u8) -> Scan
-    ensures { λ r. ⌜ r ≡ placed (now (s .entry)) (value paired levels (drop at (now (s .entry)))) ⌝ }
-{
-    let table = class_table();
-    value_by(&table, s, at, levels)
 }
 
 // The whole text: one value with blanks around it.

@@ -16,10 +16,10 @@ use Rattle.decimal.specs.declared.Price.{Price}
 use Rattle.decimal.specs.declared.Price.the-variants as price
 use Rattle.decimal.specs.Decimals.{numberOf, hasPoint, priceOf}
 use Rattle.decimal.specs.Exact.{natural, portion, inRange}
-use Rattle.text.specs.Text.{same, currency}
+use Rattle.text.specs.Text.{same}
 use Rattle.schema.specs.Shape as sort
 use Rattle.schema.specs.Shape.{Sort}
-use Rattle.scalar.specs.Scalars.{unless, formedKinds, anyMoney, priceMoney, pricing, anyWord, numberKinds, textKinds, booleanKinds, kindsOf, sortKinds}
+use Rattle.scalar.specs.Scalars.{unless, formedKinds, anyMoney, priceMoney, pricing, anyWord, currency, numberKinds, textKinds, booleanKinds, kindsOf, sortKinds}
 use Rattle.judge.specs.Bounds.{OfStageB}
 use Rattle.judge.proofs.Holds.{All, none, only}
 

@@ -8,8 +8,8 @@ use lib.Dec.{leb}
 use lib.ListN.{length}
 use borrow.Author.Tests.{leb-true}
 use Rattle.limits.specs.Ceilings as ceiling
+use Rattle.notation.proofs.Booleans.{and-right}
 use Rattle.schema.specs.Pick.{Picked, PickedItems, bare, items, slots, listOf, elements}
-use Rattle.schema.proofs.Tests.{and-right}
 use Rattle.rings.specs.Rings.{numbered, count, itemCount, itemTotal, polygonPositions}
 use Rattle.rings.proofs.OneRing.{coordinates-one}
 use Rattle.judge.specs.Coordinates.{Coordinates, WithinCeilings, polygonsPositions}

@@ -1,4 +1,4 @@
--- The first fault of a file fits the word, for every table that is tidy, and table 2.3 is. A fault past a ceiling is never the first: the
+-- The first fault of a file fits the word, for every table whose shapes fit it, and those of table 2.3 do. A fault past a ceiling is never the first: the
 -- excess of its array comes before it, since the excess stands at the number 0 and on no later field.
 use mathlib.Core.Bool.{Bool, true, false}
 use mathlib.Core.List.{List, [], _∷_, _++_}
@@ -7,25 +7,24 @@ use Prim.Native.Nat.{ℕ, _+_, _≤_, _<_}
 use native.Mathlib.Omega.{arith}
 use lib.Dec.{leb}
 use borrow.Author.Tests.{leb-true}
+use Rattle.notation.proofs.Booleans.{by-test, true-false, and-left, and-right}
 use Rattle.word.specs.Kinds.{wrongType, tooMany}
 use Rattle.json.specs.Tree.{Json}
 use Rattle.schema.specs.Shape as shape
 use Rattle.schema.specs.Shape.{Shape, Rows, Need, Numbering, Sort, fileShape}
 use Rattle.schema.specs.Table23.{table23, written23}
 use Rattle.schema.specs.Pick.{Picked, PickedItems, Slots, bare, items, slots, noItem, item, noSlot, absent, repeated, present, pick, listOf}
-use Rattle.schema.proofs.Tests.{and-left, and-right}
 use Rattle.schema.proofs.Computed.{every, every-file}
 use Rattle.fault.specs.declared.Fault.{Fault}
 use Rattle.fault.specs.declared.Least.{Least}
 use Rattle.fault.specs.declared.Least.the-variants.{Is}
-use Rattle.fault.specs.Fault.{fault, before, least}
-use Rattle.fault.proofs.Order.{by-test, true-false, later-record}
+use Rattle.fault.specs.Fault.{fault, before, least, top, faulty}
+use Rattle.fault.proofs.Order.{later-record}
 use Rattle.rings.specs.Rings.{count}
-use Rattle.judge.specs.declared.Place.{Place}
-use Rattle.judge.specs.Faults.{top, Judge, faulty, absence, itemPlace, eachItem, arrayFaults, coordinateFaults, scalarFaults, objectFaults, byNumbering, slotFaults, faultsBy, faults, rowFaults, fileFaultsBy, fileFaults}
+use Rattle.fault.specs.declared.Place.{Place}
+use Rattle.judge.specs.Faults.{Judge, absence, itemPlace, eachItem, arrayFaults, coordinateFaults, scalarFaults, objectFaults, byNumbering, slotFaults, faultsBy, faults, rowFaults, fileFaultsBy, fileFaults}
 use Rattle.judge.specs.Bounds.{OfStageB, Fitting, greatest, fields}
-use Rattle.judge.specs.inner.Tidy.{header, inRecord, inItem}
-use Rattle.judge.specs.inner.Tidy.{Level, tidyArray, tidy, tidyRows}
+use Rattle.judge.specs.inner.WordFit.{header, inRecord, inItem, Level, arrayFits, fitsWord, rowsFit}
 use Rattle.judge.proofs.Holds.{All, none, more, only, Holds, nothing, holding, holds-map, holds-is, holds-least, holds-append, after-sub, first-stays, Of}
 use Rattle.judge.proofs.Broken.{AllStageB, unless-kinds, value-kinds}
 use Rattle.judge.proofs.Positions.{coordinates-fit, coordinates-of}
@@ -191,7 +190,7 @@ positions-keep p φ known x =
     coordinates-hold p φ (kept-here inRecord p φ known) (λ is. kept-of (coordinates-of p φ is) (λ w. coordinates-fit p φ (w .rec) known is)) x
 
 array-keeps : (numbering : Numbering) (l : Level) (judge : Judge) (inner : Level → Bool) (p : Place) (φ : ℕ) → φ ≤ fields → (most : ℕ) → Placed l p →
-    ((m : Level) → inner m ≡ true → Keeps judge m φ) → tidyArray numbering l most inner ≡ true → (x : Picked) →
+    ((m : Level) → inner m ≡ true → Keeps judge m φ) → arrayFits numbering l most inner ≡ true → (x : Picked) →
     Holds (Kept l p φ) (least (byNumbering numbering (arrayFaults judge numbering most p φ x) (coordinateFaults p φ x)))
 array-keeps shape.records header judge inner p φ known most at keeps t x =
     records-keep judge p φ known most (leb-true most greatest (and-left _ _ t)) at (keeps inRecord (and-right (leb most greatest) _ t)) x
@@ -208,17 +207,17 @@ array-keeps shape.positions inItem judge inner p φ known most at keeps t x = tr
 
 -- All shapes.
 mutual
-  unfolding faultsBy tidy
+  unfolding faultsBy fitsWord
 
-  keeps : (σ : Shape) (l : Level) (φ : ℕ) → φ ≤ fields → tidy σ l φ ≡ true → Keeps (λ q f y. faults σ q f y) l φ
+  keeps : (σ : Shape) (l : Level) (φ : ℕ) → φ ≤ fields → fitsWord σ l φ ≡ true → Keeps (λ q f y. faults σ q f y) l φ
   keeps shape.unlisted l φ known t p at x = holds-least none
   keeps (shape.scalar sort) l φ known t p at x = scalar-holds p φ (kept-here l p φ known) sort x
   keeps (shape.array numbering most σ) l φ known t p at x =
-      array-keeps numbering l (λ q f y. faults σ q f y) (λ m. tidy σ m φ) p φ known most at (λ m u. keeps σ m φ known u) t x
+      array-keeps numbering l (λ q f y. faults σ q f y) (λ m. fitsWord σ m φ) p φ known most at (λ m u. keeps σ m φ known u) t x
   keeps (shape.object rows) l φ known t p at x =
       object-holds p φ (kept-here l p φ known) (λ q ss. rowFaults rows q ss) (λ ss. keeps-rows rows l φ t p at ss) x
 
-  keeps-rows : (rows : Rows) (l : Level) (φ : ℕ) → tidyRows rows l φ ≡ true → (p : Place) → Placed l p → (ss : Slots) →
+  keeps-rows : (rows : Rows) (l : Level) (φ : ℕ) → rowsFit rows l φ ≡ true → (p : Place) → Placed l p → (ss : Slots) →
       Holds (Kept l p φ) (least (rowFaults rows p ss))
   keeps-rows shape.noRow l φ t p at ss = holds-least none
   keeps-rows (shape.row f need name σ rows) l φ t p at ss =
@@ -227,18 +226,18 @@ mutual
       let h : φ ≤ f = leb-true φ f (and-left (leb φ f) _ t) in
       let known : f ≤ fields = leb-true f fields (and-left (leb f fields) _ a) in
       row-holds p f (λ k o. kept-later h _ (kept-here l p f known k o)) (λ q g y. faults σ q g y) need (λ q rest. rowFaults rows q rest)
-      (λ y. holds-map (kept-later h) (keeps σ l f known (and-left (tidy σ l f) _ b) p at y))
-      (λ rest. keeps-rows rows l φ (and-right (tidy σ l f) _ b) p at rest)
+      (λ y. holds-map (kept-later h) (keeps σ l f known (and-left (fitsWord σ l f) _ b) p at y))
+      (λ rest. keeps-rows rows l φ (and-right (fitsWord σ l f) _ b) p at rest)
       ss
 
--- Files: the shape of every number is tidy from the top value on, which is field 0.
-pub shape-fits : (σ : Shape) → tidy σ header 0 ≡ true → (x : Json) (f : Fault) → least (fileFaults σ x) ≡ Is f → Fitting f
+-- Files: the shape of every number fits from the top value on, which is field 0.
+pub shape-fits : (σ : Shape) → fitsWord σ header 0 ≡ true → (x : Json) (f : Fault) → least (fileFaults σ x) ≡ Is f → Fitting f
 unfolding fileFaultsBy
 shape-fits σ t x f e = holds-is (keeps σ header 0 (omega arith) t top (refl, refl) (pick σ x)) e .fits (omega arith)
 
-pub file-tidy : (file : ℕ) → tidy (fileShape table23 file) header 0 ≡ true
-unfolding every written23 tidy
-file-tidy file = every-file (λ σ. tidy σ header 0) table23 refl refl file
+pub file-fits : (file : ℕ) → fitsWord (fileShape table23 file) header 0 ≡ true
+unfolding every written23 fitsWord
+file-fits file = every-file (λ σ. fitsWord σ header 0) table23 refl refl file
 
 pub first-fits : (file : ℕ) (x : Json) (f : Fault) → least (fileFaults (fileShape table23 file) x) ≡ Is f → Fitting f
-first-fits file x f e = shape-fits (fileShape table23 file) (file-tidy file) x f e
+first-fits file x f e = shape-fits (fileShape table23 file) (file-fits file) x f e

@@ -7,11 +7,12 @@ use Prim.Native.Nat.{ℕ, _≤_, _<_}
 use native.Mathlib.Omega.{arith}
 use lib.Dec.{ltb}
 use borrow.Author.Tests.{ltb-true, ltb-false}
+use Rattle.notation.proofs.Booleans.{by-test, true-false}
 use Rattle.fault.specs.declared.Fault.{Fault}
 use Rattle.fault.specs.declared.Least.{Least}
 use Rattle.fault.specs.declared.Least.the-variants.{None, Is}
 use Rattle.fault.specs.Fault.{before, lesser, least}
-use Rattle.fault.proofs.Order.{by-test, true-false, later-field, later-sub}
+use Rattle.fault.proofs.Order.{later-field, later-sub}
 use Rattle.fault.proofs.Leasts.{lesser-first, lesser-second, lesser-none, none-lesser, lesser-comm, least-append}
 use Rattle.judge.specs.Bounds.{OfStageB, Fitting}
 

@@ -6,6 +6,7 @@ pub mod Fits
 pub mod Lines
 pub mod Values
 pub mod Going
+pub mod Items
 pub mod Nested
 pub mod Listed
 pub mod Numbered

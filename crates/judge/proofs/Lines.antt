@@ -1,61 +1,63 @@
 -- What a row's line tells of its value, and of the items of an array. A value's own bytes tell the same letters.
 use mathlib.Core.Bool.{true}
 use mathlib.Core.List.{List, [], _∷_}
-use mathlib.Core.Path.{_≡_, refl, sym, ap, _∙_}
+use mathlib.Core.Path.{_≡_, refl, sym, ap, _∙_, subst}
 use Prim.Native.Char.{code}
 use Prim.Native.Nat.{ℕ, suc, _+_, _<_}
 use native.Mathlib.Omega.{arith}
 use lib.ListN.{length, take}
+use Rattle.notation.proofs.Booleans.{true-false}
 use Rattle.word.specs.Kinds.{wrongType}
 use Rattle.json.specs.Tree as tree
 use Rattle.json.specs.Tree.{Json}
 use Rattle.lexeme.specs.Character.{byte}
 use Rattle.lexeme.specs.inner.Start.{Start, start}
-use Rattle.walk.specs.Part.{Whole, kindOf, kindFrom, kindAt}
+use Rattle.walk.specs.Part.{Whole, kindOf}
+use Rattle.walk.specs.inner.Kind.{kindFrom, kindAt}
 use Rattle.walk.proofs.Fronts.{front-kind}
 use Rattle.schema.specs.declared.Line.{Line}
 use Rattle.schema.specs.Shape as shape
 use Rattle.schema.specs.Shape.{Shape, Rows, Need, Numbering}
-use Rattle.schema.specs.inner.Line.{inside, entries, entriesOf, lineAt, valueLetter, sortWords, shapeWords, needLetter, numberingLetter, laidOut}
+use Rattle.schema.specs.inner.Line.{inside, entries, entriesOf, lineAt, valueLetter, sortWords, shapeWords, needLetter, numberingLetter, laidOut, lineOf}
 use Rattle.schema.specs.Later.{itemShape}
 use Rattle.schema.specs.Table23.{table23, written23}
 use Rattle.schema.specs.Pick.{pick}
 use Rattle.schema.proofs.Letters.{array-letter}
-use Rattle.schema.proofs.Walk.{Laid, Step, step, laid-array}
+use Rattle.schema.proofs.Walk.{Step, step, laid-array}
 use Rattle.slots.specs.inner.Rows.{lineCount}
-use Rattle.fault.proofs.Order.{true-false}
-use Rattle.judge.specs.declared.Place.{Place}
-use Rattle.judge.specs.Faults.{Judge, absence, itemPlace, faulty, arrayFaults, faultsBy, faults}
-use Rattle.judge.specs.inner.Ready.{noWords, plain}
-use Rattle.judge.specs.inner.Judged.{bracketsOf, absenceOf, itemPlaceOf, Told}
+use Rattle.fault.specs.declared.Place.{Place}
+use Rattle.judge.specs.Faults.{Judge, absence, itemPlace, arrayFaults, faultsBy, faults}
+use Rattle.fault.specs.Fault.{faulty}
+use Rattle.judge.specs.inner.Judgeable.{noWords, plain}
+use Rattle.judge.specs.inner.Judged.{bracketsOf, absenceOf, itemPlaceOf, LineTells, RowAt, ArrayAt}
 
 pub how-many : length (entriesOf table23) ≡ lineCount
 unfolding laidOut written23
 how-many = refl
 
-module _ (i field : ℕ) (need : Need) (name : List ℕ) (σ : Shape) (rows : Rows) (laid : Laid table23 i (shape.row field need name σ rows)) where
-  walked : Step table23 i field need name σ rows
-  walked = step table23 i field need name σ rows laid
+module _ {i : ℕ} (a : RowAt i) where
+  walked : Step table23 i (a .field) (a .need) (a .name) (a .value) (a .below)
+  walked = step table23 i (a .field) (a .need) (a .name) (a .value) (a .below) (a .laid)
 
   pub laid-there : i < lineCount
   unfolding entries
-  laid-there = omega (arith, laid .fits, how-many)
+  laid-there = omega (arith, a .laid .fits, how-many)
 
-  pub line-field : lineAt table23 i .field ≡ field
+  pub line-field : lineAt table23 i .field ≡ a .field
   line-field = ap (λ (l : Line). l .field) (walked .line)
 
-  pub line-need : absenceOf (lineAt table23 i .need) ≡ absence need
-  line-need = ap (λ (l : Line). absenceOf (l .need)) (walked .line) ∙ by-need need
+  pub line-need : absenceOf (lineAt table23 i .need) ≡ absence (a .need)
+  line-need = ap (λ (l : Line). absenceOf (l .need)) (walked .line) ∙ by-need (a .need)
     where
       by-need : (n : Need) → absenceOf (needLetter n) ≡ absence n
       by-need shape.required = refl
       by-need shape.optional = refl
       by-need shape.conditional = refl
 
-  pub line-value : valueLetter σ ≡ lineAt table23 i .value
+  pub line-value : valueLetter (a .value) ≡ lineAt table23 i .value
   line-value = sym (ap (λ (l : Line). l .value) (walked .line))
 
-  pub row-told : Told i (lineAt table23 i .value) σ
+  pub row-told : LineTells i (lineAt table23 i .value) (a .value)
   row-told =
       record {
         there = laid-there;
@@ -81,34 +83,36 @@ pub plain-single : (σ : Shape) → plain σ ≡ true → valueLetter σ ≡ cod
 unfolding plain
 plain-single σ e h = let a = array-letter σ h in true-false (sym (ap plain (a .is)) ∙ e) refl
 
-module _ (i field : ℕ) (need : Need) (name : List ℕ) (numbering : Numbering) (most : ℕ) (σ : Shape) (rows : Rows)
-    (laid : Laid table23 i (shape.row field need name (shape.array numbering most σ) rows)) where
-  told : Step table23 i field need name (shape.array numbering most σ) rows
-  told = walked i field need name (shape.array numbering most σ) rows laid
+module _ {i : ℕ} (a : ArrayAt i) where
+  told : LineTells i (lineAt table23 i .value) (shape.array (a .numbering) (a .most) (a .item))
+  told = subst (LineTells i (lineAt table23 i .value)) (a .is) (row-told (a .row))
 
-  pub line-numbering : lineAt table23 i .numbering ≡ numberingLetter numbering
-  line-numbering = ap (λ (l : Line). l .numbering) (told .line)
+  lined : lineAt table23 i ≡ lineOf (record { field = a .row .field; need = a .row .need; name = a .row .name; shape = shape.array (a .numbering) (a .most) (a .item) })
+  lined = walked (a .row) .line ∙ ap (λ (σ : Shape). lineOf (record { field = a .row .field; need = a .row .need; name = a .row .name; shape = σ })) (a .is)
 
-  pub line-most : lineAt table23 i .most ≡ most
-  line-most = ap (λ (l : Line). l .most) (told .line)
+  pub line-numbering : lineAt table23 i .numbering ≡ numberingLetter (a .numbering)
+  line-numbering = ap (λ (l : Line). l .numbering) lined
 
-  pub line-item : valueLetter σ ≡ lineAt table23 i .item
+  pub line-most : lineAt table23 i .most ≡ a .most
+  line-most = ap (λ (l : Line). l .most) lined
+
+  pub line-item : valueLetter (a .item) ≡ lineAt table23 i .item
   unfolding itemShape
-  line-item = sym (ap (λ (l : Line). l .item) (told .line))
+  line-item = sym (ap (λ (l : Line). l .item) lined)
 
-  pub item-told : plain σ ≡ true → Told i (lineAt table23 i .item) σ
+  pub item-told : plain (a .item) ≡ true → LineTells i (lineAt table23 i .item) (a .item)
   unfolding inside
   item-told e =
       record {
-        there = laid-there i field need name (shape.array numbering most σ) rows laid;
+        there = told .there;
         lettered = line-item;
-        words = told .words ∙ no-words σ e;
-        inner = laid-array table23 (i + 1) numbering most σ (told .inner);
-        lines = ap (λ (l : Line). l .inside) (told .line);
+        words = told .words ∙ no-words (a .item) e;
+        inner = laid-array table23 (i + 1) (a .numbering) (a .most) (a .item) (told .inner);
+        lines = told .lines;
       }
 
-  pub line-place : (n : ℕ) (q : Place) → itemPlaceOf (lineAt table23 i .numbering) n q ≡ itemPlace numbering n q
-  line-place n q = ap (λ (l : ℕ). itemPlaceOf l n q) line-numbering ∙ by-letter numbering
+  pub line-place : (n : ℕ) (q : Place) → itemPlaceOf (lineAt table23 i .numbering) n q ≡ itemPlace (a .numbering) n q
+  line-place n q = ap (λ (l : ℕ). itemPlaceOf l n q) line-numbering ∙ by-letter (a .numbering)
     where
       by-letter : (m : Numbering) → itemPlaceOf (numberingLetter m) n q ≡ itemPlace m n q
       by-letter shape.records = refl

@@ -1,10 +1,13 @@
 -- Each file of table 2.3 is an object whose lines the judge can go by, and no other number has lines.
-use mathlib.Core.Bool.{true}
+use mathlib.Core.Bool.{true, Bool, false}
 use mathlib.Core.List.{List}
 use mathlib.Core.Path.{_≡_, refl, sym, ap, subst, _∙_}
-use Prim.Native.Nat.{ℕ, zero, suc}
+use Prim.Native.Nat.{ℕ, _<_}
 use native.Mathlib.Omega.{arith}
+use lib.Dec.{ltb}
 use lib.ListN.{length, take}
+use borrow.Author.Tests.{ltb-true}
+use Rattle.notation.specs.Choice.{_and_}
 use Rattle.json.specs.Tree.{Json}
 use Rattle.text.specs.Text.{same}
 use Rattle.walk.specs.Part.{Whole}
@@ -18,59 +21,69 @@ use Rattle.schema.specs.Later.{listedIn}
 use Rattle.schema.specs.Pick.{pick}
 use Rattle.schema.specs.inner.Sound.{distinctRows}
 use Rattle.schema.specs.Table23.{table23, written23}
-use Rattle.schema.proofs.Walk.{LaidIn, laid-object, file-lined}
+use Rattle.schema.proofs.Computed.{every, every-file}
+use Rattle.schema.proofs.Walk.{LaidIn, laid-object, file-lined, linesIn}
 use Rattle.slots.specs.inner.Rows.{namesIn}
 use Rattle.fault.specs.declared.Least.{Least}
 use Rattle.fault.specs.declared.Least.the-variants.{None}
-use Rattle.fault.specs.Fault.{least}
-use Rattle.judge.specs.Faults.{top, faultsBy, faults, fileFaultsBy, fileFaults}
-use Rattle.judge.specs.inner.Ready.{arrays, plain, ready}
+use Rattle.fault.specs.Fault.{least, top}
+use Rattle.notation.proofs.Booleans.{true-false, and-left, and-right}
+use Rattle.judge.specs.Faults.{faultsBy, faults, fileFaultsBy, fileFaults}
+use Rattle.judge.specs.inner.Judgeable.{arrays, plain, judgeable}
 use Rattle.judge.specs.inner.Judged.{Object}
 
--- so many objects lie in one another at most
+-- at most this many objects lie in one another
 abbrev pub levels : ℕ
 levels = 8
 
-record Ready (σ : Shape) : Type 0 where
+-- A file's shape is an object with lines, which the judge can go by; or nothing is listed. Computed over all files.
+unfoldable judgeableFile : Shape → Bool
+judgeableFile shape.unlisted = true
+judgeableFile (shape.scalar sort) = false
+judgeableFile (shape.array numbering most σ) = false
+judgeableFile (shape.object rows) = ltb 0 (linesIn rows) and judgeable (shape.object rows) levels
+
+file-laid : (file : ℕ) → judgeableFile (fileShape table23 file) ≡ true
+unfolding every judgeableFile written23 laidOut judgeable arrays plain distinctRows listedIn namesIn same
+file-laid file = every-file judgeableFile table23 refl refl file
+
+record WithLines (σ : Shape) : Type 0 where
   rows : Rows
   is : σ ≡ shape.object rows
-  readied : ready (shape.object rows) levels ≡ true
+  judgeable-rows : judgeable (shape.object rows) levels ≡ true
 
-file-ready : (file : ℕ) → (fileLines table23 file .count ≡ 0 → ⊥) → Ready (fileShape table23 file)
-unfolding fileShape written23 laidOut ready arrays plain distinctRows listedIn namesIn same
-file-ready zero n = absurd (n refl)
-file-ready (suc zero) n = record { rows = _; is = refl; readied = refl }
-file-ready (suc (suc zero)) n = record { rows = _; is = refl; readied = refl }
-file-ready (suc (suc (suc zero))) n = record { rows = _; is = refl; readied = refl }
-file-ready (suc (suc (suc (suc zero)))) n = record { rows = _; is = refl; readied = refl }
-file-ready (suc (suc (suc (suc (suc zero))))) n = record { rows = _; is = refl; readied = refl }
-file-ready (suc (suc (suc (suc (suc (suc zero)))))) n = record { rows = _; is = refl; readied = refl }
-file-ready (suc (suc (suc (suc (suc (suc (suc file))))))) n = absurd (n refl)
+with-lines : (σ : Shape) → judgeableFile σ ≡ true → (length (inside σ) ≡ 0 → ⊥) → WithLines σ
+unfolding judgeableFile inside
+with-lines shape.unlisted e n = absurd (n refl)
+with-lines (shape.scalar sort) e n = true-false e refl
+with-lines (shape.array numbering most σ) e n = true-false e refl
+with-lines (shape.object rows) e n = record { rows = rows; is = refl; judgeable-rows = and-right (ltb 0 (linesIn rows)) (judgeable (shape.object rows) levels) e }
+
+without-lines : (σ : Shape) → judgeableFile σ ≡ true → length (inside σ) ≡ 0 → (x : Json) → None ≡ least (fileFaults σ x)
+unfolding judgeableFile inside fileFaultsBy faultsBy least
+without-lines shape.unlisted e n x = refl
+without-lines (shape.scalar sort) e n x = true-false e refl
+without-lines (shape.array numbering most σ) e n x = true-false e refl
+without-lines (shape.object rows) e n x =
+    let some : 0 < linesIn rows = ltb-true 0 (linesIn rows) (and-left (ltb 0 (linesIn rows)) (judgeable (shape.object rows) levels) e) in absurd (omega arith)
 
 pub file-unlisted : (file : ℕ) → fileLines table23 file .count ≡ 0 → (x : Json) → None ≡ least (fileFaults (fileShape table23 file) x)
-unfolding fileShape written23 laidOut fileFaultsBy faultsBy least
-file-unlisted zero e x = refl
-file-unlisted (suc zero) e x = absurd (omega arith)
-file-unlisted (suc (suc zero)) e x = absurd (omega arith)
-file-unlisted (suc (suc (suc zero))) e x = absurd (omega arith)
-file-unlisted (suc (suc (suc (suc zero)))) e x = absurd (omega arith)
-file-unlisted (suc (suc (suc (suc (suc zero))))) e x = absurd (omega arith)
-file-unlisted (suc (suc (suc (suc (suc (suc zero)))))) e x = absurd (omega arith)
-file-unlisted (suc (suc (suc (suc (suc (suc (suc file))))))) e x = refl
+file-unlisted file e x = without-lines (fileShape table23 file) (file-laid file) (sym (file-lined table23 file .count) ∙ e) x
 
 pub file-listed : (p : List ℕ) (e : ℕ) {r : Least} {lines : Range} (file : ℕ) → lines ≡ fileLines table23 file → (lines .count ≡ 0 → ⊥) → Ends p e →
     Object (take e p) (lines .first) (lines .count) 0 top levels r → (x : Json) → Whole p x → r ≡ least (fileFaults (fileShape table23 file) x)
 unfolding fileFaultsBy inside
 file-listed p e {r} file at n ends o x w =
-    go (file-ready file (λ z. n (ap (λ (l : Range). l .count) at ∙ z))) (subst (λ (l : Range). Object (take e p) (l .first) (l .count) 0 top levels r) at o)
+    go (with-lines (fileShape table23 file) (file-laid file) (λ z. n (ap (λ (l : Range). l .count) at ∙ file-lined table23 file .count ∙ z)))
+    (subst (λ (l : Range). Object (take e p) (l .first) (l .count) 0 top levels r) at o)
   where
     whole : Whole (take e p) x
     whole = let f = whole-fronts w in rw (ends .is x (length p) f) (fronts-whole f)
 
-    go : Ready (fileShape table23 file) → Object (take e p) (fileLines table23 file .first) (fileLines table23 file .count) 0 top levels r →
+    go : WithLines (fileShape table23 file) → Object (take e p) (fileLines table23 file .first) (fileLines table23 file .count) 0 top levels r →
         r ≡ least (fileFaults (fileShape table23 file) x)
     go k o′ =
         let d = file-lined table23 file in
         o′ .is (k .rows) (laid-object table23 (fileLines table23 file .first) (k .rows) (subst (LaidIn table23 (fileLines table23 file .first)) (k .is) (d .laid)))
-        (sym (d .count ∙ ap (λ (σ : Shape). length (inside σ)) (k .is))) (k .readied) x whole
+        (sym (d .count ∙ ap (λ (σ : Shape). length (inside σ)) (k .is))) (k .judgeable-rows) x whole
         ∙ ap (λ (σ : Shape). least (faults σ top 0 (pick σ x))) (sym (k .is))

@@ -16,7 +16,8 @@ use Rattle.walk.specs.declared.NameStep.the-variants as names
 use Rattle.walk.specs.declared.Member.{Member as Met}
 use Rattle.walk.specs.declared.MemberStep.the-variants as members
 use Rattle.walk.specs.Walk.{part, onward, memberAt}
-use Rattle.walk.specs.Part.{Whole, kindAt}
+use Rattle.walk.specs.Part.{Whole}
+use Rattle.walk.specs.inner.Kind.{kindAt}
 use Rattle.walk.specs.inner.Along.{Placed, NamePassed}
 use Rattle.walk.specs.inner.Front.{Ends}
 use Rattle.walk.proofs.Places.{member-placed}
@@ -31,7 +32,7 @@ use Rattle.slots.specs.inner.Slots.{slotsOf, empty, slotAt, newAt, countedIn, p
 use Rattle.slots.proofs.Filled.{put-counts, Sized, put-sized, empty-sized, empty-missing, Put, here, there, put-once}
 use Rattle.fault.specs.declared.Least.{Least}
 use Rattle.fault.specs.declared.Least.the-variants.{None}
-use Rattle.judge.specs.declared.Place.{Place}
+use Rattle.fault.specs.declared.Place.{Place}
 use Rattle.judge.specs.inner.Judged.{bracketsOf, Member, Kept, RowsJudged, MembersJudged}
 use Rattle.judge.proofs.Lines.{bracketless, whole-members}
 

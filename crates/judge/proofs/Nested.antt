@@ -6,6 +6,7 @@ use mathlib.Core.Path.{_≡_, refl, sym, ap, ap₂, _∙_}
 use Prim.Native.Char.{code}
 use Prim.Native.Nat.{ℕ, zero, suc}
 use native.Mathlib.Omega.{arith}
+use Rattle.notation.proofs.Booleans.{true-false}
 use Rattle.json.specs.Tree as tree
 use Rattle.json.specs.Tree.{Json, Items}
 use Rattle.walk.specs.Part.{Whole}
@@ -17,10 +18,9 @@ use Rattle.schema.specs.Pick.{Picked, PickedItems, bare, items, item, emptied, 
 use Rattle.schema.specs.Table23.{table23, coordinates}
 use Rattle.fault.specs.declared.Least.{Least}
 use Rattle.fault.specs.Fault.{least}
-use Rattle.fault.proofs.Order.{true-false}
-use Rattle.judge.specs.declared.Place.{Place}
+use Rattle.fault.specs.declared.Place.{Place}
 use Rattle.judge.specs.Faults.{coordinateFaults, faultsBy, faults}
-use Rattle.judge.specs.inner.Ready.{arrays, ready}
+use Rattle.judge.specs.inner.Judgeable.{arrays, judgeable}
 use Rattle.judge.specs.inner.Judged.{Array}
 use Rattle.judge.proofs.Lines.{line-field, line-numbering}
 
@@ -71,9 +71,9 @@ nested-picked (suc n) σ τ s t x =
     ∙ array-picked (a .inner) (b .inner) (nested-picked n (a .inner) (b .inner) (a .deep) (b .deep)) (a .numbering) (b .numbering) (a .most) (b .most) x
     ∙ ap (λ (z : Shape). pick z x) (sym (b .is))
 
-position-faults : (numbering : Numbering) → numberingLetter numbering ≡ code "p" → (most : ℕ) (σ : Shape) (level : ℕ) → ready (shape.array numbering most σ) level ≡ true →
+position-faults : (numbering : Numbering) → numberingLetter numbering ≡ code "p" → (most : ℕ) (σ : Shape) (level : ℕ) → judgeable (shape.array numbering most σ) level ≡ true →
     (q : Place) (φ : ℕ) (x : Json) → coordinateFaults q φ (pick coordinates x) ≡ faults (shape.array numbering most σ) q φ (pick (shape.array numbering most σ) x)
-unfolding ready faultsBy arrays coordinates
+unfolding judgeable faultsBy arrays coordinates
 position-faults shape.records h most σ level e q φ x = absurd (omega arith)
 position-faults shape.subs h most σ level e q φ x = absurd (omega arith)
 position-faults shape.outer h most σ level e q φ x = absurd (omega arith)
@@ -85,9 +85,8 @@ module _ {p : List ℕ} {i : ℕ} {q : Place} {level : ℕ} {r : Least} {line : 
       ((x : Json) → Whole p x → r ≡ least (coordinateFaults q (line .field) (pick coordinates x))) → Array p i q level r
   array-positions at v h =
       record {
-        is = λ field need name numbering most σ rows l e x w.
-            h x w
-            ∙ ap (λ (φ : ℕ). least (coordinateFaults q φ (pick coordinates x)))
-            (ap (λ (z : Line). z .field) at ∙ line-field i field need name (shape.array numbering most σ) rows l)
-            ∙ ap least (position-faults numbering (sym (ap (λ (z : Line). z .numbering) at ∙ line-numbering i field need name numbering most σ rows l) ∙ v) most σ level e q field x);
+        is = λ a e x w.
+            h x w ∙ ap (λ (φ : ℕ). least (coordinateFaults q φ (pick coordinates x))) (ap (λ (z : Line). z .field) at ∙ line-field (a .row))
+            ∙ ap least
+            (position-faults (a .numbering) (sym (ap (λ (z : Line). z .numbering) at ∙ line-numbering a) ∙ v) (a .most) (a .item) level e q (a .row .field) x);
       }

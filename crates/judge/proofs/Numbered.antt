@@ -7,14 +7,15 @@ use lib.ListN.{take}
 use Rattle.word.specs.Kinds.{wrongType}
 use Rattle.json.specs.Tree as tree
 use Rattle.json.specs.Tree.{Json}
-use Rattle.walk.specs.Part.{Whole, kindOf, kindAt}
+use Rattle.walk.specs.Part.{Whole, kindOf}
+use Rattle.walk.specs.inner.Kind.{kindAt}
 use Rattle.schema.specs.Pick.{PickedItems, items, pick}
 use Rattle.schema.specs.Table23.{coordinates}
 use Rattle.fault.specs.declared.Least.{Least}
-use Rattle.fault.specs.Fault.{least}
+use Rattle.fault.specs.Fault.{least, faulty}
 use Rattle.rings.specs.Rings.{numbered, coordinatesFound}
-use Rattle.judge.specs.declared.Place.{Place}
-use Rattle.judge.specs.Faults.{faulty, coordinateFaults}
+use Rattle.fault.specs.declared.Place.{Place}
+use Rattle.judge.specs.Faults.{coordinateFaults}
 use Rattle.judge.specs.inner.Judged.{bracketsOf}
 use Rattle.judge.proofs.Lines.{whole-brackets, whole-items}
 

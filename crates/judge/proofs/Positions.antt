@@ -10,20 +10,19 @@ use lib.ListN.{length}
 use borrow.Author.Tests.{leb-true, leb-false, lt-leb}
 use Rattle.limits.specs.Ceilings as ceiling
 use Rattle.notation.specs.Choice.{_⇒_else_, _and_}
+use Rattle.notation.proofs.Booleans.{by-test, and-right}
 use Rattle.word.specs.Kinds.{wrongType, tooMany, badRing}
 use Rattle.schema.specs.Shape as sort
 use Rattle.schema.specs.Pick.{Picked, PickedItems, bare, items, slots, listOf}
-use Rattle.schema.proofs.Tests.{and-right}
 use Rattle.fault.specs.declared.Fault.{Fault}
 use Rattle.fault.specs.declared.Least.{Least}
 use Rattle.fault.specs.Fault.{fault, lesser, least}
-use Rattle.fault.proofs.Order.{by-test}
 use Rattle.fault.proofs.Leasts.{least-one}
 use Rattle.scalar.specs.Scalars.{unless}
 use Rattle.geometry.specs.Ring.{sound}
 use Rattle.rings.specs.Rings.{Found, foundAt, numbered, count, coordinateKinds, numberKindsIn, positionKinds, position, allSound, positionsFound, ringFound, ring, itemCount, ringsFound, itemTotal, polygon, polygonPositions, isRingCount, areZoneCounts, polygonsFound, coordinatesFound}
 use Rattle.rings.proofs.Found.{least-append as found-append}
-use Rattle.judge.specs.declared.Place.{Place}
+use Rattle.fault.specs.declared.Place.{Place}
 use Rattle.judge.specs.Bounds.{OfStageB, Fitting, greatest, fields}
 use Rattle.judge.proofs.Holds.{All, none, more, only, all-append, Holds, nothing, holds-least, holds-lesser, Of, Small, small-fits, small-left, small-right}
 use Rattle.judge.proofs.Broken.{AllStageB, unless-kinds, value-kinds}

@@ -1,6 +1,6 @@
 -- What a word holds of a fault, and which kinds are those of stage B.
 use Prim.Native.Nat.{ℕ, _≤_}
-use Rattle.word.specs.Form.{form1}
+use Rattle.word.specs.Form.{writtenForm}
 use Rattle.word.specs.Kinds.{nameTwice, badRing}
 use Rattle.fault.specs.declared.Fault.{Fault}
 
@@ -9,7 +9,7 @@ abbrev pub greatest : ℕ
 greatest = 4_095
 
 abbrev pub fields : ℕ
-fields = form1 .fields
+fields = writtenForm .fields
 
 -- the kinds of stage B
 pub record OfStageB (kind : ℕ) : Type 0 where

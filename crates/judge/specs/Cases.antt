@@ -11,14 +11,14 @@ use Rattle.schema.specs.Table23.{table23}
 use Rattle.schema.specs.Pick.{find}
 use Rattle.fault.specs.declared.Least.{Least}
 use Rattle.fault.specs.declared.Least.the-variants.{None, Is}
-use Rattle.fault.specs.Fault.{fault, before, lesser, least}
-use Rattle.scalar.specs.Scalars.{anyMoney, priceMoney, pricing, anyWord}
+use Rattle.fault.specs.Fault.{fault, before, lesser, least, faulty}
+use Rattle.scalar.specs.Scalars.{anyMoney, priceMoney, pricing, anyWord, capitals, currency}
 use Rattle.rings.specs.Cases.{ringing}
-use Rattle.judge.specs.Faults.{faulty, eachItem, faultsBy, fileFaultsBy, fileFaults}
+use Rattle.judge.specs.Faults.{eachItem, faultsBy, fileFaultsBy, fileFaults}
 
 -- opens every definition of stage B
 unfoldable pub judging : Unit {0}
-unfolding ringing comparing fileShape find before lesser least anyMoney priceMoney pricing anyWord faulty eachItem faultsBy fileFaultsBy
+unfolding ringing comparing fileShape find before lesser least anyMoney priceMoney pricing anyWord capitals currency faulty eachItem faultsBy fileFaultsBy
 judging = tt
 
 unfoldable times : ℕ → List ℕ → List ℕ

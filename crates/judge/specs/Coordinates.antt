@@ -11,7 +11,7 @@ use Rattle.fault.specs.declared.Least.the-variants.{Is}
 use Rattle.fault.specs.Fault.{least}
 use Rattle.rings.specs.Rings.{numbered, count, itemCount, polygonPositions, itemTotal, areZoneCounts}
 use Rattle.rings.specs.OneRing.{coordinatesOfOne, OneRingAtMost}
-use Rattle.judge.specs.declared.Place.{Place}
+use Rattle.fault.specs.declared.Place.{Place}
 use Rattle.judge.specs.Faults.{coordinateFaults}
 use Rattle.judge.specs.Bounds.{Fitting, greatest, fields}
 

@@ -1,29 +1,17 @@
 -- All broken rules of stage B in a picked file: document 01, "Stage B". A list of every one; nothing is said of the order in which they are found.
-use mathlib.Core.Bool.{Bool, true, false}
-use mathlib.Core.List.{List, [], _∷_, _++_, map}
+use mathlib.Core.List.{List, [], _∷_, _++_}
 use Prim.Native.Nat.{ℕ, _+_}
 use lib.Dec.{leb}
-use Rattle.notation.specs.Choice.{_⇒_else_}
 use Rattle.word.specs.Kinds.{nameTwice, missing, wrongType, tooMany}
 use Rattle.json.specs.Tree.{Json}
 use Rattle.schema.specs.Shape as shape
 use Rattle.schema.specs.Shape.{Shape, Rows, Need, Numbering}
 use Rattle.schema.specs.Pick.{Picked, PickedItems, Slots, bare, items, slots, noItem, item, noSlot, absent, repeated, present, pick}
 use Rattle.fault.specs.declared.Fault.{Fault}
-use Rattle.fault.specs.declared.Least.{Least}
-use Rattle.fault.specs.Fault.{fault, least}
+use Rattle.fault.specs.Fault.{top, faulty}
 use Rattle.scalar.specs.Scalars.{unless, kindsOf}
-use Rattle.judge.specs.declared.Place.{Place}
+use Rattle.fault.specs.declared.Place.{Place}
 use Rattle.rings.specs.Rings.{Found, numbered, count, coordinatesFound}
-
--- the top value stands in no record
-abbrev pub top : Place
-top = record { «record» = 0; sub = 0 }
-
--- faults of a field at a place
-unfoldable pub faulty : Place → ℕ → List ℕ → List Fault
-faulty p field [] = []
-faulty p field (k ∷ ks) = fault (p .«record») field (p .sub) k ∷ faulty p field ks
 
 -- the place of an array's n-th item
 abbrev pub itemPlace : Numbering → ℕ → Place → Place

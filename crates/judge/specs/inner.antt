@@ -1,4 +1,4 @@
 -- Definitions that follow the code. Contracts of inner functions cite them; nobody has to believe them.
 pub mod Judged
-pub mod Ready
-pub mod Tidy
+pub mod Judgeable
+pub mod WordFit

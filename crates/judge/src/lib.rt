@@ -1,9 +1,10 @@
 // Stage B of one file: its first broken rule, by the field table.
 use crate::part::judge_object;
-use fault::Fault;
 use fault::Least;
+use fault::Place;
 use schema::Line;
 use schema::lines::file_lines;
+use schema::lines::table_bytes;
 use word::kind::Kind;
 ghost use mathlib.Core.Path.{_≡_};
 ghost use Prim.Native.Nat.{_≤_};
@@ -15,75 +16,51 @@ ghost use Rattle.walk.specs.Part.{Whole};
 ghost use Rattle.schema.specs.Shape.{fileShape};
 ghost use Rattle.schema.specs.Table23.{table23};
 ghost use Rattle.word.specs.Kinds.{tooMany};
-ghost use Rattle.fault.specs.Fault.{least};
-ghost use Rattle.scalar.specs.inner.Listed.{listed};
+ghost use Rattle.fault.specs.Fault.{least, faulty};
 ghost use Rattle.scalar.specs.Scalars.{unless};
-ghost use Rattle.judge.specs.Faults.{faulty, fileFaults};
+ghost use Rattle.judge.specs.Faults.{fileFaults};
 ghost use Rattle.judge.specs.inner.Judged.{absenceOf, itemPlaceOf};
 
 pub mod part;
 
-// Where a value stands: in a record, and in an item of it. Record 0 is the header.
-pub struct Place {
-    pub record: u32,
-    pub sub: u32,
+// A member that is not there.
+fn absent(place: Place, line: Line) -> Least
+    ensures { λ r. ⌜ r ≡ least (faulty place (line .field) (absenceOf (line .need))) ⌝ }
+{
+    if line.need == Line::REQUIRED {
+        return place.broken(line.field, Kind::MISSING);
+    }
+    place.broken(line.field, 0)
 }
 
-impl Place {
-    // A field's fault, or none where the kind is 0.
-    pub fn broken(self, field: u8, kind: u8) -> Least
-        ensures { λ r. ⌜ r ≡ least (faulty self field (listed kind)) ⌝ }
-    {
-        if kind == 0 {
-            return Least::None;
-        }
-        Least::Is(Fault {
-            record: self.record,
-            field: field,
-            sub: self.sub,
-            kind: kind,
-        })
+// An array of n items.
+fn excess(place: Place, line: Line, n: u32) -> Least
+    ensures { λ r. ⌜ r ≡ least (faulty place (line .field) (unless (leb n (line .most)) tooMany)) ⌝ }
+{
+    let most = wide(line.most);
+    if most < n {
+        return place.broken(line.field, Kind::TOO_MANY);
     }
+    place.broken(line.field, 0)
+}
 
-    // A member that is not there.
-    fn absent(self, line: Line) -> Least
-        ensures { λ r. ⌜ r ≡ least (faulty self (line .field) (absenceOf (line .need))) ⌝ }
-    {
-        if line.need == Line::REQUIRED {
-            return self.broken(line.field, Kind::MISSING);
-        }
-        self.broken(line.field, 0)
+// An array's n-th item.
+fn item(place: Place, numbering: u8, n: u32) -> Place
+    ensures { λ r. ⌜ r ≡ itemPlaceOf numbering n place ⌝ }
+{
+    if numbering == Line::RECORDS {
+        return Place {
+            record: n,
+            sub: place.sub,
+        };
     }
-
-    // An array of n items.
-    fn excess(self, line: Line, n: u32) -> Least
-        ensures { λ r. ⌜ r ≡ least (faulty self (line .field) (unless (leb n (line .most)) tooMany)) ⌝ }
-    {
-        let most = wide(line.most);
-        if most < n {
-            return self.broken(line.field, Kind::TOO_MANY);
-        }
-        self.broken(line.field, 0)
+    if numbering == Line::SUBS {
+        return Place {
+            record: place.record,
+            sub: n,
+        };
     }
-
-    // An array's n-th item.
-    fn item(self, numbering: u8, n: u32) -> Place
-        ensures { λ r. ⌜ r ≡ itemPlaceOf numbering n self ⌝ }
-    {
-        if numbering == Line::RECORDS {
-            return Place {
-                record: n,
-                sub: self.sub,
-            };
-        }
-        if numbering == Line::SUBS {
-            return Place {
-                record: self.record,
-                sub: n,
-            };
-        }
-        self
-    }
+    place
 }
 
 fn wide(x: u16) -> u32
@@ -98,7 +75,7 @@ pub struct Judged {
     pub end: usize,
 }
 
-// So many objects of the table lie in one another at most.
+// How many objects of the table lie in one another at most.
 const LEVELS: u8 = 8;
 
 // The first broken rule of a file, by its number, of which p is the value; no rule holds for a number that no file has.
@@ -111,6 +88,7 @@ pub fn judge_file(p: &[u8], file: u8) -> Least
         return Least::None;
     }
     let top = Place { record: 0, sub: 0 };
-    let judged = judge_object(p, lines.first, lines.count, 0, top, LEVELS);
+    let table = table_bytes();
+    let judged = judge_object(p, &table, lines.first, lines.count, 0, top, LEVELS);
     judged.least
 }

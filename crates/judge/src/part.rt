@@ -1,8 +1,11 @@
 // The judge: a value, a member, an object, each by the bytes from it on, in one pass: what it breaks first, and where it ends. `level` counts the
-// objects that may still open, one inside another, and falls with each. A row's line is looked up once and handed down.
+// objects that may still open, one inside another, and falls with each. The table is lent; a row's line is looked up once and handed down.
 use crate::Judged;
-use crate::Place;
+use crate::absent;
+use crate::excess;
+use crate::item;
 use fault::Least;
+use fault::Place;
 use fault::lesser;
 use lexeme::blank::skip_blanks;
 use rings::Field;
@@ -10,10 +13,6 @@ use rings::zone::judge_coordinates;
 use scalar::judge_scalar;
 use schema::Line;
 use schema::lines::line_at;
-use schema::lines::line_columns;
-use schema::names::name_bytes;
-use schema::names::name_counts;
-use schema::names::name_firsts;
 use slots::Slots;
 use slots::begins_blank;
 use slots::count_name;
@@ -33,10 +32,11 @@ ghost use Prim.Native.Nat.{ℕ, _+_, _≤_};
 ghost use lib.ListN.{length, take};
 ghost use Rattle.limits.specs.Ceilings.{fileBytes};
 ghost use Rattle.json.specs.Tree.{Json};
-ghost use Rattle.walk.specs.Part.{Whole, kindAt};
+ghost use Rattle.walk.specs.Part.{Whole};
+ghost use Rattle.walk.specs.inner.Kind.{kindAt};
 ghost use Rattle.walk.specs.inner.Front.{Ends};
 ghost use Rattle.schema.specs.Pick.{pick};
-ghost use Rattle.schema.specs.inner.Line.{NameColumns, LineColumns, lineAt};
+ghost use Rattle.schema.specs.inner.Line.{lineAt, bytesOf};
 ghost use Rattle.schema.specs.Table23.{table23, coordinates};
 ghost use Rattle.slots.specs.inner.Rows.{lineCount};
 ghost use Rattle.fault.specs.Fault.{least};
@@ -109,22 +109,37 @@ fn judge_plain(p: &[u8], letter: u8, i: usize, line: Line, place: Place) -> Judg
 }
 
 // A value that is no array, by its letter; line i tells the rest.
-fn judge_single(p: &[u8], letter: u8, i: usize, line: Line, place: Place, level: u8) -> Judged
-    requires { ⌜ (length (now p) ≤ fileBytes) × (line ≡ lineAt table23 i) ⌝ }
+fn judge_single(
+    p: &[u8],
+    table: &[u8; Line::TABLE_BYTES],
+    letter: u8,
+    i: usize,
+    line: Line,
+    place: Place,
+    level: u8,
+) -> Judged
+    requires { ⌜ (length (now p) ≤ fileBytes) × (line ≡ lineAt table23 i) × (now table ≡ bytesOf table23) ⌝ }
     ensures { λ r. ⌜ Ends (now (p .entry)) (r .end) × Single (take (r .end) (now (p .entry))) letter i place level (r .least) ⌝ }
 {
     if Line::COUNT <= i {
         return passed(p, Least::None);
     }
     if letter == Line::OBJECT {
-        return judge_object(p, i + 1, wide(line.inside), line.field, place, level);
+        return judge_object(p, table, i + 1, wide(line.inside), line.field, place, level);
     }
     judge_plain(p, letter, i, line, place)
 }
 
 // The array of line i: all of its items, and how many they are.
-fn judge_array(p: &[u8], i: usize, line: Line, place: Place, level: u8) -> Judged
-    requires { ⌜ (length (now p) ≤ fileBytes) × (line ≡ lineAt table23 i) ⌝ }
+fn judge_array(
+    p: &[u8],
+    table: &[u8; Line::TABLE_BYTES],
+    i: usize,
+    line: Line,
+    place: Place,
+    level: u8,
+) -> Judged
+    requires { ⌜ (length (now p) ≤ fileBytes) × (line ≡ lineAt table23 i) × (now table ≡ bytesOf table23) ⌝ }
     ensures { λ r. ⌜ Ends (now (p .entry)) (r .end) × Array (take (r .end) (now (p .entry))) i place level (r .least) ⌝ }
 {
     if line.numbering == Line::POSITIONS {
@@ -138,11 +153,11 @@ fn judge_array(p: &[u8], i: usize, line: Line, place: Place, level: u8) -> Judge
     let mut at: usize = 1;
     loop {
         let value = skip_blanks(p, at);
-        let there = place.item(line.numbering, n + 1);
-        let item = judge_single(&p[value..], line.item, i, line, there, level);
+        let there = item(place, line.numbering, n + 1);
+        let item = judge_single(&p[value..], table, line.item, i, line, there, level);
         if item.end == 0 {
             return Judged {
-                least: lesser(place.excess(line, n), least),
+                least: lesser(excess(place, line, n), least),
                 end: closed_end(p, at),
             };
         }
@@ -154,8 +169,16 @@ fn judge_array(p: &[u8], i: usize, line: Line, place: Place, level: u8) -> Judge
 }
 
 // The value of the member of line i; it is passed over where its name is not new.
-fn judge_member(p: &[u8], new: bool, i: usize, line: Line, place: Place, level: u8) -> Judged
-    requires { ⌜ (length (now p) ≤ fileBytes) × (line ≡ lineAt table23 i) ⌝ }
+fn judge_member(
+    p: &[u8],
+    table: &[u8; Line::TABLE_BYTES],
+    new: bool,
+    i: usize,
+    line: Line,
+    place: Place,
+    level: u8,
+) -> Judged
+    requires { ⌜ (length (now p) ≤ fileBytes) × (line ≡ lineAt table23 i) × (now table ≡ bytesOf table23) ⌝ }
     ensures { λ r. ⌜ Ends (now (p .entry)) (r .end) × (new ≡ true → Member (take (r .end) (now (p .entry))) i place level (r .least)) ⌝ }
 {
     if !new {
@@ -163,14 +186,14 @@ fn judge_member(p: &[u8], new: bool, i: usize, line: Line, place: Place, level: 
     }
     if begins_blank(p) {
         return Judged {
-            least: place.absent(line),
+            least: absent(place, line),
             end: 2,
         };
     }
     if line.value == Line::ARRAY {
-        return judge_array(p, i, line, place, level);
+        return judge_array(p, table, i, line, place, level);
     }
-    judge_single(p, line.value, i, line, place, level)
+    judge_single(p, table, line.value, i, line, place, level)
 }
 
 // A least is kept for each row of an object, and one for the names that no row has.
@@ -181,7 +204,7 @@ fn judge_row(met: u8, value: Least, line: Line, place: Place) -> Least
     ensures { λ r. ⌜ r ≡ rowLeast met value line place ⌝ }
 {
     if met == Slots::MISSING {
-        return place.absent(line);
+        return absent(place, line);
     }
     if met == Slots::ONCE {
         return value;
@@ -189,22 +212,16 @@ fn judge_row(met: u8, value: Least, line: Line, place: Place) -> Least
     place.broken(line.field, Kind::NAME_TWICE)
 }
 
-// The rows of an object, `count` lines from `first` on, by the columns that its members filled. The table's columns are lent.
-fn judge_rows<'a>(
+// The rows of an object, `count` lines from `first` on, by the columns that its members filled.
+fn judge_rows(
+    table: &[u8; Line::TABLE_BYTES],
     state: &[u8; Slots::ROWS],
     leasts: [Least; KEPT],
-    fields: &'a [u8; Line::COUNT],
-    needs: &'a [u8; Line::COUNT],
-    values: &'a [u8; Line::COUNT],
-    items: &'a [u8; Line::COUNT],
-    numberings: &'a [u8; Line::COUNT],
-    most: &'a [u16; Line::COUNT],
-    insides: &'a [u8; Line::COUNT],
     first: usize,
     count: usize,
     place: Place,
 ) -> Least
-    requires { ⌜ LineColumns table23 (now fields) (now needs) (now values) (now items) (now numberings) (now most) (now insides) × (first + count ≤ lineCount) ⌝ }
+    requires { ⌜ (now table ≡ bytesOf table23) × (first + count ≤ lineCount) ⌝ }
     ensures { λ r. ⌜ RowsJudged (now (state .entry)) leasts first count place r ⌝ }
 {
     let mut least = Least::None;
@@ -214,7 +231,7 @@ fn judge_rows<'a>(
         if first + count <= i {
             return least;
         }
-        let line = line_at(fields, needs, values, items, numberings, most, insides, i);
+        let line = line_at(table, i);
         let met = state[row];
         let value = leasts[row];
         least = lesser(least, judge_row(met, value, line, place));
@@ -224,26 +241,16 @@ fn judge_rows<'a>(
     least
 }
 
-// The members of an object, each judged where it is met, by the row that lists it; then the rows. The table's columns are lent.
-fn judge_members<'a>(
+// The members of an object, each judged where it is met, by the row that lists it; then the rows.
+fn judge_members(
     p: &[u8],
-    bytes: &[u8],
-    firsts: &[u16; Line::COUNT],
-    counts: &[u8; Line::COUNT],
-    fields: &'a [u8; Line::COUNT],
-    needs: &'a [u8; Line::COUNT],
-    values: &'a [u8; Line::COUNT],
-    items: &'a [u8; Line::COUNT],
-    numberings: &'a [u8; Line::COUNT],
-    most: &'a [u16; Line::COUNT],
-    insides: &'a [u8; Line::COUNT],
+    table: &[u8; Line::TABLE_BYTES],
     first: usize,
     count: usize,
     place: Place,
     level: u8,
 ) -> Judged
-    requires { ⌜ (length (now p) ≤ fileBytes) × (first + count ≤ lineCount) × (bracketsOf (kindAt (now p)) ≡ 0x7b) × NameColumns table23 (now bytes) (now firsts) (now counts) ×
-        LineColumns table23 (now fields) (now needs) (now values) (now items) (now numberings) (now most) (now insides) ⌝ }
+    requires { ⌜ (length (now p) ≤ fileBytes) × (first + count ≤ lineCount) × (bracketsOf (kindAt (now p)) ≡ 0x7b) × (now table ≡ bytesOf table23) ⌝ }
     ensures { λ r. ⌜ Ends (now (p .entry)) (r .end) × MembersJudged (take (r .end) (now (p .entry))) first count place level (r .least) ⌝ }
 {
     let none = Least::None;
@@ -254,20 +261,7 @@ fn judge_members<'a>(
         match pass_name(p, at) {
             NameStep::End => {
                 return Judged {
-                    least: judge_rows(
-                        &state,
-                        leasts,
-                        fields,
-                        needs,
-                        values,
-                        items,
-                        numberings,
-                        most,
-                        insides,
-                        first,
-                        count,
-                        place,
-                    ),
+                    least: judge_rows(table, &state, leasts, first, count, place),
                     end: closed_end(p, at),
                 };
             }
@@ -275,20 +269,12 @@ fn judge_members<'a>(
                 let name = m.name;
                 let name_end = m.name_end;
                 let value = m.value;
-                let found = row_of(
-                    bytes,
-                    firsts,
-                    counts,
-                    insides,
-                    &p[name..name_end],
-                    first,
-                    count,
-                );
+                let found = row_of(table, &p[name..name_end], first, count);
                 let row = found.row;
                 let i = found.line;
-                let line = line_at(fields, needs, values, items, numberings, most, insides, i);
+                let line = line_at(table, i);
                 let new = is_new(&state, row);
-                let judged = judge_member(&p[value..], new, i, line, place, level);
+                let judged = judge_member(&p[value..], table, new, i, line, place, level);
                 count_name(&mut state, row);
                 let least = judged.least;
                 leasts[row] = least;
@@ -301,13 +287,14 @@ fn judge_members<'a>(
 // An object whose rows are `count` lines from `first` on; `field` holds it.
 pub fn judge_object(
     p: &[u8],
+    table: &[u8; Line::TABLE_BYTES],
     first: usize,
     count: usize,
     field: u8,
     place: Place,
     level: u8,
 ) -> Judged
-    requires { ⌜ length (now p) ≤ fileBytes ⌝ }
+    requires { ⌜ (length (now p) ≤ fileBytes) × (now table ≡ bytesOf table23) ⌝ }
     ensures { λ r. ⌜ Ends (now (p .entry)) (r .end) × Object (take (r .end) (now (p .entry))) first count field place level (r .least) ⌝ }
 {
     if level == 0 {
@@ -322,25 +309,5 @@ pub fn judge_object(
     if brackets(p) != Line::OBJECT {
         return passed(p, place.broken(field, Kind::WRONG_TYPE));
     }
-    let bytes = name_bytes();
-    let firsts = name_firsts();
-    let counts = name_counts();
-    let table = line_columns();
-    judge_members(
-        p,
-        &bytes,
-        &firsts,
-        &counts,
-        &table.fields,
-        &table.needs,
-        &table.values,
-        &table.items,
-        &table.numberings,
-        &table.most,
-        &table.insides,
-        first,
-        count,
-        place,
-        level - 1,
-    )
+    judge_members(p, table, first, count, place, level - 1)
 }

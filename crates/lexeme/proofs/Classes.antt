@@ -10,13 +10,13 @@ use Rattle.lexeme.specs.Character.{within}
 use Rattle.lexeme.specs.inner.Lead.{Lead, lead}
 use Rattle.lexeme.specs.inner.Lead.Lead.{plain, quote, backslash, wrong, two, threeE0, three, threeED, fourF0, four, fourF4}
 use Rattle.notation.specs.Choice.{_⇒_else_}
+use Rattle.notation.proofs.Booleans.{true-false}
 use Rattle.lexeme.specs.inner.Class.{leadOf, startOf, blankOf, Tail, from80, from90, fromA0, leastOf, mostOf, Classed, Classifies}
 use Rattle.lexeme.specs.Numbers.{digit, either}
 use Rattle.lexeme.specs.Tokens.{blank}
 use Rattle.lexeme.specs.inner.Start.{Start, start}
 use Rattle.lexeme.specs.inner.Start.Start.{string, number, array, object, letterT, letterF, letterN, other}
 use Rattle.lexeme.proofs.Table.{table, every, at, reads}
-use Rattle.lexeme.proofs.Steps.{true-false}
 
 abbrev leadCode : Lead → ℕ
 leadCode plain = 0
@@ -107,22 +107,22 @@ same-test true false e = true-false refl (sym e)
 same-test false true e = true-false refl (sym e)
 same-test false false e = refl
 
-told : (lo hi least most b : ℕ) → b < 256
+same-run : (lo hi least most b : ℕ) → b < 256
     → every (λ k x. eqb (bit (within lo hi x)) (bit (within least most k))) classes ≡ true → within lo hi (getD classes b 0) ≡ within least most b
-told lo hi least most b h t = same-test _ _ (at (λ k x. eqb (bit (within lo hi x)) (bit (within least most k))) classes t b h)
+same-run lo hi least most b h t = same-test _ _ (at (λ k x. eqb (bit (within lo hi x)) (bit (within least most k))) classes t b h)
 
 -- a run of tail classes is the run of their bytes
 tailed : (b : ℕ) → b < 256 → (lo hi : ℕ) → Tail lo → Tail hi → within lo hi (getD classes b 0) ≡ within (leastOf lo) (mostOf hi) b
 unfolding lead start blank digit within either leastOf mostOf
-tailed b h _ _ from80 from80 = told 34 34 0x80 0x8f b h refl
-tailed b h _ _ from80 from90 = told 34 36 0x80 0x9f b h refl
-tailed b h _ _ from80 fromA0 = told 34 38 0x80 0xbf b h refl
-tailed b h _ _ from90 from80 = told 36 34 0x90 0x8f b h refl
-tailed b h _ _ from90 from90 = told 36 36 0x90 0x9f b h refl
-tailed b h _ _ from90 fromA0 = told 36 38 0x90 0xbf b h refl
-tailed b h _ _ fromA0 from80 = told 38 34 0xa0 0x8f b h refl
-tailed b h _ _ fromA0 from90 = told 38 36 0xa0 0x9f b h refl
-tailed b h _ _ fromA0 fromA0 = told 38 38 0xa0 0xbf b h refl
+tailed b h _ _ from80 from80 = same-run 34 34 0x80 0x8f b h refl
+tailed b h _ _ from80 from90 = same-run 34 36 0x80 0x9f b h refl
+tailed b h _ _ from80 fromA0 = same-run 34 38 0x80 0xbf b h refl
+tailed b h _ _ from90 from80 = same-run 36 34 0x90 0x8f b h refl
+tailed b h _ _ from90 from90 = same-run 36 36 0x90 0x9f b h refl
+tailed b h _ _ from90 fromA0 = same-run 36 38 0x90 0xbf b h refl
+tailed b h _ _ fromA0 from80 = same-run 38 34 0xa0 0x8f b h refl
+tailed b h _ _ fromA0 from90 = same-run 38 36 0xa0 0x9f b h refl
+tailed b h _ _ fromA0 fromA0 = same-run 38 38 0xa0 0xbf b h refl
 
 pub classed : (b : ℕ) → b < 256 → Classed b (getD classes b 0)
 unfolding lead leadOf start startOf blank blankOf digit within either

@@ -8,6 +8,8 @@ use lib.ListN.{length, drop, take, replicate, take-append-drop, length-replicate
 use lib.Seq.{length-take-le, getD-append-seam, drop-at}
 use lib.Dec.{eqb, leb, ltb}
 use borrow.Author.Tests.{eq-eqb, ne-eqb, eqb-true, leb-true, ltb-true, ltb-false}
+use Rattle.notation.proofs.Booleans.{by-test, true-false}
+use Rattle.notation.proofs.Lists.{no-cons}
 use Rattle.word.specs.Kinds.{notJson}
 use Rattle.lexeme.specs.declared.Next.{Next}
 use Rattle.lexeme.specs.declared.Next.the-variants.{Quote, Character, Fault}
@@ -18,13 +20,14 @@ use Rattle.lexeme.specs.Character.Surrogates.{lone}
 use Rattle.lexeme.specs.Strings.{string}
 use Rattle.lexeme.specs.Numbers.{digit, either, digits, someDigits, optional, both, nothing, integer, minus, fraction, exponent, number}
 use Rattle.lexeme.specs.Tokens.{literal}
-use Rattle.lexeme.proofs.Reading.{Shrinks, Ok, Took, Takes, Faulted, Faults}
+use Rattle.lexeme.proofs.Reading.{Shrinks, Ok, Consumed, StrongPrefix, Faulted, Faults}
 use Rattle.lexeme.proofs.Reading.Ok.{alike}
-use Rattle.lexeme.proofs.Steps.{by-test, true-false, bad-done, done-bad, no-cons, bad-kind, bad-rest, made-reads, made-fails, made-done, made-bad, literal-match, literal-differs, digits-more, digits-stop, someDigits-more, someDigits-none, integer-zero, integer-digits, optional-there, optional-absent, both-reads, both-fails, string-empty, string-inside, string-quote, string-fault, string-character, string-skip}
+use Rattle.lexeme.proofs.Steps.{bad-done, done-bad, bad-kind, bad-rest, made-reads, made-fails, made-done, made-bad, literal-match, literal-differs, digits-more, digits-stop, someDigits-more, someDigits-none, integer-zero, integer-digits, optional-there, optional-absent, both-reads, both-fails, string-empty, string-inside, string-quote, string-fault, string-character, string-skip}
 use Rattle.lexeme.proofs.Shrinks.{shrinks-to, optional-shrinks, nothing-shrinks, someDigits-shrinks, fraction-shrinks, both-shrinks}
-use Rattle.lexeme.proofs.Takes.{Fits, begins, unless, Unless, optional-takes, nothing-takes, integer-takes, fraction-takes, unsigned, both-done, closes}
+use Rattle.lexeme.proofs.StrongPrefixes.{Fits, begins, unless, Unless, optional-takes, nothing-takes, integer-takes, fraction-takes, unsigned, both-done, closes}
 use Rattle.lexeme.proofs.Local.{Agree, Way, near, far, next-way}
-use Rattle.lexeme.proofs.Mends.{Mend, Mends, next-mends, front-take}
+use Rattle.lexeme.proofs.Rows.{front-take}
+use Rattle.lexeme.proofs.Completions.{Completion, Completes, next-completes}
 use Rattle.lexeme.proofs.Lone.{bare, Passes, passes}
 
 -- the combinators
@@ -134,6 +137,20 @@ sign-read test (b ∷ l) k r e =
     (λ h. done-bad (made-bad (λ y. b ∷ y) (done [] l) k r (sym (optional-there b test nothing l h) ∙ e)))
     (λ h. done-bad (sym (optional-absent b test nothing l h) ∙ e))
 
+-- A fault behind the part p, which is read before it: from there on g reads as f does, with h of its value, a text that C lets follow.
+pub behind-faulted : {A B : Type 0} {f : List ℕ → Read A} {g : List ℕ → Read B} {l m r : List ℕ} (h : A → B) (p : List ℕ) → l ≡ p ++ m
+    → (u : Faulted f m r) (C : List ℕ → Type 0) → ((q : List ℕ) → C (u .part ++ q) → g (p ++ (u .part ++ q)) ≡ made h (f (u .part ++ q)))
+    → ((b : ℕ) (w v : List ℕ) → r ≡ b ∷ w → C (u .part ++ (b ∷ v))) → C (u .part ++ u .ending) → Faulted g l r
+behind-faulted {g = g} {r = r} h p e u C reads dead alive =
+    record {
+      part = p ++ u .part;
+      splits = e ∙ ap (λ q. p ++ q) (u .splits) ∙ sym (append-assoc p (u .part) r);
+      dead = λ b w i v. ap g (append-assoc p (u .part) (b ∷ v)) ∙ reads (b ∷ v) (dead b w v i) ∙ made-fails h (u .dead b w i v);
+      ending = u .ending;
+      what = h (u .what);
+      alive = ap g (append-assoc p (u .part) (u .ending)) ∙ reads (u .ending) alive ∙ made-reads h (u .alive);
+    }
+
 -- Two spellings in a row. A fault of the first: what completes it, with nothing after. A fault of the second: what completes that, if it may follow the first.
 module _ (D : List ℕ → List ℕ → Type 0) (first second : List ℕ → Read (List ℕ)) (begin : (b : ℕ) (v w : List ℕ) → D (b ∷ v) (b ∷ w)) where
   part-begins : (p v w : List ℕ) (b : ℕ) → D (p ++ (b ∷ v)) (p ++ (b ∷ w))
@@ -151,26 +168,12 @@ module _ (D : List ℕ → List ℕ → Type 0) (first second : List ℕ → Rea
         alive = both-reads first second (u .part ++ u .ending) (u .alive) ∙ made-reads (λ y. u .what ++ y) empty;
       }
 
-  second-faulted : (l r x m : List ℕ) → Took D first l x m → (u : Faulted second m r) → D m (u .part ++ u .ending) → Faulted (both first second) l r
-  second-faulted l r x m t u fits =
-      record {
-        part = t .part ++ u .part;
-        splits = t .splits ∙ ap (λ q. t .part ++ q) (u .splits) ∙ sym (append-assoc (t .part) (u .part) r);
-        dead = λ b w i v.
-            reads (u .part ++ (b ∷ v)) (b ∷ v) refl
-            (subst (λ q. D q (u .part ++ (b ∷ v))) (sym (u .splits ∙ ap (λ q. u .part ++ q) i)) (part-begins (u .part) w v b))
-            ∙ made-fails (λ y. x ++ y) (u .dead b w i v);
-        ending = u .ending;
-        what = x ++ u .what;
-        alive = reads (u .part ++ u .ending) (u .ending) refl fits ∙ made-reads (λ y. x ++ y) (u .alive);
-      }
-    where
-      reads : (q z : List ℕ) → u .part ++ z ≡ q → D m q → both first second ((t .part ++ u .part) ++ z) ≡ made (λ y. x ++ y) (second q)
-      reads q z e o =
-          ap (both first second) (append-assoc (t .part) (u .part) z ∙ ap (λ p. t .part ++ p) e)
-          ∙ both-reads first second (t .part ++ q) (t .frame q o)
+  second-faulted : (l r x m : List ℕ) → Consumed D first l x m → (u : Faulted second m r) → D m (u .part ++ u .ending) → Faulted (both first second) l r
+  second-faulted l r x m t u =
+      behind-faulted (λ y. x ++ y) (t .part) (t .splits) u (D m) (λ q o. both-reads first second (t .part ++ (u .part ++ q)) (t .frame (u .part ++ q) o))
+      (λ b w v i. subst (λ q. D q (u .part ++ (b ∷ v))) (sym (u .splits ∙ ap (λ q. u .part ++ q) i)) (part-begins (u .part) w v b))
 
-  both-faults : Takes D first → Faults second → ((l r : List ℕ) → first l ≡ bad notJson r → Faulted first l r × (second [] ≡ done [] []))
+  both-faults : StrongPrefix D first → Faults second → ((l r : List ℕ) → first l ≡ bad notJson r → Faulted first l r × (second [] ≡ done [] []))
       → ((m r : List ℕ) → second m ≡ bad notJson r → (u : Faulted second m r) → D m (u .part ++ u .ending)) → Faults (both first second)
   both-faults takes fs ff fits l r e = go (first l) refl
     where
@@ -285,8 +288,8 @@ unfolding number minus
 number-faults = signed-faults (λ b. eqb b 0x2d) unsigned unsigned-led unsigned-faults
 
 -- Strings where lone surrogates pass: their faults are of kind 2.
-fault-kind : (l : List ℕ) {k n : ℕ} → next lone l ≡ Fault k n → Mend k n l
-fault-kind l e = subst (Mends l) e (next-mends l)
+fault-kind : (l : List ℕ) {k n : ℕ} → next lone l ≡ Fault k n → Completion k n l
+fault-kind l e = subst (Completes l) e (next-completes l)
 
 pub lone-kind : (k : ℕ) (l r : List ℕ) (n : ℕ) → string lone k l ≡ bad n r → n ≡ notJson
 lone-kind k [] r n e = sym (bad-kind (sym (string-empty lone k) ∙ e))
@@ -314,7 +317,7 @@ fault-after [] c v n h e = string-fault lone c v e ∙ ap (bad notJson) (drop-at
 fault-after (d ∷ p) c v n h e = string-fault lone d (p ++ (c ∷ v)) e ∙ ap (bad notJson) (drop-at (d ∷ p) (c ∷ v) n h)
 
 near-faulted : (b : ℕ) (l : List ℕ) (n : ℕ) → n ≤ length (b ∷ l) → ((m : List ℕ) → Agree n (b ∷ l) m → next lone m ≡ Fault notJson n)
-    → Mend notJson n (b ∷ l) → Faulted (string lone 0) (b ∷ l) (drop n (b ∷ l))
+    → Completion notJson n (b ∷ l) → Faulted (string lone 0) (b ∷ l) (drop n (b ∷ l))
 near-faulted b l n there wrong m =
     let p = take n (b ∷ l) in
     let size : length p ≡ n = length-take-le n (b ∷ l) there in
@@ -325,8 +328,8 @@ near-faulted b l n there wrong m =
           let f : p ++ (c ∷ w) ≡ b ∷ l = ap (λ q. p ++ q) (sym i) ∙ take-append-drop n (b ∷ l) in
           fault-after p c v n size (wrong (p ++ (c ∷ v)) (subst (λ z. Agree z (b ∷ l) (p ++ (c ∷ v))) size (subst (λ z. Agree (length p) z (p ++ (c ∷ v))) f (agree-at p w v c))));
       ending = m .ending;
-      what = m .mended .text;
-      alive = ap (λ q. string lone 0 (q ++ m .ending)) (front-take n 0 (b ∷ l) (omega arith)) ∙ m .mended .reads;
+      what = m .completed .text;
+      alive = ap (λ q. string lone 0 (q ++ m .ending)) (front-take n 0 (b ∷ l) (omega arith)) ∙ m .completed .reads;
     }
 
 -- The fault of a string's rest, k bytes in, stands past these, if they are there.
@@ -381,7 +384,7 @@ stopped zero (b ∷ l) r e = record { fault = go (next lone (b ∷ l)) refl (λ 
         let g : next lone (b ∷ l) ≡ Fault notJson n = h ∙ ap (λ i. Fault i n) (bad-kind f) in
         subst (Faulted (string lone 0) (b ∷ l)) (bad-rest f) (way (subst (Way lone (next lone) (b ∷ l)) g (next-way lone (b ∷ l) (omega arith))) (fault-kind (b ∷ l) g))
       where
-        way : Way lone (next lone) (b ∷ l) (Fault notJson n) → Mend notJson n (b ∷ l) → Faulted (string lone 0) (b ∷ l) (drop n (b ∷ l))
+        way : Way lone (next lone) (b ∷ l) (Fault notJson n) → Completion notJson n (b ∷ l) → Faulted (string lone 0) (b ∷ l) (drop n (b ∷ l))
         way (near w) m = near-faulted b l n (w .0) (w .1 refl) m
         way (far v f there w) m = absurd (omega arith)
 

@@ -2,8 +2,9 @@ pub mod Reading
 pub mod Steps
 pub mod Shrinks
 pub mod Leads
+pub mod Rows
 pub mod Local
-pub mod Takes
+pub mod StrongPrefixes
 pub mod Starts
 pub mod Spells
 pub mod Rests
@@ -13,8 +14,8 @@ pub mod Words
 pub mod NumberParts
 pub mod Table
 pub mod Classes
-pub mod Goes
-pub mod Mends
+pub mod Relaxed
+pub mod Completions
 pub mod Lone
 pub mod Faults
 pub mod Utf8Reads

@@ -1,11 +1,11 @@
 -- What one character of a string depends on: the bytes that it takes; and for a high surrogate escape, whether a low one follows.
 -- `next` looks at bytes from left to right and goes on only from a byte that fits, so each answer is decided by the bytes up to its last.
 use mathlib.Core.Bool.{Bool, true, false}
-use mathlib.Core.List.{List, _∷_}
+use mathlib.Core.List.{List, [], _∷_}
 use mathlib.Core.Path.{_≡_, refl, sym, ap, subst, _∙_}
 use Prim.Native.Nat.{ℕ, _+_, _-_, _≤_, _<_}
 use native.Mathlib.Omega.{arith}
-use lib.ListN.{length, drop, length-drop, List·getD-eq-default}
+use lib.ListN.{length, drop, length-drop}
 use lib.Seq.{getD-drop}
 use lib.Dec.{eqb, ltb}
 use borrow.Author.Tests.{eqb-true, ltb-true, ltb-false, lt-leb}
@@ -18,12 +18,13 @@ use Rattle.lexeme.specs.declared.Quad.the-variants.{Value, Short}
 use Rattle.lexeme.specs.declared.Trail.{Trail}
 use Rattle.lexeme.specs.declared.Trail.the-variants.{Low, Other}
 use Rattle.notation.specs.Choice.{_⇒_else_}
-use Rattle.lexeme.specs.Character.{Surrogates, byte, within, utf2, utf3, utf4, encoded, hexValue, hexadecimal, quad, lowOf, trail, combined, alone, high, unit, unicode, short, escape, next}
+use Rattle.notation.proofs.Booleans.{by-test, true-false}
+use Rattle.lexeme.specs.Character.{Surrogates, byte, within, char2, char3, char4, utf2, utf3, utf4, encoded, hexValue, hexadecimal, quad, lowOf, trail, combined, alone, high, unit, unicode, short, escape, next}
 use Rattle.lexeme.specs.inner.Lead.{Lead, lead, nextBy}
 use Rattle.lexeme.specs.Character.Surrogates.{paired, lone}
 use Rattle.lexeme.specs.inner.Lead.Lead.{plain, quote, backslash, wrong, two, threeE0, three, threeED, fourF0, four, fourF4}
 use Rattle.lexeme.proofs.Leads.{next-by, next-led}
-use Rattle.lexeme.proofs.Steps.{by-test, true-false}
+use Rattle.lexeme.proofs.Rows.{here, passed, row, Strict, Decided, all-met, failed, decided}
 
 -- l and m have the same bytes up to the one at n
 abbrev pub Agree : ℕ → List ℕ → List ℕ → Type 0
@@ -48,73 +49,57 @@ pub data Way (ρ : Surrogates) (f : List ℕ → Next) (l : List ℕ) (o : Next)
   near : Near f l o → Way ρ f l o
   far : (v : ℕ) → Far o → 5 < length l → ((m : List ℕ) → Agree 5 l m → f m ≡ high ρ v (trail (drop 6 m))) → Way ρ f l o
 
--- only a byte of the text can differ from 0
-pub here : (l : List ℕ) (i : ℕ) → (byte l i ≡ 0 → ⊥) → i < length l
-here l i h = by-test (ltb i (length l)) (ltb-true i (length l)) (λ e. absurd (h (List·getD-eq-default l 0 (ltb-false i (length l) e))))
+-- a character that takes `more` bytes after its first
+abbrev pub Spans : ℕ → Next → Type 0
+Spans more Quote = ⊥
+Spans more (Character x) = x .more ≡ more
+Spans more (Fault k n) = ⊥
 
--- a test that 0 fails shows that its byte is there
-passed : (test : ℕ → Bool) → test 0 ≡ false → (l : List ℕ) (i : ℕ) → test (byte l i) ≡ true → i < length l
-passed test z l i e = here l i (λ y. true-false e (ap test y ∙ z))
+spans-near : (f : List ℕ → Next) (l : List ℕ) {t : ℕ} (o : Next) → Spans t o → t < length l → ((m : List ℕ) → Agree t l m → f m ≡ o) → Near f l o
+spans-near f l Quote s there h = absurd s
+spans-near f l (Character x) s there h = (rw s there, λ m g. h m (rw s at g))
+spans-near f l (Fault k n) s there h = absurd s
 
-ranged : (lo hi : ℕ) → 0 < lo → (l : List ℕ) (i : ℕ) → within lo hi (byte l i) ≡ true → i < length l
-unfolding within
-ranged lo hi h = passed (within lo hi) (rw (lt-leb lo 0 h))
-
-continues : (l : List ℕ) (i : ℕ) → within 0x80 0xbf (byte l i) ≡ true → i < length l
-continues = ranged 0x80 0xbf (omega arith)
-
--- UTF-8
+-- UTF-8: a character of its first byte and of those that meet the tests
 module _ (f : List ℕ → Next) (l : List ℕ) (some : 0 < length l) where
+  row-near : (ts : List (ℕ → Bool)) → Strict ts → (char : List ℕ → Next) → Spans (length ts) (char l)
+      → ((m : List ℕ) → Agree (length ts) l m → char m ≡ char l)
+      → ((m : List ℕ) → byte l 0 ≡ byte m 0 → f m ≡ row (Fault notJson) ts 1 (char m) m) → Near f l (row (Fault notJson) ts 1 (char l) l)
+  row-near ts s char spans same h = go (decided (Fault notJson) ts s 1 l (omega arith))
+    where
+      go : Decided (Fault notJson) ts 1 l → Near f l (row (Fault notJson) ts 1 (char l) l)
+      go (all-met p each e) =
+          rw (e (char l) l (λ j k. refl))
+          (spans-near f l (char l) spans (omega arith) (λ m g. h m (g 0 (omega arith)) ∙ e (char m) m (λ j k. g j (omega arith)) ∙ same m g))
+      go (failed n i p e) = rw (e (char l) l (λ j k. refl)) (p, λ k m g. h m (g 0 (omega arith)) ∙ e (char m) m g)
+
   utf2-near : ((m : List ℕ) → byte l 0 ≡ byte m 0 → f m ≡ utf2 m) → Near f l (utf2 l)
-  unfolding utf2
+  unfolding utf2 row within
   utf2-near h =
-      by-test (within 0x80 0xbf (byte l 1))
-      (λ a. rw a (continues l 1 a, λ m g. h m (g 0 (omega arith)) ∙ rw (← g 0 (omega arith), ← g 1 (omega arith), a)))
-      (λ a. rw a (some, λ k m g. h m (g 0 (omega arith)) ∙ rw (← g 1 (omega arith), a)))
+      subst (Near f l) (is l)
+      (row-near (within 0x80 0xbf ∷ []) (refl, tt) (λ m. char2 (byte m 0) (byte m 1) 1) refl (λ m g. rw (g 0 (omega arith), g 1 (omega arith))) (λ m g. h m g ∙ sym (is m)))
+    where
+      is : (m : List ℕ) → row (Fault notJson) (within 0x80 0xbf ∷ []) 1 (char2 (byte m 0) (byte m 1) 1) m ≡ utf2 m
+      is m = by-test (within 0x80 0xbf (byte m 1)) (λ a. rw a) (λ a. rw a)
 
   module _ (lo hi : ℕ) (from : 0 < lo) where
     utf3-near : ((m : List ℕ) → byte l 0 ≡ byte m 0 → f m ≡ utf3 lo hi m) → Near f l (utf3 lo hi l)
-    unfolding utf3
-    utf3-near h =
-        by-test (within lo hi (byte l 1))
-        (λ a. by-test (within 0x80 0xbf (byte l 2))
-        (λ b. rw (a, b) (
-          continues l 2 b,
-          λ m g.
-              h m (g 0 (omega arith)) ∙ rw (← g 0 (omega arith), ← g 1 (omega arith), ← g 2 (omega arith), a, b),
-        ))
-        (λ b. rw (a, b) (ranged lo hi from l 1 a, λ k m g. h m (g 0 (omega arith)) ∙ rw (← g 1 (omega arith), ← g 2 (omega arith), a, b))))
-        (λ a. rw a (some, λ k m g. h m (g 0 (omega arith)) ∙ rw (← g 1 (omega arith), a)))
+    unfolding utf3 row within
+    utf3-near =
+        row-near (within lo hi ∷ within 0x80 0xbf ∷ []) (rw (lt-leb lo 0 from), (refl, tt)) (λ m. char3 (byte m 0) (byte m 1) (byte m 2) 2) refl
+        (λ m g. rw (g 0 (omega arith), g 1 (omega arith), g 2 (omega arith)))
 
     utf4-near : ((m : List ℕ) → byte l 0 ≡ byte m 0 → f m ≡ utf4 lo hi m) → Near f l (utf4 lo hi l)
-    unfolding utf4
-    utf4-near h =
-        by-test (within lo hi (byte l 1))
-        (λ a. by-test (within 0x80 0xbf (byte l 2))
-        (λ b. by-test (within 0x80 0xbf (byte l 3))
-        (λ c. rw (a, b, c) (
-          continues l 3 c,
-          λ m g.
-              h m (g 0 (omega arith)) ∙ rw (← g 0 (omega arith), ← g 1 (omega arith), ← g 2 (omega arith), ← g 3 (omega arith), a, b, c),
-        ))
-        (λ c. rw (a, b, c) (
-          continues l 2 b,
-          λ k m g.
-              h m (g 0 (omega arith)) ∙ rw (← g 1 (omega arith), ← g 2 (omega arith), ← g 3 (omega arith), a, b, c),
-        )))
-        (λ b. rw (a, b) (ranged lo hi from l 1 a, λ k m g. h m (g 0 (omega arith)) ∙ rw (← g 1 (omega arith), ← g 2 (omega arith), a, b))))
-        (λ a. rw a (some, λ k m g. h m (g 0 (omega arith)) ∙ rw (← g 1 (omega arith), a)))
+    unfolding utf4 row within
+    utf4-near =
+        row-near (within lo hi ∷ within 0x80 0xbf ∷ within 0x80 0xbf ∷ []) (rw (lt-leb lo 0 from), (refl, (refl, tt)))
+        (λ m. char4 (byte m 0) (byte m 1) (byte m 2) (byte m 3) 3) refl (λ m g. rw (g 0 (omega arith), g 1 (omega arith), g 2 (omega arith), g 3 (omega arith)))
 
 -- the UTF-8 of a code point takes what its escape takes
 pub record Encoded (v more : ℕ) : Type 0 where
   pub char : Char
   pub is : encoded v more ≡ Character char
   pub takes : char .more ≡ more
-
-abbrev pub Spans : ℕ → Next → Type 0
-Spans more Quote = ⊥
-Spans more (Character x) = x .more ≡ more
-Spans more (Fault k n) = ⊥
 
 pub encoded-spans : (v more : ℕ) → Spans more (encoded v more)
 unfolding encoded
@@ -132,39 +117,22 @@ encoded-char v more = go (encoded v more) refl (encoded-spans v more)
     go (Fault k n) e s = absurd s
 
 encoded-near : (f : List ℕ → Next) (l : List ℕ) (v t : ℕ) → t < length l → ((m : List ℕ) → Agree t l m → f m ≡ encoded v t) → Near f l (encoded v t)
-encoded-near f l v t there h =
-    let c = encoded-char v t in
-    rw (c .is) (rw (c .takes) there, λ m g. h m (rw (c .takes) at g) ∙ c .is)
+encoded-near f l v t = spans-near f l (encoded v t) (encoded-spans v t)
 
 -- escapes
 abbrev pub QuadNear : List ℕ → Quad → Type 0
 QuadNear l (Value v) = (4 ≤ length l) × ((m : List ℕ) → Agree 3 l m → quad m ≡ Value v)
 QuadNear l (Short n) = (n ≤ length l) × ((m : List ℕ) → Agree n l m → quad m ≡ Short n)
 
-hexed : (l : List ℕ) (i : ℕ) → hexadecimal (byte l i) ≡ true → i < length l
-unfolding hexadecimal hexValue within
-hexed = passed hexadecimal refl
-
 pub quad-near : (l : List ℕ) → QuadNear l (quad l)
-unfolding quad
-quad-near l =
-    by-test (hexadecimal (byte l 0))
-    (λ a. by-test (hexadecimal (byte l 1))
-    (λ b. by-test (hexadecimal (byte l 2))
-    (λ c. by-test (hexadecimal (byte l 3))
-    (λ d. rw (a, b, c, d) (
-      hexed l 3 d,
-      λ m g.
-          rw (← g 0 (omega arith), ← g 1 (omega arith), ← g 2 (omega arith), ← g 3 (omega arith), a, b, c, d),
-    ))
-    (λ d. rw (a, b, c, d) (
-      hexed l 2 c,
-      λ m g.
-          rw (← g 0 (omega arith), ← g 1 (omega arith), ← g 2 (omega arith), ← g 3 (omega arith), a, b, c, d),
-    )))
-    (λ c. rw (a, b, c) (hexed l 1 b, λ m g. rw (← g 0 (omega arith), ← g 1 (omega arith), ← g 2 (omega arith), a, b, c))))
-    (λ b. rw (a, b) (hexed l 0 a, λ m g. rw (← g 0 (omega arith), ← g 1 (omega arith), a, b))))
-    (λ a. rw a (omega arith, λ m g. rw (← g 0 (omega arith), a)))
+unfolding quad row hexadecimal hexValue within
+quad-near l = go (decided Short (hexadecimal ∷ hexadecimal ∷ hexadecimal ∷ hexadecimal ∷ []) (refl, (refl, (refl, (refl, tt)))) 0 l (omega arith))
+  where
+    go : Decided Short (hexadecimal ∷ hexadecimal ∷ hexadecimal ∷ hexadecimal ∷ []) 0 l → QuadNear l (quad l)
+    go (all-met p each e) =
+        rw (e _ l (λ j k. refl))
+        (p, λ m g. e _ m (λ j k. g j (omega arith)) ∙ rw (g 0 (omega arith), g 1 (omega arith), g 2 (omega arith), g 3 (omega arith)))
+    go (failed n i p e) = rw (e _ l (λ j k. refl)) (p, λ m g. e _ m g)
 
 encoded-far : (v t : ℕ) → 5 ≤ t → Far (encoded v t)
 encoded-far v t h = let c = encoded-char v t in rw (c .is) (rw (c .takes) h)
@@ -386,7 +354,7 @@ character-near l m x some e g = go (subst (Way paired (next paired) l) e (next-w
             ∙ ap (high paired v) (trail-near (drop 6 l) (drop 6 m) z i (λ k p. getD-drop 6 l k 0 ∙ g (6 + k) (omega arith) ∙ sym (getD-drop 6 m k 0)))
             ∙ is (Low z) i
 
--- and only a quote ends a string
+-- only a quote ends a string
 pub quote-byte : (ρ : Surrogates) (b : ℕ) (l : List ℕ) → next ρ (b ∷ l) ≡ Quote → b ≡ 0x22
 quote-byte ρ b l e = go (subst (Way ρ (next ρ) (b ∷ l)) e (next-way ρ (b ∷ l) (omega arith)))
   where

@@ -9,6 +9,7 @@ use lib.ListN.{length, drop}
 use lib.Seq.{drop-drop}
 use lib.Dec.{eqb}
 use borrow.Author.Tests.{eqb-true}
+use Rattle.notation.proofs.Booleans.{by-test}
 use Rattle.lexeme.specs.declared.Char.{Char}
 use Rattle.lexeme.specs.declared.Next.the-variants.{Character}
 use Rattle.lexeme.specs.declared.Quad.{Quad}
@@ -20,7 +21,7 @@ use Rattle.lexeme.specs.Read.Read.{done, bad}
 use Rattle.lexeme.specs.Character.{byte, within, bytesOf, encoded, quad, lowOf, trail, combined, alone, high, unit, unicode, escape, next}
 use Rattle.lexeme.specs.Character.Surrogates.{lone}
 use Rattle.lexeme.specs.Strings.{string}
-use Rattle.lexeme.proofs.Steps.{by-test, string-character, string-skip}
+use Rattle.lexeme.proofs.Steps.{string-character, string-skip}
 use Rattle.lexeme.proofs.Local.{Agree, Way, near, far, next-way, encoded-char}
 
 -- a reading without its value

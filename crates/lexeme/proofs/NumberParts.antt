@@ -1,12 +1,13 @@
 -- The parts of a number at places of a text, one equation for each way that the code goes. The byte at a place decides, and a byte past
 -- the end is 0, with which no part begins, so that a text which ends there is told by the same test.
-use mathlib.Core.Bool.{Bool, true, false}
+use mathlib.Core.Bool.{Bool, true, false, not}
 use mathlib.Core.List.{List, [], _∷_, _++_}
 use mathlib.Core.Path.{_≡_, refl, sym, ap, _∙_}
 use Prim.Native.Nat.{ℕ, _+_, _<_}
 use lib.Dec.{eqb}
 use lib.ListN.{length, drop}
-use borrow.Author.Tests.{eq-eqb, ne-eqb}
+use borrow.Author.Tests.{eq-eqb, ne-eqb, not-true, not-false}
+use Rattle.notation.proofs.Booleans.{by-test}
 use Rattle.word.specs.Kinds.{notJson}
 use Rattle.lexeme.specs.Read.{Read, made, placed}
 use Rattle.lexeme.specs.Read.Read.{done, bad}
@@ -14,7 +15,7 @@ use Rattle.lexeme.specs.Character.{byte, within}
 use Rattle.lexeme.specs.Numbers.{digit, either, digits, someDigits, optional, both, nothing, integer, minus, fraction, exponent, number}
 use Rattle.lexeme.proofs.Placed.{placed-made, Leaves}
 use Rattle.lexeme.proofs.Rests.{shows, inside, next-drop}
-use Rattle.lexeme.proofs.Steps.{by-test, bad-done, made-reads, made-fails, someDigits-none, both-reads, both-fails}
+use Rattle.lexeme.proofs.Steps.{bad-done, made-reads, made-fails, someDigits-more, someDigits-none, both-reads, both-fails}
 use Rattle.lexeme.proofs.Spans.{past, past-splits, digits-past}
 
 -- tests that the byte past the end fails
@@ -28,16 +29,25 @@ either-inside x y e s i h = inside (either x y) e s i h
 pub equal-inside : (x : ℕ) → eqb 0 x ≡ false → (s : List ℕ) (i : ℕ) → byte (drop i s) 0 ≡ x → i < length s
 equal-inside x e s i h = inside (λ b. eqb b x) e s i (eq-eqb _ _ h)
 
--- digits, one at least
-pub some-none : (l : List ℕ) → digit (byte l 0) ≡ false → someDigits l ≡ bad notJson l
-unfolding someDigits
-some-none [] h = refl
-some-none (b ∷ r) h = rw (h, someDigits)
+-- Digits, one at least, by the code's test of the byte b at the place.
+module _ (s : List ℕ) (at : ℕ) {b : ℕ} {t : Bool} (f : b ≡ byte (drop at s) 0) (g : t ≡ digit b) where
+  pub digits-inside : not t ≡ false → at < length s
+  digits-inside n = digit-inside s at (ap digit (sym f) ∙ sym g ∙ not-false _ n)
 
-pub some-first : (l : List ℕ) → digit (byte l 0) ≡ true → (s : List ℕ) → placed s (someDigits l) ≡ placed s (digits (drop 1 l))
-unfolding someDigits digit within
-some-first l h s =
-    rw (shows digit refl l h, h) (placed-made s (λ y. byte l 0 ∷ y) (digits (drop 1 l)))
+  pub digits-none : not t ≡ true → someDigits (drop at s) ≡ bad notJson (drop at s)
+  digits-none n = go (drop at s) (ap digit (sym f) ∙ sym g ∙ not-true _ n)
+    where
+      go : (l : List ℕ) → digit (byte l 0) ≡ false → someDigits l ≡ bad notJson l
+      go [] h = unfold someDigits in refl
+      go (c ∷ r) h = someDigits-none c r h
+
+  pub digits-first : not t ≡ false → placed s (someDigits (drop at s)) ≡ placed s (digits (drop (at + 1) s))
+  unfolding digit within
+  digits-first n =
+      let h = ap digit (sym f) ∙ sym g ∙ not-false _ n in
+      ap (placed s) (ap someDigits (shows digit refl (drop at s) h) ∙ someDigits-more _ _ h)
+      ∙ placed-made s _ (digits (drop 1 (drop at s)))
+      ∙ ap (λ (l : List ℕ). placed s (digits l)) (next-drop s at)
 
 pub some-leaves : Leaves someDigits
 unfolding someDigits made
@@ -52,8 +62,8 @@ some-leaves (b ∷ l) r x e =
     bad-done (sym (someDigits-none b l h) ∙ e))
 
 -- one spelling after another goes on from where the first ends
-pub both-goes : (f g : List ℕ → Read (List ℕ)) (l x r : List ℕ) → f l ≡ done x r → (s : List ℕ) → placed s (both f g l) ≡ placed s (g r)
-both-goes f g l x r e s = ap (placed s) (both-reads f g l e) ∙ placed-made s (λ y. x ++ y) (g r)
+pub both-second : (f g : List ℕ → Read (List ℕ)) (l x r : List ℕ) → f l ≡ done x r → (s : List ℕ) → placed s (both f g l) ≡ placed s (g r)
+both-second f g l x r e s = ap (placed s) (both-reads f g l e) ∙ placed-made s (λ y. x ++ y) (g r)
 
 -- a part that may be left out
 pub optional-none : (test : ℕ → Bool) (f : List ℕ → Read (List ℕ)) (l : List ℕ) → test (byte l 0) ≡ false → optional test f l ≡ done [] l
@@ -75,60 +85,75 @@ unfolding integer someDigits
 integer-some [] h = refl
 integer-some (b ∷ r) h = rw (ne-eqb _ _ h)
 
--- the code's ways through a number
-module _ (s : List ℕ) (at : ℕ) where
-  pub exponent-none : either 0x65 0x45 (byte (drop at s) 0) ≡ false → exponent (drop at s) ≡ done [] (drop at s)
+-- An exponent, by the code's test of the byte b at the place for its letter, and of the byte after it for a sign.
+module _ (s : List ℕ) (at : ℕ) {b : ℕ} {t : Bool} (f : b ≡ byte (drop at s) 0) (g : t ≡ either 0x65 0x45 b) where
+  pub exponent-none : not t ≡ true → exponent (drop at s) ≡ done [] (drop at s)
   unfolding exponent
-  exponent-none h = optional-none (either 0x65 0x45) _ (drop at s) h
+  exponent-none n = optional-none (either 0x65 0x45) _ (drop at s) (ap (either 0x65 0x45) (sym f) ∙ sym g ∙ not-true _ n)
 
-  exponent-goes : either 0x65 0x45 (byte (drop at s) 0) ≡ true → placed s (exponent (drop at s)) ≡ placed s (both (optional (either 0x2b 0x2d) nothing) someDigits (drop (at + 1) s))
-  unfolding exponent either
-  exponent-goes h =
-      let f = both (optional (either 0x2b 0x2d) nothing) someDigits in
-      ap (placed s) (optional-some (either 0x65 0x45) f (drop at s) refl h)
-      ∙ placed-made s _ (f (drop 1 (drop at s)))
-      ∙ ap (λ (l : List ℕ). placed s (f l)) (next-drop s at)
+  module _ (n : not t ≡ false) where
+    letter : either 0x65 0x45 (byte (drop at s) 0) ≡ true
+    letter = ap (either 0x65 0x45) (sym f) ∙ sym g ∙ not-false _ n
 
-  pub exponent-signed : either 0x65 0x45 (byte (drop at s) 0) ≡ true → either 0x2b 0x2d (byte (drop (at + 1) s) 0) ≡ true → placed s (exponent (drop at s)) ≡ placed s (someDigits (drop (at + 1 + 1) s))
-  unfolding either nothing made
-  exponent-signed h g =
-      exponent-goes h
-      ∙ both-goes _ someDigits (drop (at + 1) s) _ _ (optional-some (either 0x2b 0x2d) nothing (drop (at + 1) s) refl g) s
-      ∙ ap (λ (l : List ℕ). placed s (someDigits l)) (next-drop s (at + 1))
+    pub exponent-inside : at < length s
+    unfolding either
+    exponent-inside = either-inside 0x65 0x45 refl s at letter
 
-  pub exponent-plain : either 0x65 0x45 (byte (drop at s) 0) ≡ true → either 0x2b 0x2d (byte (drop (at + 1) s) 0) ≡ false → placed s (exponent (drop at s)) ≡ placed s (someDigits (drop (at + 1) s))
-  exponent-plain h g =
-      exponent-goes h
-      ∙ both-goes _ someDigits (drop (at + 1) s) _ _ (optional-none (either 0x2b 0x2d) nothing (drop (at + 1) s) g) s
+    exponent-marked : placed s (exponent (drop at s)) ≡ placed s (both (optional (either 0x2b 0x2d) nothing) someDigits (drop (at + 1) s))
+    unfolding exponent either
+    exponent-marked =
+        let f = both (optional (either 0x2b 0x2d) nothing) someDigits in
+        ap (placed s) (optional-some (either 0x65 0x45) f (drop at s) refl letter)
+        ∙ placed-made s _ (f (drop 1 (drop at s)))
+        ∙ ap (λ (l : List ℕ). placed s (f l)) (next-drop s at)
 
+    module _ {c : ℕ} {u : Bool} (i : c ≡ byte (drop (at + 1) s) 0) (j : u ≡ either 0x2b 0x2d c) where
+      pub sign-inside : u ≡ true → at + 1 < length s
+      unfolding either
+      sign-inside h = either-inside 0x2b 0x2d refl s (at + 1) (ap (either 0x2b 0x2d) (sym i) ∙ sym j ∙ h)
+
+      pub exponent-signed : u ≡ true → placed s (exponent (drop at s)) ≡ placed s (someDigits (drop (at + 1 + 1) s))
+      unfolding either nothing made
+      exponent-signed h =
+          exponent-marked
+          ∙ both-second _ someDigits (drop (at + 1) s) _ _ (optional-some (either 0x2b 0x2d) nothing (drop (at + 1) s) refl (ap (either 0x2b 0x2d) (sym i) ∙ sym j ∙ h)) s
+          ∙ ap (λ (l : List ℕ). placed s (someDigits l)) (next-drop s (at + 1))
+
+      pub exponent-plain : u ≡ false → placed s (exponent (drop at s)) ≡ placed s (someDigits (drop (at + 1) s))
+      exponent-plain h =
+          exponent-marked
+          ∙ both-second _ someDigits (drop (at + 1) s) _ _ (optional-none (either 0x2b 0x2d) nothing (drop (at + 1) s) (ap (either 0x2b 0x2d) (sym i) ∙ sym j ∙ h)) s
+
+-- the other parts, by the byte at the place
+module _ (s : List ℕ) (at : ℕ) where
   pub fraction-none : (byte (drop at s) 0 ≡ 0x2e → ⊥) → placed s (both fraction exponent (drop at s)) ≡ placed s (exponent (drop at s))
   unfolding fraction
-  fraction-none h = both-goes fraction exponent (drop at s) _ _ (optional-none (λ b. eqb b 0x2e) someDigits (drop at s) (ne-eqb _ _ h)) s
+  fraction-none h = both-second fraction exponent (drop at s) _ _ (optional-none (λ b. eqb b 0x2e) someDigits (drop at s) (ne-eqb _ _ h)) s
 
   module _ (h : byte (drop at s) 0 ≡ 0x2e) where
-    fraction-goes : fraction (drop at s) ≡ made (λ y. byte (drop at s) 0 ∷ y) (someDigits (drop (at + 1) s))
+    fraction-marked : fraction (drop at s) ≡ made (λ y. byte (drop at s) 0 ∷ y) (someDigits (drop (at + 1) s))
     unfolding fraction
-    fraction-goes =
+    fraction-marked =
         optional-some (λ b. eqb b 0x2e) someDigits (drop at s) refl (eq-eqb _ _ h)
         ∙ ap (λ (l : List ℕ). made (λ y. byte (drop at s) 0 ∷ y) (someDigits l)) (next-drop s at)
 
     pub fraction-bad : (k : ℕ) (r : List ℕ) → someDigits (drop (at + 1) s) ≡ bad k r → both fraction exponent (drop at s) ≡ bad k r
-    fraction-bad k r e = both-fails fraction exponent (drop at s) (fraction-goes ∙ made-fails _ e)
+    fraction-bad k r e = both-fails fraction exponent (drop at s) (fraction-marked ∙ made-fails _ e)
 
     pub fraction-done : (x r : List ℕ) → someDigits (drop (at + 1) s) ≡ done x r → placed s (both fraction exponent (drop at s)) ≡ placed s (exponent r)
-    fraction-done x r e = both-goes fraction exponent (drop at s) (byte (drop at s) 0 ∷ x) r (fraction-goes ∙ made-reads _ e) s
+    fraction-done x r e = both-second fraction exponent (drop at s) (byte (drop at s) 0 ∷ x) r (fraction-marked ∙ made-reads _ e) s
 
   pub integer-zero : byte (drop at s) 0 ≡ 0x30 → (g : List ℕ → Read (List ℕ)) → placed s (both integer g (drop at s)) ≡ placed s (g (drop (at + 1) s))
   integer-zero h g =
-      both-goes integer g (drop at s) _ _ (integer-front (drop at s) h) s ∙ ap (λ (l : List ℕ). placed s (g l)) (next-drop s at)
+      both-second integer g (drop at s) _ _ (integer-front (drop at s) h) s ∙ ap (λ (l : List ℕ). placed s (g l)) (next-drop s at)
 
   pub number-minus : byte (drop at s) 0 ≡ 0x2d → placed s (number (drop at s)) ≡ placed s (both integer (both fraction exponent) (drop (at + 1) s))
   unfolding number minus nothing made
   number-minus h =
-      both-goes minus (both integer (both fraction exponent)) (drop at s) _ _ (optional-some (λ b. eqb b 0x2d) nothing (drop at s) refl (eq-eqb _ _ h)) s
+      both-second minus (both integer (both fraction exponent)) (drop at s) _ _ (optional-some (λ b. eqb b 0x2d) nothing (drop at s) refl (eq-eqb _ _ h)) s
       ∙ ap (λ (l : List ℕ). placed s (both integer (both fraction exponent) l)) (next-drop s at)
 
   pub number-plain : (byte (drop at s) 0 ≡ 0x2d → ⊥) → placed s (number (drop at s)) ≡ placed s (both integer (both fraction exponent) (drop at s))
   unfolding number minus
   number-plain h =
-      both-goes minus (both integer (both fraction exponent)) (drop at s) _ _ (optional-none (λ b. eqb b 0x2d) nothing (drop at s) (ne-eqb _ _ h)) s
+      both-second minus (both integer (both fraction exponent)) (drop at s) _ _ (optional-none (λ b. eqb b 0x2d) nothing (drop at s) (ne-eqb _ _ h)) s

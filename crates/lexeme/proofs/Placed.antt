@@ -8,7 +8,7 @@ use lib.ListN.{length, drop, length-drop}
 use Rattle.lexeme.specs.declared.Scan.the-variants.{End, Fault}
 use Rattle.lexeme.specs.Read.{Read, made, placed}
 use Rattle.lexeme.specs.Read.Read.{done, bad}
-use Rattle.lexeme.proofs.Reading.{Eats, Takes}
+use Rattle.lexeme.proofs.Reading.{Consumes, StrongPrefix}
 use Rattle.lexeme.proofs.Rests.{place-at, rest-at, rest-after}
 
 pub placed-made : {A B : Type 0} (s : List ℕ) (f : A → B) (o : Read A) → placed s (made f o) ≡ placed s o
@@ -45,7 +45,7 @@ passes s k n (bad j r) p e f =
 abbrev pub Leaves : {A : Type 0} → (List ℕ → Read A) → Type 0
 Leaves {A} f = (l r : List ℕ) (x : A) → f l ≡ done x r → (p : List ℕ) × (l ≡ p ++ r)
 
-pub takes-leaves : {A : Type 0} (C : List ℕ → List ℕ → Type 0) (f : List ℕ → Read A) → Takes C f → Leaves f
+pub takes-leaves : {A : Type 0} (C : List ℕ → List ℕ → Type 0) (f : List ℕ → Read A) → StrongPrefix C f → Leaves f
 takes-leaves C f t l r x e = let k = t l r x e in (k .part, k .splits)
 
 -- what f reads from the place i on, it reads up to j
@@ -74,5 +74,5 @@ lands {A} f s i j leaves e = go (f (drop i s)) refl
           upto = omega arith;
         }
 
-pub lands-after : {A : Type 0} (f : List ℕ → Read A) (s : List ℕ) (i j : ℕ) → Eats f → Lands f s i j → i < j
-lands-after f s i j eats h = omega (arith, eats (drop i s) (drop j s) (h .what) (h .reads), length-drop i s, length-drop j s, h .upto)
+pub lands-after : {A : Type 0} (f : List ℕ → Read A) (s : List ℕ) (i j : ℕ) → Consumes f → Lands f s i j → i < j
+lands-after f s i j consumes h = omega (arith, consumes (drop i s) (drop j s) (h .what) (h .reads), length-drop i s, length-drop j s, h .upto)

@@ -22,8 +22,8 @@ abbrev pub Shrinks : {A : Type 0} → (List ℕ → Read A) → Type 0
 Shrinks f = (l : List ℕ) → length (rest (f l)) ≤ length l
 
 -- what is read takes a byte at least
-abbrev pub Eats : {A : Type 0} → (List ℕ → Read A) → Type 0
-Eats {A} f = (l r : List ℕ) (x : A) → f l ≡ done x r → length r < length l
+abbrev pub Consumes : {A : Type 0} → (List ℕ → Read A) → Type 0
+Consumes {A} f = (l r : List ℕ) (x : A) → f l ≡ done x r → length r < length l
 
 -- What may stand in place of the text r that reading left, so that the same is read: anything, where the lexeme has an end of its own;
 -- after a number, what begins as r does or does not go on with a number.
@@ -46,13 +46,13 @@ pub data Ok : List ℕ → List ℕ → Type 0 where
   stops : {r q : List ℕ} → Stops q → Ok r q
 
 -- f read x off the front of l and left r: what it took, and that it takes this the same before any q that C lets follow
-pub record Took {A : Type 0} (C : List ℕ → List ℕ → Type 0) (f : List ℕ → Read A) (l : List ℕ) (x : A) (r : List ℕ) : Type 0 where
+pub record Consumed {A : Type 0} (C : List ℕ → List ℕ → Type 0) (f : List ℕ → Read A) (l : List ℕ) (x : A) (r : List ℕ) : Type 0 where
   pub part : List ℕ
   pub splits : l ≡ part ++ r
   pub frame : (q : List ℕ) → C r q → f (part ++ q) ≡ done x q
 
-abbrev pub Takes : {A : Type 0} → (List ℕ → List ℕ → Type 0) → (List ℕ → Read A) → Type 0
-Takes {A} C f = (l r : List ℕ) (x : A) → f l ≡ done x r → Took C f l x r
+abbrev pub StrongPrefix : {A : Type 0} → (List ℕ → List ℕ → Type 0) → (List ℕ → Read A) → Type 0
+StrongPrefix {A} C f = (l r : List ℕ) (x : A) → f l ≡ done x r → Consumed C f l x r
 
 -- f met a fault of kind 2 in l, r being the text from it on: what stands before the fault begins a text that f reads whole,
 -- and with the byte at the fault it begins none
@@ -69,6 +69,6 @@ Faults f = (l r : List ℕ) → f l ≡ bad notJson r → Faulted f l r
 
 -- A reading by stricter rules against one by laxer rules: the same, or the stricter one met a fault that the laxer rules drop,
 -- and the laxer reading went past it. D tells the kinds that are dropped.
-pub data Goes {A : Type 0} (D : ℕ → Type 0) : Read A → Read A → Type 0 where
-  same : {o : Read A} → Goes D o o
-  further : {k : ℕ} {r : List ℕ} {o : Read A} → D k → length (rest o) < length r → Goes D (bad k r) o
+pub data Relaxed {A : Type 0} (D : ℕ → Type 0) : Read A → Read A → Type 0 where
+  same : {o : Read A} → Relaxed D o o
+  further : {k : ℕ} {r : List ℕ} {o : Read A} → D k → length (rest o) < length r → Relaxed D (bad k r) o

@@ -3,15 +3,11 @@ use mathlib.Core.Bool.{Bool, true, false}
 use mathlib.Core.List.{List, [], _∷_, _++_, append-assoc}
 use mathlib.Core.Path.{_≡_, refl, sym, ap, _∙_}
 use Prim.Native.Nat.{ℕ, suc, _+_, _-_, _≤_, _<_}
-use native.Mathlib.Numerals.{add-one}
 use native.Mathlib.Omega.{arith}
-use lib.ListN.{length, drop, take, getD, length-drop, length-append, take-append-drop, drop-of-length-le, List·getD-eq-default}
-use lib.Seq.{drop-cons, drop-drop, drop-at, drop-length, getD-drop}
+use lib.ListN.{length, drop, take, length-drop, length-append, take-append-drop, drop-of-length-le, List·getD-eq-default}
+use lib.Seq.{drop-drop, drop-at, drop-length, getD-drop}
+use Rattle.notation.proofs.Booleans.{true-false}
 use Rattle.lexeme.specs.Character.{byte}
-use Rattle.lexeme.proofs.Steps.{true-false}
-
-pub at-cons : (s : List ℕ) (i : ℕ) → i < length s → drop i s ≡ getD s i 0 ∷ drop (i + 1) s
-at-cons s i h = rw (add-one, drop-cons s i 0)
 
 pub place-at : (s : List ℕ) (i : ℕ) → i ≤ length s → i ≡ length s - length (drop i s)
 place-at s i h = simp length-drop (omega arith)

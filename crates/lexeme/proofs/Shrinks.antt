@@ -6,6 +6,7 @@ use Prim.Native.Nat.{ℕ, zero, suc, _≤_}
 use native.Mathlib.Omega.{arith}
 use lib.ListN.{length, length-drop}
 use lib.Dec.{eqb}
+use Rattle.notation.proofs.Booleans.{by-test}
 use Rattle.lexeme.specs.declared.Next.{Next}
 use Rattle.lexeme.specs.declared.Next.the-variants.{Quote, Character, Fault}
 use Rattle.lexeme.specs.Read.{Read, then, made}
@@ -15,7 +16,7 @@ use Rattle.lexeme.specs.Strings.{string}
 use Rattle.lexeme.specs.Numbers.{digit, digits, someDigits, optional, both, nothing, integer, minus, fraction, exponent, number}
 use Rattle.lexeme.specs.Tokens.{blank, blanks, literal}
 use Rattle.lexeme.proofs.Reading.{rest, Shrinks}
-use Rattle.lexeme.proofs.Steps.{by-test, string-empty, string-inside, string-quote, string-fault, string-character, blanks-pass, blanks-stop, literal-match, literal-differs, digits-more, digits-stop, someDigits-more, someDigits-none, integer-zero, integer-digits, optional-there, optional-absent}
+use Rattle.lexeme.proofs.Steps.{string-empty, string-inside, string-quote, string-fault, string-character, blanks-pass, blanks-stop, literal-match, literal-differs, digits-more, digits-stop, someDigits-more, someDigits-none, integer-zero, integer-digits, optional-there, optional-absent}
 
 -- the combinators
 pub rest-made : {A B : Type 0} (f : A → B) (o : Read A) → rest (made f o) ≡ rest o

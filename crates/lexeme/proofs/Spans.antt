@@ -1,41 +1,51 @@
 -- A run of bytes that a test admits, and the text past it. Blanks and digits are such runs, so their loops share one argument:
 -- what is past the run is the same from each of its bytes on.
-use mathlib.Core.Bool.{Bool, true, false}
+use mathlib.Core.Bool.{Bool, true, false, not}
 use mathlib.Core.List.{List, [], _∷_, _++_}
 use mathlib.Core.Path.{_≡_, refl, sym, ap, _∙_}
 use Prim.Native.Nat.{ℕ, _+_, _-_, _≤_, _<_}
 use native.Mathlib.Omega.{arith}
 use lib.ListN.{length, drop, getD, drop-of-length-le}
-use Rattle.lexeme.specs.Read.{made}
+use Rattle.notation.proofs.Booleans.{by-test}
+use Rattle.notation.proofs.Lists.{at-cons}
+use borrow.Author.Tests.{not-true, not-false}
+use Rattle.lexeme.specs.declared.Scan.the-variants.{End}
+use Rattle.lexeme.specs.Read.{made, placed}
 use Rattle.lexeme.specs.Read.Read.{done}
 use Rattle.lexeme.specs.Numbers.{digit, digits}
 use Rattle.lexeme.specs.Tokens.{blank, blanks}
-use Rattle.lexeme.proofs.Rests.{at-cons, rest-at, rest-after}
-use Rattle.lexeme.proofs.Steps.{by-test}
+use Rattle.lexeme.proofs.Placed.{ends}
+use Rattle.lexeme.proofs.Rests.{place-at, rest-at, rest-after}
 
 unfoldable pub past : (ℕ → Bool) → List ℕ → List ℕ
 past test [] = []
 past test (b ∷ r) = elim (test b) [ true ↦ past test r | false ↦ b ∷ r ]
 
-module _ (test : ℕ → Bool) where
-  pub past-step : (s : List ℕ) (i : ℕ) → i < length s → test (getD s i 0) ≡ true → past test (drop i s) ≡ past test (drop (i + 1) s)
-  unfolding past
-  past-step s i h e = rw (at-cons s i h, e, past)
+pub past-splits : (test : ℕ → Bool) (l : List ℕ) → (p : List ℕ) × (l ≡ p ++ past test l)
+unfolding past
+past-splits test [] = ([], refl)
+past-splits test (b ∷ r) =
+    let w = past-splits test r in
+    by-test (test b) (λ e. (b ∷ w .0, rw (e, past) (ap (λ (x : List ℕ). b ∷ x) (w .1)))) (λ e. ([], rw (e, past)))
 
-  pub past-stop : (s : List ℕ) (i : ℕ) → i < length s → test (getD s i 0) ≡ false → past test (drop i s) ≡ drop i s
+-- The loop over a run, at i: x is the text past it. The code's test t of the byte there tells whether the run goes on.
+module _ (test : ℕ → Bool) (s : List ℕ) (i : ℕ) {x : List ℕ} (left : past test (drop i s) ≡ x) where
+  pub run-ends : length s ≤ i → length s ≡ length s - length x
   unfolding past
-  past-stop s i h e = rw (at-cons s i h, e, past)
+  run-ends h = let w : past test (drop i s) ≡ [] = rw (drop-of-length-le s h) in rw (sym left ∙ w) (omega arith)
 
-  pub past-end : (s : List ℕ) (i : ℕ) → length s ≤ i → past test (drop i s) ≡ drop i s
-  unfolding past
-  past-end s i h = rw (drop-of-length-le s h)
+  module _ (h : i < length s) {t : Bool} (e : t ≡ test (getD s i 0)) where
+    pub run-next : not t ≡ false → past test (drop (i + 1) s) ≡ x
+    unfolding past
+    run-next n =
+        let w : past test (drop i s) ≡ past test (drop (i + 1) s) = rw (at-cons s i h, sym e ∙ not-false _ n, past) in
+        sym w ∙ left
 
-  pub past-splits : (l : List ℕ) → (p : List ℕ) × (l ≡ p ++ past test l)
-  unfolding past
-  past-splits [] = ([], refl)
-  past-splits (b ∷ r) =
-      let w = past-splits r in
-      by-test (test b) (λ e. (b ∷ w .0, rw (e, past) (ap (λ (x : List ℕ). b ∷ x) (w .1)))) (λ e. ([], rw (e, past)))
+    pub run-stops : not t ≡ true → i ≡ length s - length x
+    unfolding past
+    run-stops n =
+        let w : past test (drop i s) ≡ drop i s = rw (at-cons s i h, sym e ∙ not-true _ n, past) in
+        rw (sym left ∙ w) (place-at s i (omega arith))
 
 -- blanks
 pub blanks-past : (l : List ℕ) → blanks l ≡ past blank l
@@ -66,3 +76,6 @@ digits-past [] = ([], refl)
 digits-past (b ∷ r) =
     let w = digits-past r in
     by-test (digit b) (λ e. (b ∷ w .0, rw (e, digits, past, w .1))) (λ e. ([], rw (e, digits, past)))
+
+pub digits-end : (s l : List ℕ) {n : ℕ} → n ≡ length s - length (past digit l) → End n ≡ placed s (digits l)
+digits-end s l {n} e = let d = digits-past l in ends s (past digit l) n _ e (d .0) (d .1)

@@ -5,12 +5,13 @@ use mathlib.Core.Path.{_≡_, sym, ap, _∙_}
 use Prim.Native.Nat.{ℕ}
 use lib.Dec.{eqb}
 use borrow.Author.Tests.{eqb-true}
+use Rattle.notation.proofs.Booleans.{by-test}
 use Rattle.lexeme.specs.Read.{Read, made}
 use Rattle.lexeme.specs.Read.Read.{done}
 use Rattle.lexeme.specs.Numbers.{digit, digits, someDigits, optional, both, nothing, integer, minus, fraction, exponent, number}
 use Rattle.lexeme.specs.Tokens.{literal}
-use Rattle.lexeme.proofs.Steps.{by-test, bad-done, done-what, done-rest, made-done, digits-more, digits-stop, someDigits-more, someDigits-none, integer-zero, integer-digits, optional-there, optional-absent, literal-match, literal-differs}
-use Rattle.lexeme.proofs.Takes.{both-done}
+use Rattle.lexeme.proofs.Steps.{bad-done, done-what, done-rest, made-done, digits-more, digits-stop, someDigits-more, someDigits-none, integer-zero, integer-digits, optional-there, optional-absent, literal-match, literal-differs}
+use Rattle.lexeme.proofs.StrongPrefixes.{both-done}
 
 abbrev Spells : (List ℕ → Read (List ℕ)) → Type 0
 Spells f = (l r x : List ℕ) → f l ≡ done x r → l ≡ x ++ r

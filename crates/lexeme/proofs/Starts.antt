@@ -6,6 +6,7 @@ use mathlib.Core.Path.{_≡_, refl, sym, ap, subst, _∙_}
 use Prim.Native.Nat.{ℕ}
 use lib.Dec.{eqb}
 use borrow.Author.Tests.{eqb-true}
+use Rattle.notation.proofs.Booleans.{by-test, true-false}
 use Rattle.word.specs.Kinds.{notJson}
 use Rattle.lexeme.specs.Read.Read.{done, bad}
 use Rattle.lexeme.specs.Character.{within}
@@ -13,9 +14,9 @@ use Rattle.lexeme.specs.Numbers.{digit, either, nothing, integer, minus,
 use Rattle.lexeme.specs.Tokens.{blank}
 use Rattle.lexeme.specs.inner.Start.{Start, start}
 use Rattle.lexeme.proofs.Reading.{numeric}
-use Rattle.lexeme.proofs.Steps.{by-test, true-false, bad-done, done-rest, made-fails, integer-digits, someDigits-none, optional-absent, both-reads, both-fails}
+use Rattle.lexeme.proofs.Steps.{bad-done, done-rest, made-fails, integer-digits, someDigits-none, optional-absent, both-reads, both-fails}
 use Rattle.lexeme.proofs.Local.{choice}
-use Rattle.lexeme.proofs.Takes.{both-done}
+use Rattle.lexeme.proofs.StrongPrefixes.{both-done}
 
 -- what holds of the four blanks holds of every blank
 each-blank : (P : ℕ → Type 0) → P 0x20 → P 0x09 → P 0x0a → P 0x0d → (b : ℕ) → blank b ≡ true → P b

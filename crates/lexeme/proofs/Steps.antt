@@ -16,25 +16,12 @@ use Rattle.lexeme.specs.Strings.{string, decoded}
 use Rattle.lexeme.specs.Numbers.{digit, digits, someDigits, optional, both, integer}
 use Rattle.lexeme.specs.Tokens.{blank, blanks, literal}
 
--- a test, taken apart
-pub by-test : {A : Type 0} (t : Bool) → (t ≡ true → A) → (t ≡ false → A) → A
-by-test true f g = f refl
-by-test false f g = g refl
-
-pub true-false : {A : Type 0} {t : Bool} → t ≡ true → t ≡ false → A
-true-false e f =
-    let z : _≡_ {A = Bool} true false = cc in
-    let n : _≡_ {A = ℕ} 0 1 = cc in absurd (omega arith)
-
 -- readings told apart, and taken apart
 pub bad-done : {A : Type 0} {B : Type 0} {k : ℕ} {q r : List ℕ} {x : A} → _≡_ {A = Read A} (bad k q) (done x r) → B
 bad-done e = let n : _≡_ {A = ℕ} 0 1 = cc in absurd (omega arith)
 
 pub done-bad : {A : Type 0} {B : Type 0} {k : ℕ} {q r : List ℕ} {x : A} → _≡_ {A = Read A} (done x r) (bad k q) → B
 done-bad e = let n : _≡_ {A = ℕ} 0 1 = cc in absurd (omega arith)
-
-pub no-cons : {A : Type 0} {b : ℕ} {w : List ℕ} → [] ≡ b ∷ w → A
-no-cons e = let n : _≡_ {A = ℕ} 0 1 = cc in absurd (omega arith)
 
 module _ {A : Type 0} {x y : A} {q r : List ℕ} where
   pub done-what : done x q ≡ done y r → x ≡ y
@@ -68,7 +55,12 @@ module _ {A B : Type 0} {o : Read A} {r : List ℕ} where
   unfolding then
   then-fails g e = rw e
 
--- and backwards
+pub made-same : {A : Type 0} (o : Read A) → made (λ x. x) o ≡ o
+unfolding made
+made-same (done x r) = refl
+made-same (bad k r) = refl
+
+-- the combinators backwards
 pub made-done : {A B : Type 0} (f : A → B) (o : Read A) (y : B) (r : List ℕ) → made f o ≡ done y r → (x : A) × (o ≡ done x r) × (f x ≡ y)
 unfolding made
 made-done f (done x q) y r e = (x, ap (done x) (done-rest e), done-what e)

@@ -7,6 +7,7 @@ use native.Mathlib.Omega.{arith}
 use lib.ListN.{length, drop}
 use lib.Dec.{eqb, ltb}
 use borrow.Author.Tests.{eqb-true, eqb-false, ltb-true, ltb-false}
+use Rattle.notation.proofs.Booleans.{by-test, true-false}
 use Rattle.lexeme.specs.declared.Char.{Char}
 use Rattle.lexeme.specs.declared.Next.{Next}
 use Rattle.lexeme.specs.declared.Next.the-variants.{Quote, Character, Fault}
@@ -16,9 +17,8 @@ use Rattle.lexeme.specs.declared.Trail.{Trail}
 use Rattle.lexeme.specs.declared.Trail.the-variants.{Low, Other}
 use Rattle.lexeme.specs.Character.{Surrogates, paired, byte, within, char1, bytesOf, encoded, hexValue, hexadecimal, quad, lowOf, trail, combined, alone, high, unit, unicode, short, escape, next}
 use Rattle.lexeme.specs.Utf8.{Scalar, Unescaped, bytesIn, utf8, codePoint, Escape, Agreement}
-use Rattle.lexeme.proofs.Steps.{by-test, true-false}
 use Rattle.lexeme.proofs.Local.{encoded-char, choice}
-use Rattle.lexeme.proofs.Takes.{closes}
+use Rattle.lexeme.proofs.StrongPrefixes.{closes}
 use Rattle.lexeme.proofs.Utf8Reads.{between, bounds, below, above, reads, single, control, escapes}
 use Rattle.lexeme.proofs.Utf8Values.{decodes, unique, encoded1, unescaped}
 

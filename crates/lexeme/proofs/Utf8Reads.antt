@@ -8,14 +8,14 @@ use native.Mathlib.Omega.{arith}
 use lib.ListN.{length}
 use lib.Dec.{leb, ltb}
 use borrow.Author.Tests.{ne-eqb, ltb-true, ltb-false, lt-ltb, le-ltb, leb-true, leb-false, le-leb, lt-leb}
+use Rattle.notation.proofs.Booleans.{by-test, true-false}
 use Rattle.word.specs.Kinds.{notJson}
 use Rattle.lexeme.specs.declared.Next.the-variants.{Fault}
-use Rattle.lexeme.specs.Character.{Surrogates, byte, within, char1, char2, char3, char4, utf2, utf3, utf4, encoded, escape, next}
+use Rattle.lexeme.specs.Character.{Surrogates, within, char1, char2, char3, char4, utf2, utf3, utf4, encoded, escape, next}
 use Rattle.lexeme.specs.inner.Lead.{Lead, lead, nextBy}
 use Rattle.lexeme.specs.inner.Lead.Lead.{plain, two, threeE0, three, threeED, fourF0, four, fourF4}
 use Rattle.lexeme.specs.Utf8.{Unescaped, bytesIn, utf8}
 use Rattle.lexeme.proofs.Leads.{next-led}
-use Rattle.lexeme.proofs.Steps.{by-test, true-false}
 
 -- a number between two bounds, and outside them
 module _ (lo hi b : ℕ) where

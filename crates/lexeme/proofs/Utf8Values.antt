@@ -8,6 +8,7 @@ use native.Mathlib.Omega.{arith}
 use lib.ListN.{length, drop, take-append-drop}
 use lib.Dec.{eqb, ltb}
 use borrow.Author.Tests.{eqb-true, eqb-false, ltb-true, ltb-false, lt-ltb, le-ltb}
+use Rattle.notation.proofs.Booleans.{by-test}
 use Rattle.lexeme.specs.declared.Char.{Char}
 use Rattle.lexeme.specs.declared.Next.{Next}
 use Rattle.lexeme.specs.declared.Next.the-variants.{Quote, Character, Fault}
@@ -16,9 +17,7 @@ use Rattle.lexeme.specs.inner.Lead.{Lead, lead, nextBy}
 use Rattle.lexeme.specs.inner.Lead.Lead.{plain, quote, backslash, wrong, two, threeE0, three, threeED, fourF0, four, fourF4}
 use Rattle.lexeme.specs.Utf8.{Scalar, Unescaped, bytesIn, utf8, codePoint, Stands}
 use Rattle.lexeme.proofs.Leads.{next-by}
-use Rattle.lexeme.proofs.Steps.{by-test}
-use Rattle.lexeme.proofs.Local.{here}
-use Rattle.lexeme.proofs.Mends.{front, front-take}
+use Rattle.lexeme.proofs.Rows.{here, front, front-splits}
 use Rattle.lexeme.proofs.Utf8Reads.{bounds, below, above}
 
 -- an encoding's bytes hold its value
@@ -86,10 +85,6 @@ module _ (v more : ℕ) where
       let p : 0x80 + v % 64 ≡ d = omega arith in
       rw (le-ltb v 0x80 (omega arith), le-ltb v 0x800 (omega arith), le-ltb v 0x10000 l, i, j, o, p)
 
--- the first bytes of a text that has so many
-splits : (n : ℕ) (l : List ℕ) → n ≤ length l → l ≡ front n 0 l ++ drop n l
-splits n l h = sym (take-append-drop n l) ∙ ap (λ (m : List ℕ). m ++ drop n l) (front-take n 0 l (omega arith))
-
 stands : (v : ℕ) (x : Char) (l w : List ℕ) → Unescaped v → utf8 v ≡ w → Character x ≡ encoded v (length w - 1) → l ≡ w ++ drop (length w) l → Stands v x l
 stands v x l w u e f s = record { unescaped = u; encoding = rw e f; front = rw e s }
 
@@ -109,7 +104,7 @@ module _ (l : List ℕ) where
   plain-found h k n m =
       stands (byte l 0) _ l (byte l 0 ∷ [])
       (record { scalar = record { most = omega arith; noSurrogate = below 0xd800 0xdfff (byte l 0) (omega arith) }; noControl = h; noQuote = n; noBackslash = m })
-      (ap bytesIn (encoded1 (byte l 0) 0 k)) (sym (encoded1 (byte l 0) 0 k)) (splits 1 l (here l 0 (λ z. omega arith)))
+      (ap bytesIn (encoded1 (byte l 0) 0 k)) (sym (encoded1 (byte l 0) 0 k)) (front-splits 1 l (here l 0 (λ z. omega arith)))
 
   utf2-found : 0xc2 ≤ byte l 0 → byte l 0 < 0xe0 → Found l (utf2 l)
   unfolding codePoint utf8 bytesIn utf2
@@ -119,7 +114,7 @@ module _ (l : List ℕ) where
       let v = byte l 0 % 32 * 64 + byte l 1 % 64 in
       let e : (n : ℕ) → encoded v n ≡ char2 (byte l 0) (byte l 1) n = λ n. encoded2 v n (byte l 0) (byte l 1) refl h k t in
       rw a (stands v _ l (byte l 0 ∷ byte l 1 ∷ [])
-      (beyond v (omega arith) (omega arith) (below 0xd800 0xdfff v (omega arith))) (ap bytesIn (e 0)) (sym (e 1)) (splits 2 l (here l 1 (λ z. omega arith)))))
+      (beyond v (omega arith) (omega arith) (below 0xd800 0xdfff v (omega arith))) (ap bytesIn (e 0)) (sym (e 1)) (front-splits 2 l (here l 1 (λ z. omega arith)))))
       (λ a. rw a tt)
 
   -- a second byte from lo to hi makes no value that is too short for the form, none that is a surrogate, and none past the greatest
@@ -136,7 +131,7 @@ module _ (l : List ℕ) where
       let p = fit v (byte l 1) (byte l 2) refl t in
       let e : (n : ℕ) → encoded v n ≡ char3 (byte l 0) (byte l 1) (byte l 2) n = λ n. encoded3 v n (byte l 0) (byte l 1) (byte l 2) refl h k (omega arith, omega arith) u (p .0) in
       rw (a, b) (stands v _ l (byte l 0 ∷ byte l 1 ∷ byte l 2 ∷ [])
-      (beyond v (omega (arith, p .0)) (omega arith) (p .1)) (ap bytesIn (e 0)) (sym (e 2)) (splits 3 l (here l 2 (λ z. omega arith)))))
+      (beyond v (omega (arith, p .0)) (omega arith) (p .1)) (ap bytesIn (e 0)) (sym (e 2)) (front-splits 3 l (here l 2 (λ z. omega arith)))))
       (λ b. rw (a, b) tt))
       (λ a. rw a tt)
 
@@ -155,7 +150,7 @@ module _ (l : List ℕ) where
       let p = fit v (byte l 1) (byte l 2) (byte l 3) refl t in
       let e : (n : ℕ) → encoded v n ≡ char4 (byte l 0) (byte l 1) (byte l 2) (byte l 3) n = λ n. encoded4 v n (byte l 0) (byte l 1) (byte l 2) (byte l 3) refl h k (omega arith, omega arith) u w (p .0) in
       rw (a, b, c) (stands v _ l (byte l 0 ∷ byte l 1 ∷ byte l 2 ∷ byte l 3 ∷ [])
-      (beyond v (omega (arith, p .0)) (p .1) (above 0xd800 0xdfff v (omega (arith, p .0)))) (ap bytesIn (e 0)) (sym (e 3)) (splits 4 l (here l 3 (λ z. omega arith)))))
+      (beyond v (omega (arith, p .0)) (p .1) (above 0xd800 0xdfff v (omega (arith, p .0)))) (ap bytesIn (e 0)) (sym (e 3)) (front-splits 4 l (here l 3 (λ z. omega arith)))))
       (λ c. rw (a, b, c) tt))
       (λ b. rw (a, b) tt))
       (λ a. rw a tt)

@@ -5,12 +5,12 @@ use Prim.Native.Nat.{ℕ, _+_, _≤_, _<_}
 use lib.Dec.{eqb}
 use lib.ListN.{length, drop, getD, drop-of-length-le}
 use borrow.Author.Tests.{eq-eqb, ne-eqb}
+use Rattle.notation.proofs.Booleans.{by-test}
+use Rattle.notation.proofs.Lists.{at-cons}
 use Rattle.word.specs.Kinds.{notJson}
 use Rattle.lexeme.specs.Read.{placed}
 use Rattle.lexeme.specs.Read.Read.{done, bad}
 use Rattle.lexeme.specs.Tokens.{literal}
-use Rattle.lexeme.proofs.Rests.{at-cons}
-use Rattle.lexeme.proofs.Steps.{by-test}
 
 module _ {A : Type 0} (x : A) (s w : List ℕ) (i k : ℕ) where
   pub literal-all : length w ≤ k → literal (drop k w) x (drop i s) ≡ done x (drop i s)

@@ -1,7 +1,7 @@
 -- Lexemes on cases, computed: what is read and the text after it, or the fault's kind and the text from it on.
 use mathlib.Core.Bool.{Bool, true}
 use mathlib.Core.List.{List, [], _∷_}
-use mathlib.Core.Path.{_≡_, refl}
+use mathlib.Core.Path.{refl}
 use Prim.Native.Nat.{ℕ}
 use Rattle.word.specs.Kinds.{notJson, unpaired}
 use Rattle.notation.specs.Ascii.{bytes}

@@ -22,7 +22,7 @@ pub fn skip_blanks(s: &[u8], at: usize) -> usize
     s.len()
 }
 
-// The same by the table of classes, for a scanner that lends it.
+// Where the blanks from `at` on end, by the table of classes, for a scanner that lends it.
 pub fn skip_blanks_by(table: &[u8; 256], s: &[u8], at: usize) -> usize
     requires { ⌜ Classifies (now table) ⌝ }
     ensures { λ r. ⌜ r ≡ length (now (s .entry)) - length (blanks (drop at (now (s .entry)))) ⌝ }

@@ -7,8 +7,8 @@ use Rattle.notation.specs.Choice.{_⇒_else_}
 use Rattle.word.specs.declared.Parts.{Parts}
 use Rattle.schema.specs.Pick.{Picked}
 use Rattle.document.specs.Document.{Maybe, none, some}
-use Rattle.clean.specs.declared.Outcome.{Outcome}
-use Rattle.clean.specs.declared.Outcome.the-variants.{Unbroken, Broken}
+use Rattle.fault.specs.declared.outcome.Outcome.{Outcome}
+use Rattle.fault.specs.declared.outcome.Outcome.the-variants.{Unbroken, Broken}
 use Rattle.quote.specs.Quote.{Answer, refused, unclean, planQuote, ofClean}
 
 abbrev pub asked : Bool → Outcome → Maybe Picked → (seconds metres : ℕ) → Answer

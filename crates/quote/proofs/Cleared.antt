@@ -7,13 +7,16 @@ use mathlib.Core.Path.{_≡_, refl, sym, ap, subst, _∙_}
 use Prim.Native.Nat.{ℕ, _≤_}
 use native.Mathlib.Omega.{arith}
 use lib.ListN.{length, length-map}
-use Rattle.notation.specs.Choice.{_⇒_else_, _and_}
+use Rattle.notation.specs.Choice.{_⇒_else_}
+use Rattle.notation.proofs.Booleans.{and-right}
+use Rattle.notation.proofs.Lists.{cons-nil}
 use Rattle.word.specs.Kinds.{wrongType}
 use Rattle.json.specs.Tree as tree
 use Rattle.json.specs.Tree.{Json}
 use Rattle.walk.specs.declared.Item.{Item}
 use Rattle.walk.specs.Walk.{itemsOf}
-use Rattle.walk.specs.Part.{Whole, partTree, kindAt, inside}
+use Rattle.walk.specs.Part.{Whole, partTree, inside}
+use Rattle.walk.specs.inner.Kind.{kindAt}
 use Rattle.walk.proofs.Wholes.{whole-tree, whole-kind, whole-number, whole-string}
 use Rattle.walk.proofs.Parts.{itemOf, items-whole}
 use Rattle.text.specs.Text.{textOf}
@@ -30,22 +33,19 @@ use Rattle.decimal.specs.Exact.{natural, moneyOf}
 use Rattle.schema.specs.Shape as shape
 use Rattle.schema.specs.Shape.{Shape, Rows, Sort}
 use Rattle.schema.specs.Pick.{Picked, pick, emptied}
-use Rattle.schema.proofs.Tests.{and-right}
 use Rattle.scalar.specs.Scalars.{unless, formedKinds, anyMoney, priceMoney, pricing, numberKinds, textKinds, booleanKinds, kindsOf, sortKinds}
-use Rattle.judge.specs.declared.Place.{Place}
-use Rattle.judge.specs.Faults.{faulty, faultsBy, faults}
+use Rattle.fault.specs.declared.Place.{Place}
+use Rattle.judge.specs.Faults.{faultsBy, faults}
+use Rattle.fault.specs.Fault.{faulty}
 use Rattle.document.specs.Document.{some, elementsOf, field, fieldItems}
-use Rattle.document.proofs.Fields.{Lists}
-use Rattle.document.proofs.Records.{pickedItems}
+use Rattle.document.proofs.Rows.{Lists}
+use Rattle.document.specs.inner.Items.{pickedItems}
 use Rattle.document.proofs.Ways.{Requires, lists}
-use Rattle.fields.specs.inner.Values.{kindCode, memberOf, arrayBy}
-use Rattle.fields.proofs.Values.{Holds, member-holds}
-use Rattle.fields.proofs.Fields.{field-items}
+use Rattle.document.specs.inner.Values.{kindCode, memberOf, arrayBy}
+use Rattle.document.proofs.Values.{Holds, member-holds}
+use Rattle.document.proofs.FieldBytes.{field-items}
 use Rattle.clean.proofs.Faultless.{object-there, required-there, field-there, field-sound, items-few, array-there, items-there}
 use Rattle.quote.specs.inner.Clear.{Clear, ClearValue}
-
-cons-nil : {A B : Type 0} {x : A} {l : List A} → x ∷ l ≡ [] → B
-cons-nil e = let z : _≡_ {A = ℕ} 0 1 = cc in absurd (omega arith)
 
 -- members
 

@@ -16,13 +16,13 @@ use Rattle.schema.specs.Pick.{pick}
 use Rattle.decimal.specs.declared.Amount.{Amount}
 use Rattle.fare.specs.declared.Segment.{Segment}
 use Rattle.document.specs.Document.{fieldItems, text}
-use Rattle.document.proofs.Fields.{here, below}
+use Rattle.document.proofs.Rows.{here, below}
 use Rattle.document.proofs.Ways as required
-use Rattle.document.proofs.Records.{pickedItems}
-use Rattle.fields.specs.Values.{integerIn}
-use Rattle.fields.specs.inner.Values.{memberOf, textBy, arrayBy}
-use Rattle.fields.proofs.Arrays.{member-along}
-use Rattle.fields.proofs.Fields.{field-spelled, field-text, field-given, field-items, rowOf, listed}
+use Rattle.document.specs.inner.Items.{pickedItems}
+use Rattle.document.specs.Values.{integerIn}
+use Rattle.document.specs.inner.Values.{memberOf, textBy, arrayBy}
+use Rattle.document.proofs.Arrays.{member-along}
+use Rattle.document.proofs.FieldBytes.{field-spelled, field-text, field-given, field-items, rowOf, listed}
 use Rattle.quote.specs.Plan.{moneyIn, priceIn, priceAt, planSegment}
 use Rattle.quote.specs.inner.Values.{priceBy, segmentBy}
 use Rattle.quote.specs.inner.Clear.{Clear, ClearValue, ClearPlan, ClearSegments}

@@ -8,7 +8,7 @@ use native.Mathlib.Omega.{arith}
 use lib.Dec.{eqb, leb}
 use lib.ListN.{length, drop, length-drop}
 use borrow.Author.Tests.{le-leb, lt-leb, leb-true, eqb-true, eqb-false}
-use Rattle.lexeme.proofs.Steps.{by-test}
+use Rattle.notation.proofs.Booleans.{by-test, and-left, and-right}
 use Rattle.lexeme.specs.Read as read
 use Rattle.lexeme.specs.Tokens.{blanks}
 use Rattle.json.specs.Text.{text, value, valueBy}
@@ -21,15 +21,14 @@ use Rattle.schema.specs.Shape.{fileShape}
 use Rattle.schema.specs.Table23.{table23, plan}
 use Rattle.schema.specs.Records.{located}
 use Rattle.schema.specs.Pick.{Picked, pick}
-use Rattle.schema.proofs.Tests.{and-left, and-right}
-use Rattle.judge.specs.declared.Place.{Place}
+use Rattle.fault.specs.declared.Place.{Place}
 use Rattle.judge.specs.Faults.{faults}
 use Rattle.document.specs.Document.{none, some, field, along}
 use Rattle.document.specs.inner.Spans.{RecordsFrom}
-use Rattle.document.proofs.Records.{pickedItems}
+use Rattle.document.specs.inner.Items.{pickedItems}
 use Rattle.document.proofs.Rests.{rest-along, rest-picked}
-use Rattle.clean.specs.declared.Outcome.{Outcome}
-use Rattle.clean.specs.declared.Outcome.the-variants.{Unbroken}
+use Rattle.fault.specs.declared.outcome.Outcome.{Outcome}
+use Rattle.fault.specs.declared.outcome.Outcome.the-variants.{Unbroken}
 use Rattle.clean.specs.Clean as clean
 use Rattle.clean.specs.Clean.{recordsOf, cleanOf}
 use Rattle.clean.proofs.Repeated.{Held}

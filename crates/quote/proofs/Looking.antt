@@ -12,7 +12,7 @@ use Rattle.walk.proofs.Parts.{itemOf}
 use Rattle.schema.specs.Pick.{Picked, pick}
 use Rattle.schema.specs.Table23.{plan}
 use Rattle.document.specs.Document.{Maybe, none, some, text}
-use Rattle.document.proofs.Records.{pickedItems}
+use Rattle.document.specs.inner.Items.{pickedItems}
 use Rattle.quote.specs.declared.Lookup.{Lookup}
 use Rattle.quote.specs.declared.Lookup.the-variants.{Plan, Nothing}
 use Rattle.quote.specs.Plan.{planOf}

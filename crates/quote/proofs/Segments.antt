@@ -32,15 +32,15 @@ use Rattle.decimal.specs.Decimals.{numberOf, priceOf}
 use Rattle.decimal.specs.Exact.{unit, size, inRange, amountOf, moneyOf}
 use Rattle.decimal.proofs.Tests.{within-is}
 use Rattle.document.specs.Document.{Maybe, none, some}
-use Rattle.document.proofs.Records.{pickedItems}
+use Rattle.document.specs.inner.Items.{pickedItems}
 use Rattle.fare.specs.declared.Segment.{Segment}
 use Rattle.fare.specs.inner.Folds.{Fills}
 use Rattle.fare.specs.Bounds.{mostMoney}
 use Rattle.fare.specs.inner.Room.{Modest}
 use Rattle.quote.specs.Plan.{amountIn, numberAmount, priceAmount, moneyIn, priceIn, planSegment}
-use Rattle.fields.specs.inner.Values.{spelledBy, textBy, memberOf}
+use Rattle.document.specs.inner.Values.{spelledBy, textBy, memberOf}
 use Rattle.quote.specs.inner.Values.{priceBy, segmentBy, segmentsBy}
-use Rattle.quote.specs.inner.Clear.{ClearSegment, ClearSegments}
+use Rattle.quote.specs.inner.Clear.{ClearSegments}
 use Rattle.quote.proofs.Fields.{segment-is}
 
 -- Amounts are bounded, whatever is read.

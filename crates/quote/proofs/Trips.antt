@@ -25,7 +25,7 @@ use Rattle.fare.proofs.Fold.{sum-kept}
 use Rattle.fare.proofs.Bound.{minutes-short, kilometres-short, room-price, room-less, room-charges}
 use Rattle.fare.proofs.Size.{amount-size}
 use Rattle.quote.specs.Plan.{priceAt, perMinute, perKilometre, tripAmount, pastMinutes, pastKilometres}
-use Rattle.fields.specs.inner.Values.{memberOf, arrayBy}
+use Rattle.document.specs.inner.Values.{memberOf, arrayBy}
 use Rattle.quote.specs.inner.Values.{priceBy, segmentsBy}
 use Rattle.quote.specs.inner.Clear.{ClearPlan}
 use Rattle.quote.specs.Quote.{mostSeconds, mostMetres, priced, planQuote}

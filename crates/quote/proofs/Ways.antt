@@ -8,7 +8,8 @@ use Rattle.lexeme.specs.Character.{within}
 use Rattle.lexeme.specs.Numbers.{digit}
 use Rattle.lexeme.specs.inner.Start.{start}
 use Rattle.text.specs.Text.{textOf}
-use Rattle.walk.specs.Part.{kindAt, inside}
+use Rattle.walk.specs.Part.{inside}
+use Rattle.walk.specs.inner.Kind.{kindAt}
 use Rattle.decimal.specs.declared.Decimal.{Decimal}
 use Rattle.decimal.specs.declared.Number.the-variants as number
 use Rattle.decimal.specs.declared.Price.the-variants as price
@@ -16,9 +17,9 @@ use Rattle.decimal.specs.Decimals.{numberOf, priceOf}
 use Rattle.decimal.specs.Exact.{amountOf}
 use Rattle.decimal.proofs.Tests.{money-amount}
 use Rattle.document.specs.Document.{some}
-use Rattle.fields.specs.Values.{wholeOf, integerIn}
-use Rattle.fields.specs.inner.Values.{kindCode, spelledBy, textBy}
-use Rattle.fields.proofs.Ways.{spelled-none, spelled-some, text-some}
+use Rattle.document.specs.Values.{wholeOf, integerIn}
+use Rattle.document.specs.inner.Values.{kindCode, spelledBy, textBy}
+use Rattle.document.proofs.ByKind.{spelled-none, spelled-some, text-some}
 use Rattle.quote.specs.Plan.{amountIn, numberAmount, priceAmount, moneyIn, priceIn}
 use Rattle.quote.specs.inner.Values.{priceBy}
 use Rattle.quote.proofs.Cleared.{IsMoney}

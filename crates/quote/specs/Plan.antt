@@ -16,7 +16,7 @@ use Rattle.text.specs.Text.{same}
 use Rattle.notation.specs.Choice.{_⇒_else_}
 use Rattle.schema.specs.Pick.{Picked}
 use Rattle.document.specs.Document.{Maybe, none, some, field, fieldItems, text, spelling, given}
-use Rattle.fields.specs.Values.{integerIn}
+use Rattle.document.specs.Values.{integerIn}
 use Rattle.clean.specs.Clean.{recordsOf}
 use Rattle.fare.specs.declared.Segment.{Segment}
 use Rattle.fare.specs.Charges.{minutesOf, kilometresOf, amount, past}

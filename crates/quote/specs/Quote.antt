@@ -12,8 +12,8 @@ use Rattle.schema.specs.Shape.{fileShape}
 use Rattle.schema.specs.Table23.{table23}
 use Rattle.schema.specs.Pick.{Picked, pick}
 use Rattle.document.specs.Document.{Maybe, none, some}
-use Rattle.clean.specs.declared.Outcome.{Outcome}
-use Rattle.clean.specs.declared.Outcome.the-variants.{Unbroken, Broken}
+use Rattle.fault.specs.declared.outcome.Outcome.{Outcome}
+use Rattle.fault.specs.declared.outcome.Outcome.the-variants.{Unbroken, Broken}
 use Rattle.clean.specs.Clean.{treeOf, cleanOf}
 use Rattle.quote.specs.declared.Quote.{Quote}
 use Rattle.quote.specs.declared.Quote.the-variants.{TooLong, NotClean, NoPlan, Fare}

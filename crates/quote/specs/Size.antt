@@ -13,7 +13,7 @@ use Rattle.schema.specs.Pick.{Picked, pick}
 use Rattle.document.specs.Document.{some}
 use Rattle.fare.specs.Charges.{minutesOf, kilometresOf, sum}
 use Rattle.fare.specs.Bounds.{mostSum}
-use Rattle.clean.specs.declared.Outcome.the-variants.{Unbroken}
+use Rattle.fault.specs.declared.outcome.Outcome.the-variants.{Unbroken}
 use Rattle.clean.specs.Clean.{treeOf, cleanOf}
 use Rattle.quote.specs.Plan.{priceAt, perMinute, perKilometre, planOf, plans, tripAmount, pastMinutes, pastKilometres}
 use Rattle.quote.specs.Quote as quote

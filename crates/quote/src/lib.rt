@@ -1,9 +1,9 @@
 // What a trip costs by a plan of a file of plans.
 use crate::plans::find_plan;
 use crate::trip::quote_plan;
-use clean::Outcome;
 use clean::check_clean;
 use document::records_from;
+use fault::outcome::Outcome;
 use walk::cut;
 use word::Parts;
 ghost use mathlib.Core.Path.{_≡_};
@@ -11,7 +11,7 @@ ghost use Prim.Native.Nat.{_≤_};
 ghost use Rattle.schema.specs.Shape.{fileShape};
 ghost use Rattle.schema.specs.Table23.{table23};
 ghost use Rattle.schema.specs.Pick.{pick};
-ghost use Rattle.clean.specs.declared.Outcome.the-variants.{Unbroken};
+ghost use Rattle.fault.specs.declared.outcome.Outcome.the-variants.{Unbroken};
 ghost use Rattle.clean.specs.Clean.{treeOf, cleanOf};
 ghost use Rattle.quote.specs.Quote.{mostSeconds, mostMetres, answer, short, cleanQuote, quoteOf};
 

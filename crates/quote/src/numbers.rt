@@ -2,13 +2,13 @@
 use decimal::Amount;
 use decimal::quoted::formed_price;
 use decimal::spelling::formed_decimal;
-use fields::STRING;
-use fields::code_of;
-use fields::unquoted;
+use document::fields::STRING;
+use document::fields::code_of;
+use document::fields::unquoted;
 ghost use mathlib.Core.Path.{_≡_};
 ghost use Rattle.schema.specs.Shape.{integer, money, price};
-ghost use Rattle.fields.specs.Values.{integerIn};
-ghost use Rattle.fields.specs.inner.Values.{spelledBy};
+ghost use Rattle.document.specs.Values.{integerIn};
+ghost use Rattle.document.specs.inner.Values.{spelledBy};
 ghost use Rattle.quote.specs.Plan.{moneyIn};
 ghost use Rattle.quote.specs.inner.Values.{priceBy};
 ghost use Rattle.quote.specs.inner.Clear.{ClearValue};

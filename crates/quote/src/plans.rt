@@ -1,7 +1,7 @@
 // The plan of an id.
 use crate::Lookup;
-use fields::is_id;
-use fields::member;
+use document::fields::is_id;
+use document::fields::member;
 use walk::ItemStep;
 use walk::item_bytes;
 use walk::pass_item;

@@ -2,9 +2,9 @@
 use crate::numbers::integer_in;
 use crate::numbers::money_in;
 use decimal::Amount;
+use document::fields::member;
 use fare::Segment;
 use fare::Segments;
-use fields::member;
 use walk::ItemStep;
 use walk::item_bytes;
 use walk::pass_item;
@@ -13,8 +13,8 @@ ghost use mathlib.Core.Logic.{_⊎_};
 ghost use mathlib.Core.Path.{_≡_};
 ghost use Rattle.schema.specs.Shape.{integer};
 ghost use Rattle.fare.specs.inner.Folds.{Fills};
-ghost use Rattle.fields.specs.Values.{integerIn};
-ghost use Rattle.fields.specs.inner.Values.{spelledBy};
+ghost use Rattle.document.specs.Values.{integerIn};
+ghost use Rattle.document.specs.inner.Values.{spelledBy};
 ghost use Rattle.quote.specs.inner.Values.{segmentBy, segmentsBy};
 ghost use Rattle.quote.specs.inner.Clear.{ClearValue, ClearSegment, ClearSegments};
 
@@ -61,7 +61,7 @@ fn unfilled() -> Segment {
 }
 
 // The segments in the array `p`.
-// Shut out: the last segment left out; one that is put over another.
+// Shut out: the last segment left out.
 pub fn segments_in(p: &[u8]) -> Segments
     requires { ⌜ ClearSegments (now p) ⌝ }
     ensures { λ r. ⌜ Fills r (segmentsBy (now (p .entry))) ⌝ }

@@ -16,7 +16,7 @@ unfolding weight bits
 weight-bases [] = refl
 weight-bases (w ∷ ws) = rw (weight-bases ws, pow-add 2 w (bits ws))
 
-octets-bits : (size : ℕ) → bits (octets size) ≡ size * 8
+pub octets-bits : (size : ℕ) → bits (octets size) ≡ size * 8
 unfolding bits
 octets-bits zero = refl
 octets-bits (suc size) = let ih = octets-bits size in omega arith

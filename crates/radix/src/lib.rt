@@ -42,6 +42,17 @@ pub fn field_of(n: u64, lower: u32, width: u32) -> u64
     (n >> lower) % (1 << width)
 }
 
+// The field of this width above the lower bits of a byte string, however long it is: the bytes that hold the field are at most eight.
+// Shut out: bytes that end before the field does; a field with bits of the one before it.
+pub fn field_in(s: &[u8], lower: usize, width: u32) -> u64
+    requires { ⌜ (width ≤ 57) × (lower + width ≤ length (now s) * 8) ⌝ }
+    ensures { λ r. ⌜ r ≡ bytesNumber (now (s .entry)) / 2 ^ lower % 2 ^ width ⌝ }
+{
+    let end = s.len() - lower / 8;
+    let start = end - (lower % 8 + (width as usize) + 7) / 8;
+    field_of(bytes_number(&s[start..end]), (lower % 8) as u32, width)
+}
+
 // The byte above the lower bits of a number.
 pub fn byte_of(n: u64, lower: u32) -> u8
     requires { ⌜ lower < 64 ⌝ }

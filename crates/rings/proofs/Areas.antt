@@ -1,22 +1,18 @@
--- A ring by what was read of it: its counts, its positions, and its area where all positions are sound. With more positions than there is room
--- for, kind 10 stands at the ring's number already, and kind 11 at the same number comes after it.
+-- A ring by what was read of it: its counts, its positions, and its area where all positions are sound. With more positions than a ring may
+-- have kind 10 stands at the ring's number already, and kind 11 at the same number comes after it.
 use mathlib.Core.Bool.{Bool, true, false}
 use mathlib.Core.List.{List, [], _∷_, _++_, map, append-eq-nil-iff}
 use mathlib.Core.Path.{_≡_, refl, sym, ap, ap₂, _∙_}
-use Prim.Native.Nat.{ℕ, zero, suc, _+_, _≤_, _<_}
+use Prim.Native.Nat.{ℕ, _+_, _≤_, _<_}
 use native.Mathlib.Omega.{arith}
 use lib.Dec.{leb}
-use lib.ListN.{length, getD, take}
-use lib.Seq.{length-take-le}
+use lib.ListN.{length}
 use borrow.Author.Tests.{leb-true, leb-false, le-leb, lt-leb}
 use Rattle.limits.specs.Ceilings.{positions}
 use Rattle.notation.specs.Choice.{_⇒_else_, _and_}
 use Rattle.word.specs.Kinds.{badRing, tooMany}
-use Rattle.walk.specs.declared.ItemStep.{ItemStep}
-use Rattle.walk.specs.declared.ItemStep.the-variants as step
-use Rattle.walk.specs.inner.Along.{ItemPassed}
 use Rattle.geometry.specs.Ring.{sound}
-use Rattle.geometry.specs.inner.Shifted.{InRange, points}
+use Rattle.geometry.specs.inner.Outline.{soundFrom}
 use Rattle.schema.specs.Pick.{Picked}
 use Rattle.fault.specs.declared.Fault.{Fault}
 use Rattle.fault.specs.declared.Least.{Least}
@@ -25,25 +21,11 @@ use Rattle.fault.specs.Fault.{fault, lesser}
 use Rattle.fault.proofs.Order.{later-kind}
 use Rattle.fault.proofs.Leasts.{none-is, lesser-first, lesser-none, lesser-assoc}
 use Rattle.scalar.specs.Scalars.{unless}
-use Rattle.rings.specs.Rings.{Found, foundAt, positionKinds, position, noKinds, allSound, positionsFound, ringFound}
-use Rattle.rings.specs.inner.Parts.{faultAt, leastFound, positionShape, partsOf, Charted, RingRead, RingRoom, Outlined, areaLeast, Tells}
+use Rattle.rings.specs.Rings.{foundAt, positionKinds, position, noKinds, allSound, positionsFound, ringFound}
+use Rattle.rings.specs.inner.Parts.{faultAt, leastFound, RingRead, areaLeast, ringJudged}
 use Rattle.rings.specs.declared.Field.{Field}
-use Rattle.rings.specs.declared.RingPoints.{RingPoints}
+use Rattle.rings.specs.declared.RingFound.{RingFound}
 use Rattle.rings.proofs.Found.{at-nothing, least-append, least-of-none, least-nothing, least-one, least-empty}
-use Rattle.rings.proofs.Going.{foundIn, Going, going-end, none-left}
-use Rattle.rings.proofs.Charts.{Drawn, drawn-end}
-
--- the positions of a ring, as items that are one position each
-abbrev pub positionFound : ℕ → Picked → List Found
-positionFound n x = foundAt n (positionKinds x)
-
-abbrev pub single : Picked → ℕ
-single x = 1
-
-positions-found : (n : ℕ) (l : List Picked) → positionsFound n l ≡ foundIn positionFound single n l
-unfolding positionsFound foundIn
-positions-found n [] = refl
-positions-found n (x ∷ l) = ap (λ (fs : List Found). foundAt n (positionKinds x) ++ fs) (positions-found (n + 1) l)
 
 -- all are sound just where nothing is found
 pub sound-found : (n : ℕ) (l : List Picked) → allSound l ≡ true → positionsFound n l ≡ []
@@ -62,55 +44,20 @@ found-sound n (x ∷ l) e =
     let b = append-eq-nil-iff {p = foundAt n (positionKinds x)} .0 e in
     ap (λ ks. noKinds ks and allSound l) (at-nothing n (positionKinds x) (b .0)) ∙ found-sound (n + 1) l (b .1)
 
--- where the loop over positions ends
-module _ (q : Field) (n : ℕ) (p : List ℕ) {at₀ count : ℕ} {least : Least} {lons lats : List ℕ}
-    (g : Going q positionFound single positionShape n p at₀ count count least)
-    (d : Drawn lons lats count least (g .left) (partsOf positionShape p)) {o : ItemStep} (f : ItemPassed p at₀ o) (h : o ≡ step.End) where
-  pub ring-read : RingRead q n (partsOf positionShape p) (record { lons = lons; lats = lats; count = count; least = least })
-  ring-read =
-      let t = going-end q positionFound single positionShape n p g f h in
-      let found = t .found ∙ ap (leastFound q) (sym (positions-found n (partsOf positionShape p))) in
-      record {
-        count = t .counted;
-        least = found;
-        points = λ s i.
-            drawn-end d (none-left q positionFound single positionShape n p g f h) (found ∙ ap (leastFound q) (sound-found n (partsOf positionShape p) s) ∙ least-of-none q) (omega (arith, t .counted));
-      }
-
--- the part that is filled
-taken-most : (n : ℕ) (xs : List ℕ) (k : ℕ) {most : ℕ} → getD xs k 0 ≤ most → getD (take n xs) k 0 ≤ most
-taken-most zero xs k h = omega arith
-taken-most (suc n) [] k h = h
-taken-most (suc n) (x ∷ xs) zero h = h
-taken-most (suc n) (x ∷ xs) (suc k) h = taken-most n xs k h
-
-pub filled : (lons lats : List ℕ) (n : ℕ) → Charted lons lats → n ≤ positions → InRange (take n lons) (take n lats)
-filled lons lats n c h =
-    let a : n ≤ length lons = omega (arith, c .east) in let b : n ≤ length lats = omega (arith, c .north) in
-    let e = length-take-le n lons a in
-    record {
-      same = length-take-le n lats b ∙ sym e;
-      most = omega (arith, e);
-      map = λ k. record { east = taken-most n lons k (c .map k .east); north = taken-most n lats k (c .map k .north) };
-    }
-
-pub filled-size : (xs : List ℕ) (n : ℕ) → length xs ≡ positions → n ≤ positions → n ≡ length (take n xs)
-filled-size xs n e h = let a : n ≤ length xs = omega arith in sym (length-take-le n xs a)
-
 -- the area
-module _ (q : Field) (n : ℕ) (r : RingPoints) where
+module _ (q : Field) (n : ℕ) (r : RingFound) where
   pub area-faulty : (f : Fault) → r .least ≡ Is f → None ≡ areaLeast q n r
   unfolding areaLeast
   area-faulty f e = rw e
 
-  pub area-many : r .least ≡ None → positions < r .count → None ≡ areaLeast q n r
+  pub area-many : r .least ≡ None → positions < r .outline .count → None ≡ areaLeast q n r
   unfolding areaLeast
-  area-many e h = rw (e, lt-leb (r .count) positions h)
+  area-many e h = rw (e, lt-leb (r .outline .count) positions h)
 
-  pub area-asked : r .least ≡ None → r .count ≤ positions
-      → leastFound q (foundAt n (unless (sound (points (take (r .count) (r .lons)) (take (r .count) (r .lats)))) badRing)) ≡ areaLeast q n r
+  pub area-asked : r .least ≡ None → r .outline .count ≤ positions
+      → leastFound q (foundAt n (unless (soundFrom (r .outline) []) badRing)) ≡ areaLeast q n r
   unfolding areaLeast
-  area-asked e h = rw (e, le-leb (r .count) positions h)
+  area-asked e h = rw (e, le-leb (r .outline .count) positions h)
 
 hidden : (q : Field) (n : ℕ) (t : Bool) → lesser (faultAt q n tooMany) (leastFound q (foundAt n (unless t badRing))) ≡ faultAt q n tooMany
 hidden q n true = ap (lesser (faultAt q n tooMany)) (least-empty q n) ∙ lesser-none (faultAt q n tooMany)
@@ -118,12 +65,12 @@ hidden q n false =
     ap (lesser (faultAt q n tooMany)) (least-one q n badRing)
     ∙ lesser-first _ _ (later-kind (fault (q .«record») (q .field) n tooMany) (fault (q .«record») (q .field) n badRing) refl refl refl (omega arith))
 
-module _ {q : Field} {n : ℕ} {l : List Picked} {r : RingPoints} (h : RingRead q n l r) where
+module _ {q : Field} {n : ℕ} {l : List Picked} {r : RingFound} (h : RingRead q n l r) where
   abbrev few : Least
-  few = leastFound q (foundAt n (unless (leb 4 (r .count)) badRing))
+  few = leastFound q (foundAt n (unless (leb 4 (r .outline .count)) badRing))
 
   abbrev many : Least
-  many = leastFound q (foundAt n (unless (leb (r .count) positions) tooMany))
+  many = leastFound q (foundAt n (unless (leb (r .outline .count) positions) tooMany))
 
   abbrev area : Least
   area = leastFound q (allSound l ⇒ foundAt n (unless (sound (map position l)) badRing) else [])
@@ -147,19 +94,19 @@ module _ {q : Field} {n : ℕ} {l : List Picked} {r : RingPoints} (h : RingRead 
 
   -- with what the code asks, and with what the definition has
   as-asked : lesser sofar (areaLeast q n r) ≡ lesser sofar area
-  as-asked = go (r .least) refl (leb (r .count) positions) refl
+  as-asked = go (r .least) refl (leb (r .outline .count) positions) refl
     where
-      go : (f : Least) → r .least ≡ f → (t : Bool) → leb (r .count) positions ≡ t → lesser sofar (areaLeast q n r) ≡ lesser sofar area
+      go : (f : Least) → r .least ≡ f → (t : Bool) → leb (r .outline .count) positions ≡ t → lesser sofar (areaLeast q n r) ≡ lesser sofar area
       go (Is f) e t i = ap (lesser sofar) (sym (area-faulty q n r f e) ∙ sym (unsound f e))
       go None e true i =
-          let c : r .count ≤ positions = leb-true (r .count) positions i in
-          let drawn = h .points (all-sound e) (omega (arith, h .count)) in
-          ap (lesser sofar) (sym (area-asked q n r e c) ∙ ap (λ ps. leastFound q (foundAt n (unless (sound ps) badRing))) drawn ∙ sym (asked e))
+          let c : r .outline .count ≤ positions = leb-true (r .outline .count) positions i in
+          let same = h .sound (all-sound e) (omega (arith, h .count)) in
+          ap (lesser sofar) (sym (area-asked q n r e c) ∙ ap (λ (t : Bool). leastFound q (foundAt n (unless t badRing))) same ∙ sym (asked e))
       go None e false i =
           let base : sofar ≡ lesser few (faultAt q n tooMany) =
           ap (lesser (lesser few many)) e ∙ lesser-none (lesser few many)
           ∙ ap (lesser few) (ap (λ t. leastFound q (foundAt n (unless t tooMany))) i ∙ least-one q n tooMany) in
-          ap₂ lesser base (sym (area-many q n r e (leb-false (r .count) positions i))) ∙ lesser-none (lesser few (faultAt q n tooMany))
+          ap₂ lesser base (sym (area-many q n r e (leb-false (r .outline .count) positions i))) ∙ lesser-none (lesser few (faultAt q n tooMany))
           ∙ sym (ap₂ lesser base (asked e) ∙ lesser-assoc few (faultAt q n tooMany) _ ∙ ap (lesser few) (hidden q n (sound (map position l))))
 
   pub ring-found : lesser (lesser (lesser few many) (r .least)) (areaLeast q n r) ≡ leastFound q (ringFound n l)
@@ -171,9 +118,9 @@ module _ {q : Field} {n : ℕ} {l : List Picked} {r : RingPoints} (h : RingRead 
       ∙ ap₂ lesser (least-append q _ _ ∙ ap₂ lesser (ap (λ k. leastFound q (foundAt n (unless (leb 4 k) badRing))) c)
       (ap (λ k. leastFound q (foundAt n (unless (leb k positions) tooMany))) c)) (sym (h .least))))
 
-  pub ring-tells : (found : Least) → found ≡ lesser (lesser (lesser few many) (r .least)) (areaLeast q n r)
-      → Tells q (ringFound n l) (length l) (record { positions = r .count; least = found })
-  ring-tells found e = record { least = e ∙ ring-found; positions = h .count }
+  pub ring-judged : (found : Least) → found ≡ lesser (lesser (lesser few many) (r .least)) (areaLeast q n r)
+      → record { items = r .outline .count; positions = r .outline .count; least = found } ≡ ringJudged q n l
+  ring-judged found e = let f = e ∙ ring-found in λ i. record { items = h .count i; positions = h .count i; least = f i }
 
 -- a ring in which nothing is found
 pub record Clean (l : List Picked) : Type 0 where
@@ -200,14 +147,4 @@ clean-ring n l e =
       most = leb-true (length l) positions (held n tooMany _ (c .1));
       each = s;
       whole = held n badRing _ (rw s at (a .1));
-    }
-
-pub outlined : {q : Field} {m bytes : ℕ} {l : List Picked} {r : RingPoints} → RingRoom bytes r → RingRead q m l r → (k : List Picked) → k ≡ l → Clean k → Outlined k r
-outlined {l = l} {r = r} o h k e c =
-    let many : length l ≤ positions = rw e at (c .most) in
-    rw e
-    record {
-      count = h .count;
-      range = filled (r .lons) (r .lats) (r .count) (o .charted) (omega (arith, h .count));
-      points = h .points (rw e at (c .each)) many;
     }

@@ -1,9 +1,9 @@
 pub mod Found
 pub mod Picked
-pub mod Going
+pub mod Tallies
 pub mod Numbers
 pub mod Positions
-pub mod Charts
+pub mod Points
 pub mod Areas
 pub mod Zones
 pub mod OneRing

@@ -11,7 +11,8 @@ use Rattle.signed.specs.inner.Difference.{difference}
 use Rattle.signed.proofs.Gap.{difference-up}
 use Rattle.json.specs.Tree as tree
 use Rattle.json.specs.Tree.{Json}
-use Rattle.walk.specs.Part.{Whole, kindOf, kindAt}
+use Rattle.walk.specs.Part.{Whole, kindOf}
+use Rattle.walk.specs.inner.Kind.{kindAt}
 use Rattle.walk.proofs.Wholes.{whole-kind, whole-number}
 use Rattle.decimal.specs.declared.Decimal.{Decimal}
 use Rattle.decimal.specs.declared.Number.the-variants as number

@@ -1,7 +1,7 @@
 -- Without further rings coordinates are judged as if no polygon could have one. Of no ring and of one the two rules on a polygon's count say the same; and a
 -- zone has no more rings than polygons then, so the ceiling of its rings, which is no lower than that of its polygons, refuses nothing more.
 use mathlib.Core.Bool.{Bool, true, false}
-use mathlib.Core.List.{List, [], _∷_, _++_, List·Memᴰ, List·Memᴰ·head, List·Memᴰ·tail}
+use mathlib.Core.List.{List, [], _∷_, _++_, List·Memᴰ·head, List·Memᴰ·tail}
 use mathlib.Core.Path.{_≡_, refl, ap, ap₂}
 use Prim.Native.Nat.{ℕ, zero, suc, _+_, _≤_}
 use native.Mathlib.Omega.{arith}

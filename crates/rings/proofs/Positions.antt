@@ -1,6 +1,6 @@
 -- A position by its items: lon, lat and what follows them each find their own kinds, and the first of all is the lesser of these.
 use mathlib.Core.Bool.{Bool, true, false}
-use mathlib.Core.List.{List, [], _∷_, _++_, append-nil}
+use mathlib.Core.List.{List, [], _∷_, _++_, append-nil, map}
 use mathlib.Core.Path.{_≡_, refl, sym, ap, ap₂, _∙_}
 use Prim.Native.Nat.{ℕ, _≤_, _<_}
 use native.Mathlib.Omega.{arith}
@@ -14,9 +14,11 @@ use Rattle.json.specs.Tree.{Json}
 use Rattle.walk.specs.declared.Item.{Item}
 use Rattle.walk.specs.declared.ItemStep.{ItemStep}
 use Rattle.walk.specs.declared.ItemStep.the-variants as step
-use Rattle.walk.specs.Walk.{part}
-use Rattle.walk.specs.Part.{Whole, kindAt}
+use Rattle.walk.specs.Part.{Whole}
+use Rattle.walk.specs.inner.Kind.{kindAt}
 use Rattle.walk.specs.inner.Along.{ItemPassed}
+use Rattle.walk.proofs.Left.{Left, left-end, left-whole, left-more}
+use Rattle.walk.proofs.Parts.{itemOf}
 use Rattle.geometry.specs.Ring.{Point}
 use Rattle.geometry.specs.inner.Shifted.{OnMap, point, origin}
 use Rattle.geometry.specs.declared.Position.{Position}
@@ -28,44 +30,48 @@ use Rattle.fault.specs.Fault.{lesser}
 use Rattle.fault.proofs.Leasts.{none-is, lesser-comm, lesser-assoc, both-none}
 use Rattle.scalar.specs.Scalars.{unless}
 use Rattle.rings.specs.Rings.{foundAt, count, coordinateKinds, numberKindsIn, positionKinds, pointOf, position}
-use Rattle.rings.specs.inner.Parts.{faultAt, leastFound, numberShape, positionShape, Listing, picked, partsOf, Left, isArray, isNumber, rangeKinds, FindsCoordinate, listKinds, restKinds, FindsPosition}
+use Rattle.rings.specs.inner.Parts.{faultAt, leastFound, numberShape, positionShape, Listing, isArray, isNumber, rangeKinds, FindsCoordinate, listKinds, restKinds, FindsPosition, FindsNumbers}
+use Rattle.document.specs.inner.Items.{picked, pickedItems}
 use Rattle.rings.specs.declared.Field.{Field}
 use Rattle.rings.specs.declared.CoordinateFound.{CoordinateFound}
 use Rattle.rings.specs.declared.PositionFound.{PositionFound}
 use Rattle.rings.proofs.Found.{least-one, least-empty, least-at}
-use Rattle.rings.proofs.Picked.{left-end, left-more, array-picked, other-picked}
+use Rattle.rings.proofs.Picked.{array-picked, other-picked}
 use Rattle.rings.proofs.Numbers.{longitude-kinds, latitude-kinds, third-kinds}
 
 abbrev first : Field → ℕ → List ℕ → Least
 first q n ks = leastFound q (foundAt n ks)
 
+-- the numbers at items of p
+abbrev pub numbers : List ℕ → List Item → List Picked
+numbers p ms = map (picked numberShape p) ms
+
 -- what follows lon and lat, at a place of p
-module _ (q : Field) (p : List ℕ) (at₀ n : ℕ) (l : List Picked) (h : Left numberShape p at₀ l) {o : ItemStep} (f : ItemPassed p at₀ o) where
-  pub rest-none : o ≡ step.End → None ≡ first q n (restKinds l)
+module _ (q : Field) {p : List ℕ} {at₀ : ℕ} (n : ℕ) {ms : List Item} (h : Left p at₀ ms) {o : ItemStep} (f : ItemPassed p at₀ o) where
+  pub rest-none : o ≡ step.End → None ≡ first q n (restKinds (numbers p ms))
   unfolding restKinds
-  rest-none e = sym (ap (λ k. first q n (restKinds k)) (left-end numberShape p at₀ l h f e) ∙ least-empty q n)
+  rest-none e = sym (ap (λ k. first q n (restKinds (numbers p k))) (left-end h f e) ∙ least-empty q n)
 
-  module _ (m : Item) (e : o ≡ step.Found m) (t : Bool) (told : t ≡ isNumber (kindAt (part p (m .value) (m .«value_end»))))
-      {u : ItemStep} (g : ItemPassed p (m .next) u) where
+  module _ {m : Item} (e : o ≡ step.Found m) (t : Bool) (told : t ≡ isNumber (kindAt (itemOf p m))) {u : ItemStep} (g : ItemPassed p (m .next) u) where
     third : unless t wrongType ≡ coordinateKinds shape.anyNumber (picked numberShape p m)
-    third = ap (λ s. unless s wrongType) told ∙ third-kinds (left-more numberShape p at₀ l h f m e .whole)
+    third = ap (λ s. unless s wrongType) told ∙ third-kinds (left-whole h f e)
 
-    pub rest-one : u ≡ step.End → first q n (unless t wrongType) ≡ first q n (restKinds l)
+    pub rest-one : u ≡ step.End → first q n (unless t wrongType) ≡ first q n (restKinds (numbers p ms))
     unfolding restKinds
     rest-one i =
-        let o = left-more numberShape p at₀ l h f m e in
-        let z : l ≡ picked numberShape p m ∷ [] = o .is ∙ ap (λ k. picked numberShape p m ∷ k) (left-end numberShape p (m .next) (o .rest) (o .left) g i) in
-        ap (first q n) third ∙ sym (ap (λ k. first q n (restKinds k)) z)
+        let o = left-more h f e in
+        let z : ms ≡ m ∷ [] = o .is ∙ ap (λ k. m ∷ k) (left-end (o .left) g i) in
+        ap (first q n) third ∙ sym (ap (λ k. first q n (restKinds (numbers p k))) z)
 
-    pub rest-two : (w : Item) → u ≡ step.Found w → lesser (faultAt q n badRing) (first q n (unless t wrongType)) ≡ first q n (restKinds l)
+    pub rest-two : {w : Item} → u ≡ step.Found w → lesser (faultAt q n badRing) (first q n (unless t wrongType)) ≡ first q n (restKinds (numbers p ms))
     unfolding restKinds
-    rest-two w i =
-        let o = left-more numberShape p at₀ l h f m e in
-        let v = left-more numberShape p (m .next) (o .rest) (o .left) g w i in
-        let z : l ≡ picked numberShape p m ∷ picked numberShape p w ∷ v .rest = o .is ∙ ap (λ k. picked numberShape p m ∷ k) (v .is) in
+    rest-two {w} i =
+        let o = left-more h f e in
+        let v = left-more (o .left) g i in
+        let z : ms ≡ m ∷ w ∷ v .rest = o .is ∙ ap (λ k. m ∷ k) (v .is) in
         ap (lesser (faultAt q n badRing)) (ap (first q n) third)
         ∙ ap (λ k. lesser k (first q n (coordinateKinds shape.anyNumber (picked numberShape p m)))) (sym (least-one q n badRing))
-        ∙ sym (ap (λ k. first q n (restKinds k)) z ∙ least-at q n (badRing ∷ []) _)
+        ∙ sym (ap (λ k. first q n (restKinds (numbers p k))) z ∙ least-at q n (badRing ∷ []) _)
 
 -- all items
 none-kinds : listKinds [] ≡ badRing ∷ []
@@ -108,7 +114,7 @@ module _ (q : Field) (n : ℕ) (x y : Picked) where
       ∙ swap (first q n (rangeKinds 180 x)) bad (lesser (first q n (rangeKinds 90 y)) (first q n cs))
       ∙ ap (lesser bad) (three-kinds cs) ∙ sym (ap (λ s. first q n (unless s badRing ++ all)) t ∙ least-at q n (badRing ∷ []) all)
 
--- the same fault
+-- a position with an equal fault
 pub finds-position-as : (q : Field) (n : ℕ) (kinds : List ℕ) (here : Point) (found first : Least) {p : Position} → found ≡ first
     → FindsPosition q n kinds here (record { least = first; point = p }) → FindsPosition q n kinds here (record { least = found; point = p })
 finds-position-as q n kinds here found first {p} e s = rw e s
@@ -161,7 +167,7 @@ module _ (q : Field) (n : ℕ) (x : Picked) (lon : CoordinateFound) (east : Find
 
 -- an item of a ring
 module _ {p : List ℕ} {x : Json} (w : Whole p x) (q : Field) (n : ℕ) (s : PositionFound) where
-  pub finds-position-array : isArray (kindAt p) ≡ true → (Listing p → FindsPosition q n (listKinds (partsOf numberShape p)) (pointOf (partsOf numberShape p)) s)
+  pub finds-position-array : isArray (kindAt p) ≡ true → (Listing p → FindsNumbers q n (pickedItems numberShape p) s)
       → FindsPosition q n (positionKinds (pick positionShape x)) (position (pick positionShape x)) s
   unfolding positionKinds position count listKinds
   finds-position-array e h =

@@ -1,11 +1,13 @@
 // Field 73: polygons, rings and positions, each judged by its own bytes. Faults stand at positions, which are numbered over the whole zone.
 use fault::Fault;
 use fault::Least;
+use fault::lesser;
+use geometry::Outline;
 use geometry::Position;
 ghost use mathlib.Core.Path.{_≡_};
 ghost use Rattle.scalar.specs.Scalars.{unless as unlessOf};
 ghost use Rattle.rings.specs.Rings.{foundAt};
-ghost use Rattle.rings.specs.inner.Parts.{faultAt, leastFound};
+ghost use Rattle.rings.specs.inner.Parts.{faultAt, leastFound, noTally, tallied, Countable};
 
 pub mod position;
 pub mod ring;
@@ -53,30 +55,52 @@ pub struct PositionFound {
     pub point: Position,
 }
 
-// The positions of a ring: how many there are, their first fault, and their points as far as there is room for them.
-pub struct RingPoints {
-    pub lons: [u64; 256],
-    pub lats: [u64; 256],
-    pub count: u32,
+// The positions of a ring: their first fault, and the outline of their points as far as a ring may have positions.
+pub struct RingFound {
     pub least: Least,
+    pub outline: Outline,
 }
 
-// A ring: how many positions it has, and its first fault.
+// A ring or a polygon: how many items it has, how many positions, and its first fault.
 pub struct Judged {
+    pub items: u32,
     pub positions: u32,
     pub least: Least,
 }
 
-// A polygon, or its rings alone: how many rings and positions there are, and the first fault.
-pub struct PolygonTally {
-    pub rings: u32,
+// The rings of a polygon or the polygons of a zone: how many they are, how many items and positions they have in all, and their first fault.
+pub struct Tally {
+    pub count: u32,
+    pub items: u32,
     pub positions: u32,
     pub least: Least,
 }
 
-// The polygons of a zone: how many they are, how many rings they have, and their first fault.
-pub struct ZoneTally {
-    pub polygons: u32,
-    pub rings: u32,
-    pub least: Least,
+impl Tally {
+    // None of them yet.
+    fn none() -> Tally
+        ensures { λ r. ⌜ r ≡ noTally ⌝ }
+    {
+        Tally {
+            count: 0,
+            items: 0,
+            positions: 0,
+            least: Least::None,
+        }
+    }
+
+    // With one more of them.
+    fn with(self, judged: Judged) -> Tally
+        requires { ⌜ Countable (tallied self judged) ⌝ }
+        ensures { λ r. ⌜ r ≡ tallied self judged ⌝ }
+    {
+        let found = self.least;
+        let first = judged.least;
+        Tally {
+            count: self.count + 1,
+            items: self.items + judged.items,
+            positions: self.positions + judged.positions,
+            least: lesser(found, first),
+        }
+    }
 }

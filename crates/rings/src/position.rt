@@ -4,48 +4,40 @@ use crate::Field;
 use crate::PositionFound;
 use decimal::Number;
 use decimal::spelling::read_decimal;
+use document::fields::ARRAY;
+use document::fields::NUMBER;
+use document::fields::code_of;
 use fault::Least;
 use fault::lesser;
 use geometry::Position;
 use walk::ItemStep;
-use walk::ValueKind;
+use walk::item_bytes;
 use walk::pass_item;
-use walk::value_kind;
 use word::kind::Kind;
 ghost use mathlib.Core.Path.{_≡_};
-ghost use mathlib.Core.List.{List, _∷_};
+ghost use mathlib.Core.List.{List, _∷_, map, []};
 ghost use Prim.Native.Nat.{_*_, _≤_};
 ghost use Rattle.json.specs.Tree.{Json};
-ghost use Rattle.walk.specs.Part.{Whole, kindAt};
+ghost use Rattle.walk.specs.declared.Item.{Item};
+ghost use Rattle.walk.specs.Part.{Whole};
+ghost use Rattle.walk.proofs.Left.{Left};
+ghost use Rattle.walk.specs.inner.Kind.{kindAt};
 ghost use Rattle.schema.specs.Pick.{Picked, pick};
-ghost use Rattle.rings.specs.Rings.{foundAt, positionKinds, pointOf, position};
-ghost use Rattle.geometry.specs.inner.Shifted.{OnMap, origin};
-ghost use Rattle.rings.specs.inner.Parts.{leastFound, numberShape, positionShape, Listing, partsOf, Left, isArray, isNumber, FindsCoordinate, listKinds, restKinds, FindsPosition};
+ghost use Rattle.document.specs.inner.Items.{picked, pickedItems};
+ghost use Rattle.rings.specs.Rings.{foundAt, positionKinds, position};
+ghost use Rattle.geometry.specs.inner.Shifted.{OnMap, origin, point};
+ghost use Rattle.rings.specs.inner.Parts.{leastFound, numberShape, positionShape, Listing, isArray, isNumber, FindsCoordinate, restKinds, FindsPosition, FindsNumbers};
 
 pub fn is_array(p: &[u8]) -> bool
     ensures { λ r. ⌜ r ≡ isArray (kindAt (now (p .entry))) ⌝ }
 {
-    match value_kind(p) {
-        ValueKind::Null => false,
-        ValueKind::Boolean => false,
-        ValueKind::Number => false,
-        ValueKind::String => false,
-        ValueKind::Array => true,
-        ValueKind::Object => false,
-    }
+    code_of(p) == ARRAY
 }
 
 fn is_number(p: &[u8]) -> bool
     ensures { λ r. ⌜ r ≡ isNumber (kindAt (now (p .entry))) ⌝ }
 {
-    match value_kind(p) {
-        ValueKind::Null => false,
-        ValueKind::Boolean => false,
-        ValueKind::Number => true,
-        ValueKind::String => false,
-        ValueKind::Array => false,
-        ValueKind::Object => false,
-    }
+    code_of(p) == NUMBER
 }
 
 impl CoordinateFound {
@@ -78,14 +70,12 @@ fn read_coordinate(p: &[u8], most: u64, field: Field, number: u32) -> Coordinate
 
 // What follows lon and lat: nothing, or one number of any size.
 fn judge_rest(p: &[u8], at: usize, field: Field, number: u32) -> Least
-    ensures { λ r. ⌜ ((l : List Picked) → Left numberShape (now (p .entry)) at l → r ≡ leastFound field (foundAt number (restKinds l))) ⌝ }
+    ensures { λ r. ⌜ ((ms : List Item) → Left (now (p .entry)) at ms → r ≡ leastFound field (foundAt number (restKinds (map (picked numberShape (now (p .entry))) ms)))) ⌝ }
 {
     let ItemStep::Found(third) = pass_item(p, at) else {
         return Least::None;
     };
-    let from = third.value;
-    let upto = third.value_end;
-    let least = field.unless(is_number(&p[from..upto]), number, Kind::WRONG_TYPE);
+    let least = field.unless(is_number(item_bytes(p, third)), number, Kind::WRONG_TYPE);
     let ItemStep::Found(fourth) = pass_item(p, third.next) else {
         return least;
     };
@@ -113,15 +103,14 @@ fn judge_behind(
 ) -> PositionFound
     requires { ⌜ lon .value ≤ 180 * 2_000_000 ⌝ }
     ensures { λ r. ⌜ OnMap (r .point) ×
-        ((x : Picked) (l : List Picked) → FindsCoordinate field 180 number x lon → Left numberShape (now (p .entry)) at l → FindsPosition field number (listKinds (x ∷ l)) (pointOf (x ∷ l)) r) ⌝ }
+        ((x : Picked) (ms : List Item) → FindsCoordinate field 180 number x lon → Left (now (p .entry)) at ms
+        → FindsNumbers field number (x ∷ map (picked numberShape (now (p .entry))) ms) r) ⌝ }
 {
     let east = lon.least;
     let ItemStep::Found(second) = pass_item(p, at) else {
         return PositionFound::broken(lesser(field.broken(number, Kind::BAD_RING), east));
     };
-    let from = second.value;
-    let upto = second.value_end;
-    let lat = read_coordinate(&p[from..upto], 90, field, number);
+    let lat = read_coordinate(item_bytes(p, second), 90, field, number);
     let north = lat.least;
     let rest = judge_rest(p, second.next, field, number);
     PositionFound {
@@ -135,14 +124,12 @@ fn judge_behind(
 
 fn judge_numbers(p: &[u8], field: Field, number: u32) -> PositionFound
     ensures { λ r. ⌜ OnMap (r .point) ×
-        (Listing (now (p .entry)) → FindsPosition field number (listKinds (partsOf numberShape (now (p .entry)))) (pointOf (partsOf numberShape (now (p .entry)))) r) ⌝ }
+        (Listing (now (p .entry)) → FindsNumbers field number (pickedItems numberShape (now (p .entry))) r) ⌝ }
 {
     let ItemStep::Found(first) = pass_item(p, 1) else {
         return PositionFound::broken(field.broken(number, Kind::BAD_RING));
     };
-    let from = first.value;
-    let upto = first.value_end;
-    let lon = read_coordinate(&p[from..upto], 180, field, number);
+    let lon = read_coordinate(item_bytes(p, first), 180, field, number);
     return judge_behind(p, first.next, lon, field, number);
 }
 
@@ -154,4 +141,19 @@ pub fn judge_position(p: &[u8], field: Field, number: u32) -> PositionFound
         return PositionFound::broken(field.broken(number, Kind::WRONG_TYPE));
     }
     return judge_numbers(p, field, number);
+}
+
+// The point of a position that is sound.
+pub fn position_in(p: &[u8]) -> Position
+    ensures { λ r. ⌜ OnMap r × ((x : Json) → Whole (now (p .entry)) x → positionKinds (pick positionShape x) ≡ [] → point r ≡ position (pick positionShape x)) ⌝ }
+{
+    let found = judge_position(
+        p,
+        Field {
+            record: 0,
+            field: 0,
+        },
+        0,
+    );
+    found.point
 }

@@ -1,13 +1,14 @@
 // All of a zone's coordinates: polygons of rings.
 use crate::Field;
-use crate::PolygonTally;
-use crate::ZoneTally;
+use crate::Judged;
+use crate::Tally;
 use crate::position::is_array;
 use crate::ring::judge_ring;
 use fault::Least;
 use fault::lesser;
 use limits::Limits;
 use walk::ItemStep;
+use walk::item_bytes;
 use walk::pass_item;
 use word::kind::Kind;
 ghost use mathlib.Core.Path.{_≡_};
@@ -18,38 +19,31 @@ ghost use Rattle.json.specs.Tree.{Json};
 ghost use Rattle.walk.specs.Part.{Whole};
 ghost use Rattle.schema.specs.Pick.{PickedItems, items as itemsAre, pick};
 ghost use Rattle.schema.specs.Table23.{coordinates};
-ghost use Rattle.rings.specs.Rings.{isRingCount, areZoneCounts, coordinatesFound};
-ghost use Rattle.rings.specs.inner.Parts.{leastFound, ringShape, polygonShape, Listing, partsOf, PolygonRoom, TellsRings, TellsPolygon, TellsPolygons};
+ghost use Rattle.document.specs.inner.Items.{pickedItems};
+ghost use Rattle.rings.specs.Rings.{ring, itemCount, isRingCount, polygon, polygonPositions, areZoneCounts, coordinatesFound};
+ghost use Rattle.rings.specs.inner.Parts.{leastFound, ringShape, polygonShape, Listing, judgedOf, tallyOf, Within, TallyWithin};
 
 // The items of the polygon p, the first position of which has the number n.
-fn judge_rings(p: &[u8], field: Field, n: u32) -> PolygonTally
+fn judge_rings(p: &[u8], field: Field, n: u32) -> Tally
     requires { ⌜ n + length (now p) < 2 ^ 32 ⌝ }
-    ensures { λ r. ⌜ PolygonRoom (length (now (p .entry))) r × (Listing (now (p .entry)) → TellsRings field n (partsOf ringShape (now (p .entry))) r) ⌝ }
+    ensures { λ r. ⌜ TallyWithin (length (now (p .entry))) r × (Listing (now (p .entry)) → r ≡ tallyOf field ring itemCount itemCount n (pickedItems ringShape (now (p .entry)))) ⌝ }
 {
-    let mut rings: u32 = 0;
-    let mut positions: u32 = 0;
-    let mut least = Least::None;
+    let mut tally = Tally::none();
     let mut at: usize = 1;
     loop {
-        let ItemStep::Found(item) = pass_item(p, at) else {
-            return PolygonTally {
-                rings,
-                positions,
-                least,
-            };
-        };
-        let from = item.value;
-        let upto = item.value_end;
-        let judged = judge_ring(&p[from..upto], field, n + positions);
-        let first = judged.least;
-        least = lesser(least, first);
-        rings += 1;
-        positions += judged.positions;
-        at = item.next;
+        match pass_item(p, at) {
+            ItemStep::End => {
+                return tally;
+            }
+            ItemStep::Found(m) => {
+                tally = tally.with(judge_ring(item_bytes(p, m), field, n + tally.positions));
+                at = m.next;
+            }
+        }
     }
 }
 
-// A polygon may have so many rings.
+// Whether a polygon may have this many rings.
 fn is_ring_count(rings: u32) -> bool
     ensures { λ r. ⌜ r ≡ isRingCount rings ⌝ }
 {
@@ -60,60 +54,51 @@ fn is_ring_count(rings: u32) -> bool
 }
 
 // An item of the coordinates, whose first position has the number n.
-fn judge_polygon(p: &[u8], field: Field, n: u32) -> PolygonTally
+fn judge_polygon(p: &[u8], field: Field, n: u32) -> Judged
     requires { ⌜ n + length (now p) < 2 ^ 32 ⌝ }
-    ensures { λ r. ⌜ PolygonRoom (length (now (p .entry))) r × ((x : Json) → Whole (now (p .entry)) x → TellsPolygon field n (pick polygonShape x) r) ⌝ }
+    ensures { λ r. ⌜ Within (length (now (p .entry))) r ×
+        ((x : Json) → Whole (now (p .entry)) x → r ≡ judgedOf field (polygon n (pick polygonShape x)) (itemCount (pick polygonShape x)) (polygonPositions (pick polygonShape x))) ⌝ }
 {
     if !is_array(p) {
-        return PolygonTally {
-            rings: 0,
+        return Judged {
+            items: 0,
             positions: 0,
             least: field.broken(n, Kind::WRONG_TYPE),
         };
     }
-    let tally = judge_rings(p, field, n);
-    let found = tally.least;
-    PolygonTally {
-        rings: tally.rings,
-        positions: tally.positions,
+    let rings = judge_rings(p, field, n);
+    let found = rings.least;
+    Judged {
+        items: rings.count,
+        positions: rings.positions,
         least: lesser(
-            field.unless(is_ring_count(tally.rings), n, Kind::BAD_RING),
+            field.unless(is_ring_count(rings.count), n, Kind::BAD_RING),
             found,
         ),
     }
 }
 
 // The items of the coordinates p, the first position of which has the number n.
-fn judge_polygons(p: &[u8], field: Field, n: u32) -> ZoneTally
+fn judge_polygons(p: &[u8], field: Field, n: u32) -> Tally
     requires { ⌜ n + length (now p) < 2 ^ 32 ⌝ }
-    ensures { λ r. ⌜ (Listing (now (p .entry)) → TellsPolygons field n (partsOf polygonShape (now (p .entry))) r) ⌝ }
+    ensures { λ r. ⌜ (Listing (now (p .entry)) → r ≡ tallyOf field polygon itemCount polygonPositions n (pickedItems polygonShape (now (p .entry)))) ⌝ }
 {
-    let mut polygons: u32 = 0;
-    let mut rings: u32 = 0;
-    let mut positions: u32 = 0;
-    let mut least = Least::None;
+    let mut tally = Tally::none();
     let mut at: usize = 1;
     loop {
-        let ItemStep::Found(item) = pass_item(p, at) else {
-            return ZoneTally {
-                polygons,
-                rings,
-                least,
-            };
-        };
-        let from = item.value;
-        let upto = item.value_end;
-        let judged = judge_polygon(&p[from..upto], field, n + positions);
-        let first = judged.least;
-        least = lesser(least, first);
-        polygons += 1;
-        rings += judged.rings;
-        positions += judged.positions;
-        at = item.next;
+        match pass_item(p, at) {
+            ItemStep::End => {
+                return tally;
+            }
+            ItemStep::Found(m) => {
+                tally = tally.with(judge_polygon(item_bytes(p, m), field, n + tally.positions));
+                at = m.next;
+            }
+        }
     }
 }
 
-// A zone may have so many polygons and rings.
+// Whether a zone may have this many polygons and rings.
 fn are_zone_counts(polygons: u32, rings: u32) -> bool
     ensures { λ r. ⌜ r ≡ areZoneCounts polygons rings ⌝ }
 {
@@ -130,11 +115,11 @@ pub fn judge_coordinates(p: &[u8], field: Field) -> Least
     requires { ⌜ length (now p) ≤ fileBytes ⌝ }
     ensures { λ r. ⌜ ((x : Json) (is : PickedItems) → Whole (now (p .entry)) x → pick coordinates x ≡ itemsAre is → r ≡ leastFound field (coordinatesFound is)) ⌝ }
 {
-    let zone = judge_polygons(p, field, 1);
-    let found = zone.least;
+    let polygons = judge_polygons(p, field, 1);
+    let found = polygons.least;
     lesser(
         field.unless(
-            are_zone_counts(zone.polygons, zone.rings),
+            are_zone_counts(polygons.count, polygons.items),
             0,
             Kind::TOO_MANY,
         ),

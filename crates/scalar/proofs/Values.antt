@@ -9,7 +9,8 @@ use Rattle.text.specs.Text.{textOf}
 use Rattle.schema.specs.Shape.{Sort}
 use Rattle.walk.specs.declared.ValueKind.{ValueKind}
 use Rattle.walk.specs.declared.ValueKind.the-variants as kind
-use Rattle.walk.specs.Part.{Whole, kindOf, kindAt, inside}
+use Rattle.walk.specs.Part.{Whole, kindOf, inside}
+use Rattle.walk.specs.inner.Kind.{kindAt}
 use Rattle.walk.proofs.Wholes.{whole-kind, whole-number, whole-string, whole-quotes}
 use Rattle.scalar.specs.Scalars.{kindsOf, numberKinds, textKinds, booleanKinds}
 

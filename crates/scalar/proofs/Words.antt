@@ -48,11 +48,6 @@ begins (y ∷ l) (suc k) (suc n) x r e = begins l k (suc n) x r e
 pub only-word : (t : Table) (line : ℕ) (x : List ℕ) → wordsAt t line ≡ x ∷ [] → wordAt t (rangeAt (lineWords t) line .first) ≡ x
 only-word t line x e = begins (wordsOf t) (rangeAt (lineWords t) line .first) (rangeAt (lineWords t) line .count) x [] (words-part t line ∙ e)
 
--- past the last line there are none
-pub no-words : wordsAt table23 92 ≡ []
-unfolding laidOut written23
-no-words = refl
-
 -- all words of the table
 pub all-words : length (wordsOf table23) ≡ 25
 unfolding laidOut written23

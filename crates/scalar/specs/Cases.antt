@@ -15,11 +15,11 @@ use Rattle.decimal.specs.Cases.{deciding}
 use Rattle.schema.specs.Shape as sort
 use Rattle.schema.specs.Shape.{Sort}
 use Rattle.schema.specs.Words.{formFactors}
-use Rattle.scalar.specs.Scalars.{formedKinds, anyMoney, priceMoney, pricing, anyWord, kindsOf, sortKinds}
+use Rattle.scalar.specs.Scalars.{formedKinds, anyMoney, priceMoney, pricing, anyWord, capitals, currency, kindsOf, sortKinds}
 
 -- opens every definition of this layer
 unfoldable pub judging : Unit {0}
-unfolding comparing deciding formedKinds anyMoney priceMoney pricing anyWord sortKinds kindsOf
+unfolding comparing deciding formedKinds anyMoney priceMoney pricing anyWord capitals currency sortKinds kindsOf
 judging = tt
 
 -- what a value says against a sort: nothing is wrong, or one of three kinds

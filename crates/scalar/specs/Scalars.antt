@@ -2,11 +2,12 @@
 use mathlib.Core.Bool.{Bool, true, false, not}
 use mathlib.Core.List.{List, [], _∷_}
 use Prim.Native.Nat.{ℕ}
-use lib.Dec.{ltb}
+use lib.Dec.{eqb, ltb}
 use lib.ListN.{length}
 use Rattle.limits.specs.Ceilings.{idBytes}
 use Rattle.notation.specs.Choice.{_⇒_else_, _and_}
 use Rattle.word.specs.Kinds.{wrongType, numberForm, outOfRange}
+use Rattle.lexeme.specs.Character.{within}
 use Rattle.json.specs.Tree as tree
 use Rattle.json.specs.Tree.{Json}
 use Rattle.decimal.specs.declared.Decimal.{Decimal}
@@ -17,7 +18,7 @@ use Rattle.decimal.specs.declared.Price.the-variants as price
 use Rattle.decimal.specs.declared.Money.the-variants as money
 use Rattle.decimal.specs.Decimals.{numberOf, hasPoint, priceOf}
 use Rattle.decimal.specs.Exact.{natural, portion, inRange, moneyOf}
-use Rattle.text.specs.Text.{same, sameWord, currency}
+use Rattle.text.specs.Text.{same, sameWord}
 use Rattle.schema.specs.Shape as sort
 use Rattle.schema.specs.Shape.{Sort}
 
@@ -63,6 +64,15 @@ strings kinds = record { ofNumber = λ s. wrongType ∷ []; ofText = kinds; ofBo
 -- an integer first of all has no point
 abbrev pub whole : List ℕ → List ℕ
 whole s = hasPoint s ⇒ wrongType ∷ [] else formedKinds natural (numberOf s)
+
+-- every byte is a capital
+unfoldable pub capitals : List ℕ → Bool
+capitals [] = true
+capitals (b ∷ x) = within 0x41 0x5a b and capitals x
+
+-- a currency: three capital letters
+unfoldable pub currency : List ℕ → Bool
+currency x = eqb (length x) 3 and capitals x
 
 -- sort by sort
 unfoldable pub sortKinds : Sort → Kinds

@@ -4,7 +4,6 @@ use schema::Line;
 use walk::ValueKind;
 use walk::value_kind;
 use word::kind::Kind;
-ghost use mathlib.Core.List.{[]};
 ghost use mathlib.Core.Path.{_≡_};
 ghost use Prim.Native.Nat.{_≤_};
 ghost use lib.ListN.{length};
@@ -15,8 +14,9 @@ ghost use Rattle.schema.specs.Shape.{Sort};
 ghost use Rattle.schema.specs.inner.Line.{sortLetter, sortWords, wordsAt};
 ghost use Rattle.schema.specs.Table23.{table23};
 ghost use Rattle.scalar.specs.Scalars.{kindsOf, booleanKinds, textKinds};
-ghost use Rattle.scalar.specs.inner.Listed.{listed};
+ghost use Rattle.word.specs.inner.Listed.{listed};
 
+mod currency;
 pub mod numbers;
 pub mod texts;
 

@@ -16,7 +16,8 @@ ghost use Rattle.decimal.specs.inner.Formed.{Formed};
 ghost use Rattle.schema.specs.Shape.{Sort};
 ghost use Rattle.schema.specs.inner.Line.{sortLetter};
 ghost use Rattle.scalar.specs.Scalars.{unless, formedKinds, anyMoney, numberKinds};
-ghost use Rattle.scalar.specs.inner.Listed.{listed, inBounds};
+ghost use Rattle.scalar.specs.inner.Bounds.{inBounds};
+ghost use Rattle.word.specs.inner.Listed.{listed};
 
 // What the exact value of a number is held to: at least 0; from 0 to 1; so many degrees either way; an amount of money; one that is at least 0.
 pub enum Bounds {

@@ -1,4 +1,5 @@
 // Strings, by what stands between their quotation marks as spelled.
+use crate::currency::is_currency;
 use crate::numbers::Bounds;
 use crate::numbers::keeps;
 use crate::numbers::range_kind;
@@ -9,7 +10,6 @@ use schema::Line;
 use schema::words::word_is;
 use schema::words::word_is_exactly;
 use schema::words::words_at;
-use text::measure::is_currency;
 use text::measure::longer_than;
 use word::kind::Kind;
 ghost use mathlib.Core.Path.{_≡_};
@@ -19,7 +19,7 @@ ghost use Rattle.schema.specs.Shape.{Sort};
 ghost use Rattle.schema.specs.inner.Line.{sortLetter, sortWords, wordsAt, wordAt, lineWords, rangeAt};
 ghost use Rattle.schema.specs.Table23.{table23};
 ghost use Rattle.scalar.specs.Scalars.{pricing, anyWord, textKinds};
-ghost use Rattle.scalar.specs.inner.Listed.{listed};
+ghost use Rattle.word.specs.inner.Listed.{listed};
 
 // A price in quotation marks.
 fn price_kind(spelled: &[u8]) -> u8

@@ -9,13 +9,13 @@ use lib.Dec.{ltb}
 use lib.ListN.{length, getD}
 use borrow.Author.Tests.{ltb-true}
 use Rattle.notation.specs.Choice.{_and_}
+use Rattle.notation.proofs.Booleans.{and-left, and-right}
 use Rattle.text.specs.Text.{same}
 use Rattle.schema.specs.Shape.{Shape, Table, unlisted, fileShape}
 use Rattle.schema.specs.Table23.{table23, written23}
 use Rattle.schema.specs.Later.{listedIn}
 use Rattle.schema.specs.inner.Sound.{distinctNames, fieldsOf, rising}
-use Rattle.schema.specs.inner.Line.{namesOf, wordsOf, laidOut}
-use Rattle.schema.proofs.Tests.{and-left, and-right}
+use Rattle.schema.specs.inner.Line.{linesOf, bytesOf, wordsOf, laidOut}
 
 -- A test that every file passes, and the empty shape too, is passed by the shape of any number.
 unfoldable pub every : (Shape → Bool) → Table → Bool
@@ -79,10 +79,14 @@ pub fields-rise : (file i j : ℕ) → i < j → j < length (fieldsOf (fileShape
     getD (fieldsOf (fileShape table23 file)) i 0 < getD (fieldsOf (fileShape table23 file)) j 0
 fields-rise file i j h k = rising-apart (fieldsOf (fileShape table23 file)) (rising-file file) i j h k
 
--- the bytes of all names, and of all words
-pub names-length : length (flatten (namesOf table23)) ≡ 840
+-- how many lines there are, and how many bytes; and those of all words
+pub line-count : length (linesOf table23) ≡ 92
 unfolding laidOut written23
-names-length = refl
+line-count = refl
+
+pub table-length : length (bytesOf table23) ≡ 1852
+unfolding laidOut written23
+table-length = refl
 
 pub words-length : length (flatten (wordsOf table23)) ≡ 217
 unfolding laidOut written23

@@ -5,7 +5,7 @@ use mathlib.Core.List.{[], _∷_}
 use mathlib.Core.Path.{_≡_, refl}
 use Prim.Native.String.{String}
 use Rattle.notation.specs.Ascii.{bytes}
-use Rattle.lexeme.proofs.Steps.{true-false}
+use Rattle.notation.proofs.Booleans.{true-false}
 use Rattle.json.specs.Tree.{Json, Members, boolean, string, array, object, noItem, item, noMember, member}
 use Rattle.text.specs.Text.{same}
 use Rattle.schema.specs.Pick.{pick}

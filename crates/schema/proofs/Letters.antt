@@ -8,7 +8,7 @@ use Prim.Native.Nat.{ℕ}
 use native.Mathlib.Omega.{arith}
 use lib.Dec.{eqb}
 use Rattle.notation.specs.Choice.{_⇒_else_}
-use Rattle.lexeme.proofs.Steps.{true-false}
+use Rattle.notation.proofs.Booleans.{true-false}
 use Rattle.schema.specs.Shape as shape
 use Rattle.schema.specs.Shape.{Shape, Rows, Sort, Numbering}
 use Rattle.schema.specs.inner.Line.{sortLetter, sortWords, valueLetter, shapeWords}

@@ -1,7 +1,7 @@
-pub mod Tests
 pub mod PickLater
 pub mod Examples
 pub mod Computed
 pub mod Columns
 pub mod Walk
+pub mod Bytes
 pub mod Letters

@@ -6,8 +6,8 @@ use mathlib.Core.Path.{_≡_, refl, sym, _∙_, ap, ap₂}
 use Prim.Native.Nat.{ℕ}
 use borrow.Author.Tests.{not-true}
 use Rattle.notation.specs.Choice.{_⇒_else_, _and_}
+use Rattle.notation.proofs.Booleans.{true-false, and-left, and-right}
 use Rattle.json.specs.Tree.{Json, Items, Members, array, object, item, member}
-use Rattle.lexeme.proofs.Steps.{true-false}
 use Rattle.text.specs.Text.{same}
 use Rattle.text.proofs.Laws.{same-refl, same-true}
 use Rattle.schema.specs.Shape as shape
@@ -16,7 +16,6 @@ use Rattle.schema.specs.Pick as picking
 use Rattle.schema.specs.Pick.{Slot, missing, once, twice, again, find, unlessEmpty, unlessBlank, put, Picked, items, slots, Slots, absent, present, repeated, pickItems, pick, pickRows}
 use Rattle.schema.specs.Later.{Later, LaterItems, LaterMembers, unchanged, afterwards, inArray, inObject, noItem′, item′, noMember′, kept, swapped, added, andThen, itemShape, rowsOf, listedIn, shapeIn, memberShape, listed}
 use Rattle.schema.specs.inner.Sound.{distinctNames, distinctRows}
-use Rattle.schema.proofs.Tests.{and-left, and-right}
 
 -- The shapes of a place.
 
@@ -227,14 +226,14 @@ added-alike rows n m x ms u l = go (same n m) refl ∙ sym (held-member rows n m
     go false q = refl
 
 -- the same is picked, and shown by a slot
-record Kept (σ : Shape) (x x′ : Json) : Type 0 where
+record SamePick (σ : Shape) (x x′ : Json) : Type 0 where
   picked : pick σ x ≡ pick σ x′
   shown : seen σ x ≡ seen σ x′
 
 mutual
   unfolding seen over pickItems
 
-  later-kept : {σs : List Shape} {x x′ : Json} → Later σs x x′ → (σ : Shape) → Among σ σs → distinctNames σ ≡ true → Kept σ x x′
+  later-kept : {σs : List Shape} {x x′ : Json} → Later σs x x′ → (σ : Shape) → Among σ σs → distinctNames σ ≡ true → SamePick σ x x′
   later-kept unchanged σ a d = record { picked = refl; shown = refl }
   later-kept (afterwards l r) σ a d =
       let p = later-kept l σ a d in

@@ -48,11 +48,18 @@ map-at f (y ∷ l) (suc i) d x rest e = map-at f l i d x rest e
 
 -- The lists that are laid one after the other stand at their ranges.
 
-record Ranged {A : Type 0} (whole : List A) (first count : ℕ) (part : List A) : Type 0 where
-  stands : Stands whole first part
-  counts : count ≡ length part
+pub record Ranged {A : Type 0} (whole : List A) (first count : ℕ) (part : List A) : Type 0 where
+  pub stands : Stands whole first part
+  pub counts : count ≡ length part
 
-ranged : {A : Type 0} (before : List A) (xs : List (List A)) (whole : List A) (k : ℕ) → whole ≡ before ++ flatten xs → length before ≡ k → (i : ℕ) →
+-- a range cuts its list out, by its two ends
+pub ranged-fits : {A : Type 0} {whole part : List A} {first count : ℕ} → Ranged whole first count part → first + count ≤ length whole
+ranged-fits r = rw (r .counts) (r .stands .fits)
+
+pub ranged-part : {A : Type 0} {whole part : List A} {first count : ℕ} → Ranged whole first count part → take (first + count - first) (drop first whole) ≡ part
+ranged-part {part} {first} {count} r = let n : first + count - first ≡ length part = omega (arith, r .counts) in rw n (stands-part part (r .stands))
+
+pub ranged : {A : Type 0} (before : List A) (xs : List (List A)) (whole : List A) (k : ℕ) → whole ≡ before ++ flatten xs → length before ≡ k → (i : ℕ) →
     Ranged whole (getD (rangesFrom k xs) i nowhere .first) (getD (rangesFrom k xs) i nowhere .count) (getD xs i [])
 unfolding rangesFrom flatten
 ranged before [] whole k e l i = record { stands = record { rest = whole; splits = refl; fits = omega arith }; counts = refl }
@@ -73,19 +80,15 @@ module _ {A : Type 0} (xs : List (List A)) (i : ℕ) where
   rangeAt-ranged : Ranged (flatten xs) (rangeAt xs i .first) (rangeAt xs i .count) (getD xs i [])
   rangeAt-ranged = ranged [] xs (flatten xs) 0 refl refl i
 
-  -- a range cuts its list out of all of them
   pub range-part : take (rangeAt xs i .count) (drop (rangeAt xs i .first) (flatten xs)) ≡ getD xs i []
   range-part = rw (rangeAt-ranged .counts) (stands-part (getD xs i []) (rangeAt-ranged .stands))
 
-  pub range-fits : rangeAt xs i .first + rangeAt xs i .count ≤ length (flatten xs)
-  range-fits = rw (rangeAt-ranged .counts) (rangeAt-ranged .stands .fits)
-
-  -- the same of a range that was read, cut by its two ends
+  -- a range that was read cuts its list out of all of them
   pub read-fits : {r : Range} → r ≡ rangeAt xs i → r .first + r .count ≤ length (flatten xs)
-  read-fits e = rw e range-fits
+  read-fits e = rw e (ranged-fits rangeAt-ranged)
 
   pub read-part : {r : Range} → r ≡ rangeAt xs i → take (r .first + r .count - r .first) (drop (r .first) (flatten xs)) ≡ getD xs i []
-  read-part {r} e = let n : r .first + r .count - r .first ≡ r .count = omega arith in rw (n, e) range-part
+  read-part e = rw e (ranged-part rangeAt-ranged)
 
 -- the words of a line, out of all words
 pub words-part : (t : Table) (i : ℕ) → take (rangeAt (lineWords t) i .count) (drop (rangeAt (lineWords t) i .first) (wordsOf t)) ≡ wordsAt t i

@@ -6,8 +6,7 @@ use Rattle.limits.specs.Ceilings as ceiling
 use Rattle.notation.specs.Ascii.{bytes}
 use Rattle.schema.specs.Shape.{Shape, Table, noRow, scalar, array, object, records, subs, outer, positions, _·_·_∶_▸_, _·_·_holds_▸_}
 use Rattle.schema.specs.Shape.Need.{required as R, optional as O, conditional as C}
-use Rattle.schema.specs.Shape.Sort.{timestamp as T, integer as N, amount as F, boolean as B, text as S, id, latitude as lat, longitude as lon, anyNumber}
-use Rattle.schema.specs.Shape.Sort.{money, price, portion, currency, exactly, word}
+use Rattle.schema.specs.Shape.Sort.{timestamp as T, integer as N, amount as F, boolean as B, text as S, id, latitude as lat, longitude as lon, anyNumber, money, price, portion, currency, exactly, word}
 use Rattle.schema.specs.Words.{formFactors, propulsionTypes}
 
 -- every file: the header, with what `data` holds

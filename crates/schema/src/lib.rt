@@ -1,5 +1,6 @@
 // The field table in lines: the rows of all files in one list, each with the rows of the object inside it right behind it.
 ghost use mathlib.Core.Path.{_≡_};
+ghost use Prim.Native.Nat.{_+_, _*_};
 
 pub mod lines;
 pub mod names;
@@ -22,17 +23,6 @@ pub struct Line {
     pub numbering: u8,
     pub most: u16,
     pub inside: u8,
-}
-
-// The same of all lines, column by column.
-pub struct LineTable {
-    pub fields: [u8; Line::COUNT],
-    pub needs: [u8; Line::COUNT],
-    pub values: [u8; Line::COUNT],
-    pub items: [u8; Line::COUNT],
-    pub numberings: [u8; Line::COUNT],
-    pub most: [u16; Line::COUNT],
-    pub insides: [u8; Line::COUNT],
 }
 
 impl Line {
@@ -88,7 +78,7 @@ impl Line {
     pub const POSITIONS: u8 = b'p';
 }
 
-// Numbers of the columns, as places.
+// A number of the table, as a place.
 fn from_u8(x: u8) -> usize
     ensures { λ r. ⌜ r ≡ x ⌝ }
 {
@@ -99,4 +89,11 @@ fn from_u16(x: u16) -> usize
     ensures { λ r. ⌜ r ≡ x ⌝ }
 {
     x as usize
+}
+
+// The number that two bytes are, the lower one first.
+fn two_bytes(low: u8, high: u8) -> u16
+    ensures { λ r. ⌜ r ≡ low + 256 * high ⌝ }
+{
+    low as u16 + 256 * (high as u16)
 }

@@ -1,48 +1,25 @@
-// The lines of table 2.3, by its columns.
+// The lines of table 2.3, by its bytes.
 use crate::Line;
-use crate::LineTable;
 use crate::Range;
 use crate::from_u8;
-use crate::table::FIELDS;
 use crate::table::FILE_COUNTS;
 use crate::table::FILE_FIRSTS;
-use crate::table::INSIDE;
-use crate::table::ITEMS;
-use crate::table::MOST;
-use crate::table::NEEDS;
-use crate::table::NUMBERINGS;
-use crate::table::VALUES;
+use crate::table::TABLE;
+use crate::two_bytes;
 ghost use mathlib.Core.Path.{_≡_};
 ghost use Rattle.schema.specs.Table23.{table23};
-ghost use Rattle.schema.specs.inner.Line.{lineAt, LineColumns, fileLines, insidesOf};
+ghost use Rattle.schema.specs.inner.Line.{lineAt, bytesOf, fileLines};
 
-// The columns, for a walk that takes them once and lends them: a constant is laid out anew wherever it is named.
-pub fn line_columns() -> LineTable
-    ensures { λ r. ⌜ LineColumns table23 (r .fields) (r .needs) (r .values) (r .items) (r .numberings) (r .most) (r .insides) ⌝ }
+// The table, for a walk that takes it once and lends it: a constant is laid out anew wherever it is named.
+pub fn table_bytes() -> [u8; Line::TABLE_BYTES]
+    ensures { λ r. ⌜ r ≡ bytesOf table23 ⌝ }
 {
-    LineTable {
-        fields: FIELDS,
-        needs: NEEDS,
-        values: VALUES,
-        items: ITEMS,
-        numberings: NUMBERINGS,
-        most: MOST,
-        insides: INSIDE,
-    }
+    TABLE
 }
 
-// The line at a place, counted from 0, by the columns that are lent; past the last one a line of zeros.
-pub fn line_at<'a>(
-    fields: &'a [u8; Line::COUNT],
-    needs: &'a [u8; Line::COUNT],
-    values: &'a [u8; Line::COUNT],
-    items: &'a [u8; Line::COUNT],
-    numberings: &'a [u8; Line::COUNT],
-    most: &'a [u16; Line::COUNT],
-    insides: &'a [u8; Line::COUNT],
-    i: usize,
-) -> Line
-    requires { ⌜ LineColumns table23 (now fields) (now needs) (now values) (now items) (now numberings) (now most) (now insides) ⌝ }
+// The line at a place, counted from 0, by the table that is lent; past the last one a line of zeros.
+pub fn line_at(table: &[u8; Line::TABLE_BYTES], i: usize) -> Line
+    requires { ⌜ now table ≡ bytesOf table23 ⌝ }
     ensures { λ r. ⌜ r ≡ lineAt table23 i ⌝ }
 {
     if Line::COUNT <= i {
@@ -56,22 +33,27 @@ pub fn line_at<'a>(
             inside: 0,
         };
     }
+    let at = i * Line::BYTES;
     Line {
-        field: fields[i],
-        need: needs[i],
-        value: values[i],
-        item: items[i],
-        numbering: numberings[i],
-        most: most[i],
-        inside: insides[i],
+        field: table[at],
+        need: table[at + 1],
+        value: table[at + 2],
+        item: table[at + 3],
+        numbering: table[at + 4],
+        most: two_bytes(table[at + 5], table[at + 6]),
+        inside: table[at + 7],
     }
 }
 
-// How many lines stand inside each line, for a search that takes the column once and lends it.
-pub fn insides() -> [u8; Line::COUNT]
-    ensures { λ r. ⌜ r ≡ insidesOf table23 ⌝ }
+// How many lines stand inside the line at a place; none past the last one.
+pub fn inside_at(table: &[u8; Line::TABLE_BYTES], i: usize) -> u8
+    requires { ⌜ now table ≡ bytesOf table23 ⌝ }
+    ensures { λ r. ⌜ r ≡ lineAt table23 i .inside ⌝ }
 {
-    INSIDE
+    if Line::COUNT <= i {
+        return 0;
+    }
+    table[i * Line::BYTES + 7]
 }
 
 // The lines of a file, by its number from 1 on; none of another number.

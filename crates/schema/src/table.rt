@@ -1,165 +1,112 @@
-// Written by scripts/table from specs/Table23.antt: the table column by column, a byte string in a row for each file.
+// Written by scripts/table from specs/Table23.antt.
 use crate::Line;
-use limits::Limits;
 
 impl Line {
-    // How many lines there are.
+    // How many lines there are, and how many bytes each of them has.
     pub const COUNT: usize = 92;
 
-    // How long their names are together.
-    pub const NAME_BYTES: usize = 840;
+    pub const BYTES: usize = 11;
+
+    // How many bytes the lines and their names have together.
+    pub const TABLE_BYTES: usize = 1852;
 }
 
-pub const FIELDS: [u8; Line::COUNT] = *b"\
-    \x01\x02\x03\x04\x05\x0a\x0b\x0c\x0d\x0e\
-    \x01\x02\x03\x04\x05\x14\x15\x16\x17\x18\
-    \x01\x02\x03\x04\x05\x1e\x1f\x20\x21\x22\x23\x24\x25\x26\x27\
-    \x01\x02\x03\x04\x05\x28\x29\x2a\x2b\x2c\x2d\x2e\x2f\x30\x31\
-    \x01\x02\x03\x04\x05\x32\x33\x34\x35\x36\x37\x38\x39\x3a\x3b\x3c\x3d\x3e\x3f\x40\x41\x42\
-    \x01\x02\x03\x04\x05\x06\x07\x46\x47\x48\x49\x4a\x4b\x4c\x4d\x4e\x4f\x50\x51\x52";
-
-pub const NEEDS: [u8; Line::COUNT] = *b"\
-    RRRRRRRRCC\
-    RRRRRRRRRO\
-    RRRRRRRCRRRRCRR\
-    RRRRRRCCRRCCOOO\
-    RRRRRRRRRRRORRROORRROO\
-    RRRRRRRRRRRROOOORROO";
-
-pub const VALUES: [u8; Line::COUNT] = *b"\
-    =TN{[iwwFi\
-    =TN{[iSyxN\
-    =TN{[iNNBBBT[iN\
-    =TN{[iyxBBiFii%\
-    =TN{[iScpBS[NmNN[NmNNB\
-    =TN{{=[={=[{TT[[BBNB";
-
-pub const ITEMS: [u8; Line::COUNT] = *b"\
-    ....{.....\
-    ....{.....\
-    ....{.......{..\
-    ....{..........\
-    ....{......{....{.....\
-    ......{...[...{i....";
-
-pub const NUMBERINGS: [u8; Line::COUNT] = *b"\
-    ....r.....\
-    ....r.....\
-    ....r.......s..\
-    ....r..........\
-    ....r......s....s.....\
-    ......r...p...so....";
-
-pub const MOST: [u16; Line::COUNT] = [
-    0,
-    0,
-    0,
-    0,
-    Limits::RECORDS,
-    0,
-    0,
-    0,
-    0,
-    0,
-    0,
-    0,
-    0,
-    0,
-    Limits::RECORDS,
-    0,
-    0,
-    0,
-    0,
-    0,
-    0,
-    0,
-    0,
-    0,
-    Limits::RECORDS,
-    0,
-    0,
-    0,
-    0,
-    0,
-    0,
-    0,
-    Limits::ITEMS,
-    0,
-    0,
-    0,
-    0,
-    0,
-    0,
-    Limits::RECORDS,
-    0,
-    0,
-    0,
-    0,
-    0,
-    0,
-    0,
-    0,
-    0,
-    0,
-    0,
-    0,
-    0,
-    0,
-    Limits::RECORDS,
-    0,
-    0,
-    0,
-    0,
-    0,
-    0,
-    Limits::SEGMENTS,
-    0,
-    0,
-    0,
-    0,
-    Limits::SEGMENTS,
-    0,
-    0,
-    0,
-    0,
-    0,
-    0,
-    0,
-    0,
-    0,
-    0,
-    0,
-    Limits::RECORDS,
-    0,
-    0,
-    0,
-    Limits::POLYGONS,
-    0,
-    0,
-    0,
-    Limits::RULES,
-    Limits::ITEMS,
-    0,
-    0,
-    0,
-    0,
-];
-
-pub const INSIDE: [u8; Line::COUNT] = *b"\
-    \x00\x00\x00\x06\x05\x00\x00\x00\x00\x00\
-    \x00\x00\x00\x06\x05\x00\x00\x00\x00\x00\
-    \x00\x00\x00\x0b\x0a\x00\x00\x00\x00\x00\x00\x00\x02\x00\x00\
-    \x00\x00\x00\x0b\x0a\x00\x00\x00\x00\x00\x00\x00\x00\x00\x00\
-    \x00\x00\x00\x12\x11\x00\x00\x00\x00\x00\x00\x04\x00\x00\x00\x00\x04\x00\x00\x00\x00\x00\
-    \x00\x00\x00\x10\x0f\x00\x0d\x00\x02\x00\x00\x08\x00\x00\x05\x00\x00\x00\x00\x00";
-
-// The lines of each file, and of no file before the first.
-pub const FILE_FIRSTS: [u8; 7] = [0, 0, 10, 20, 35, 50, 72];
-
-pub const FILE_COUNTS: [u8; 7] = [0, 10, 10, 15, 15, 22, 20];
-
-// The names of the lines, one after the other: where each begins, and how long it is.
-pub const NAMES: [u8; Line::NAME_BYTES] = *b"\
+// A row for each line, and behind the last line the names in the same order. A row has the field's number; R, O or C; what the value may be; what the items of
+// an array may be, and how they are numbered; how many there may be, in two bytes, the lower one first; how many lines stand inside; where the name begins, in
+// two bytes; and how long it is.
+pub const TABLE: [u8; Line::TABLE_BYTES] = *b"\
+    \x01R=..\x00\x00\x00\xf4\x03\x07\
+    \x02RT..\x00\x00\x00\xfb\x03\x0c\
+    \x03RN..\x00\x00\x00\x07\x04\x03\
+    \x04R{..\x00\x00\x06\x0a\x04\x04\
+    \x05R[{r\xff\x0f\x05\x0e\x04\x0d\
+    \x0aRi..\x00\x00\x00\x1b\x04\x0f\
+    \x0bRw..\x00\x00\x00\x2a\x04\x0b\
+    \x0cRw..\x00\x00\x00\x35\x04\x0f\
+    \x0dCF..\x00\x00\x00\x44\x04\x10\
+    \x0eCi..\x00\x00\x00\x54\x04\x17\
+    \x01R=..\x00\x00\x00\x6b\x04\x07\
+    \x02RT..\x00\x00\x00\x72\x04\x0c\
+    \x03RN..\x00\x00\x00\x7e\x04\x03\
+    \x04R{..\x00\x00\x06\x81\x04\x04\
+    \x05R[{r\xff\x0f\x05\x85\x04\x08\
+    \x14Ri..\x00\x00\x00\x8d\x04\x0a\
+    \x15RS..\x00\x00\x00\x97\x04\x04\
+    \x16Ry..\x00\x00\x00\x9b\x04\x03\
+    \x17Rx..\x00\x00\x00\x9e\x04\x03\
+    \x18ON..\x00\x00\x00\xa1\x04\x08\
+    \x01R=..\x00\x00\x00\xa9\x04\x07\
+    \x02RT..\x00\x00\x00\xb0\x04\x0c\
+    \x03RN..\x00\x00\x00\xbc\x04\x03\
+    \x04R{..\x00\x00\x0b\xbf\x04\x04\
+    \x05R[{r\xff\x0f\x0a\xc3\x04\x08\
+    \x1eRi..\x00\x00\x00\xcb\x04\x0a\
+    \x1fRN..\x00\x00\x00\xd5\x04\x13\
+    \x20CN..\x00\x00\x00\xe8\x04\x13\
+    \x21RB..\x00\x00\x00\xfb\x04\x0c\
+    \x22RB..\x00\x00\x00\x07\x05\x0a\
+    \x23RB..\x00\x00\x00\x11\x05\x0c\
+    \x24RT..\x00\x00\x00\x1d\x05\x0d\
+    \x25C[{s\x40\x00\x02\x2a\x05\x17\
+    \x26Ri..\x00\x00\x00\x41\x05\x0f\
+    \x27RN..\x00\x00\x00\x50\x05\x05\
+    \x01R=..\x00\x00\x00\x55\x05\x07\
+    \x02RT..\x00\x00\x00\x5c\x05\x0c\
+    \x03RN..\x00\x00\x00\x68\x05\x03\
+    \x04R{..\x00\x00\x0b\x6b\x05\x04\
+    \x05R[{r\xff\x0f\x0a\x6f\x05\x05\
+    \x28Ri..\x00\x00\x00\x74\x05\x07\
+    \x29Cy..\x00\x00\x00\x7b\x05\x03\
+    \x2aCx..\x00\x00\x00\x7e\x05\x03\
+    \x2bRB..\x00\x00\x00\x81\x05\x0b\
+    \x2cRB..\x00\x00\x00\x8c\x05\x0b\
+    \x2dCi..\x00\x00\x00\x97\x05\x0f\
+    \x2eCF..\x00\x00\x00\xa6\x05\x14\
+    \x2fOi..\x00\x00\x00\xba\x05\x0a\
+    \x30Oi..\x00\x00\x00\xc4\x05\x0f\
+    \x31O%..\x00\x00\x00\xd3\x05\x14\
+    \x01R=..\x00\x00\x00\xe7\x05\x07\
+    \x02RT..\x00\x00\x00\xee\x05\x0c\
+    \x03RN..\x00\x00\x00\xfa\x05\x03\
+    \x04R{..\x00\x00\x12\xfd\x05\x04\
+    \x05R[{r\xff\x0f\x11\x01\x06\x05\
+    \x32Ri..\x00\x00\x00\x06\x06\x07\
+    \x33RS..\x00\x00\x00\x0d\x06\x04\
+    \x34Rc..\x00\x00\x00\x11\x06\x08\
+    \x35Rp..\x00\x00\x00\x19\x06\x05\
+    \x36RB..\x00\x00\x00\x1e\x06\x0a\
+    \x37RS..\x00\x00\x00\x28\x06\x0b\
+    \x38O[{s\x10\x00\x04\x33\x06\x0e\
+    \x39RN..\x00\x00\x00\x41\x06\x05\
+    \x3aRm..\x00\x00\x00\x46\x06\x04\
+    \x3bRN..\x00\x00\x00\x4a\x06\x08\
+    \x3cON..\x00\x00\x00\x52\x06\x03\
+    \x3dO[{s\x10\x00\x04\x55\x06\x0f\
+    \x3eRN..\x00\x00\x00\x64\x06\x05\
+    \x3fRm..\x00\x00\x00\x69\x06\x04\
+    \x40RN..\x00\x00\x00\x6d\x06\x08\
+    \x41ON..\x00\x00\x00\x75\x06\x03\
+    \x42OB..\x00\x00\x00\x78\x06\x0d\
+    \x01R=..\x00\x00\x00\x85\x06\x07\
+    \x02RT..\x00\x00\x00\x8c\x06\x0c\
+    \x03RN..\x00\x00\x00\x98\x06\x03\
+    \x04R{..\x00\x00\x10\x9b\x06\x04\
+    \x05R{..\x00\x00\x0f\x9f\x06\x10\
+    \x06R=..\x00\x00\x00\xaf\x06\x04\
+    \x07R[{r\xff\x0f\x0d\xb3\x06\x08\
+    \x46R=..\x00\x00\x00\xbb\x06\x04\
+    \x47R{..\x00\x00\x02\xbf\x06\x08\
+    \x48R=..\x00\x00\x00\xc7\x06\x04\
+    \x49R[[p\x0f\x00\x00\xcb\x06\x0b\
+    \x4aR{..\x00\x00\x08\xd6\x06\x0a\
+    \x4bOT..\x00\x00\x00\xe0\x06\x05\
+    \x4cOT..\x00\x00\x00\xe5\x06\x03\
+    \x4dO[{s\x20\x00\x05\xe8\x06\x05\
+    \x4eO[io\x40\x00\x00\xed\x06\x0f\
+    \x4fRB..\x00\x00\x00\xfc\x06\x0c\
+    \x50RB..\x00\x00\x00\x08\x07\x14\
+    \x51ON..\x00\x00\x00\x1c\x07\x11\
+    \x52OB..\x00\x00\x00\x2d\x07\x0f\
     version\
     last_updated\
     ttl\
@@ -253,108 +200,10 @@ pub const NAMES: [u8; Line::NAME_BYTES] = *b"\
     maximum_speed_kph\
     station_parking";
 
-pub const NAME_FIRSTS: [u16; Line::COUNT] = [
-    0,
-    7,
-    19,
-    22,
-    26,
-    39,
-    54,
-    65,
-    80,
-    96,
-    119,
-    126,
-    138,
-    141,
-    145,
-    153,
-    163,
-    167,
-    170,
-    173,
-    181,
-    188,
-    200,
-    203,
-    207,
-    215,
-    225,
-    244,
-    263,
-    275,
-    285,
-    297,
-    310,
-    333,
-    348,
-    353,
-    360,
-    372,
-    375,
-    379,
-    384,
-    391,
-    394,
-    397,
-    408,
-    419,
-    434,
-    454,
-    464,
-    479,
-    499,
-    506,
-    518,
-    521,
-    525,
-    530,
-    537,
-    541,
-    549,
-    554,
-    564,
-    575,
-    589,
-    594,
-    598,
-    606,
-    609,
-    624,
-    629,
-    633,
-    641,
-    644,
-    657,
-    664,
-    676,
-    679,
-    683,
-    699,
-    703,
-    711,
-    715,
-    723,
-    727,
-    738,
-    748,
-    753,
-    756,
-    761,
-    776,
-    788,
-    808,
-    825,
-];
+// The lines of each file, and of no file before the first.
+pub const FILE_FIRSTS: [u8; 7] = [0, 0, 10, 20, 35, 50, 72];
 
-pub const NAME_COUNTS: [u8; Line::COUNT] = *b"\
-    \x07\x0c\x03\x04\x0d\x0f\x0b\x0f\x10\x17\
-    \x07\x0c\x03\x04\x08\x0a\x04\x03\x03\x08\
-    \x07\x0c\x03\x04\x08\x0a\x13\x13\x0c\x0a\x0c\x0d\x17\x0f\x05\
-    \x07\x0c\x03\x04\x05\x07\x03\x03\x0b\x0b\x0f\x14\x0a\x0f\x14\
-    \x07\x0c\x03\x04\x05\x07\x04\x08\x05\x0a\x0b\x0e\x05\x04\x08\x03\x0f\x05\x04\x08\x03\x0d\
-    \x07\x0c\x03\x04\x10\x04\x08\x04\x08\x04\x0b\x0a\x05\x03\x05\x0f\x0c\x14\x11\x0f";
+pub const FILE_COUNTS: [u8; 7] = [0, 10, 10, 15, 15, 22, 20];
 
 // The words, one after the other: which of them are a line's, where each begins, and how long it is.
 pub const LINE_FIRSTS: [u8; Line::COUNT] = *b"\

@@ -49,7 +49,7 @@ pub fn word_is(k: usize, spelled: &[u8]) -> bool
     compare::word_is(spelled, &WORDS[first..end])
 }
 
-// The same letter for letter.
+// The text that is spelled is a word, letter for letter.
 pub fn word_is_exactly(k: usize, spelled: &[u8]) -> bool
     ensures { λ r. ⌜ r ≡ same (textOf (now (spelled .entry))) (wordAt table23 k) ⌝ }
 {

@@ -1,12 +1,12 @@
 -- An integer as a pair of naturals: `Gap z a b` says that z is a less b. Every law of sums, products and order in ℤ then is one in ℕ,
 -- which `omega` decides: both sides get their gap, built up as their terms are, and the pairs are compared.
 use mathlib.Core.Bool.{Bool, true, false, cond, not}
-use mathlib.Core.Path.{_≡_, refl, sym, ap, subst, _∙_}
+use mathlib.Core.Path.{_≡_, refl, sym, ap, _∙_}
 use Prim.Native.Nat.{ℕ, zero, suc, _+_, _*_, _-_, _≤_, _<_}
 use native.Mathlib.Omega.{arith}
 use lib.Dec.{ltb, leb, eqb}
 use lib.IntN.{ℤ, pos, negsuc, negℤ, negℤ-negℤ, natAbs, subℕ, _+ℤ_, _-ℤ_, _*ℤ_}
-use lib.Signed.{ltZ, leZ, mag}
+use lib.Signed.{ltZ, leZ}
 use borrow.Author.Tests.{ltb-true, ltb-false, leb-true, leb-false, eqb-true, eqb-false, lt-ltb, le-ltb, le-leb, lt-leb, eq-eqb, ne-eqb}
 use Rattle.signed.specs.Signed.{signed}
 use Rattle.signed.specs.inner.Difference.{difference, isZero}
@@ -104,10 +104,6 @@ apart-zero : (z : ℤ) (a b : ℕ) → Apart z a b → isZero z ≡ eqb a b
 apart-zero (pos k) a b g = eq-same k 0 a b (omega arith) (omega arith)
 apart-zero (negsuc k) a b g = sym (ne-eqb a b (omega arith))
 
-apart-mag : (z : ℤ) (a b h : ℕ) → Apart z a b → a < h → b ≤ h → mag z < h
-apart-mag (pos k) a b h g p q = omega arith
-apart-mag (negsuc k) a b h g p q = omega arith
-
 apart-size : (z : ℤ) (a b h : ℕ) → Apart z a b → a ≤ b + h → b ≤ a + h → natAbs z ≤ h
 apart-size (pos k) a b h g p q = omega arith
 apart-size (negsuc k) a b h g p q = omega arith
@@ -126,13 +122,7 @@ gap-negated {z} g = record { apart = apart-negated z _ _ (g .apart) }
 pub gap-neg : (b : ℕ) → Gap (negℤ (pos b)) 0 b
 gap-neg b = gap-negated (gap-pos b)
 
-pub gap-negsuc : (k : ℕ) → Gap (negsuc k) 0 (k + 1)
-gap-negsuc k = record { apart = omega arith }
-
--- the same integer by another pair
-pub gap-moved : {z : ℤ} {a b : ℕ} (c d : ℕ) → Gap z a b → a + d ≡ c + b → Gap z c d
-gap-moved {z} c d g e = record { apart = apart-moved z _ _ c d (g .apart) e }
-
+-- two pairs of one integer
 pub gap-back : {z : ℤ} {a b c d : ℕ} → Gap z a b → Gap z c d → a + d ≡ c + b
 gap-back {z} g h = apart-back z _ _ _ _ (g .apart) (h .apart)
 
@@ -170,10 +160,7 @@ module _ {z : ℤ} {a b : ℕ} (g : Gap z a b) where
   pub gap-zero : isZero z ≡ eqb a b
   gap-zero = apart-zero z a b (g .apart)
 
-  -- how large the integer is: as a signed machine number has it (−h is still one), and its size
-  pub gap-mag : (h : ℕ) → a < h → b ≤ h → mag z < h
-  gap-mag h p q = apart-mag z a b h (g .apart) p q
-
+  -- how large the integer is
   pub gap-size : (h : ℕ) → a ≤ b + h → b ≤ a + h → natAbs z ≤ h
   gap-size h p q = apart-size z a b h (g .apart) p q
 
@@ -183,9 +170,6 @@ difference-lt a b s = gap-lt (gap a s) (gap b s) ∙ lt-same (a + s) (b + s) a b
 
 pub difference-le : (a b s : ℕ) → leZ (difference a s) (difference b s) ≡ leb a b
 difference-le a b s = gap-le (gap a s) (gap b s) ∙ le-same (a + s) (b + s) a b (omega arith) (omega arith)
-
-pub difference-one : (a b s : ℕ) → difference a s ≡ difference b s → a ≡ b
-difference-one a b s e = omega (arith, gap-back (gap a s) (subst (λ (z : ℤ). Gap z b s) (sym e) (gap b s)))
 
 -- a difference by the order of its numbers
 pub difference-up : (a b : ℕ) → b ≤ a → difference a b ≡ pos (a - b)
@@ -199,10 +183,6 @@ pub signed-size : (s : Bool) (n : ℕ) → natAbs (signed s n) ≡ n
 signed-size true zero = refl
 signed-size true (suc n) = refl
 signed-size false n = refl
-
-pub signed-zero : (s : Bool) → signed s 0 ≡ pos 0
-signed-zero true = refl
-signed-zero false = refl
 
 pub signed-negated : (s : Bool) (n : ℕ) → negℤ (signed s n) ≡ signed (not s) n
 signed-negated true n = negℤ-negℤ (pos n)

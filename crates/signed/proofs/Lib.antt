@@ -1,2 +1,2 @@
 pub mod Gap
-pub mod Sums
+pub mod Parts

@@ -58,7 +58,7 @@ quoteAnswer plans id seconds metres =
 
 -- zone rule: parts, then ride and through, the speed and parking, each of these two after whether it is given
 abbrev pub ruleValues : Rule → List ℕ
-ruleValues r = bit (r .ride) ∷ bit (r .through) ∷ bit (r .limited) ∷ r .speed ∷ bit (r .parks) ∷ bit (r .parking) ∷ []
+ruleValues r = bit (r .ride) ∷ bit (r .through) ∷ bit (r .«speed_given») ∷ r .speed ∷ bit (r .«parking_given») ∷ bit (r .parking) ∷ []
 
 abbrev pub zoneValues : zone.Answer → List ℕ
 zoneValues a = partValues (a .parts) ++ ruleValues (a .rule)

@@ -6,7 +6,7 @@ use lib.Dec.{leb}
 use lib.ListN.{length, drop}
 use Rattle.notation.specs.Choice.{_⇒_else_}
 
--- the lowest bytes of a number, so many
+-- the lowest `size` bytes of n
 unfoldable pub lowBytes : (size n : ℕ) → List ℕ
 lowBytes zero n = []
 lowBytes (suc size) n = n % 256 ∷ lowBytes size (n / 256)

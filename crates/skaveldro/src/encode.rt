@@ -56,7 +56,7 @@ fn put(values: &[u64], buffer: &mut [u8])
     }
 }
 
-// How many values an answer of this number gives, of so many that its question has: none on a refusal.
+// How many of its question's values an answer of this number gives: none on a refusal.
 // Shut out: a refusal that gives the zeros of its layout.
 fn given(number: u8, values: usize) -> usize
     ensures { λ r. ⌜ r ≡ (gives number ⇒ values else 0) ⌝ }

@@ -5,7 +5,7 @@ use crate::encode::give;
 use word::Word;
 ghost use mathlib.Core.List.{[], _∷_};
 ghost use mathlib.Core.Path.{_≡_};
-ghost use Rattle.gbfs.specs.Verdict.{verdictNumber, bufferOf};
+ghost use Rattle.verdict.specs.Verdict.{verdictNumber, bufferOf};
 ghost use Rattle.skaveldro.specs.Encoding.{filled};
 ghost use Rattle.skaveldro.specs.Answers.{wordAnswer, quoteAnswer, zoneAnswer, shownAnswer, told};
 
@@ -33,7 +33,7 @@ pub extern "C" fn skaveldro_verdict<'a>(
         (now (types .entry) ∷ now (stations .entry) ∷ now (statuses .entry) ∷ now (bikes .entry) ∷ now (plans .entry) ∷ now (zones .entry) ∷ [])
         (now (buffer .entry)) ⌝ }
 {
-    gbfs::verdict(types, stations, statuses, bikes, plans, zones, buffer).number()
+    verdict::verdict(types, stations, statuses, bikes, plans, zones, buffer).number()
 }
 
 // The question "read a word". Six values: file, kind, field, record, sub, offset.
@@ -48,7 +48,7 @@ pub extern "C" fn skaveldro_read_word(word: &[u8], answer: &mut [u8]) -> u8
 }
 
 // The question "quote", of the bytes of file 5. Nine values: the six parts of a word, the amount in two's complement, past minutes, past kilometres.
-// Shut out: the amount told in a part's place; one mark told in the other's place.
+// Shut out: one mark told in the other's place.
 #[no_mangle]
 pub extern "C" fn skaveldro_quote(
     plans: &[u8],

@@ -7,7 +7,7 @@ ghost use mathlib.Core.Path.{_≡_};
 ghost use Rattle.quote.specs.Quote.{answer};
 ghost use Rattle.skaveldro.specs.Answers.{bit as bitOf, signedBits};
 
-// Its values behind the parts of a word: the amount and the two marks.
+// The values of an answer behind the parts of a word: the amount and the two marks.
 pub fn rest(q: Quote) -> [u64; 3]
     ensures { λ v. ⌜ v ≡ signedBits (answer q .amount) ∷ bitOf (answer q .pastMinutes) ∷ bitOf (answer q .pastKilometres) ∷ [] ⌝ }
 {

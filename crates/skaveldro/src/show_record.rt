@@ -4,7 +4,7 @@ ghost use mathlib.Core.List.{[], _∷_};
 ghost use mathlib.Core.Path.{_≡_};
 ghost use Rattle.clean.specs.Show.{answer};
 
-// Its values behind the parts of a word: where the record begins and where it ends.
+// The values of an answer behind the parts of a word: where the record begins and where it ends.
 pub fn rest(shown: Shown) -> [u64; 2]
     ensures { λ v. ⌜ v ≡ answer shown .from ∷ answer shown .upto ∷ [] ⌝ }
 {

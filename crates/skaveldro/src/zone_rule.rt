@@ -5,7 +5,7 @@ ghost use mathlib.Core.Path.{_≡_};
 ghost use Rattle.zone.specs.Answer.{answer};
 ghost use Rattle.skaveldro.specs.Answers.{ruleValues};
 
-// Its values behind the parts of a word: what the rules say.
+// The values of an answer behind the parts of a word: what the rules say.
 pub fn rest(r: Ruling) -> [u64; 6]
     ensures { λ v. ⌜ v ≡ ruleValues (answer r .rule) ⌝ }
 {
@@ -16,9 +16,9 @@ pub fn rest(r: Ruling) -> [u64; 6]
         Ruling::Is(rule) => [
             bit(rule.ride),
             bit(rule.through),
-            bit(rule.limited),
+            bit(rule.speed_given),
             rule.speed,
-            bit(rule.parks),
+            bit(rule.parking_given),
             bit(rule.parking),
         ],
     }

@@ -9,6 +9,8 @@ use lib.Dec.{eqb}
 use lib.ListN.{length, getD, drop, take, length-append, length-take}
 use borrow.Author.Tests.{eq-eqb, eqb-true}
 use Rattle.limits.specs.Ceilings.{depth}
+use Rattle.notation.proofs.Booleans.{by-test, true-false}
+use Rattle.notation.proofs.Lists.{no-cons}
 use Rattle.lexeme.specs.declared.Char.{Char}
 use Rattle.lexeme.specs.declared.Next.{Next}
 use Rattle.lexeme.specs.declared.Next.the-variants.{Quote, Character, Fault}
@@ -18,15 +20,16 @@ use Rattle.lexeme.specs.Character.{paired, byte, bytesOf, next}
 use Rattle.lexeme.specs.Strings.{string, decoded}
 use Rattle.lexeme.specs.inner.Start.{Start, start}
 use Rattle.lexeme.proofs.Rests.{first-byte}
-use Rattle.lexeme.proofs.Steps.{by-test, true-false, bad-done, done-rest, made-done, no-cons, string-quote, string-fault, string-character, string-empty}
+use Rattle.lexeme.proofs.Steps.{bad-done, done-rest, made-done, string-quote, string-fault, string-character, string-empty}
 use Rattle.lexeme.proofs.Starts.{string-byte, string-byte}
-use Rattle.lexeme.proofs.Takes.{string-spelled}
+use Rattle.lexeme.proofs.StrongPrefixes.{string-spelled}
 use Rattle.text.proofs.Whole.{next-whole}
 use Rattle.json.specs.Tree as tree
 use Rattle.json.specs.Tree.{Json}
 use Rattle.json.specs.Text.{value, valueBy}
 use Rattle.walk.specs.declared.ValueKind.the-variants as kind
-use Rattle.walk.specs.Part.{Whole, kindOf, kindFrom, kindAt}
+use Rattle.walk.specs.Part.{Whole, kindOf}
+use Rattle.walk.specs.inner.Kind.{kindFrom, kindAt}
 use Rattle.walk.specs.inner.Skip.{skipped}
 use Rattle.walk.proofs.Quotes.{quoted-mark}
 use Rattle.walk.proofs.Skips.{skipped-string}

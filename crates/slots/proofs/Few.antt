@@ -8,10 +8,10 @@ use lib.Dec.{leb}
 use lib.ListN.{length, getD}
 use borrow.Author.Tests.{leb-true}
 use Rattle.notation.specs.Choice.{_and_}
+use Rattle.notation.proofs.Booleans.{and-left, and-right}
 use Rattle.schema.specs.Shape as shape
 use Rattle.schema.specs.Shape.{Shape, Rows, Need, Numbering, Table, unlisted, fileShape}
 use Rattle.schema.specs.Table23.{table23, written23}
-use Rattle.schema.proofs.Tests.{and-left, and-right}
 use Rattle.slots.specs.inner.Rows.{mostRows, namesIn, fewIn, fewBelow}
 
 all-few : Table → Bool

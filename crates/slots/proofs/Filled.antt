@@ -3,15 +3,16 @@
 use mathlib.Core.Bool.{Bool, true, false}
 use mathlib.Core.List.{List, [], _∷_, foldl}
 use mathlib.Core.Path.{_≡_, refl, sym, ap, subst, _∙_}
-use Prim.Native.Nat.{ℕ, zero, suc, _+_, _≤_, _<_}
+use Prim.Native.Nat.{ℕ, _+_, _≤_, _<_}
 use native.Mathlib.Decide.{ℕ-discrete}
 use native.Mathlib.Omega.{arith}
 use lib.Dec.{eqb, ltb}
-use lib.ListN.{length, getD, set, length-set, replicate}
+use lib.ListN.{length, getD, set, length-set}
 use lib.Seq.{getD-set-same, getD-set-other}
 use borrow.Author.Tests.{lt-ltb, le-ltb, ltb-true, ltb-false}
 use Rattle.notation.specs.Choice.{_⇒_else_}
-use Rattle.lexeme.proofs.Steps.{by-test}
+use Rattle.notation.proofs.Booleans.{by-test}
+use Rattle.notation.proofs.Lists.{zeros}
 use Rattle.json.specs.Tree.{Json, Members}
 use Rattle.text.specs.Text.{same}
 use Rattle.walk.specs.declared.Member.{Member}
@@ -182,11 +183,6 @@ module _ (names : List (List ℕ)) (apart : Apart names) (few : length names ≤
 pub empty-sized : Sized empty
 empty-sized = record { state = refl; from = refl; upto = refl }
 
-zeros : (n i : ℕ) → _≡_ {A = ℕ} (getD (replicate n 0) i 0) 0
-zeros zero i = refl
-zeros (suc n) zero = refl
-zeros (suc n) (suc i) = zeros n i
-
 pub empty-missing : (j : ℕ) → slotAt empty j ≡ Missing
 empty-missing j =
     by-test (ltb j mostRows)
@@ -205,11 +201,11 @@ pub gathered-slot : (p : List ℕ) (first count : ℕ) (rows : Rows) → Laid ta
 gathered-slot p first count rows l c d few j h = rw (names-laid rows first count l c few) (filled p (namesIn rows) (distinct-apart rows d) few j h)
 
 -- places that are in n bytes, in each slot
-pub record Kept (n : ℕ) (s : Slots) : Type 0 where
+pub record PlacesWithin (n : ℕ) (s : Slots) : Type 0 where
   sized : Sized s
   pub inside : (j : ℕ) → Within n (slotAt s j)
 
-pub empty-kept : (n : ℕ) → Kept n empty
+pub empty-kept : (n : ℕ) → PlacesWithin n empty
 empty-kept n = record { sized = empty-sized; inside = λ j. subst (Within n) (sym (empty-missing j)) tt }
 
 more-within : (n from upto : ℕ) (o : Found) → from < upto → upto ≤ n → Within n (oneMore o from upto)
@@ -217,7 +213,7 @@ more-within n from upto Missing h i = (h, i)
 more-within n from upto (Once a e) h i = tt
 more-within n from upto Twice h i = tt
 
-pub put-kept : (n : ℕ) (s : Slots) (row from upto : ℕ) → from < upto → upto ≤ n → Kept n s → Kept n (putIn s row from upto)
+pub put-kept : (n : ℕ) (s : Slots) (row from upto : ℕ) → from < upto → upto ≤ n → PlacesWithin n s → PlacesWithin n (putIn s row from upto)
 put-kept n s row from upto h i k =
     record {
       sized = put-sized s row from upto (k .sized);
@@ -231,7 +227,7 @@ put-kept n s row from upto h i k =
           ];
     }
 
-pub gathers : (p : List ℕ) (first count : ℕ) (s : Slots) → Kept (length p) s → ((ms : Members) → Whole p (Json.object ms) → s ≡ gathered p (lineNames first count))
+pub gathers : (p : List ℕ) (first count : ℕ) (s : Slots) → PlacesWithin (length p) s → ((ms : Members) → Whole p (Json.object ms) → s ≡ gathered p (lineNames first count))
     → Gathered p first count s
 gathers p first count s k e =
     record {

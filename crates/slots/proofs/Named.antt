@@ -8,16 +8,15 @@ use native.Mathlib.Omega.{arith}
 use lib.ListN.{length, getD}
 use borrow.Author.Tests.{lt-ltb, le-ltb, not-true}
 use Rattle.notation.specs.Choice.{_and_}
-use Rattle.lexeme.proofs.Steps.{by-test, true-false}
+use Rattle.notation.proofs.Booleans.{by-test, true-false, and-left, and-right}
 use Rattle.text.specs.Text.{same}
 use Rattle.text.proofs.Laws.{same-true, same-false}
 use Rattle.schema.specs.Shape as shape
 use Rattle.schema.specs.Shape.{Rows, Table}
 use Rattle.schema.specs.Later.{listedIn}
 use Rattle.schema.specs.inner.Sound.{distinctNames, distinctRows}
-use Rattle.schema.specs.inner.Line.{lineAt, nameAt, insidesOf, entries, entriesOf, laidOut}
+use Rattle.schema.specs.inner.Line.{lineAt, nameAt, entries, entriesOf, laidOut}
 use Rattle.schema.specs.Table23.{table23, written23}
-use Rattle.schema.proofs.Tests.{and-left, and-right}
 use Rattle.schema.proofs.Walk.{Laid, linesIn, step}
 use Rattle.slots.specs.inner.Rows.{lineCount, mostRows, namesIn, namesAt, lineNames, rowNamed, rowLine}
 
@@ -53,10 +52,6 @@ laid-names t (shape.row field need name σ rows) end (suc most) i l e h =
 how-many : length (entriesOf table23) ≡ lineCount
 unfolding laidOut written23
 how-many = refl
-
-pub insides-length : length (insidesOf table23) ≡ lineCount
-unfolding laidOut written23
-insides-length = refl
 
 -- of the 2.3 table, where the code ends with the last line
 pub names-laid : (rows : Rows) (first count : ℕ) → Laid table23 first rows → linesIn rows ≡ count → length (namesIn rows) ≤ mostRows

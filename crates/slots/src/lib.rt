@@ -6,17 +6,15 @@ ghost use Rattle.notation.specs.Choice.{_⇒_else_};
 ghost use Rattle.json.specs.Tree.{Json};
 ghost use Rattle.text.specs.Text.{textOf};
 ghost use Rattle.walk.specs.Part.{Whole};
-ghost use Rattle.schema.specs.inner.Line.{NameColumns, insidesOf};
+ghost use Rattle.schema.specs.inner.Line.{bytesOf};
 ghost use Rattle.schema.specs.Table23.{table23};
 ghost use Rattle.slots.specs.inner.Rows.{lineCount, RowOf};
 ghost use Rattle.slots.specs.inner.Slots.{slotsOf, slotAt, newAt, countedIn, putIn, Gathered};
 ghost use Rattle.slots.specs.inner.Blank.{blankText, BeginsBlank};
 use lexeme::front::first;
 use schema::Line;
-use schema::lines::insides;
-use schema::names::name_bytes;
-use schema::names::name_counts;
-use schema::names::name_firsts;
+use schema::lines::inside_at;
+use schema::lines::table_bytes;
 use schema::names::name_is;
 use walk::MemberStep;
 use walk::pass_member;
@@ -111,18 +109,9 @@ pub struct Row {
     pub line: usize,
 }
 
-// The row that has the name that is spelled, among the rows at these lines; number `Slots::ROWS` where none has it. The table's columns
-// are lent.
-pub fn row_of(
-    bytes: &[u8],
-    firsts: &[u16; Line::COUNT],
-    counts: &[u8; Line::COUNT],
-    insides: &[u8],
-    spelled: &[u8],
-    first: usize,
-    count: usize,
-) -> Row
-    requires { ⌜ NameColumns table23 (now bytes) (now firsts) (now counts) × (now insides ≡ insidesOf table23) ⌝ }
+// The row that has the name that is spelled, among the rows at these lines of the table that is lent; number `Slots::ROWS` where none has it.
+pub fn row_of(table: &[u8; Line::TABLE_BYTES], spelled: &[u8], first: usize, count: usize) -> Row
+    requires { ⌜ now table ≡ bytesOf table23 ⌝ }
     ensures { λ r. ⌜ RowOf (textOf (now (spelled .entry))) first count r ⌝ }
 {
     let end = lines_end(first, count);
@@ -135,10 +124,10 @@ pub fn row_of(
                 line: i,
             };
         }
-        if name_is(bytes, firsts, counts, i, spelled) {
+        if name_is(table, i, spelled) {
             return Row { row: row, line: i };
         }
-        i = i + 1 + wide(insides[i]);
+        i = i + 1 + wide(inside_at(table, i));
         row += 1;
     }
     Row {
@@ -158,10 +147,7 @@ fn wide(x: u8) -> usize
 pub fn gather(p: &[u8], first: usize, count: usize) -> Slots
     ensures { λ r. ⌜ Gathered (now (p .entry)) first count r ⌝ }
 {
-    let bytes = name_bytes();
-    let firsts = name_firsts();
-    let counts = name_counts();
-    let inner = insides();
+    let table = table_bytes();
     let mut state: [u8; Slots::ROWS] = [Slots::MISSING; Slots::ROWS];
     let mut from: [usize; Slots::ROWS] = [0; Slots::ROWS];
     let mut upto: [usize; Slots::ROWS] = [0; Slots::ROWS];
@@ -174,15 +160,7 @@ pub fn gather(p: &[u8], first: usize, count: usize) -> Slots
             MemberStep::Found(m) => {
                 let name = m.name;
                 let name_end = m.name_end;
-                let row = row_of(
-                    &bytes,
-                    &firsts,
-                    &counts,
-                    &inner,
-                    &p[name..name_end],
-                    first,
-                    count,
-                );
+                let row = row_of(&table, &p[name..name_end], first, count);
                 put(
                     &mut state,
                     &mut from,

@@ -8,14 +8,16 @@ use native.Mathlib.Omega.{arith}
 use lib.Dec.{eqb, ltb}
 use lib.ListN.{length, take, drop, drop-of-length-le}
 use lib.Seq.{take-all, drop-drop}
+use Rattle.notation.proofs.Booleans.{by-test, true-false}
+use Rattle.notation.proofs.Lists.{at-cons}
 use Rattle.lexeme.specs.declared.Char.{Char}
 use Rattle.lexeme.specs.declared.Next.the-variants.{Quote, Character, Fault}
 use Rattle.lexeme.specs.Character.{byte, bytesOf, char1, next}
 use Rattle.lexeme.specs.inner.Lead.{Lead, lead, nextBy}
 use Rattle.lexeme.specs.Character.Surrogates.{paired}
 use Rattle.lexeme.specs.Strings.{decoded}
-use Rattle.lexeme.proofs.Rests.{at-cons, first-byte}
-use Rattle.lexeme.proofs.Steps.{by-test, true-false, decoded-character}
+use Rattle.lexeme.proofs.Rests.{first-byte}
+use Rattle.lexeme.proofs.Steps.{decoded-character}
 use Rattle.text.specs.declared.Cursor.{Cursor}
 use Rattle.text.specs.declared.Step.{Step}
 use Rattle.text.specs.declared.Step.the-variants.{End, Byte}

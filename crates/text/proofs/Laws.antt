@@ -7,7 +7,7 @@ use Prim.Native.Nat.{ℕ}
 use lib.Dec.{eqb}
 use lib.ListN.{length}
 use borrow.Author.Tests.{eq-eqb, eqb-true}
-use Rattle.lexeme.proofs.Steps.{by-test, true-false}
+use Rattle.notation.proofs.Booleans.{by-test, true-false}
 use Rattle.text.specs.Text.{textOf, same, lower, sameWord}
 use Rattle.text.specs.inner.Digest.{digest}
 

@@ -8,20 +8,12 @@ use lib.Dec.{eqb, leb, ltb}
 use lib.ListN.{length, drop, drop-of-length-le}
 use borrow.Author.Tests.{ne-eqb, lt-ltb, le-ltb, leb-true, leb-false}
 use Rattle.notation.specs.Choice.{_and_}
+use Rattle.notation.proofs.Booleans.{by-test, true-false, and-true, and-false}
+use Rattle.notation.proofs.Lists.{at-cons}
 use Rattle.lexeme.specs.Character.{within}
-use Rattle.lexeme.proofs.Rests.{at-cons}
-use Rattle.lexeme.proofs.Steps.{by-test, true-false}
-use Rattle.text.specs.Text.{same, lower, sameWord, capitals, currency}
+use Rattle.text.specs.Text.{same, lower, sameWord}
 use Rattle.text.specs.inner.Digest.{mixed, digestFrom}
 use Rattle.text.specs.inner.Walk.{agreeing, cased}
-
-and-true : (t : Bool) → (t and true) ≡ t
-and-true true = refl
-and-true false = refl
-
-and-false : (t : Bool) → (t and false) ≡ false
-and-false true = refl
-and-false false = refl
 
 -- small letters
 pub within-most : (lo hi b : ℕ) → within lo hi b ≡ true → b ≤ hi
@@ -105,12 +97,6 @@ module _ {x : List ℕ} (n : ℕ) where
   pub count-end : (m : ℕ) → n ≤ m → x ≡ [] → false ≡ ltb m (n + length x)
   count-end m h e = rw e (sym (le-ltb m (n + 0) (omega arith)))
 
-  pub currency-end : x ≡ [] → eqb n 3 ≡ (eqb (n + length x) 3 and capitals x)
-  unfolding capitals
-  currency-end e =
-      let z : n ≡ n + 0 = omega arith in
-      rw e (ap (λ k. eqb k 3) z ∙ sym (and-true (eqb (n + 0) 3)))
-
   module _ {b : ℕ} {u : List ℕ} (e : x ≡ b ∷ u) where
     longer : n + length x ≡ n + 1 + length u
     longer = ap (λ z. n + length z) e ∙ omega arith
@@ -120,25 +106,6 @@ module _ {x : List ℕ} (n : ℕ) where
 
     pub count-next : (m : ℕ) → ltb m (n + 1 + length u) ≡ ltb m (n + length x)
     count-next m = sym (ap (ltb m) longer)
-
-    pub currency-past : n ≡ 3 → false ≡ (eqb (n + length x) 3 and capitals x)
-    currency-past h = ap (λ t. t and capitals x) (sym (ne-eqb (n + length x) 3 (λ z. omega (arith, longer))))
-
-    pub currency-other : within 0x41 0x5a b ≡ false → false ≡ (eqb (n + length x) 3 and capitals x)
-    unfolding capitals
-    currency-other t =
-        let w : capitals x ≡ false = rw (e, capitals, t) in
-        sym (ap (λ z. eqb (n + length x) 3 and z) w ∙ and-false (eqb (n + length x) 3))
-
-    pub currency-next : within 0x41 0x5a b ≡ true → (eqb (n + 1 + length u) 3 and capitals u) ≡ (eqb (n + length x) 3 and capitals x)
-    unfolding capitals
-    currency-next t =
-        let w : capitals x ≡ capitals u = rw (e, capitals, t) in
-        sym (ap (λ z. eqb (n + length x) 3 and z) w ∙ ap (λ k. eqb k 3 and capitals u) longer)
-
-pub currency-start : (x : List ℕ) → (eqb (0 + length x) 3 and capitals x) ≡ currency x
-unfolding currency
-currency-start x = let z : 0 + length x ≡ length x = omega arith in ap (λ k. eqb k 3 and capitals x) z
 
 -- digests
 module _ {x : List ℕ} (h : ℕ) where

@@ -5,6 +5,7 @@ use Prim.Native.Nat.{ℕ, _+_, _≤_, _<_}
 use native.Mathlib.Omega.{arith}
 use lib.Dec.{eqb, ltb}
 use lib.ListN.{drop}
+use Rattle.notation.proofs.Booleans.{by-test}
 use Rattle.lexeme.specs.declared.Char.{Char}
 use Rattle.lexeme.specs.declared.Next.{Next}
 use Rattle.lexeme.specs.declared.Next.the-variants.{Quote, Character, Fault}
@@ -16,7 +17,6 @@ use Rattle.lexeme.specs.Character.{byte, within, utf2, utf3, utf4, encoded, qua
 use Rattle.lexeme.specs.inner.Lead.{Lead, lead, nextBy}
 use Rattle.lexeme.specs.Character.Surrogates.{paired}
 use Rattle.lexeme.specs.inner.Lead.Lead.{plain, quote, backslash, wrong, two, threeE0, three, threeED, fourF0, four, fourF4}
-use Rattle.lexeme.proofs.Steps.{by-test}
 use Rattle.lexeme.proofs.Leads.{next-by}
 
 abbrev Whole : Next → Type 0

@@ -7,12 +7,15 @@ use lib.ListN.{length}
 use Rattle.notation.specs.Ascii.{bytes}
 use Rattle.notation.specs.Case.{Case, Answers}
 use Rattle.lexeme.specs.Cases.{lexing}
-use Rattle.text.specs.Text.{textOf, same, lower, sameWord, capitals, currency}
+use Rattle.text.specs.Text.{textOf, same, lower, sameWord}
+use Rattle.text.specs.declared.Order.{Order}
+use Rattle.text.specs.declared.Order.the-variants.{Less, Equal, Greater}
+use Rattle.text.specs.Ordering.{orderOf}
 use Rattle.text.specs.inner.Digest.{mixed, digestFrom, digest}
 
 -- opens every definition of this layer
 unfoldable pub comparing : Unit {0}
-unfolding lexing same lower sameWord capitals currency mixed digestFrom digest
+unfolding lexing same lower sameWord orderOf mixed digestFrom digest
 comparing = tt
 
 -- n times the same bytes
@@ -53,6 +56,24 @@ comparisons-answered : Answers (λ c. same (textOf (c .0)) (textOf (c .1))) comp
 unfolding comparing
 comparisons-answered = refl
 
+-- how two spellings are in order
+abbrev orders : List (Case (List ℕ × List ℕ) Order)
+orders =
+    ("the first byte that differs", (bytes "ab1", bytes "ac0"), Less) ∷
+    ("a text and one that goes on from it", (bytes "ab", bytes "ab0"), Less) ∷
+    ("one that goes on", (bytes "ab0", bytes "ab"), Greater) ∷
+    ("nothing and a null byte", ([], bytes "\\u0000"), Less) ∷
+    ("two spellings", (bytes "l\\u0061t", bytes "lat"), Equal) ∷
+    ("an escape counts as what it stands for", (bytes "\\u0062", bytes "a"), Greater) ∷
+    ("past ASCII comes after it", (bytes "\\u00e9", bytes "z"), Greater) ∷
+    ("capitals come first", (bytes "B", bytes "a"), Less) ∷
+    ("a quotation mark ends both", (bytes "a\",1", bytes "a\"}"), Equal) ∷
+    []
+
+orders-answered : Answers (λ c. orderOf (textOf (c .0)) (textOf (c .1))) orders
+unfolding comparing
+orders-answered = refl
+
 -- whether they are one word, the case of ASCII letters aside
 abbrev words : List (Case (List ℕ × List ℕ) Bool)
 words =
@@ -76,20 +97,6 @@ lengths =
 lengths-answered : Answers (λ s. length (textOf s)) lengths
 unfolding comparing times
 lengths-answered = refl
-
-abbrev currencies : List (Case (List ℕ) Bool)
-currencies =
-    ("three capitals", bytes "EUR", true) ∷
-    ("one of them escaped", bytes "E\\u0055R", true) ∷
-    ("small letters", bytes "eur", false) ∷
-    ("two letters", bytes "EU", false) ∷
-    ("four letters", bytes "EURO", false) ∷
-    ("none", [], false) ∷
-    []
-
-currencies-answered : Answers (λ s. currency (textOf s)) currencies
-unfolding comparing
-currencies-answered = refl
 
 -- digests go by the text, and by the order of its bytes
 abbrev digests : List (Case (List ℕ) ℕ)

@@ -1,3 +1,4 @@
 pub mod Text
+pub mod Ordering
 pub mod Cases
 pub mod inner

@@ -4,7 +4,6 @@ use mathlib.Core.Bool.{Bool, true, false}
 use mathlib.Core.List.{List, [], _∷_, map}
 use Prim.Native.Nat.{ℕ, _+_}
 use lib.Dec.{eqb}
-use lib.ListN.{length}
 use Rattle.notation.specs.Choice.{_⇒_else_, _and_}
 use Rattle.lexeme.specs.Character.{paired, within}
 use Rattle.lexeme.specs.Strings.{decoded}
@@ -27,12 +26,3 @@ lower b = within 0x41 0x5a b ⇒ b + 0x20 else b
 -- the same words, whatever the case of their ASCII letters
 unfoldable pub sameWord : List ℕ → List ℕ → Bool
 sameWord x y = same (map lower x) (map lower y)
-
--- every byte is a capital
-unfoldable pub capitals : List ℕ → Bool
-capitals [] = true
-capitals (b ∷ x) = within 0x41 0x5a b and capitals x
-
--- a currency: three capital letters
-unfoldable pub currency : List ℕ → Bool
-currency x = eqb (length x) 3 and capitals x

@@ -1,12 +1,11 @@
-// How long a text is, and whether it is a currency.
+// How long a text is.
 use crate::Step;
-use crate::ascii::is_capital;
 use crate::walk::cursor_at;
 use crate::walk::next_byte;
 ghost use mathlib.Core.Path.{_≡_};
 ghost use lib.Dec.{ltb};
 ghost use lib.ListN.{length};
-ghost use Rattle.text.specs.Text.{textOf, currency};
+ghost use Rattle.text.specs.Text.{textOf};
 
 // The text has more bytes than `most`. It is never longer than its spelling; no more than one byte past `most` is looked at.
 pub fn longer_than(spelled: &[u8], most: usize) -> bool
@@ -25,31 +24,6 @@ pub fn longer_than(spelled: &[u8], most: usize) -> bool
             Step::Byte(_, after) => {
                 if n == most {
                     return true;
-                }
-                c = after;
-                n += 1;
-            }
-        }
-    }
-}
-
-// The text is three capital letters.
-pub fn is_currency(spelled: &[u8]) -> bool
-    ensures { λ r. ⌜ r ≡ currency (textOf (now (spelled .entry))) ⌝ }
-{
-    let mut c = cursor_at(0);
-    let mut n: usize = 0;
-    loop {
-        match next_byte(spelled, c) {
-            Step::End => {
-                return n == 3;
-            }
-            Step::Byte(b, after) => {
-                if n == 3 {
-                    return false;
-                }
-                if !is_capital(b) {
-                    return false;
                 }
                 c = after;
                 n += 1;

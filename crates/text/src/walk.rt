@@ -1,15 +1,17 @@
 // The bytes that a spelled text stands for, one after another.
 use crate::Cursor;
+use crate::Front;
 use crate::Step;
 use crate::ascii::is_plain;
 use character::next_char;
 use lexeme::Char;
 use lexeme::Next;
 ghost use mathlib.Core.Path.{_≡_};
+ghost use Prim.Native.Nat.{_≤_};
 ghost use lib.ListN.{drop};
 ghost use Rattle.lexeme.specs.Character.{bytesOf};
 ghost use Rattle.text.specs.Text.{textOf};
-ghost use Rattle.text.specs.inner.Walk.{cursorAt, left, told};
+ghost use Rattle.text.specs.inner.Walk.{cursorAt, left, told, Fronted};
 
 // The cursor at a place of the spelling where a character begins.
 pub fn cursor_at(at: usize) -> Cursor
@@ -93,4 +95,36 @@ pub fn next_byte(s: &[u8], c: Cursor) -> Step
         );
     }
     first_byte(s, c.at)
+}
+
+// The first `most` bytes from a cursor on; fewer where the text ends before.
+// Shut out: a cursor that gives a byte twice.
+pub fn read_front(spelled: &[u8], c: Cursor, most: usize) -> Front
+    requires { ⌜ most ≤ 32 ⌝ }
+    ensures { λ r. ⌜ Fronted (now (spelled .entry)) c most r ⌝ }
+{
+    let mut bytes: [u8; 32] = [0; 32];
+    let mut count: usize = 0;
+    let mut after = c;
+    while count < most {
+        match next_byte(spelled, after) {
+            Step::End => {
+                return Front {
+                    bytes,
+                    count,
+                    after,
+                };
+            }
+            Step::Byte(b, next) => {
+                bytes[count] = b;
+                count += 1;
+                after = next;
+            }
+        }
+    }
+    Front {
+        bytes,
+        count,
+        after,
+    }
 }

@@ -9,17 +9,18 @@ use native.Mathlib.Omega.{arith}
 use lib.Dec.{eqb}
 use lib.ListN.{length, drop, drop-of-length-le, length-append, length-drop}
 use borrow.Author.Tests.{eqb-true, eq-eqb, ne-eqb}
+use Rattle.notation.proofs.Booleans.{by-test, true-false}
+use Rattle.notation.proofs.Lists.{at-cons}
 use Rattle.lexeme.specs.declared.Scan.the-variants as scan
 use Rattle.lexeme.specs.Read.{placed}
 use Rattle.lexeme.specs.Character.{byte, within}
 use Rattle.lexeme.specs.Numbers.{either, digit, number}
 use Rattle.lexeme.specs.inner.Start.{Start, start}
 use Rattle.lexeme.proofs.Reading.{Ok}
-use Rattle.lexeme.proofs.Steps.{by-test, true-false}
 use Rattle.lexeme.proofs.Placed.{takes-leaves, lands}
-use Rattle.lexeme.proofs.Rests.{at-cons, place-at, first-byte, rest-at, rest-after}
+use Rattle.lexeme.proofs.Rests.{place-at, first-byte, rest-at, rest-after}
 use Rattle.lexeme.proofs.NumberParts.{digit-inside, either-inside, equal-inside}
-use Rattle.lexeme.proofs.Takes.{number-takes}
+use Rattle.lexeme.proofs.StrongPrefixes.{number-takes}
 use Rattle.lexeme.proofs.Starts.{digit-starts}
 use Rattle.walk.specs.inner.Skip.{quoted, outside, enclosed, numbered, skipped}
 use Rattle.walk.proofs.Quotes.{Itself, quoted-mark, escape-begins}
@@ -64,9 +65,9 @@ quoted-splits false (b ∷ l) =
 shorter : (e : Bool) (l : List ℕ) → length (quoted e l) ≤ length l
 shorter e l = let w = quoted-splits e l in omega (arith, ap length (w .1), length-append (w .0) (quoted e l))
 
-quoted-eats : (b : ℕ) (l : List ℕ) → length (quoted false (b ∷ l)) ≤ length l
+quoted-consumes : (b : ℕ) (l : List ℕ) → length (quoted false (b ∷ l)) ≤ length l
 unfolding quoted
-quoted-eats b l = by-test (eqb b 0x22) (λ h. rw (h, quoted) (omega arith)) (λ h. rw (h, quoted) (shorter (eqb b 0x5c) l))
+quoted-consumes b l = by-test (eqb b 0x22) (λ h. rw (h, quoted) (omega arith)) (λ h. rw (h, quoted) (shorter (eqb b 0x5c) l))
 
 -- where the code finds a string's end
 pub record Ended (s : List ℕ) (at r : ℕ) : Type 0 where
@@ -85,7 +86,7 @@ ended s at r e =
       later = λ h.
           let l = drop (at + 1) s in
           let c : drop at s ≡ byte s at ∷ l = at-cons s at h in
-          omega (arith, quoted-eats (byte s at) l, ap (λ (m : List ℕ). length (quoted false m)) c, length-drop (at + 1) s);
+          omega (arith, quoted-consumes (byte s at) l, ap (λ (m : List ℕ). length (quoted false m)) c, length-drop (at + 1) s);
     }
 
 -- brackets, with n more open than one

@@ -9,18 +9,19 @@ use lib.ListN.{length, drop}
 use lib.Dec.{ltb}
 use borrow.Author.Tests.{ltb-false}
 use Rattle.limits.specs.Ceilings.{fileBytes, depth}
+use Rattle.notation.proofs.Booleans.{by-test}
 use Rattle.lexeme.specs.declared.Scan.the-variants as scan
 use Rattle.lexeme.specs.Read.{Read, placed}
 use Rattle.lexeme.specs.Read.Read.{done, bad}
 use Rattle.lexeme.specs.Character.{paired}
 use Rattle.lexeme.specs.Tokens.{blanks}
-use Rattle.lexeme.proofs.Steps.{by-test, bad-done, done-what, done-rest, then-done}
+use Rattle.lexeme.proofs.Steps.{bad-done, done-what, done-rest, then-done}
 use Rattle.json.specs.declared.Syntax.{Syntax}
 use Rattle.json.specs.declared.Syntax.the-variants as syntax
 use Rattle.json.specs.Tree.{Json}
 use Rattle.json.specs.Text.{value, finish, text, syntaxBy, syntaxOf}
 use Rattle.json.proofs.Local.{value-part}
-use Rattle.json.proofs.Takes.{value-eats, value-takes}
+use Rattle.json.proofs.StrongPrefixes.{value-consumes, value-takes}
 use Rattle.lexeme.proofs.Placed.{ends}
 use Rattle.walk.specs.Walk.{offsetOf, part}
 use Rattle.walk.specs.Part.{Whole}
@@ -57,7 +58,7 @@ in-text s r x e short =
     let q = a .1 in
     let sl : Rest s l = rest-blanks s (rest-drop 0) in
     let sq : Rest s q = rest-read (value paired depth) (value-takes paired depth) l q (a .0) (a .2) sl in
-    let n : length q < length l = value-eats paired depth l q (a .0) (a .2) in
+    let n : length q < length l = value-consumes paired depth l q (a .0) (a .2) in
     let m : length l ≤ length s = rest-inside sl in
     let v : value paired depth (drop (offsetOf s l) s) ≡ done x q = ap (value paired depth) (rest-there sl) ∙ a .2 ∙ ap (λ (z : Json). done z q) (f .1) in
     let some : offsetOf s l < offsetOf s q = omega arith in

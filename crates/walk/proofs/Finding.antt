@@ -20,7 +20,7 @@ use Rattle.lexeme.proofs.Rests.{next-drop, place-at, shows}
 use Rattle.lexeme.proofs.Spans.{Skipped}
 use Rattle.json.specs.Tree.{Json}
 use Rattle.json.specs.Text.{expect, value}
-use Rattle.json.proofs.Takes.{value-takes}
+use Rattle.json.proofs.StrongPrefixes.{value-takes}
 use Rattle.json.proofs.Values.{expect-there, expect-absent}
 use Rattle.walk.specs.declared.MemberStep.the-variants as members
 use Rattle.walk.specs.declared.ItemStep.the-variants as items

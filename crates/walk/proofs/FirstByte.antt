@@ -6,13 +6,12 @@ use Prim.Native.Nat.{ℕ}
 use lib.Dec.{eqb}
 use borrow.Author.Tests.{ne-eqb}
 use Rattle.notation.specs.Choice.{_⇒_else_}
-use Rattle.lexeme.specs.Character.{byte, within}
+use Rattle.notation.proofs.Booleans.{by-test, true-false}
+use Rattle.lexeme.specs.Character.{byte}
 use Rattle.lexeme.specs.Numbers.{digit, either}
 use Rattle.lexeme.specs.inner.Start.{Start, start}
-use Rattle.lexeme.proofs.Steps.{by-test, true-false}
-use Rattle.walk.specs.declared.ValueKind.{ValueKind}
 use Rattle.walk.specs.declared.ValueKind.the-variants as kind
-use Rattle.walk.specs.Part.{kindFrom, kindAt}
+use Rattle.walk.specs.inner.Kind.{kindFrom, kindAt}
 
 module _ (p : List ℕ) {b : ℕ} (first : b ≡ byte p 0) where
   -- by what the byte starts

@@ -1,5 +1,5 @@
 -- A loop over the members of an object or the items of an array, for any fold over them: what is still to come decides the result. A loop over members has
--- `Walk (memberSteps p) g s at (foldl g s₀ (membersOf p))` for its invariant and cites `members-start`, `walk-more` and `walk-end`; one over items may have `Comes`
+-- `Walk (memberSteps p) g s at (foldl g s₀ (membersOf p))` for its invariant and cites `members-start`, `walk-more` and `walk-end`; one over items has `Comes`
 -- (`Left.antt`). A step goes on by a byte at least, so the text's length bounds their number.
 use mathlib.Core.List.{List, [], _∷_, foldl, List·Memᴰ, List·Memᴰ·not-nil, List·Memᴰ·cases-cons}
 use mathlib.Core.Logic.{_⊎_, inl, inr, ⊎-elim}
@@ -9,11 +9,9 @@ use native.Mathlib.Omega.{arith}
 use lib.ListN.{length}
 use Rattle.walk.specs.declared.Member.{Member}
 use Rattle.walk.specs.declared.Item.{Item}
-use Rattle.walk.specs.declared.MemberStep.{MemberStep}
-use Rattle.walk.specs.declared.ItemStep.{ItemStep}
 use Rattle.walk.specs.declared.MemberStep.the-variants as members
 use Rattle.walk.specs.declared.ItemStep.the-variants as items
-use Rattle.walk.specs.Walk.{memberAt, membersFrom, membersOf, itemAt, itemsFrom, itemsOf}
+use Rattle.walk.specs.Walk.{memberAt, memberThen, membersFrom, membersOf, itemAt, itemThen, itemsFrom}
 use Rattle.walk.proofs.Places.{member-placed, item-placed}
 
 -- steps through a text of n bytes: what one finds at a place, where the next is looked for, and all that is found from a place on
@@ -59,45 +57,45 @@ module _ {n : ℕ} {M : Type 0} (w : Steps n M) where
     pub walk-end : (s : A) (at : ℕ) (r : A) → w .Ends at → Walk w g s at r → s ≡ r
     walk-end s at r f (k, h, e) = ap (foldl g s) (sym (w .end k at f)) ∙ e
 
+-- Steps of which each looks at one place and answers `end`, or `found m`: all that is found from a place on is what the step there finds, and then what is found
+-- where the next is looked for.
+module _ {n : ℕ} {M S : Type 0} (look : ℕ → S) (end : S) (found : M → S) (next : M → ℕ) (either : (s : S) → (s ≡ end) ⊎ ((m : M) × (s ≡ found m)))
+    (placed : (at : ℕ) (m : M) → look at ≡ found m → (at < next m) × (next m ≤ n)) (from : ℕ → ℕ → List M) (then : (ℕ → List M) → S → List M)
+    (at-end : (rest : ℕ → List M) → then rest end ≡ []) (at-found : (rest : ℕ → List M) (m : M) → then rest (found m) ≡ m ∷ rest (next m))
+    (none : (at : ℕ) → from zero at ≡ []) (some : (k at : ℕ) → from (suc k) at ≡ then (from k) (look at)) where
+  pub from-end : (k at : ℕ) → look at ≡ end → from k at ≡ []
+  from-end zero at e = none at
+  from-end (suc k) at e = some k at ∙ ap (then (from k)) e ∙ at-end (from k)
+
+  abbrev pub stepsBy : Steps n M
+  stepsBy =
+      record {
+        Finds = λ at m. look at ≡ found m;
+        Ends = λ at. look at ≡ end;
+        next = next;
+        from = from;
+        either = λ at. either (look at);
+        later = λ at m e. placed at m e .0;
+        inside = λ at m e. placed at m e .1;
+        none = none;
+        end = from-end;
+        more = λ k at m e. some k at ∙ ap (then (from k)) e ∙ at-found (from k) m;
+      }
+
 -- members
 module _ (p : List ℕ) where
   pub members-none : (at : ℕ) → membersFrom zero p at ≡ []
   unfolding membersFrom
   members-none at = refl
 
-  pub members-end : (k at : ℕ) → memberAt p at ≡ members.End → membersFrom k p at ≡ []
+  pub members-some : (k at : ℕ) → membersFrom (suc k) p at ≡ memberThen (membersFrom k p) (memberAt p at)
   unfolding membersFrom
-  members-end zero at e = refl
-  members-end (suc k) at e = rw (membersFrom, e)
-
-  pub members-more : (k at : ℕ) (m : Member) → memberAt p at ≡ members.Found m → membersFrom (suc k) p at ≡ m ∷ membersFrom k p (m .next)
-  unfolding membersFrom
-  members-more k at m e = rw (membersFrom, e)
-
-  pub members-either : (at : ℕ) → (memberAt p at ≡ members.End) ⊎ ((m : Member) × (memberAt p at ≡ members.Found m))
-  members-either at = go (memberAt p at) refl
-    where
-      go : (o : MemberStep) → memberAt p at ≡ o → (memberAt p at ≡ members.End) ⊎ ((m : Member) × (memberAt p at ≡ members.Found m))
-      go members.End e = inl e
-      go (members.Found m) e = inr (m, e)
-
-  pub members-later : (at : ℕ) (m : Member) → memberAt p at ≡ members.Found m → at < m .next
-  members-later at m e = let i = member-placed p at m e in omega arith
+  members-some k at = refl
 
   abbrev pub memberSteps : Steps (length p) Member
   memberSteps =
-      record {
-        Finds = λ at m. memberAt p at ≡ members.Found m;
-        Ends = λ at. memberAt p at ≡ members.End;
-        next = λ m. m .next;
-        from = λ k at. membersFrom k p at;
-        either = members-either;
-        later = members-later;
-        inside = λ at m e. member-placed p at m e .inside;
-        none = members-none;
-        end = members-end;
-        more = members-more;
-      }
+      stepsBy (memberAt p) members.End members.Found (λ m. m .next) (λ s. elim s [ members.End ↦ inl refl | members.Found m ↦ inr (m, refl) ])
+      (λ at m e. let i = member-placed p at m e in (omega arith, i .inside)) (λ k at. membersFrom k p at) memberThen (λ rest. refl) (λ rest m. refl) members-none members-some
 
   pub members-start : {A : Type 0} (g : A → Member → A) (s : A) → Walk memberSteps g s 1 (foldl g s (membersOf p))
   unfolding membersOf
@@ -109,40 +107,14 @@ module _ (p : List ℕ) where
   unfolding itemsFrom
   items-none at = refl
 
-  pub items-end : (k at : ℕ) → itemAt p at ≡ items.End → itemsFrom k p at ≡ []
+  pub items-some : (k at : ℕ) → itemsFrom (suc k) p at ≡ itemThen (itemsFrom k p) (itemAt p at)
   unfolding itemsFrom
-  items-end zero at e = refl
-  items-end (suc k) at e = rw (itemsFrom, e)
-
-  pub items-more : (k at : ℕ) (m : Item) → itemAt p at ≡ items.Found m → itemsFrom (suc k) p at ≡ m ∷ itemsFrom k p (m .next)
-  unfolding itemsFrom
-  items-more k at m e = rw (itemsFrom, e)
-
-  pub items-either : (at : ℕ) → (itemAt p at ≡ items.End) ⊎ ((m : Item) × (itemAt p at ≡ items.Found m))
-  items-either at = go (itemAt p at) refl
-    where
-      go : (o : ItemStep) → itemAt p at ≡ o → (itemAt p at ≡ items.End) ⊎ ((m : Item) × (itemAt p at ≡ items.Found m))
-      go items.End e = inl e
-      go (items.Found m) e = inr (m, e)
-
-  pub items-later : (at : ℕ) (m : Item) → itemAt p at ≡ items.Found m → at < m .next
-  items-later at m e = let i = item-placed p at m e in omega arith
+  items-some k at = refl
 
   abbrev pub itemSteps : Steps (length p) Item
   itemSteps =
-      record {
-        Finds = λ at m. itemAt p at ≡ items.Found m;
-        Ends = λ at. itemAt p at ≡ items.End;
-        next = λ m. m .next;
-        from = λ k at. itemsFrom k p at;
-        either = items-either;
-        later = items-later;
-        inside = λ at m e. item-placed p at m e .inside;
-        none = items-none;
-        end = items-end;
-        more = items-more;
-      }
+      stepsBy (itemAt p) items.End items.Found (λ m. m .next) (λ s. elim s [ items.End ↦ inl refl | items.Found m ↦ inr (m, refl) ])
+      (λ at m e. let i = item-placed p at m e in (omega arith, i .inside)) (λ k at. itemsFrom k p at) itemThen (λ rest. refl) (λ rest m. refl) items-none items-some
 
-  pub items-start : {A : Type 0} (g : A → Item → A) (s : A) → Walk itemSteps g s 1 (foldl g s (itemsOf p))
-  unfolding itemsOf
-  items-start g s = walk-start itemSteps g s 1
+  pub items-end : (k at : ℕ) → itemAt p at ≡ items.End → itemsFrom k p at ≡ []
+  items-end = itemSteps .end

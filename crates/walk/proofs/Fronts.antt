@@ -1,12 +1,12 @@
 -- A value at the front of some bytes is whole by itself, and ends where it is skipped to. An array or object that stands at the front, with anything behind
 -- it, is walked over to its closing bracket, each element judged where it stands: whatever tells where an element ends takes the walk's own step.
-use mathlib.Core.List.{List, [], _∷_, _++_, append-nil}
+use mathlib.Core.List.{List, [], _∷_, _++_}
 use mathlib.Core.Logic.{⊎-elim}
 use mathlib.Core.Path.{_≡_, sym, ap, subst, _∙_}
 use Prim.Native.Nat.{ℕ, zero, suc, _+_, _-_, _≤_, _<_}
 use native.Mathlib.Omega.{arith}
 use lib.ListN.{length, drop, take, length-drop, take-append-drop}
-use lib.Seq.{drop-drop, take-at, length-take-le}
+use lib.Seq.{drop-drop, length-take-le}
 use Rattle.limits.specs.Ceilings.{depth}
 use Rattle.lexeme.specs.Read.Read.{done}
 use Rattle.lexeme.specs.Character.{paired, byte, within}
@@ -19,13 +19,14 @@ use Rattle.lexeme.proofs.Placed.{Lands}
 use Rattle.json.specs.Tree.{Json, Items, Members}
 use Rattle.json.specs.Text.{value}
 use Rattle.json.proofs.Local.{value-local}
-use Rattle.json.proofs.Takes.{value-eats, value-takes}
+use Rattle.json.proofs.StrongPrefixes.{value-consumes, value-takes}
 use Rattle.walk.specs.declared.Named.{Named}
 use Rattle.walk.specs.declared.NameStep.the-variants as names
 use Rattle.walk.specs.declared.MemberStep.the-variants as members
 use Rattle.walk.specs.declared.ItemStep.the-variants as items
 use Rattle.walk.specs.Walk.{offsetOf, part, onward, memberAt, itemAt}
-use Rattle.walk.specs.Part.{Whole, kindOf, kindAt}
+use Rattle.walk.specs.Part.{Whole, kindOf}
+use Rattle.walk.specs.inner.Kind.{kindAt}
 use Rattle.walk.specs.inner.Skip.{skipped}
 use Rattle.walk.specs.inner.Along.{AlongItems, AlongMembers, NamePassed}
 use Rattle.walk.specs.inner.Front.{Fronts, Ends}
@@ -55,7 +56,7 @@ module _ {p : List ℕ} {x : Json} where
     fronts-whole f = record { reads = value-local paired depth x (take n p) (drop n p) (ap (value paired depth) (take-append-drop n p) ∙ f .reads) }
 
     pub fronts-some : Fronts p x n → 0 < n
-    fronts-some f = omega (arith, value-eats paired depth p (drop n p) x (f .reads), length-drop n p)
+    fronts-some f = omega (arith, value-consumes paired depth p (drop n p) x (f .reads), length-drop n p)
 
 -- its first byte tells its kind
 pub front-kind : (n : ℕ) (p : List ℕ) {x : Json} → Whole (take n p) x → kindAt p ≡ kindOf x
@@ -72,13 +73,9 @@ skip-ends p e v =
       none = λ h. v ∙ ap (offsetOf p) (skipped-none p h) ∙ omega arith;
     }
 
--- so many bytes are cut off the front
+-- the value's bytes are cut off the front
 pub ends-cut : (p : List ℕ) (e : ℕ) → Ends p e → e ≡ length (take e p)
 ends-cut p e f = sym (length-take-le e p (f .inside))
-
--- all bytes from v on
-pub tail-cut : (p : List ℕ) (v : ℕ) → part p v (length p) ≡ drop v p
-tail-cut p v = ap (take (length p - v)) (sym (append-nil (drop v p))) ∙ take-at (drop v p) [] (length p - v) (length-drop v p)
 
 -- a value that is read at v up to the rest t, and ends behind e bytes
 module _ (p : List ℕ) (v e : ℕ) (f : Ends (drop v p) e) (x : Json) (t : List ℕ) (r : value paired depth (drop v p) ≡ done x t) where

@@ -10,6 +10,8 @@ use lib.Dec.{eqb}
 use lib.ListN.{length, drop}
 use borrow.Author.Tests.{eqb-true}
 use Rattle.limits.specs.Ceilings.{depth}
+use Rattle.notation.proofs.Booleans.{by-test, true-false}
+use Rattle.notation.proofs.Lists.{no-cons}
 use Rattle.lexeme.specs.Read.{made}
 use Rattle.lexeme.specs.Read.Read.{done}
 use Rattle.lexeme.specs.Character.{paired, byte, within}
@@ -19,21 +21,23 @@ use Rattle.lexeme.specs.Tokens.{blank, blanks}
 use Rattle.lexeme.specs.inner.Start.{Start, start}
 use Rattle.lexeme.proofs.Reading.{numeric, stops}
 use Rattle.lexeme.proofs.Starts.{blank-stops, object-byte}
-use Rattle.lexeme.proofs.Steps.{by-test, true-false, bad-done, no-cons, done-rest, string-empty, blanks-pass, blanks-stop, someDigits-more, someDigits-none, integer-zero, integer-digits, optional-there, optional-absent, both-reads}
-use Rattle.lexeme.proofs.Takes.{both-done, no-digit, number-takes}
+use Rattle.lexeme.proofs.Steps.{bad-done, done-rest, string-empty, blanks-pass, blanks-stop, someDigits-more, someDigits-none, integer-zero, integer-digits, optional-there, optional-absent, both-reads}
+use Rattle.lexeme.proofs.StrongPrefixes.{both-done, no-digit, number-takes}
 use Rattle.json.specs.Tree.{Json, Members}
 use Rattle.json.specs.Text.{expect, value}
 use Rattle.json.proofs.Steps.{expect-end, expect-here, expect-other}
+use Rattle.json.proofs.Spellings.{expect-done}
 use Rattle.walk.specs.declared.MemberStep.the-variants as members
 use Rattle.walk.specs.declared.ValueKind.the-variants as kind
 use Rattle.walk.specs.Walk.{memberAt, membersOf}
-use Rattle.walk.specs.Part.{Whole, kindOf, kindFrom, kindAt}
+use Rattle.walk.specs.Part.{Whole, kindOf}
+use Rattle.walk.specs.inner.Kind.{kindFrom, kindAt}
 use Rattle.walk.specs.inner.Skip.{quoted, skipped}
 use Rattle.walk.specs.inner.Along.{AlongItems}
 use Rattle.walk.proofs.Quotes.{apart, itself, quoted-mark, quoted-itself, string-quoted}
 use Rattle.walk.proofs.Skips.{skipped-string, skip-value}
-use Rattle.walk.proofs.Steps.{expect-done, member-unnamed, member-from}
-use Rattle.walk.proofs.Folds.{members-either, members-end}
+use Rattle.walk.proofs.Steps.{member-unnamed, member-from}
+use Rattle.walk.proofs.Folds.{memberSteps}
 use Rattle.walk.proofs.Wholes.{whole-kind, whole-null, whole-word, number-read, string-read}
 use Rattle.walk.proofs.Along.{along-item}
 
@@ -132,7 +136,7 @@ itemless p a =
     let both : y .3 .by ∷ y .3 .behind ≡ 0x3a ∷ u = sym (y .3 .there) ∙ ap blanks same ∙ j in
     let colon : y .3 .by ≡ 0x3a = cc in
     true-false (y .3 .is) (ap (either 0x5d 0x2c) colon))
-    (members-either p 1)) (along-item p a)
+    (memberSteps p .either 1)) (along-item p a)
 
 -- the first byte of an object, and no other's
 object-first : {p : List ℕ} {ms : Members} → Whole p (Json.object ms) → byte p 0 ≡ 0x7b
@@ -174,4 +178,4 @@ memberless p (Json.object ms) w n = absurd (n (object-first w))
 
 pub no-members : {p : List ℕ} {x : Json} → Whole p x → (byte p 0 ≡ 0x7b → ⊥) → membersOf p ≡ []
 unfolding membersOf
-no-members {p} {x} w n = members-end p (length p) 1 (memberless p x w n)
+no-members {p} {x} w n = memberSteps p .end (length p) 1 (memberless p x w n)

@@ -9,18 +9,20 @@ use lib.Dec.{eqb}
 use lib.ListN.{length, drop, take, length-append, length-drop, take-append-drop}
 use lib.Seq.{take-at, take-append-le, drop-append-le}
 use Rattle.limits.specs.Ceilings.{depth}
+use Rattle.notation.proofs.Booleans.{by-test}
+use Rattle.notation.proofs.Lists.{no-cons}
 use Rattle.lexeme.specs.Read.{Read}
 use Rattle.lexeme.specs.Read.Read.{done}
 use Rattle.lexeme.specs.Character.{paired}
 use Rattle.lexeme.specs.Strings
 use Rattle.lexeme.specs.Tokens.{blanks}
-use Rattle.lexeme.proofs.Reading.{Ok, alike, Takes}
-use Rattle.lexeme.proofs.Steps.{by-test, no-cons}
+use Rattle.lexeme.proofs.Reading.{Ok, alike, StrongPrefix}
 use Rattle.lexeme.proofs.Shrinks.{blanks-shrinks}
-use Rattle.lexeme.proofs.Takes.{blanks-of, solid-first, string-takes}
+use Rattle.lexeme.proofs.StrongPrefixes.{blanks-of, solid-first, string-takes}
 use Rattle.json.specs.Tree.{Json, Items}
 use Rattle.json.specs.Text.{expect, value}
-use Rattle.json.proofs.Takes.{blanks-takes, expect-takes, value-eats, value-takes}
+use Rattle.json.proofs.StrongPrefixes.{blanks-takes, expect-takes, value-consumes, value-takes}
+use Rattle.json.proofs.Spellings.{expect-done}
 use Rattle.walk.specs.declared.Item.{Item}
 use Rattle.walk.specs.declared.MemberStep.the-variants as members
 use Rattle.walk.specs.declared.ItemStep.the-variants as items
@@ -28,9 +30,9 @@ use Rattle.walk.specs.Walk.{offsetOf, part, onward, memberIn, memberAt, 
 use Rattle.walk.specs.Part.{Whole}
 use Rattle.walk.specs.inner.Along.{AlongItems, AlongMembers}
 use Rattle.walk.proofs.Steps as step
-use Rattle.walk.proofs.Steps.{expect-done, onward-comma, onward-other, Reads, memberOf, member-found, item-found}
+use Rattle.walk.proofs.Steps.{onward-comma, onward-other, Reads, memberOf, member-found, item-found}
 use Rattle.walk.proofs.Places.{item-placed}
-use Rattle.walk.proofs.Folds.{each, one-more, itemSteps, items-either, items-end, items-more, items-later}
+use Rattle.walk.proofs.Folds.{each, one-more, itemSteps, items-end}
 use Rattle.walk.proofs.Parts.{itemOf}
 use Rattle.walk.proofs.Trees.{item-stops, member-stops}
 use Rattle.walk.proofs.Along.{along-item, along-member}
@@ -55,7 +57,7 @@ module _ (t : List ℕ) where
   goes-on [] e = no-cons e
   goes-on (c ∷ r) e = alike
 
-  read-on : {A : Type 0} (f : List ℕ → Read A) → Takes Ok f → (l r : List ℕ) (x : A) {b : ℕ} {w : List ℕ} → f l ≡ done x r → blanks r ≡ b ∷ w
+  read-on : {A : Type 0} (f : List ℕ → Read A) → StrongPrefix Ok f → (l r : List ℕ) (x : A) {b : ℕ} {w : List ℕ} → f l ≡ done x r → blanks r ≡ b ∷ w
       → f (l ++ t) ≡ done x (r ++ t)
   read-on f takes l r x e h =
       let k = takes l r x e in
@@ -84,7 +86,7 @@ module _ (t : List ℕ) {l name : List ℕ} {x : Json} {q r : List ℕ} (m : Rea
   reads-on : Reads (l ++ t) name x (q ++ t) (r ++ t)
   reads-on =
       let k = expect-takes 0x22 (Strings.string paired 0) (string-takes paired 0) l q name (m .named) in
-      let takes = expect-takes 0x3a (λ z. value paired depth (blanks z)) (blanks-takes (value paired depth) (value-eats paired depth) (value-takes paired depth)) in
+      let takes = expect-takes 0x3a (λ z. value paired depth (blanks z)) (blanks-takes (value paired depth) (value-consumes paired depth) (value-takes paired depth)) in
       record {
         named =
             ap (λ (z : List ℕ). expect 0x22 (Strings.string paired 0) (z ++ t)) (k .splits)
@@ -95,7 +97,7 @@ module _ (t : List ℕ) {l name : List ℕ} {x : Json} {q r : List ℕ} (m : Rea
   value-on : (p : List ℕ) → offsetOf (p ++ t) (blanks (drop 1 (blanks (q ++ t)))) ≡ offsetOf p (blanks (drop 1 (blanks q)))
   value-on p =
       let (u, h, e) = colon in
-      let some : 0 < length (blanks u) = omega (arith, value-eats paired depth (blanks u) r x e) in
+      let some : 0 < length (blanks u) = omega (arith, value-consumes paired depth (blanks u) r x e) in
       ap (λ (z : List ℕ). offsetOf (p ++ t) (blanks (drop 1 z))) (behind-name ∙ ap (λ (z : List ℕ). z ++ t) h) ∙ ap (offsetOf (p ++ t)) (solid-on t u some) ∙ place-on t p (blanks u)
       ∙ sym (ap (λ (z : List ℕ). offsetOf p (blanks (drop 1 z))) h)
 
@@ -120,7 +122,7 @@ module _ (q t : List ℕ) where
       ⊎-elim (λ y. item-stops (q ++ t) at (y .0 ++ t) (closing-on at 0x5d (y .0) (y .1)) ∙ sym (item-stops q at (y .0) (y .1)))
       (λ y.
       let l = blanks (drop at q) in let r = y .1 in
-      let e = front-on at (omega (arith, value-eats paired depth l r (y .0) (y .2))) in
+      let e = front-on at (omega (arith, value-consumes paired depth l r (y .0) (y .2))) in
       let v = read-on t (value paired depth) (value-takes paired depth) l r (y .0) (y .2) (y .3 .there) in
       ap (itemIn (q ++ t)) e ∙ item-found (q ++ t) (l ++ t) v ∙ same l r (y .3 .by) (y .3 .behind) (y .3 .there) ∙ sym (item-found q l (y .2))) (along-item q a)
     where
@@ -157,15 +159,15 @@ module _ (q t : List ℕ) where
   items-from : (k j at : ℕ) → AlongItems q at → length q ≤ at + k → length (q ++ t) ≤ at + j → itemsFrom j (q ++ t) at ≡ itemsFrom k q at
   items-from zero j at a h i =
       ⊎-elim (λ e. items-end (q ++ t) j at (item-on a ∙ e) ∙ sym (items-end q zero at e))
-      (λ f. let m = item-placed q at (f .0) (f .1) in absurd (omega arith)) (items-either q at)
+      (λ f. let m = item-placed q at (f .0) (f .1) in absurd (omega arith)) (itemSteps q .either at)
   items-from (suc k) j at a h i =
       let ih = items-from k in
       ⊎-elim (λ e. items-end (q ++ t) j at (item-on a ∙ e) ∙ sym (items-end q (suc k) at e))
       (λ f.
       let (m, e) = f in
       let o = one-more (itemSteps (q ++ t)) j at m (item-on a ∙ e) i in
-      o .2 ∙ ap (λ (l : List Item). m ∷ l) (ih (o .0) (m .next) (AlongItems.next a e) (omega (arith, items-later q at m e)) (o .1)) ∙ sym (items-more q k at m e))
-      (items-either q at)
+      o .2 ∙ ap (λ (l : List Item). m ∷ l) (ih (o .0) (m .next) (AlongItems.next a e) (omega (arith, itemSteps q .later at m e)) (o .1)) ∙ sym (itemSteps q .more k at m e))
+      (itemSteps q .either at)
 
   items-on : {is : Items} → Whole q (Json.array is) → itemsOf (q ++ t) ≡ itemsOf q
   unfolding itemsOf
@@ -211,7 +213,7 @@ module _ (p : List ℕ) (n : ℕ) where
   pub front-part : (from upto : ℕ) → from ≤ upto → upto ≤ length (take n p) → part p from upto ≡ part (take n p) from upto
   front-part from upto h i = ap (λ (l : List ℕ). part l from upto) (sym whole-text) ∙ part-on (take n p) (drop n p) from upto h i
 
-  -- what is made of each item and its bytes, and what holds of each
+  -- what is made of each item and its bytes
   pub front-map : {A : Type 0} {is : Items} (f : Item → List ℕ → A) → Whole (take n p) (Json.array is)
       → map (λ m. f m (itemOf p m)) (itemsOf p) ≡ map (λ m. f m (itemOf (take n p) m)) (itemsOf (take n p))
   front-map {A} f w = ap (map (λ m. f m (itemOf p m))) (front-items w) ∙ go (itemsOf (take n p)) front-item
@@ -222,7 +224,3 @@ module _ (p : List ℕ) (n : ℕ) where
       go (m ∷ l) h =
           ap (λ (q : List ℕ). f m q ∷ map (λ m. f m (itemOf p m)) l) (h m (List·Memᴰ·head refl))
           ∙ ap (λ (k : List A). f m (itemOf (take n p) m) ∷ k) (go l (λ o i. h o (List·Memᴰ·tail i)))
-
-  pub front-each : {is : Items} (P : Item → List ℕ → Type 0) → Whole (take n p) (Json.array is)
-      → ((m : Item) → List·Memᴰ m (itemsOf (take n p)) → P m (itemOf (take n p) m)) → (m : Item) → List·Memᴰ m (itemsOf p) → P m (itemOf p m)
-  front-each P w holds m i = let j = subst (List·Memᴰ m) (front-items w) i in subst (P m) (sym (front-item m j)) (holds m j)

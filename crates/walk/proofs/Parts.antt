@@ -10,7 +10,7 @@ use Rattle.limits.specs.Ceilings.{depth}
 use Rattle.lexeme.specs.Read.Read.{done}
 use Rattle.lexeme.specs.Character.{paired}
 use Rattle.lexeme.specs.Strings
-use Rattle.lexeme.proofs.Takes.{string-spelled}
+use Rattle.lexeme.proofs.StrongPrefixes.{string-spelled}
 use Rattle.json.specs.Tree.{Json}
 use Rattle.json.specs.Text.{value}
 use Rattle.json.proofs.Local.{value-part}
@@ -18,10 +18,10 @@ use Rattle.walk.specs.declared.Member.{Member}
 use Rattle.walk.specs.declared.Item.{Item}
 use Rattle.walk.specs.declared.MemberStep.the-variants as members
 use Rattle.walk.specs.declared.ItemStep.the-variants as items
-use Rattle.walk.specs.Walk.{part, memberAt, membersOf, itemAt, itemsOf}
+use Rattle.walk.specs.Walk.{part, memberAt, itemAt, itemsOf}
 use Rattle.walk.specs.Part.{Whole, partTree}
 use Rattle.walk.proofs.Places.{Spelt, ItemSpelt, found-member, found-item}
-use Rattle.walk.proofs.Folds.{each, memberSteps, itemSteps}
+use Rattle.walk.proofs.Folds.{each, itemSteps}
 use Rattle.walk.proofs.Wholes.{whole-tree}
 
 -- the parts of p that a member or item tells
@@ -68,10 +68,6 @@ module _ (p : List ℕ) where
 
   pub item-whole : (at : ℕ) (m : Item) → itemAt p at ≡ items.Found m → Whole (itemOf p m) (partTree (itemOf p m))
   item-whole at m e = let f = found-item p at m e in subst (Whole (itemOf p m)) (sym (item-tree (f .spelt))) (item-value (f .spelt))
-
-  pub members-whole : (m : Member) → List·Memᴰ m (membersOf p) → Whole (valueOf p m) (partTree (valueOf p m))
-  unfolding membersOf
-  members-whole = each (memberSteps p) (λ m. Whole (valueOf p m) (partTree (valueOf p m))) member-whole (length p) 1
 
   pub items-whole : (m : Item) → List·Memᴰ m (itemsOf p) → Whole (itemOf p m) (partTree (itemOf p m))
   unfolding itemsOf

@@ -21,8 +21,9 @@ use Rattle.lexeme.proofs.Shrinks.{blanks-shrinks}
 use Rattle.lexeme.proofs.Spans.{Skipped}
 use Rattle.json.specs.Tree.{Json}
 use Rattle.json.specs.Text.{expect, value}
-use Rattle.json.proofs.Takes.{value-eats, value-takes}
+use Rattle.json.proofs.StrongPrefixes.{value-consumes, value-takes}
 use Rattle.json.proofs.Values.{expect-absent}
+use Rattle.json.proofs.Spellings.{expect-done}
 use Rattle.walk.specs.declared.Member.{Member}
 use Rattle.walk.specs.declared.Item.{Item}
 use Rattle.walk.specs.declared.Named.{Named}
@@ -34,7 +35,7 @@ use Rattle.walk.specs.Walk.{offsetOf, onward, memberAt}
 use Rattle.walk.specs.inner.Skip.{quoted, skipped}
 use Rattle.walk.specs.inner.Along.{Placed, NamePlaced, ItemPlaced, ItemPassed, MemberPassed, frontOf, NamePassed}
 use Rattle.walk.proofs.Rests.{Rest, rest-drop, rest-read, rest-inside, rest-there}
-use Rattle.walk.proofs.Steps.{expect-done, Reads, member-unnamed}
+use Rattle.walk.proofs.Steps.{Reads, member-unnamed}
 use Rattle.walk.proofs.Places.{onward-later, member-placed, found-member, next-found}
 use Rattle.walk.proofs.Quotes.{string-quoted}
 use Rattle.walk.proofs.Skips.{skip-value, skipped-none}
@@ -73,7 +74,7 @@ module _ (p : List ℕ) (i e : ℕ) (v : e ≡ length p - length (skipped (drop 
   rest = rest-read (value paired depth) (value-takes paired depth) (drop i p) t x r (rest-drop i)
 
   read-later : i < e
-  read-later = omega (arith, ends-there, value-eats paired depth (drop i p) t x r, rest-inside rest, length-drop i p)
+  read-later = omega (arith, ends-there, value-consumes paired depth (drop i p) t x r, rest-inside rest, length-drop i p)
 
   read-lands : Lands (value paired depth) p i e
   read-lands =
@@ -150,7 +151,7 @@ module _ (p : List ℕ) (at i : ℕ) (k : Skipped p at i) where
             upto = named .upto;
           }
 
-      -- and the value stands past the colon
+      -- the value stands past the colon
       value-there : (s : ℕ) → Skipped p (c + 1) s → value paired depth (drop s p) ≡ done x t
       value-there s u =
           let (m, h, f) = expect-done 0x3a (λ r. value paired depth (blanks r)) (blanks q) t x (r .valued) in

@@ -7,16 +7,17 @@ use native.Mathlib.Omega.{arith}
 use lib.ListN.{length, drop, length-drop}
 use lib.Dec.{eqb}
 use Rattle.limits.specs.Ceilings.{depth}
+use Rattle.notation.proofs.Booleans.{by-test}
 use Rattle.lexeme.specs.Read.Read.{done}
 use Rattle.lexeme.specs.Character.{paired}
 use Rattle.lexeme.specs.Strings
 use Rattle.lexeme.specs.Tokens.{blanks}
-use Rattle.lexeme.proofs.Steps.{by-test}
 use Rattle.lexeme.proofs.Shrinks.{blanks-shrinks}
-use Rattle.lexeme.proofs.Takes.{string-takes, string-eats}
+use Rattle.lexeme.proofs.StrongPrefixes.{string-takes, string-consumes}
 use Rattle.json.specs.Tree.{Json}
 use Rattle.json.specs.Text.{expect, value}
-use Rattle.json.proofs.Takes.{blanks-takes, expect-takes, value-eats, value-takes}
+use Rattle.json.proofs.StrongPrefixes.{blanks-takes, expect-takes, value-consumes, value-takes}
+use Rattle.json.proofs.Spellings.{expect-done}
 use Rattle.walk.specs.declared.Member.{Member}
 use Rattle.walk.specs.declared.Item.{Item}
 use Rattle.walk.specs.declared.MemberStep.the-variants as members
@@ -24,7 +25,7 @@ use Rattle.walk.specs.declared.ItemStep.the-variants as items
 use Rattle.walk.specs.Walk.{offsetOf, onward, memberAt, itemAt}
 pub use Rattle.walk.specs.inner.Along.{Placed, ItemPlaced}
 use Rattle.walk.proofs.Rests.{Rest, rest-drop, rest-next, rest-blanks, rest-read, rest-inside, rest-there}
-use Rattle.walk.proofs.Steps.{expect-done, onward-end, onward-comma, onward-other, Reads, memberOf, itemOf, member-from, item-from}
+use Rattle.walk.proofs.Steps.{onward-end, onward-comma, onward-other, Reads, memberOf, itemOf, member-from, item-from}
 
 -- what stands at the places of a member
 pub record Spelt (p : List ℕ) (at : ℕ) (m : Member) (text : List ℕ) (x : Json) : Type 0 where
@@ -32,7 +33,7 @@ pub record Spelt (p : List ℕ) (at : ℕ) (m : Member) (text : List ℕ) (x : J
   pub spells : Strings.string paired 0 (drop (m .name) p) ≡ done text (drop (m .«name_end» + 1) p)
   pub reads : value paired depth (drop (m .value) p) ≡ done x (drop (m .«value_end») p)
 
--- and at those of an item
+-- what stands at the places of an item
 pub record ItemSpelt (p : List ℕ) (at : ℕ) (m : Item) (x : Json) : Type 0 where
   pub placed : ItemPlaced p at m
   pub reads : value paired depth (drop (m .value) p) ≡ done x (drop (m .«value_end») p)
@@ -67,7 +68,7 @@ module _ (p : List ℕ) (at : ℕ) where
       let l = blanks (drop at p) in
       let sl : Rest p l = rest-blanks (drop at p) (rest-drop at) in
       let st : Rest p t = rest-read (value paired depth) (value-takes paired depth) l t x e sl in
-      let n : length t < length l = value-eats paired depth l t x e in
+      let n : length t < length l = value-consumes paired depth l t x e in
       let i : length l ≤ length p - at = subst (λ (m : ℕ). length l ≤ m) (length-drop at p) (blanks-shrinks (drop at p)) in
       let o = onward-later p t (rest-inside st) in
       record {
@@ -93,7 +94,7 @@ module _ (p : List ℕ) (at : ℕ) where
       let v : offsetOf p (blanks (drop 1 (blanks q))) ≡ offsetOf p (blanks u) = ap (λ (z : List ℕ). offsetOf p (blanks (drop 1 z))) (b .1) in
       let k =
       order (length p) at (length l) (length w) (length q) (length (blanks u)) (length t) front (rest-inside sl) (ap length (a .1))
-      (string-eats paired 0 w q text (a .2)) colon (value-eats paired depth (blanks u) t x (b .2)) in
+      (string-consumes paired 0 w q text (a .2)) colon (value-consumes paired depth (blanks u) t x (b .2)) in
       record {
         placed = record { later = k .later; name = k .name; apart = rw v (k .apart); value = rw v (k .value); next = o .0; inside = o .1 };
         spells =
@@ -136,6 +137,6 @@ module _ (p : List ℕ) (at : ℕ) where
   next-found m e =
       let f = member-from p (blanks (drop at p)) m e in
       let sq = rest-read (expect 0x22 (Strings.string paired 0)) (expect-takes 0x22 _ (string-takes paired 0)) _ _ _ (f .reads .named) (rest-blanks (drop at p) (rest-drop at)) in
-      let after = expect-takes 0x3a (λ r. value paired depth (blanks r)) (blanks-takes (value paired depth) (value-eats paired depth) (value-takes paired depth)) in
+      let after = expect-takes 0x3a (λ r. value paired depth (blanks r)) (blanks-takes (value paired depth) (value-consumes paired depth) (value-takes paired depth)) in
       let st : Rest p (f .afterValue) = rest-read (expect 0x3a (λ r. value paired depth (blanks r))) after _ _ _ (f .reads .valued) (rest-blanks (f .afterName) sq) in
       ap (λ (z : Member). z .next) (f .is) ∙ ap (λ (l : List ℕ). onward p (blanks l)) (sym (ap (λ (z : Member). drop (z .«value_end») p) (f .is) ∙ rest-there st))

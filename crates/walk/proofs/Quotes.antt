@@ -9,6 +9,8 @@ use lib.Dec.{eqb, ltb}
 use lib.ListN.{length, drop, drop-of-length-le, length-drop}
 use lib.Seq.{drop-drop}
 use borrow.Author.Tests.{eqb-true, ltb-true, ltb-false}
+use Rattle.notation.proofs.Booleans.{by-test, true-false}
+use Rattle.notation.proofs.Lists.{at-cons}
 use Rattle.lexeme.specs.declared.Next.{Next}
 use Rattle.lexeme.specs.declared.Next.the-variants.{Quote, Character, Fault}
 use Rattle.lexeme.specs.declared.Quad.{Quad}
@@ -20,8 +22,7 @@ use Rattle.lexeme.specs.Character.{paired, byte, bytesOf, within, utf2, utf3, u
 use Rattle.lexeme.specs.inner.Lead.{Lead, lead, nextBy}
 use Rattle.lexeme.specs.inner.Lead.Lead.{plain, quote, backslash, wrong, two, threeE0, three, threeED, fourF0, four, fourF4}
 use Rattle.lexeme.specs.Strings.{string}
-use Rattle.lexeme.proofs.Steps.{by-test, true-false, bad-done, done-rest, made-done, string-empty, string-quote, string-fault, string-character, string-skip}
-use Rattle.lexeme.proofs.Rests.{at-cons}
+use Rattle.lexeme.proofs.Steps.{bad-done, done-rest, made-done, string-empty, string-quote, string-fault, string-character, string-skip}
 use Rattle.lexeme.proofs.Local.{choice, encoded-char, quote-byte}
 use Rattle.walk.specs.inner.Skip.{quoted}
 use Rattle.lexeme.proofs.Leads.{next-by}
@@ -55,7 +56,7 @@ module _ (l : List ℕ) where
   unfolding quoted
   quoted-escaped b = refl
 
--- the same from place to place of a text, also past its end
+-- a string's rest from any place of a text on, also past its end
 pub quoted-past : (e : Bool) (l : List ℕ) (i : ℕ) → length l ≤ i → quoted e (drop i l) ≡ []
 unfolding quoted
 quoted-past e l i h = ap (quoted e) (drop-of-length-le l h)
@@ -105,7 +106,7 @@ tells b =
     (choice (Tells b) (ltb b 0xf4) (e, f)
     (choice (Tells b) (eqb b 0xf4) (e, f) (e, f))))))))))))
 
--- so many bytes of the string that goes on with l are passed
+-- the first n bytes of the string that goes on with l are passed
 abbrev Passed : ℕ → List ℕ → Type 0
 Passed n l = quoted false l ≡ quoted false (drop n l)
 
@@ -220,7 +221,7 @@ module _ (l : List ℕ) where
       go four h = utf4-passed l h 0x80 0xbf refl refl
       go fourF4 h = utf4-passed l h 0x80 0x8f refl refl
 
--- a string, of so many bytes at most
+-- a string, by the number of bytes that it has at most
 string-bounded : (most : ℕ) (l y r : List ℕ) → length l ≤ most → string paired 0 l ≡ done y r → quoted false l ≡ r
 string-bounded zero [] y r n e = bad-done (sym (string-empty paired 0) ∙ e)
 string-bounded zero (b ∷ l) y r n e = absurd (omega arith)

@@ -8,9 +8,9 @@ use lib.Seq.{drop-at}
 use Rattle.lexeme.specs.Read.{Read}
 use Rattle.lexeme.specs.Read.Read.{done}
 use Rattle.lexeme.specs.Tokens.{blanks}
-use Rattle.lexeme.proofs.Reading.{Takes}
-use Rattle.lexeme.proofs.Takes.{blanks-of}
-use Rattle.json.proofs.Takes.{joins}
+use Rattle.lexeme.proofs.Reading.{StrongPrefix}
+use Rattle.lexeme.proofs.StrongPrefixes.{blanks-of}
+use Rattle.json.proofs.StrongPrefixes.{joins}
 use Rattle.walk.specs.Walk.{offsetOf}
 
 pub record Rest (p l : List ℕ) : Type 0 where
@@ -30,7 +30,7 @@ module _ {p : List ℕ} where
   pub rest-blanks : (l : List ℕ) → Rest p l → Rest p (blanks l)
   rest-blanks l s = let k = blanks-of l in rest-after (k .part) (blanks l) (k .splits) s
 
-  pub rest-read : {A : Type 0} {C : List ℕ → List ℕ → Type 0} (f : List ℕ → Read A) → Takes C f
+  pub rest-read : {A : Type 0} {C : List ℕ → List ℕ → Type 0} (f : List ℕ → Read A) → StrongPrefix C f
       → (l r : List ℕ) (x : A) → f l ≡ done x r → Rest p l → Rest p r
   rest-read f takes l r x e s = let t = takes l r x e in rest-after (t .part) r (t .splits) s
 

@@ -9,6 +9,7 @@ use lib.Dec.{eqb}
 use lib.ListN.{length, drop}
 use borrow.Author.Tests.{eqb-true}
 use Rattle.notation.specs.Ascii.{bytes}
+use Rattle.notation.proofs.Booleans.{by-test}
 use Rattle.lexeme.specs.Read.{Read, made}
 use Rattle.lexeme.specs.Read.Read.{done, bad}
 use Rattle.lexeme.specs.Character.{paired, byte, within}
@@ -16,9 +17,9 @@ use Rattle.lexeme.specs.Strings as Strings
 use Rattle.lexeme.specs.Numbers.{digit, either, digits, someDigits, optional, both, nothing, integer, minus, fraction, exponent, number}
 use Rattle.lexeme.specs.Tokens.{blank, blanks, literal}
 use Rattle.lexeme.specs.inner.Start.{Start, start}
-use Rattle.lexeme.proofs.Reading.{Eats}
-use Rattle.lexeme.proofs.Steps.{by-test, bad-done, done-rest, made-done, then-done, blanks-pass, blanks-stop, digits-more, digits-stop, someDigits-more, someDigits-none, integer-zero, integer-digits, optional-there, optional-absent}
-use Rattle.lexeme.proofs.Takes.{both-done}
+use Rattle.lexeme.proofs.Reading.{Consumes}
+use Rattle.lexeme.proofs.Steps.{bad-done, done-rest, made-done, then-done, blanks-pass, blanks-stop, digits-more, digits-stop, someDigits-more, someDigits-none, integer-zero, integer-digits, optional-there, optional-absent}
+use Rattle.lexeme.proofs.StrongPrefixes.{both-done}
 use Rattle.lexeme.proofs.Starts.{string-byte, array-byte, object-byte}
 use Rattle.lexeme.proofs.Spells.{literal-spells}
 use Rattle.json.specs.Tree.{Json, asItems, asMembers}
@@ -26,10 +27,10 @@ use Rattle.json.specs.Text.{expect, contents, bracketed, member, valueBy, value
 use Rattle.json.specs.Text.After.{closed, more}
 use Rattle.json.proofs.Steps.{contents-end, contents-none, contents-some, member-then, named, valueAt, value-start}
 use Rattle.json.proofs.Bound.{Follows, at-close, at-comma, follows-as, Run, faulty, last, next, broken, run}
-use Rattle.json.proofs.Takes.{value-eats, member-eats}
+use Rattle.json.proofs.StrongPrefixes.{value-consumes, member-consumes}
+use Rattle.json.proofs.Spellings.{expect-done}
 use Rattle.walk.specs.inner.Skip.{quoted, outside, inside, enclosed, numbered, skipped}
 use Rattle.walk.proofs.Quotes.{apart, string-quoted}
-use Rattle.walk.proofs.Steps.{expect-done}
 
 -- a byte between brackets that is none, and no quotation mark
 pub record Between (b : ℕ) : Type 0 where
@@ -70,7 +71,7 @@ unfolding enclosed
 enclosed-all [] = refl
 enclosed-all (b ∷ l) = refl
 
--- and a string: past its closing mark
+-- a string is passed over up to its closing mark
 enclosed-inside : (n : ℕ) (e : Bool) (l : List ℕ) → enclosed n (inside e) l ≡ enclosed n outside (quoted e l)
 unfolding enclosed quoted
 enclosed-inside n e [] = refl
@@ -172,7 +173,7 @@ string-across : (l y r : List ℕ) → Strings.string paired 0 l ≡ done y r �
 string-across l y r e n = enclosed-mark n 0x22 l refl ∙ ap (enclosed (suc n) outside) (string-quoted l y r e)
 
 -- elements up to the bracket that closes them, and that bracket
-module _ {A : Type 0} (close : ℕ) {element : List ℕ → Read A} (eats : Eats element) (crosses : Crosses element)
+module _ {A : Type 0} (close : ℕ) {element : List ℕ → Read A} (consumes : Consumes element) (crosses : Crosses element)
     (closes : (n : ℕ) (l : List ℕ) → enclosed (suc n) outside (close ∷ l) ≡ enclosed n outside l) where
   closed-here : (n b : ℕ) (l : List ℕ) → eqb b close ≡ true → enclosed (suc n) outside (b ∷ l) ≡ enclosed n outside l
   closed-here n b l h = ap (λ (c : ℕ). enclosed (suc n) outside (c ∷ l)) (eqb-true b close h) ∙ closes n l
@@ -200,7 +201,7 @@ module _ {A : Type 0} (close : ℕ) {element : List ℕ → Read A} (eats : Eats
   contents-closed (b ∷ l) r xs e n =
       by-test (eqb b close)
       (λ h. closed-here n b l h ∙ ap (enclosed n outside) (done-rest (sym (contents-none close element b l h) ∙ e)))
-      (λ h. run-closed (run close element eats (suc (length (b ∷ l))) (b ∷ l) (omega arith)) xs r (sym (contents-some close element b l h) ∙ e) n)
+      (λ h. run-closed (run close element consumes (suc (length (b ∷ l))) (b ∷ l) (omega arith)) xs r (sym (contents-some close element b l h) ∙ e) n)
 
   bracketed-closed : (l r : List ℕ) (xs : List A) → bracketed close element l ≡ done xs r → (n : ℕ) → enclosed (suc n) outside l ≡ enclosed n outside r
   unfolding bracketed
@@ -319,14 +320,14 @@ unfolding value
 value-passes zero = value-by-passes _ _ (λ l r x e. bad-done e) (λ l r x e. bad-done e)
 value-passes (suc d) =
     let ih : Crosses (value paired d) = λ l r x e. value-passes d l r x e .across in
-    let eats = value-eats paired d in
+    let consumes = value-consumes paired d in
     value-by-passes _ _
     (λ l r x e.
     let m = made-done (λ xs. Json.array (asItems xs)) (bracketed 0x5d (value paired d) l) x r e in
-    bracketed-closed 0x5d eats ih (λ n q. unfold enclosed either in refl) l r (m .0) (m .1))
+    bracketed-closed 0x5d consumes ih (λ n q. unfold enclosed either in refl) l r (m .0) (m .1))
     (λ l r x e.
     let m = made-done (λ ms. Json.object (asMembers ms)) (bracketed 0x7d (member paired (value paired d)) l) x r e in
-    bracketed-closed 0x7d (member-eats paired (value paired d) eats) (member-crosses ih) (λ n q. unfold enclosed either in refl) l r (m .0) (m .1))
+    bracketed-closed 0x7d (member-consumes paired (value paired d) consumes) (member-crosses ih) (λ n q. unfold enclosed either in refl) l r (m .0) (m .1))
 
 -- The theorem: behind a value that is read stands what is left.
 pub skip-value : (d : ℕ) (x : Json) (l t : List ℕ) → value paired d l ≡ done x t → skipped l ≡ t

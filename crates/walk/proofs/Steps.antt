@@ -1,22 +1,19 @@
 -- One step of a walk: the ways through it, one equation each, and back from what it found to what was read.
 use mathlib.Core.Bool.{true, false}
 use mathlib.Core.List.{List, [], _∷_}
-use mathlib.Core.Path.{_≡_, refl, sym, ap, _∙_}
+use mathlib.Core.Path.{_≡_, refl}
 use Prim.Native.Nat.{ℕ, _+_, _-_}
 use native.Mathlib.Omega.{arith}
 use lib.ListN.{length, drop}
 use lib.Dec.{eqb}
-use borrow.Author.Tests.{eqb-true}
 use Rattle.limits.specs.Ceilings.{depth}
 use Rattle.lexeme.specs.Read.{Read}
 use Rattle.lexeme.specs.Read.Read.{done, bad}
 use Rattle.lexeme.specs.Character.{paired}
 use Rattle.lexeme.specs.Strings
 use Rattle.lexeme.specs.Tokens.{blanks}
-use Rattle.lexeme.proofs.Steps.{by-test, bad-done}
 use Rattle.json.specs.Tree.{Json}
 use Rattle.json.specs.Text.{expect, value}
-use Rattle.json.proofs.Steps.{expect-end, expect-here, expect-other}
 use Rattle.walk.specs.declared.Member.{Member}
 use Rattle.walk.specs.declared.Item.{Item}
 use Rattle.walk.specs.declared.MemberStep.{MemberStep}
@@ -24,14 +21,6 @@ use Rattle.walk.specs.declared.ItemStep.{ItemStep}
 use Rattle.walk.specs.declared.MemberStep.the-variants as members
 use Rattle.walk.specs.declared.ItemStep.the-variants as items
 use Rattle.walk.specs.Walk.{offsetOf, onward, memberIn, itemIn}
-
--- a byte that stood where it must
-pub expect-done : {A : Type 0} (c : ℕ) (f : List ℕ → Read A) (l r : List ℕ) (x : A) → expect c f l ≡ done x r
-    → (w : List ℕ) × (l ≡ c ∷ w) × (f w ≡ done x r)
-expect-done c f [] r x e = bad-done (sym (expect-end c f) ∙ e)
-expect-done c f (b ∷ w) r x e =
-    by-test (eqb b c) (λ h. (w, ap (λ (z : ℕ). z ∷ w) (eqb-true b c h), sym (expect-here c f b w h) ∙ e))
-    (λ h. bad-done (sym (expect-other c f b w h) ∙ e))
 
 -- where the next element is looked for
 module _ (p : List ℕ) {l : List ℕ} where

@@ -9,13 +9,15 @@ use lib.ListN.{length, drop, getD, length-append, length-drop, List·getD-append
 use lib.Seq.{getD-append-seam, getD-drop}
 use borrow.Author.Tests.{ltb-true, ltb-false}
 use Rattle.limits.specs.Ceilings.{depth}
+use Rattle.notation.proofs.Booleans.{by-test, true-false}
+use Rattle.notation.proofs.Lists.{at-cons}
 use Rattle.lexeme.specs.Read.Read.{done}
 use Rattle.lexeme.specs.Character.{paired, byte, within}
 use Rattle.lexeme.specs.Numbers.{digit, either}
 use Rattle.lexeme.specs.Tokens.{blank, blanks}
 use Rattle.lexeme.specs.inner.Start.{start}
-use Rattle.lexeme.proofs.Steps.{by-test, true-false, blanks-pass, blanks-stop}
-use Rattle.lexeme.proofs.Rests.{at-cons, rest-at}
+use Rattle.lexeme.proofs.Steps.{blanks-pass, blanks-stop}
+use Rattle.lexeme.proofs.Rests.{rest-at}
 use Rattle.json.specs.Tree.{Json}
 use Rattle.json.specs.Text.{value}
 use Rattle.json.specs.Spelling.{Plain, Nested}
@@ -23,7 +25,8 @@ use Rattle.json.proofs.Local.{value-local}
 use Rattle.json.proofs.Spellings.{value-spells}
 use Rattle.walk.specs.declared.ValueKind.the-variants as kind
 use Rattle.walk.specs.Walk.{offsetOf}
-use Rattle.walk.specs.Part.{Whole, kindOf, kindFrom, kindAt}
+use Rattle.walk.specs.Part.{Whole, kindOf}
+use Rattle.walk.specs.inner.Kind.{kindFrom, kindAt}
 use Rattle.walk.specs.inner.Tail.{Tail}
 use Rattle.walk.proofs.Wholes.{whole-kind, whole-some}
 

@@ -9,6 +9,7 @@ use lib.ListN.{length, drop}
 use lib.Dec.{eqb}
 use borrow.Author.Tests.{eqb-true}
 use Rattle.limits.specs.Ceilings.{depth}
+use Rattle.notation.proofs.Booleans.{by-test}
 use Rattle.lexeme.specs.Read.{Read, made}
 use Rattle.lexeme.specs.Read.Read.{done}
 use Rattle.lexeme.specs.Character.{paired, within}
@@ -16,25 +17,27 @@ use Rattle.lexeme.specs.Strings
 use Rattle.lexeme.specs.Numbers.{digit}
 use Rattle.lexeme.specs.Tokens.{blanks}
 use Rattle.lexeme.specs.inner.Start.{start}
-use Rattle.lexeme.proofs.Reading.{Eats, Ok, Takes}
-use Rattle.lexeme.proofs.Steps.{by-test, bad-done, done-what, made-done, then-done, blanks-stop}
-use Rattle.lexeme.proofs.Takes.{solid-first}
+use Rattle.lexeme.proofs.Reading.{Consumes, Ok, StrongPrefix}
+use Rattle.lexeme.proofs.Steps.{bad-done, done-what, made-done, then-done, blanks-stop}
+use Rattle.lexeme.proofs.StrongPrefixes.{solid-first}
 use Rattle.json.specs.Tree
 use Rattle.json.specs.Tree.{Json}
 use Rattle.json.specs.Text.{expect, contents, bracketed, member, value}
 use Rattle.json.specs.Text.After.{closed, more}
 use Rattle.json.proofs.Steps.{contents-end, contents-none, contents-some, expect-here, expect-other, member-then, named}
 use Rattle.json.proofs.Bound.{Follows, at-close, at-comma, follows-as, Run, faulty, last, next, broken, run}
-use Rattle.json.proofs.Takes.{value-eats, value-takes, member-eats, member-takes}
-use Rattle.json.proofs.Goes.{value-goes-depth, ends-too}
+use Rattle.json.proofs.StrongPrefixes.{value-consumes, value-takes, member-consumes, member-takes}
+use Rattle.json.proofs.Relaxed.{value-goes-depth, ends-too}
 use Rattle.json.proofs.Values.{value-none}
+use Rattle.json.proofs.Spellings.{expect-done}
 use Rattle.walk.specs.declared.Member.{Member}
+use Rattle.walk.specs.declared.Item.{Item}
 use Rattle.walk.specs.declared.MemberStep.the-variants as members
 use Rattle.walk.specs.declared.ItemStep.the-variants as items
 use Rattle.walk.specs.Walk.{offsetOf, onward, memberAt, membersOf, itemAt, itemsOf}
 use Rattle.walk.specs.Part.{Whole, partTree}
 use Rattle.walk.proofs.Rests.{Rest, rest-drop, rest-next, rest-blanks, rest-read, rest-there}
-use Rattle.walk.proofs.Steps.{expect-done, onward-comma, onward-other, Reads, memberOf, member-unnamed, member-found, item-none, item-found}
+use Rattle.walk.proofs.Steps.{onward-comma, onward-other, Reads, memberOf, member-unnamed, member-found, item-none, item-found}
 use Rattle.walk.proofs.Places.{member-spelt, item-spelt}
 use Rattle.walk.proofs.Folds.{Steps, one-more, memberSteps, itemSteps}
 use Rattle.walk.proofs.Wholes.{whole-array, whole-object}
@@ -63,15 +66,25 @@ module _ (p : List ℕ) (close : ℕ) where
       ap (λ (z : ℕ). blanks (drop z p)) (n ∙ onward-comma p b q i c) ∙ ap blanks (rest-there (rest-next b q i (rest-blanks r s)))
 
 -- what an element leaves is a rest of p
-pub leaves : {A : Type 0} (p : List ℕ) (element : List ℕ → Read A) → Takes Ok element
+pub leaves : {A : Type 0} (p : List ℕ) (element : List ℕ → Read A) → StrongPrefix Ok element
     → (at : ℕ) (x : A) (r : List ℕ) → element (blanks (drop at p)) ≡ done x r → Rest p r
 leaves p element takes at x r e = rest-read element takes (blanks (drop at p)) r x e (rest-blanks (drop at p) (rest-drop at))
 
--- the elements of one sort, read by `element` up to the bracket `close`, and found by the steps w
-module _ {M A : Type 0} (p : List ℕ) (w : Steps (length p) M) (f : M → A) (close : ℕ) (element : List ℕ → Read A)
-    (eats : Eats element) (takes : Takes Ok element)
-    (meets : (at : ℕ) (x : A) (r : List ℕ) → element (blanks (drop at p)) ≡ done x r → Meets p w f at x r)
-    (stops : (at : ℕ) (q : List ℕ) → blanks (drop at p) ≡ close ∷ q → w .Ends at) (apart : eqb close 0x2c ≡ false) where
+-- The elements of an array or of an object p, with a level at least to spare: read by `element` up to the bracket `close`, found by `steps`, and each as `of` has it.
+pub record Elements (p : List ℕ) (M A : Type 0) : Type 1 where
+  pub steps : Steps (length p) M
+  pub of : M → A
+  pub close : ℕ
+  pub apart : eqb close 0x2c ≡ false
+  pub element : List ℕ → Read A
+  pub consumes : Consumes element
+  pub takes : StrongPrefix Ok element
+  pub meets : (at : ℕ) (x : A) (r : List ℕ) → element (blanks (drop at p)) ≡ done x r → Meets p steps of at x r
+  pub stops : (at : ℕ) (q : List ℕ) → blanks (drop at p) ≡ close ∷ q → steps .Ends at
+
+module _ {p : List ℕ} {M A : Type 0} (elements : Elements p M A) where
+  open Elements elements using (steps as w, of as f, close, apart, element, consumes, takes, meets, stops)
+
   -- at the closing bracket nothing is found
   none-closed : (k at : ℕ) (r q : List ℕ) → Rest p r → Follows close r (closed q) → at ≡ onward p (blanks r) → w .from k at ≡ []
   none-closed k at r q s h n = w .end k at (stops at q (next-closes p close at r q s apart h n))
@@ -106,7 +119,7 @@ module _ {M A : Type 0} (p : List ℕ) (w : Steps (length p) M) (f : M → A) (c
           by-test (eqb b close)
           (λ t. ap (map f) (w .end (length p) at (stops at q (h ∙ ap (λ (z : ℕ). z ∷ q) (eqb-true b close t))))
           ∙ done-what (sym (contents-none close element b q t) ∙ ap (contents close element) (sym h) ∙ e))
-          (λ t. run-met (run close element eats (suc (length (b ∷ q))) (b ∷ q) (omega arith)) xs r
+          (λ t. run-met (run close element consumes (suc (length (b ∷ q))) (b ∷ q) (omega arith)) xs r
           (sym (contents-some close element b q t) ∙ ap (contents close element) (sym h) ∙ e) (length p) at h (omega arith))
 
 -- within fewer levels, and within all
@@ -127,14 +140,25 @@ module _ (p : List ℕ) where
   unfolding itemAt start digit within
   item-stops at q e = item-none p (blanks (drop at p)) (ap (value paired depth) e ∙ value-none depth (0x5d ∷ q) refl)
 
+  abbrev pub itemsWithin : (d : ℕ) → d ≤ depth → Elements p Item Json
+  itemsWithin d h =
+      record {
+        steps = itemSteps p;
+        of = λ m. partTree (itemOf p m);
+        close = 0x5d;
+        apart = refl;
+        element = value paired d;
+        consumes = value-consumes paired d;
+        takes = value-takes paired d;
+        meets = item-meets d h;
+        stops = item-stops;
+      }
+
   pub array-parts : {is : Tree.Items} → Whole p (Json.array is) → is ≡ Tree.asItems (map (λ m. partTree (itemOf p m)) (itemsOf p))
   unfolding itemsOf
   array-parts w =
       let o = whole-array w in
-      let d = o .levels in
-      let h : d ≤ depth = omega (arith, o .less) in
-      sym (ap Tree.asItems (bracketed-met p (itemSteps p) (λ m. partTree (itemOf p m)) 0x5d (value paired d) (value-eats paired d) (value-takes paired d)
-      (item-meets d h) item-stops refl 1 (o .elements) [] (o .reads)) ∙ o .is)
+      sym (ap Tree.asItems (bracketed-met (itemsWithin (o .levels) (omega (arith, o .less))) 1 (o .elements) [] (o .reads)) ∙ o .is)
 
 -- members
 module _ (p : List ℕ) where
@@ -175,13 +199,22 @@ module _ (p : List ℕ) where
   unfolding memberAt
   member-stops at q e = member-unnamed p (blanks (drop at p)) (ap (expect 0x22 (Strings.string paired 0)) e ∙ expect-other 0x22 _ 0x7d q refl)
 
+  abbrev pub membersWithin : (d : ℕ) → d ≤ depth → Elements p Member (List ℕ × Json)
+  membersWithin d h =
+      record {
+        steps = memberSteps p;
+        of = memberTree;
+        close = 0x7d;
+        apart = refl;
+        element = member paired (value paired d);
+        consumes = member-consumes paired (value paired d) (value-consumes paired d);
+        takes = member-takes paired (value paired d) (value-consumes paired d) (value-takes paired d);
+        meets = member-meets d h;
+        stops = member-stops;
+      }
+
   pub object-parts : {ms : Tree.Members} → Whole p (Json.object ms) → ms ≡ Tree.asMembers (map memberTree (membersOf p))
   unfolding membersOf
   object-parts w =
       let o = whole-object w in
-      let d = o .levels in
-      let h : d ≤ depth = omega (arith, o .less) in
-      let eats = member-eats paired (value paired d) (value-eats paired d) in
-      let takes = member-takes paired (value paired d) (value-eats paired d) (value-takes paired d) in
-      sym (ap Tree.asMembers (bracketed-met p (memberSteps p) memberTree 0x7d (member paired (value paired d)) eats takes
-      (member-meets d h) member-stops refl 1 (o .elements) [] (o .reads)) ∙ o .is)
+      sym (ap Tree.asMembers (bracketed-met (membersWithin (o .levels) (omega (arith, o .less))) 1 (o .elements) [] (o .reads)) ∙ o .is)

@@ -17,13 +17,14 @@ use Rattle.lexeme.specs.Strings
 use Rattle.lexeme.specs.Numbers
 use Rattle.lexeme.specs.inner.Start.{Start, start}
 use Rattle.lexeme.proofs.Steps.{bad-done, made-done}
-use Rattle.lexeme.proofs.Takes.{string-spelled, string-eats}
+use Rattle.lexeme.proofs.StrongPrefixes.{string-spelled, string-consumes}
 use Rattle.lexeme.proofs.Spells.{number-spells, literal-spells}
 use Rattle.json.specs.Tree
 use Rattle.json.specs.Tree.{Json}
 use Rattle.json.specs.Text.{bracketed, member, valueBy, value}
-use Rattle.json.proofs.Takes.{value-eats}
-use Rattle.walk.specs.Part.{Whole, partTree, kindOf, kindFrom, kindAt, inside}
+use Rattle.json.proofs.StrongPrefixes.{value-consumes}
+use Rattle.walk.specs.Part.{Whole, partTree, kindOf, inside}
+use Rattle.walk.specs.inner.Kind.{kindFrom, kindAt}
 use Rattle.json.proofs.Steps.{valueAt, value-start}
 
 -- elements between brackets, read with a level less than d
@@ -119,7 +120,7 @@ module _ {p : List ℕ} {x : Json} (w : Whole p x) where
   whole-tree = rw (partTree, w .reads)
 
   pub whole-some : 0 < length p
-  whole-some = omega (arith, value-eats paired depth p [] x (w .reads))
+  whole-some = omega (arith, value-consumes paired depth p [] x (w .reads))
 
   pub whole-kind : kindAt p ≡ kindOf x
   unfolding kindAt
@@ -152,7 +153,7 @@ module _ {p : List ℕ} where
       sym (s .decodes) ∙ ap (Strings.decoded paired 0) (sym (ap (take (length p - 2)) (s .splits) ∙ take-at (s .part) (0x22 ∷ []) (length p - 2) n))
 
   pub whole-quotes : {y : List ℕ} → Whole p (Json.string y) → 2 ≤ length p
-  whole-quotes {y} w = omega (arith, string-eats paired 0 (drop 1 p) [] y (string-read w), length-drop 1 p)
+  whole-quotes {y} w = omega (arith, string-consumes paired 0 (drop 1 p) [] y (string-read w), length-drop 1 p)
 
   pub whole-array : {is : Tree.Items} → Whole p (Json.array is) → OpenedArray depth p [] is
   whole-array w = origin depth p [] _ (w .reads) .content

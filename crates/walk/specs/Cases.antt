@@ -13,7 +13,8 @@ use Rattle.walk.specs.declared.Item.{Item}
 use Rattle.walk.specs.declared.ValueKind.{ValueKind}
 use Rattle.walk.specs.declared.ValueKind.the-variants as kind
 use Rattle.walk.specs.Walk.{part, onward, memberIn, memberAt, membersFrom, membersOf, itemIn, itemAt, itemsFrom, itemsOf}
-use Rattle.walk.specs.Part.{partTree, kindAt, inside}
+use Rattle.walk.specs.Part.{partTree, inside}
+use Rattle.walk.specs.inner.Kind.{kindAt}
 use Rattle.walk.specs.inner.Skip.{quoted, enclosed, numbered, skipped}
 
 -- opens every definition of this layer

@@ -2,11 +2,10 @@
 use mathlib.Core.Path.{_≡_}
 use mathlib.Core.List.{List, []}
 use Prim.Native.Nat.{ℕ, _-_}
-use lib.ListN.{length, getD, drop, take}
+use lib.ListN.{length, drop, take}
 use Rattle.limits.specs.Ceilings.{depth}
 use Rattle.lexeme.specs.Read.Read.{done, bad}
 use Rattle.lexeme.specs.Character.{paired}
-use Rattle.lexeme.specs.inner.Start.{Start, start}
 use Rattle.json.specs.Tree.{Json}
 use Rattle.json.specs.Text.{value}
 use Rattle.walk.specs.declared.ValueKind.{ValueKind}
@@ -20,7 +19,7 @@ pub record Whole (p : List ℕ) (x : Json) : Type 0 where
 unfoldable pub partTree : List ℕ → Json
 partTree p = elim (value paired depth p) [ done x r ↦ x | bad k r ↦ Json.null ]
 
--- the kind of a tree, and the kind that a value's first byte says
+-- the kind of a tree
 abbrev pub kindOf : Json → ValueKind
 kindOf Json.null = kind.Null
 kindOf (Json.boolean b) = kind.Boolean
@@ -28,19 +27,6 @@ kindOf (Json.number s) = kind.Number
 kindOf (Json.string s) = kind.String
 kindOf (Json.array is) = kind.Array
 kindOf (Json.object ms) = kind.Object
-
-abbrev pub kindFrom : Start → ValueKind
-kindFrom Start.string = kind.String
-kindFrom Start.number = kind.Number
-kindFrom Start.array = kind.Array
-kindFrom Start.object = kind.Object
-kindFrom Start.letterT = kind.Boolean
-kindFrom Start.letterF = kind.Boolean
-kindFrom Start.letterN = kind.Null
-kindFrom Start.other = kind.Null
-
-unfoldable pub kindAt : List ℕ → ValueKind
-kindAt p = kindFrom (start (getD p 0 0))
 
 -- what stands between a string's quotation marks
 abbrev pub inside : List ℕ → List ℕ

@@ -64,7 +64,7 @@ itemIn p l =
 unfoldable pub itemAt : List ℕ → ℕ → ItemStep
 itemAt p at = itemIn p (blanks (drop at p))
 
--- all members from a place on, at most so many
+-- all members from a place on, at most `most` of them
 abbrev pub memberThen : (ℕ → List Member) → MemberStep → List Member
 memberThen rest members.End = []
 memberThen rest (members.Found m) = m ∷ rest (m .next)

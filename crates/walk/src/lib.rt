@@ -4,7 +4,7 @@ ghost use Prim.Native.Nat.{ℕ, _-_};
 ghost use lib.ListN.{length, drop};
 ghost use Rattle.lexeme.specs.Tokens.{blanks};
 ghost use Rattle.walk.specs.Walk.{part, onward};
-ghost use Rattle.walk.specs.Part.{kindAt};
+ghost use Rattle.walk.specs.inner.Kind.{kindAt};
 ghost use Rattle.walk.specs.inner.Along.{ItemPassed, MemberPassed, NamePassed};
 ghost use Rattle.walk.specs.declared.NameStep.the-variants as names;
 use crate::skip::skip_value;
@@ -102,7 +102,7 @@ pub fn pass_name(p: &[u8], at: usize) -> NameStep
     })
 }
 
-// And the whole member, its value passed over.
+// The member whose name has been read, with its value passed over.
 pub fn pass_value(p: &[u8], n: Named) -> MemberStep
     ensures { λ r. ⌜ ((at : ℕ) → NamePassed (now (p .entry)) at (names.Found n) → MemberPassed (now (p .entry)) at r) ⌝ }
 {

@@ -2,19 +2,19 @@
 -- nothing either way, and the rule is tested on the parts.
 use mathlib.Core.Bool.{Bool, true, false}
 use mathlib.Core.List.{List, [], _∷_}
-use mathlib.Core.Path.{_≡_, refl, sym, ap, _∙_}
+use mathlib.Core.Path.{_≡_, refl, ap, _∙_}
 use Prim.Native.Nat.{ℕ, zero, suc, _*_}
 use native.Mathlib.Omega.{arith}
 use lib.Dec.{eqb}
 use lib.ListN.{length, getD}
 use borrow.Author.Tests.{eqb-true, eq-eqb}
 use Rattle.notation.specs.Choice.{_⇒_else_, _and_}
-use Rattle.radix.specs.Radix.{digits}
+use Rattle.notation.proofs.Booleans.{and-both}
 use Rattle.radix.specs.Fields.{bases, bits, bytesNumber, unpacked, Bytes}
 use Rattle.radix.proofs.Packing.{digits-fit, digits-length, packed-length, unpacked-packed, packed-unpacked}
 use Rattle.word.specs.declared.Parts.{Parts}
 use Rattle.word.specs.declared.Reading.the-variants.{NoWord, Word}
-use Rattle.word.specs.Form.{Form, form1}
+use Rattle.word.specs.Form.{Form, form1, writtenForm}
 use Rattle.word.specs.Word.{valuesOf, partsOf, keeps, wordOf, IsWord, Answer, answer, judged, read}
 
 -- a form's seven fields fill its bytes
@@ -26,13 +26,17 @@ pub full1 : Full form1
 unfolding bits
 full1 = record { seven = refl; filled = refl }
 
+-- the form in which words are written, and how long a word is
+pub written-full : Full writtenForm
+written-full = full1
+
+pub word-length : (φ : Form) → Full φ → (p : Parts) → length (wordOf φ p) ≡ φ .size
+unfolding wordOf
+word-length φ full p = packed-length (φ .widths) (φ .size) (full .filled) (valuesOf φ p)
+
 chosen : (t : Bool) (r : Answer) (p : Parts) → (t ⇒ r else answer NoWord) ≡ answer (Word p) → (t ≡ true) × (r ≡ answer (Word p))
 chosen true r p e = (refl, e)
 chosen false r p e = let z : _≡_ {A = ℕ} 3 0 = ap (λ (a : Answer). a .number) e in absurd (omega arith)
-
-both : (a b : Bool) → (a and b) ≡ true → (a ≡ true) × (b ≡ true)
-both true b e = (refl, e)
-both false b e = let z : _≡_ {A = ℕ} 0 1 = cc in absurd (omega arith)
 
 -- a list of n elements, element by element
 table : ℕ → (ℕ → ℕ) → List ℕ
@@ -80,7 +84,7 @@ module _ (φ : Form) (full : Full φ) where
       let v : List ℕ = unpacked (φ .widths) s in
       let sized = chosen (eqb (length s) (φ .size)) (judged φ v) p e in
       let word = chosen (eqb (getD v 0 0) (φ .number) and keeps φ (partsOf v)) (answer (Word (partsOf v))) p (sized .1) in
-      let tests = both (eqb (getD v 0 0) (φ .number)) (keeps φ (partsOf v)) (word .0) in
+      let tests = and-both (eqb (getD v 0 0) (φ .number)) (keeps φ (partsOf v)) (word .0) in
       let same : partsOf v ≡ p = ap (λ (a : Answer). a .parts) (word .1) in
       let values = values-parts φ v (unpacked-length (φ .widths) s ∙ full .seven) (eqb-true _ _ (tests .0)) in
       record {

@@ -17,3 +17,10 @@ pub record Form : Type 0 where
 -- form 1: 64 bits
 abbrev pub form1 : Form
 form1 = record { number = 1; size = 8; widths = 4 ∷ 4 ∷ 4 ∷ 8 ∷ 12 ∷ 12 ∷ 20 ∷ []; files = 6; fields = 82 }
+
+-- the form in which words are written, and how many bytes they then have
+abbrev pub writtenForm : Form
+writtenForm = form1
+
+abbrev pub wordSize : ℕ
+wordSize = writtenForm .size

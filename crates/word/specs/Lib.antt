@@ -1,3 +1,4 @@
 pub mod Kinds
 pub mod Form
 pub mod Word
+pub mod inner

@@ -1,14 +1,15 @@
 -- In a zone without a fault nothing is found in its coordinates, so nothing in any polygon or ring of it; its geometry and its properties are there,
 -- whole.
-use mathlib.Core.List.{List, [], _∷_, map, append-eq-nil-iff, List·Memᴰ, List·Memᴰ·not-nil, List·Memᴰ·cases-cons, Memᴰ·map}
+use mathlib.Core.List.{List, [], _∷_, append-eq-nil-iff, List·Memᴰ, List·Memᴰ·not-nil, List·Memᴰ·cases-cons, Memᴰ·map}
 use mathlib.Core.Logic.{⊎-elim}
 use mathlib.Core.Path.{_≡_, refl, sym, ap, subst, _∙_}
 use Prim.Native.Nat.{ℕ, _+_, _≤_}
 use native.Mathlib.Omega.{arith}
-use lib.ListN.{length, take, length-take, length-map}
+use lib.ListN.{length}
 use Rattle.limits.specs.Ceilings as ceiling
 use Rattle.notation.specs.Ascii.{bytes}
-use Rattle.json.specs.Tree.{Json}
+use Rattle.notation.proofs.Lists.{cons-nil}
+use Rattle.notation.proofs.Maybes.{none-some}
 use Rattle.walk.specs.declared.Item.{Item}
 use Rattle.walk.specs.Walk.{itemsOf}
 use Rattle.walk.specs.Part.{Whole, partTree}
@@ -20,27 +21,25 @@ use Rattle.schema.specs.Table23.{zone, coordinates}
 use Rattle.schema.specs.Pick.{Picked, PickedItems, bare, items, slots, pick, listOf, elements}
 use Rattle.word.specs.Kinds.{tooMany, badRing}
 use Rattle.scalar.specs.Scalars.{unless}
-use Rattle.rings.specs.Rings.{foundAt, count, ring, ringFound, ringsFound, position, isRingCount, itemCount, polygon, polygonPositions, itemTotal, polygonsFound, areZoneCounts, coordinatesFound}
+use Rattle.rings.specs.Rings.{foundAt, count, ring, ringFound, ringsFound, isRingCount, itemCount, polygon, polygonPositions, itemTotal, polygonsFound, areZoneCounts, coordinatesFound, allSound}
 use Rattle.rings.proofs.Found.{numbered-none}
-use Rattle.rings.specs.inner.Parts.{ringShape, polygonShape, picked, partsOf, Outlined}
-use Rattle.rings.specs.declared.RingPoints.{RingPoints}
-use Rattle.geometry.specs.inner.Shifted.{InRange, points}
+use Rattle.rings.specs.inner.Parts.{ringShape, polygonShape, positionShape, Listing}
+use Rattle.document.specs.inner.Items.{picked, pickedItems}
 use Rattle.rings.proofs.Picked.{Listed, items-parts}
-use Rattle.judge.specs.declared.Place.{Place}
-use Rattle.judge.specs.Faults.{faulty, faultsBy, faults}
+use Rattle.rings.proofs.Areas.{clean-ring}
+use Rattle.fault.specs.declared.Place.{Place}
+use Rattle.judge.specs.Faults.{faultsBy, faults}
+use Rattle.fault.specs.Fault.{faulty}
 use Rattle.document.specs.Document.{Maybe, none, some, elementsOf, field, along}
-use Rattle.document.proofs.Fields.{none-some}
 use Rattle.document.proofs.Ways.{Requires, here, below, lists, Leads, arrived, into}
-use Rattle.fields.specs.inner.Values.{memberOf}
-use Rattle.fields.proofs.Sizes.{part-short, member-short, array-short}
-use Rattle.fields.proofs.Values.{Holds, member-holds}
+use Rattle.document.specs.inner.Values.{memberOf}
+use Rattle.document.proofs.Sizes.{part-short, member-short, array-short}
+use Rattle.document.proofs.Values.{Holds, member-holds}
 use Rattle.clean.proofs.Faultless.{demands-there}
 use Rattle.zone.specs.inner.Clean.{CleanRing, CleanItems, CleanZone, CleanZones}
 use Rattle.zone.proofs.Fields.{member-listing}
 use Rattle.zone.proofs.Zoned.{polygonBytes, propertyBytes, zone-polygons}
-
-cons-nil : {A B : Type 0} {x : A} {l : List A} → x ∷ l ≡ [] → B
-cons-nil e = let z : _≡_ {A = ℕ} 0 1 = cc in absurd (omega arith)
+use mathlib.Core.Bool.{true}
 
 -- what is no array is of a wrong type
 ring-items : (n : ℕ) (x : Picked) → ring n x ≡ [] → (is : PickedItems) × (x ≡ items is) × (ringFound n (listOf is) ≡ [])
@@ -49,41 +48,24 @@ ring-items n (items is) e = (is, refl, e)
 ring-items n (bare x) e = cons-nil e
 ring-items n (slots ss) e = cons-nil e
 
--- there are no more points than coordinates
-points-most : (xs ys : List ℕ) → (length (points xs ys) ≤ length xs) × (length (points xs ys) ≤ length ys)
-unfolding points
-points-most [] ys = (omega arith, omega arith)
-points-most (x ∷ xs) [] = (omega arith, omega arith)
-points-most (x ∷ xs) (y ∷ ys) = let h = points-most xs ys in (omega arith, omega arith)
+-- the positions of a ring in which nothing is found: all are sound, and not too many
+pub record SoundRing (p : List ℕ) : Type 0 where
+  pub listing : Listing p
+  pub few : length (pickedItems positionShape p) ≤ ceiling.positions
+  pub each : allSound (pickedItems positionShape p) ≡ true
+  pub are : pickedItems positionShape p ≡ elements (pick ringShape (partTree p))
 
--- the points of a ring, where the code's promise has them
-module _ {p : List ℕ} (c : CleanRing p) {r : RingPoints}
-    (f : (x : Json) (is : PickedItems) (n : ℕ) → Whole p x → pick ringShape x ≡ items is → ringFound n (listOf is) ≡ [] → Outlined (listOf is) r) where
-  abbrev ring-is : (is : PickedItems) × (pick ringShape (partTree p) ≡ items is) × (ringFound (c .first) (listOf is) ≡ [])
-  ring-is = ring-items (c .first) (pick ringShape (partTree p)) (c .clear)
-
-  ring-outlined : Outlined (listOf (ring-is .0)) r
-  ring-outlined = f (partTree p) (ring-is .0) (c .first) (c .whole) (ring-is .1) (ring-is .2)
-
-  outlined-most : r .count ≤ length (points (take (r .count) (r .lons)) (take (r .count) (r .lats)))
-  outlined-most = let o = ring-outlined in omega (arith, o .count, ap length (o .points), length-map (listOf (ring-is .0)) position)
-
-  -- all of its places are filled
-  pub ring-lons : r .count ≡ length (take (r .count) (r .lons))
-  ring-lons =
-      let xs = take (r .count) (r .lons) in
-      omega (arith, outlined-most, points-most xs (take (r .count) (r .lats)) .0, length-take (r .count) (r .lons))
-
-  pub ring-lats : r .count ≡ length (take (r .count) (r .lats))
-  ring-lats =
-      let ys = take (r .count) (r .lats) in
-      omega (arith, outlined-most, points-most (take (r .count) (r .lons)) ys .1, length-take (r .count) (r .lats))
-
-  pub ring-range : InRange (take (r .count) (r .lons)) (take (r .count) (r .lats))
-  ring-range = ring-outlined .range
-
-  pub ring-points : points (take (r .count) (r .lons)) (take (r .count) (r .lats)) ≡ map position (elements (pick ringShape (partTree p)))
-  ring-points = ring-outlined .points ∙ ap (λ x. map position (elements x)) (sym (ring-is .1))
+pub ring-sound : {p : List ℕ} → CleanRing p → SoundRing p
+ring-sound {p} c =
+    let r = ring-items (c .first) (pick ringShape (partTree p)) (c .clear) in
+    let k = items-parts shape.positions ceiling.positions positionShape (partTree p) (r .0) (c .whole) (r .1) in
+    let d = clean-ring (c .first) (listOf (r .0)) (r .2) in
+    record {
+      listing = k .listing;
+      few = subst (λ (l : List Picked). length l ≤ ceiling.positions) (k .parts) (d .most);
+      each = subst (λ (l : List Picked). allSound l ≡ true) (k .parts) (d .each);
+      are = sym (ap elements (r .1) ∙ k .parts);
+    }
 
 polygon-items : (n : ℕ) (x : Picked) → polygon n x ≡ [] → (is : PickedItems) × (x ≡ items is) × (ringsFound n (listOf is) ≡ [])
 unfolding foundAt
@@ -120,19 +102,16 @@ polygons-each n (y ∷ l) e x i =
 
 module _ {p : List ℕ} {m : Item} (i : List·Memᴰ m (itemsOf p)) where
   pub ring-clean : CleanItems ringShape ringsFound p → CleanRing (itemOf p m)
-  unfolding partsOf
   ring-clean c =
-      let f = rings-each (c .first) (partsOf ringShape p) (c .clear) (picked ringShape p m) (Memᴰ·map (picked ringShape p) i) in
+      let f = rings-each (c .first) (pickedItems ringShape p) (c .clear) (picked ringShape p m) (Memᴰ·map (picked ringShape p) i) in
       record { short = item-short p m (c .short); whole = items-whole p m i; first = f .0; clear = f .1 }
 
   pub zone-clean : CleanZones p → CleanZone (itemOf p m)
-  unfolding partsOf
   zone-clean c = record { short = item-short p m (c .short); whole = items-whole p m i; clear = c .clear (picked zone p m) (Memᴰ·map (picked zone p) i) }
 
   module _ (c : CleanItems polygonShape polygonsFound p) where
     polygon-found : (n : ℕ) × (polygon n (picked polygonShape p m) ≡ [])
-    unfolding partsOf
-    polygon-found = polygons-each (c .first) (partsOf polygonShape p) (c .clear) (picked polygonShape p m) (Memᴰ·map (picked polygonShape p) i)
+    polygon-found = polygons-each (c .first) (pickedItems polygonShape p) (c .clear) (picked polygonShape p m) (Memᴰ·map (picked polygonShape p) i)
 
     polygon-is : (is : PickedItems) × (picked polygonShape p m ≡ items is) × (ringsFound (polygon-found .0) (listOf is) ≡ [])
     polygon-is = polygon-items (polygon-found .0) (picked polygonShape p m) (polygon-found .1)
@@ -140,7 +119,7 @@ module _ {p : List ℕ} {m : Item} (i : List·Memᴰ m (itemsOf p)) where
     rings-are : Listed ringShape (itemOf p m) (listOf (polygon-is .0))
     rings-are = items-parts shape.positions ceiling.rings ringShape (partTree (itemOf p m)) (polygon-is .0) (items-whole p m i) (polygon-is .1)
 
-    pub polygon-rings : partsOf ringShape (itemOf p m) ≡ elements (picked polygonShape p m)
+    pub polygon-rings : pickedItems ringShape (itemOf p m) ≡ elements (picked polygonShape p m)
     polygon-rings = sym (ap elements (polygon-is .1) ∙ rings-are .parts)
 
     pub polygon-clean : CleanItems ringShape ringsFound (itemOf p m)

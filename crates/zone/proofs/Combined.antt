@@ -8,7 +8,7 @@ use native.Mathlib.Omega.{arith}
 use Rattle.schema.specs.Pick.{Picked}
 use Rattle.geometry.specs.Ring.{Point}
 use Rattle.document.specs.Document.{Maybe, none, some, spelling, truth, given}
-use Rattle.clean.specs.declared.Outcome.the-variants.{Unbroken}
+use Rattle.fault.specs.declared.outcome.Outcome.the-variants.{Unbroken}
 use Rattle.clean.specs.Clean.{cleanOf}
 use Rattle.zone.specs.Zone.{rulesAt, otherwise, firstGiven}
 use Rattle.zone.specs.Answer.{ruleOf, values, found, onMap, ofRules, rulingOf}

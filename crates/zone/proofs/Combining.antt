@@ -5,11 +5,12 @@ use mathlib.Core.List.{List, [], _∷_, _++_}
 use mathlib.Core.Path.{_≡_, refl, sym, ap, _∙_}
 use Prim.Native.Nat.{ℕ}
 use native.Mathlib.Omega.{arith}
-use Rattle.notation.specs.Choice.{_⇒_else_, _and_}
+use Rattle.notation.specs.Choice.{_⇒_else_}
+use Rattle.notation.proofs.Booleans.{and-both, or-false}
 use Rattle.schema.specs.Pick.{Picked}
 use Rattle.geometry.specs.Ring.{Point}
 use Rattle.document.specs.Document.{Maybe, none, some, spelling, truth, given}
-use Rattle.fields.specs.Values.{integerIn}
+use Rattle.document.specs.Values.{integerIn}
 use Rattle.zone.specs.declared.Flag.{Flag}
 use Rattle.zone.specs.declared.Flag.the-variants as flag
 use Rattle.zone.specs.declared.Limit.{Limit}
@@ -46,11 +47,6 @@ given-assoc a b c =
     same-given (any-assoc (a .any) (b .any) (c .any)) (flag-assoc (a .ride) (b .ride) (c .ride)) (flag-assoc (a .through) (b .through) (c .through))
     (limit-assoc (a .limit) (b .limit) (c .limit)) (flag-assoc (a .parking) (b .parking) (c .parking))
 
--- neutral on both sides
-any-none : (a : Bool) → (a ⇒ true else false) ≡ a
-any-none true = refl
-any-none false = refl
-
 flag-none : (a : Flag) → orFlag a flag.Missing ≡ a
 unfolding orFlag
 flag-none flag.Missing = refl
@@ -63,16 +59,11 @@ limit-none (limit.Is n) = refl
 
 pub given-nothing : (a : Given) → orGiven a nothing ≡ a
 unfolding orGiven
-given-nothing a = same-given (any-none (a .any)) (flag-none (a .ride)) (flag-none (a .through)) (limit-none (a .limit)) (flag-none (a .parking))
+given-nothing a = same-given (or-false (a .any)) (flag-none (a .ride)) (flag-none (a .through)) (limit-none (a .limit)) (flag-none (a .parking))
 
 pub nothing-given : (a : Given) → orGiven nothing a ≡ a
 unfolding orGiven orFlag orLimit
 nothing-given a = refl
-
--- full
-and-both : (a b : Bool) → a and b ≡ true → (a ≡ true) × (b ≡ true)
-and-both true b e = (refl, e)
-and-both false b e = let z : _≡_ {A = ℕ} 0 1 = cc in absurd (omega arith)
 
 any-full : (a b : Bool) → a ≡ true → (a ⇒ true else b) ≡ a
 any-full true b e = refl

@@ -11,45 +11,41 @@ use Rattle.lexeme.specs.Character.{within}
 use Rattle.lexeme.specs.Numbers.{digit}
 use Rattle.lexeme.specs.inner.Start.{start}
 use Rattle.json.specs.Tree.{Json}
-use Rattle.walk.specs.Part.{Whole, kindAt}
+use Rattle.walk.specs.Part.{Whole}
+use Rattle.walk.specs.inner.Kind.{kindAt}
 use Rattle.walk.proofs.Wholes.{whole-some}
 use Rattle.schema.specs.Shape as shape
 use Rattle.schema.specs.Shape.{Shape, Rows, Sort, Numbering}
 use Rattle.schema.specs.Table23 as table
 use Rattle.schema.specs.Pick.{Picked, pick, elements}
-use Rattle.rings.specs.inner.Parts.{Listing, partsOf}
+use Rattle.rings.specs.inner.Parts.{Listing}
+use Rattle.document.specs.inner.Items.{pickedItems}
 use Rattle.document.specs.Document.{Maybe, none, some, along, elementsOf, field, fieldItems, textIn}
-use Rattle.document.proofs.Fields.{Lists}
-use Rattle.document.proofs.Records.{pickedItems}
-use Rattle.fields.specs.inner.Values.{memberOf, textBy, arrayBy, isId}
-use Rattle.fields.proofs.Values.{Holds, member-holds, holds-text, holds-items}
-use Rattle.fields.proofs.Arrays.{member-array}
-use Rattle.fields.proofs.Fields.{field-spelled, field-truth, field-items, rowOf, listed}
+use Rattle.document.proofs.Rows.{Lists}
+use Rattle.document.specs.inner.Values.{memberOf, textBy, arrayBy, isId}
+use Rattle.document.proofs.Values.{Holds, member-holds, holds-text, holds-items}
+use Rattle.document.proofs.Arrays.{member-array}
+use Rattle.document.proofs.FieldBytes.{field-spelled, field-truth, field-items, rowOf, listed}
 use Rattle.zone.specs.Zone.{anyText, applies}
 use Rattle.zone.specs.inner.Values.{idShape, flagOf, limitOf, givenBy, givenIn}
 use Rattle.zone.proofs.Combining.{same-given}
-
--- the parts of an array are its picked items
-parts-are : (σ : Shape) (p : List ℕ) → partsOf σ p ≡ pickedItems σ p
-unfolding partsOf
-parts-are σ p = refl
 
 -- an array that is a member
 pub member-listing : (p name : List ℕ) → Listing (arrayBy (memberOf p name))
 member-listing p name = record { whole = member-array p name }
 
 -- of no bytes there is no member, and so no item
-pub nothing-in : (σ : Shape) (name : List ℕ) → partsOf σ (arrayBy (memberOf [] name)) ≡ []
+pub nothing-in : (σ : Shape) (name : List ℕ) → pickedItems σ (arrayBy (memberOf [] name)) ≡ []
 unfolding memberOf kindAt start digit within
-nothing-in σ name = parts-are σ (arrayBy []) ∙ holds-items shape.subs 0 σ [] none refl
+nothing-in σ name = holds-items shape.subs 0 σ [] none refl
 
 module _ {f : ℕ} {name : List ℕ} {ν : Numbering} {most : ℕ} {σ : Shape} {rows : Rows} (l : Lists f name (shape.array ν most σ) rows) where
-  pub parts-field : {p : List ℕ} {x : Json} → Whole p x → partsOf σ (arrayBy (memberOf p name)) ≡ fieldItems f (pick (shape.object rows) x)
-  parts-field {p} w = parts-are σ (arrayBy (memberOf p name)) ∙ field-items l w
+  pub parts-field : {p : List ℕ} {x : Json} → Whole p x → pickedItems σ (arrayBy (memberOf p name)) ≡ fieldItems f (pick (shape.object rows) x)
+  parts-field w = field-items l w
 
   -- an array in an object in another
   pub parts-inside : {g : ℕ} {outer : List ℕ} {around : Rows} → Lists g outer (shape.object rows) around → {p : List ℕ} {x : Json} → Whole p x
-      → partsOf σ (arrayBy (memberOf (memberOf p outer) name)) ≡ elementsOf (along (g ∷ f ∷ []) (pick (shape.object around) x))
+      → pickedItems σ (arrayBy (memberOf (memberOf p outer) name)) ≡ elementsOf (along (g ∷ f ∷ []) (pick (shape.object around) x))
   unfolding along fieldItems
   parts-inside {g} {outer} {around} k {p} {x} w = go (field g (pick (shape.object around) x)) (member-holds k p x w)
     where
@@ -58,7 +54,7 @@ module _ {f : ℕ} {name : List ℕ} {ν : Numbering} {most : ℕ} {σ : Shape} 
       at-end (some y) = refl
 
       go : (o : Maybe Picked) → Holds (shape.object rows) (memberOf p outer) o
-          → partsOf σ (arrayBy (memberOf (memberOf p outer) name)) ≡ elementsOf (elim o [ none ↦ none | some y ↦ along (f ∷ []) y ])
+          → pickedItems σ (arrayBy (memberOf (memberOf p outer) name)) ≡ elementsOf (elim o [ none ↦ none | some y ↦ along (f ∷ []) y ])
       go none h = rw h (nothing-in σ name)
       go (some y) h = parts-field (h .1) ∙ ap (λ z. elementsOf (field f z)) (h .2) ∙ at-end (field f y)
 
@@ -82,13 +78,13 @@ module _ {p : List ℕ} {x : Json} (w : Whole p x) where
     choice o = elim o [ none ↦ true | some y ↦ anyText (elements y) type ]
 
     abbrev Named : Maybe Picked → Type 0
-    Named o = (length ids ≡ 0 → true ≡ choice o) × ((length ids ≡ 0 → ⊥) → anyText (partsOf idShape (arrayBy ids)) type ≡ choice o)
+    Named o = (length ids ≡ 0 → true ≡ choice o) × ((length ids ≡ 0 → ⊥) → anyText (pickedItems idShape (arrayBy ids)) type ≡ choice o)
 
     named : (ν : Numbering) (most : ℕ) (o : Maybe Picked) → Holds (shape.array ν most idShape) ids o → Named o
     named ν most none h = (λ e. refl, λ n. absurd (n (ap length h)))
     named ν most (some y) h = (
       λ e. let n = whole-some (h .1) in absurd (omega arith),
-      λ n. ap (λ l. anyText l type) (parts-are idShape (arrayBy ids) ∙ holds-items ν most idShape ids (some y) h),
+      λ n. ap (λ l. anyText l type) (holds-items ν most idShape ids (some y) h),
     )
 
     rule-named : Named (field 78 (pick table.rule x))
@@ -99,6 +95,6 @@ module _ {p : List ℕ} {x : Json} (w : Whole p x) where
     unfolding applies
     applies-all = rule-named .0
 
-    pub applies-named : (length ids ≡ 0 → ⊥) → anyText (partsOf idShape (arrayBy ids)) type ≡ applies (pick table.rule x) type
+    pub applies-named : (length ids ≡ 0 → ⊥) → anyText (pickedItems idShape (arrayBy ids)) type ≡ applies (pick table.rule x) type
     unfolding applies
     applies-named = rule-named .1

@@ -7,12 +7,11 @@ use native.Mathlib.Omega.{arith}
 use lib.ListN.{length}
 use Rattle.json.specs.Cases.{reading}
 use Rattle.walk.proofs.Files.{passed}
-use Rattle.schema.specs.Shape.{fileShape}
-use Rattle.schema.specs.Table23.{table23, file, zones, zone}
+use Rattle.schema.specs.Table23.{zone}
 use Rattle.schema.specs.Records.{located}
 use Rattle.schema.specs.Pick.{pick}
 use Rattle.geometry.specs.Ring.{Point}
-use Rattle.rings.specs.inner.Parts.{partsOf}
+use Rattle.document.specs.inner.Items.{pickedItems}
 use Rattle.document.specs.Document.{along, field}
 use Rattle.document.specs.inner.Spans.{RecordsFrom}
 use Rattle.document.proofs.Rests.{rest-along, rest-picked}
@@ -37,8 +36,8 @@ module _ {s p : List ℕ} (k : Sound 6 s) (f : RecordsFrom 6 s p) where
   abbrev held : Held 6 s (treeOf s)
   held = clean-held 6 (omega arith) (omega arith) s k
 
-  zones-are : held .list ≡ partsOf zone p
-  unfolding located partsOf
+  zones-are : held .list ≡ pickedItems zone p
+  unfolding located
   zones-are = rest-picked f (k .reads) (held .there)
 
   pub zones-clean : CleanZones p
@@ -53,8 +52,8 @@ module _ {s p : List ℕ} (k : Sound 6 s) (f : RecordsFrom 6 s p) where
       }
 
   pub file-answer : (q : Point) (type : List ℕ) (moment : ℕ)
-      → answer (rulingBy (allGiven (applicable (rules (partsOf zone p) q moment) type))) ≡ ofRules (rulesAt s q type moment)
+      → answer (rulingBy (allGiven (applicable (rules (pickedItems zone p) q moment) type))) ≡ ofRules (rulesAt s q type moment)
   unfolding rulesAt
   file-answer q type moment =
-      given-answered (applicable (rules (partsOf zone p) q moment) type)
+      given-answered (applicable (rules (pickedItems zone p) q moment) type)
       ∙ ap (λ l. ofRules (applicable (rules l q moment) type)) (sym (held .are ∙ zones-are))

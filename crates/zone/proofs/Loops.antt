@@ -11,9 +11,10 @@ use Rattle.schema.specs.Table23 as table
 use Rattle.schema.specs.Pick.{Picked, elements}
 use Rattle.geometry.specs.Ring.{Point}
 use Rattle.geometry.proofs.Holed.{heldFrom, from-first}
-use Rattle.rings.specs.inner.Parts.{ringShape, polygonShape, picked, partsOf}
+use Rattle.rings.specs.inner.Parts.{ringShape, polygonShape}
+use Rattle.document.specs.inner.Items.{picked, pickedItems}
 use Rattle.document.specs.Document.{Maybe, none, some, textIn}
-use Rattle.fields.specs.inner.Values.{isId}
+use Rattle.document.specs.inner.Values.{isId}
 use Rattle.zone.specs.declared.Given.{Given}
 use Rattle.zone.specs.Zone.{outline, ringsHold, polygonsHoldBy, polygonsHold, anyText, rules}
 use Rattle.zone.specs.inner.Values.{idShape}
@@ -26,8 +27,8 @@ module _ (p : List ℕ) where
   abbrev pub rings : Point → (first held : Bool) → List Item → Bool
   rings q first held ms = heldFrom first held (map outline (map (picked ringShape p) ms)) q
 
-  pub rings-all : (q : Point) → rings q true false (itemsOf p) ≡ ringsHold (partsOf ringShape p) q
-  unfolding ringsHold partsOf
+  pub rings-all : (q : Point) → rings q true false (itemsOf p) ≡ ringsHold (pickedItems ringShape p) q
+  unfolding ringsHold
   rings-all q = from-first (map outline (map (picked ringShape p) (itemsOf p))) q
 
   abbrev pub polygons : Point → List Item → Bool

@@ -8,10 +8,10 @@ use lib.Dec.{leb, ltb}
 use lib.IntN.{ℤ, pos, negℤ, _+ℤ_}
 use lib.Signed.{leZ, ltZ}
 use borrow.Author.Tests.{leb-true, le-leb, lt-leb, ltb-true, ltb-false}
-use Rattle.schema.proofs.Tests.{and-left, and-right}
+use Rattle.notation.proofs.Booleans.{and-left, and-right}
 use Rattle.signed.specs.inner.Difference.{difference}
 use Rattle.signed.proofs.Gap.{gap, gap-pos, gap-neg, gap-same, gap-add, gap-le, gap-lt}
-use Rattle.signed.proofs.Sums.{up, down, parts}
+use Rattle.signed.proofs.Parts.{up, down, parts}
 use Rattle.geometry.specs.Ring.{Point}
 use Rattle.geometry.specs.inner.Shifted.{halfLon, halfLat, OnMap, point}
 use Rattle.zone.specs.Answer.{onMap}

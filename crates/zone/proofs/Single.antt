@@ -22,9 +22,10 @@ use Rattle.geometry.proofs.Polygon.{polygons}
 use Rattle.rings.specs.Rings.{numbered, count, itemCount, coordinatesFound}
 use Rattle.rings.specs.OneRing.{coordinatesOfOne, OneRingAtMost}
 use Rattle.rings.proofs.OneRing.{coordinates-one}
-use Rattle.judge.specs.Faults.{top, faultsBy, fileFaultsBy}
-use Rattle.document.specs.Document.{Maybe, none, some, elementsOf, along, field, fieldItems}
-use Rattle.clean.specs.declared.Outcome.{Outcome}
+use Rattle.judge.specs.Faults.{faultsBy, fileFaultsBy}
+use Rattle.fault.specs.Fault.{top}
+use Rattle.document.specs.Document.{none, some, elementsOf, along, field, fieldItems}
+use Rattle.fault.specs.declared.outcome.Outcome.{Outcome}
 use Rattle.clean.specs.Clean.{treeOf, recordsOf, cleanOf}
 use Rattle.clean.proofs.Alike.{plain, Route, arrived, into, here, below, Same, plain-same, way-same, records-same, clean-alike}
 use Rattle.zone.specs.Zone.{outline, counts, ringsHold, polygonsHoldBy, polygonsHold, polygonsOf, zoneHolds, zoneRulesBy, rulesBy, applicable, zonesOf, rulesAt}

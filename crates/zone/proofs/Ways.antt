@@ -1,5 +1,5 @@
 -- The ways through reading booleans, speeds and the window of a zone by their bytes.
-use mathlib.Core.Bool.{Bool, true, false}
+use mathlib.Core.Bool.{true, false}
 use mathlib.Core.List.{List, [], _∷_}
 use mathlib.Core.Path.{_≡_, refl, sym, ap, _∙_}
 use Prim.Native.Nat.{ℕ}
@@ -8,11 +8,11 @@ use lib.Dec.{eqb, leb, ltb}
 use lib.ListN.{length, getD}
 use borrow.Author.Tests.{eq-eqb, ne-eqb}
 use Rattle.notation.specs.Ascii.{bytes}
-use Rattle.walk.specs.Part.{kindAt}
+use Rattle.walk.specs.inner.Kind.{kindAt}
 use Rattle.document.specs.Document.{none, some}
-use Rattle.fields.specs.Values.{integerIn}
-use Rattle.fields.specs.inner.Values.{kindCode, truthBy, spelledBy, memberOf}
-use Rattle.fields.proofs.Ways.{spelled-none, spelled-some}
+use Rattle.document.specs.Values.{integerIn}
+use Rattle.document.specs.inner.Values.{kindCode, truthBy, spelledBy, memberOf}
+use Rattle.document.proofs.ByKind.{spelled-none, spelled-some}
 use Rattle.zone.specs.declared.Flag.the-variants as flag
 use Rattle.zone.specs.declared.Limit.the-variants as limit
 use Rattle.zone.specs.Zone.{integer, begun, unended}

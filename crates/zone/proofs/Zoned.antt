@@ -13,12 +13,13 @@ use Rattle.schema.specs.Shape.{Rows, Sort}
 use Rattle.schema.specs.Table23 as table
 use Rattle.schema.specs.Pick.{Picked, pick}
 use Rattle.geometry.specs.Ring.{Point}
-use Rattle.rings.specs.inner.Parts.{polygonShape, partsOf}
+use Rattle.rings.specs.inner.Parts.{polygonShape}
+use Rattle.document.specs.inner.Items.{pickedItems}
 use Rattle.document.specs.Document.{Maybe, none, some, along, elementsOf, field, fieldItems}
-use Rattle.document.proofs.Fields.{Lists}
-use Rattle.fields.specs.inner.Values.{memberOf, arrayBy}
-use Rattle.fields.proofs.Values.{Holds, member-holds}
-use Rattle.fields.proofs.Fields.{field-spelled, rowOf, listed}
+use Rattle.document.proofs.Rows.{Lists}
+use Rattle.document.specs.inner.Values.{memberOf, arrayBy}
+use Rattle.document.proofs.Values.{Holds, member-holds}
+use Rattle.document.proofs.FieldBytes.{field-spelled, rowOf, listed}
 use Rattle.zone.specs.declared.Given.{Given}
 use Rattle.zone.specs.Zone.{integer, begun, unended, counts, polygonsHold, zoneRulesBy, zoneRules}
 use Rattle.zone.specs.inner.Values.{countsBy}
@@ -48,17 +49,17 @@ module _ {rows : Rows} (d : Dated rows) {p : List ℕ} {x : Json} (w : Whole p x
 
   in-window : (held : Bool) (moment : ℕ)
       → (counts (pick (shape.object rows) x) moment and held ⇒ fieldItems 77 (pick (shape.object rows) x) else [])
-      ≡ (countsBy p moment and held ⇒ partsOf table.rule (ruleBytes p) else [])
+      ≡ (countsBy p moment and held ⇒ pickedItems table.rule (ruleBytes p) else [])
   in-window held moment = ap₂ (λ c l. c and held ⇒ l else []) (sym (window moment)) (sym (parts-field (d .ruled) w))
 
 -- without properties there are no rules, whatever counts and is held
-no-rules : {p : List ℕ} → p ≡ [] → (t : Bool) → [] ≡ (t ⇒ partsOf table.rule (ruleBytes p) else [])
-no-rules e true = sym (ap (λ p. partsOf table.rule (ruleBytes p)) e ∙ nothing-in table.rule (bytes "rules"))
+no-rules : {p : List ℕ} → p ≡ [] → (t : Bool) → [] ≡ (t ⇒ pickedItems table.rule (ruleBytes p) else [])
+no-rules e true = sym (ap (λ p. pickedItems table.rule (ruleBytes p)) e ∙ nothing-in table.rule (bytes "rules"))
 no-rules e false = refl
 
 in-properties : {rows : Rows} → Dated rows → (p : List ℕ) (held : Bool) (moment : ℕ) (o : Maybe Picked) → Holds (shape.object rows) p o
     → elim o [ none ↦ [] | some y ↦ counts y moment and held ⇒ fieldItems 77 y else [] ]
-    ≡ (countsBy p moment and held ⇒ partsOf table.rule (ruleBytes p) else [])
+    ≡ (countsBy p moment and held ⇒ pickedItems table.rule (ruleBytes p) else [])
 in-properties d p held moment none h = no-rules h (countsBy p moment and held)
 in-properties d p held moment (some y) h =
     ap (λ z. counts z moment and held ⇒ fieldItems 77 z else []) (sym (h .2)) ∙ in-window d (h .1) held moment
@@ -68,13 +69,13 @@ module _ {p : List ℕ} {x : Json} (w : Whole p x) where
   abbrev polygons : List Picked
   polygons = elementsOf (along (71 ∷ 73 ∷ []) (pick table.zone x))
 
-  pub zone-polygons : partsOf polygonShape (polygonBytes p) ≡ polygons
+  pub zone-polygons : pickedItems polygonShape (polygonBytes p) ≡ polygons
   unfolding table.zone table.coordinates rowOf
   zone-polygons = parts-inside (listed refl) (listed refl) w
 
   module _ (q : Point) (moment : ℕ) where
     zone-rules : zoneRules (pick table.zone x) q moment
-        ≡ (countsBy (propertyBytes p) moment and polygonsHold polygons q ⇒ partsOf table.rule (ruleBytes (propertyBytes p)) else [])
+        ≡ (countsBy (propertyBytes p) moment and polygonsHold polygons q ⇒ pickedItems table.rule (ruleBytes (propertyBytes p)) else [])
     unfolding table.zone rowOf zoneRulesBy
     zone-rules =
         in-properties (record { starts = listed refl; ends = listed refl; ruled = listed refl }) (propertyBytes p) (polygonsHold polygons q) moment
@@ -89,5 +90,5 @@ module _ {p : List ℕ} {x : Json} (w : Whole p x) where
       zone-off c e = sym (rules-none type a) ∙ rw (zone-rules, c, e)
 
       pub zone-given : countsBy (propertyBytes p) moment ≡ true → polygonsHold polygons q ≡ true
-          → withRules type a (partsOf table.rule (ruleBytes (propertyBytes p))) ≡ withRules type a (zoneRules (pick table.zone x) q moment)
+          → withRules type a (pickedItems table.rule (ruleBytes (propertyBytes p))) ≡ withRules type a (zoneRules (pick table.zone x) q moment)
       zone-given c e = rw (zone-rules, c, e)

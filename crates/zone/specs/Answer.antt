@@ -11,9 +11,9 @@ use Rattle.word.specs.Word.{noParts}
 use Rattle.schema.specs.Pick.{Picked}
 use Rattle.geometry.specs.Ring.{Point}
 use Rattle.document.specs.Document.{Maybe, none, some, spelling, truth, given}
-use Rattle.fields.specs.Values.{integerIn}
-use Rattle.clean.specs.declared.Outcome.{Outcome}
-use Rattle.clean.specs.declared.Outcome.the-variants.{Unbroken, Broken}
+use Rattle.document.specs.Values.{integerIn}
+use Rattle.fault.specs.declared.outcome.Outcome.{Outcome}
+use Rattle.fault.specs.declared.outcome.Outcome.the-variants.{Unbroken, Broken}
 use Rattle.clean.specs.Clean.{cleanOf}
 use Rattle.zone.specs.declared.Rule.{Rule}
 use Rattle.zone.specs.declared.Ruling.{Ruling}
@@ -22,7 +22,7 @@ use Rattle.zone.specs.Zone.{rulesAt, firstGiven}
 
 -- no rule
 abbrev pub noRule : Rule
-noRule = record { ride = false; through = false; limited = false; speed = 0; parks = false; parking = false }
+noRule = record { ride = false; through = false; «speed_given» = false; speed = 0; «parking_given» = false; parking = false }
 
 -- an answer's number and values
 pub record Answer : Type 0 where
@@ -55,9 +55,9 @@ ruleOf ride through speed parking =
     record {
       ride = yes ride;
       through = yes through;
-      limited = given speed;
+      «speed_given» = given speed;
       speed = integerIn speed;
-      parks = given parking;
+      «parking_given» = given parking;
       parking = yes parking;
     }
 

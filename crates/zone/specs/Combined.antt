@@ -7,7 +7,7 @@ use Prim.Native.Nat.{ℕ}
 use Rattle.schema.specs.Pick.{Picked}
 use Rattle.geometry.specs.Ring.{Point}
 use Rattle.document.specs.Document.{Maybe, spelling, truth, given}
-use Rattle.clean.specs.declared.Outcome.the-variants.{Unbroken}
+use Rattle.fault.specs.declared.outcome.Outcome.the-variants.{Unbroken}
 use Rattle.clean.specs.Clean.{cleanOf}
 use Rattle.zone.specs.declared.Rule.{Rule}
 use Rattle.zone.specs.Zone.{rulesAt, firstGiven}

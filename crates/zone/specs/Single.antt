@@ -11,7 +11,7 @@ use Rattle.geometry.specs.Ring.{Point}
 use Rattle.geometry.specs.Held.{holds}
 use Rattle.rings.specs.Rings.{itemCount}
 use Rattle.rings.specs.OneRing.{coordinatesOfOne, OneRingAtMost}
-use Rattle.clean.specs.declared.Outcome.{Outcome}
+use Rattle.fault.specs.declared.outcome.Outcome.{Outcome}
 use Rattle.clean.specs.Clean.{cleanBy, cleanOf}
 use Rattle.zone.specs.Zone.{outline, ringsHold, polygonsHoldBy, polygonsOf, zoneHolds, rulesBy, applicable, zonesOf}
 use Rattle.zone.specs.Answer.{Answer, refused, onMap, ofRules, ofClean, rulingOf}

@@ -12,7 +12,7 @@ use Rattle.geometry.specs.Ring.{Point}
 use Rattle.geometry.specs.Held.{sideOf, polygonHolds}
 use Rattle.rings.specs.Rings.{position}
 use Rattle.document.specs.Document.{Maybe, none, some, along, elementsOf, field, fieldItems, spelling, textIn}
-use Rattle.fields.specs.Values.{integerIn}
+use Rattle.document.specs.Values.{integerIn}
 use Rattle.clean.specs.Clean.{treeOf, recordsOf}
 
 -- an integer, where it is given

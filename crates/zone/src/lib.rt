@@ -2,8 +2,8 @@
 use crate::point::on_map;
 use crate::point::raised;
 use crate::zones::rule_in;
-use clean::Outcome;
 use clean::check_clean;
+use fault::outcome::Outcome;
 use geometry::Position;
 use word::Parts;
 ghost use mathlib.Core.Path.{_≡_};
@@ -16,13 +16,13 @@ mod values;
 mod window;
 mod zones;
 
-// The four values of an answer: a speed counts where it is limited, and whether parking needs a station where that is said.
+// The four values of an answer: a speed, and whether parking needs a station, each count where they are given.
 pub struct Rule {
     pub ride: bool,
     pub through: bool,
-    pub limited: bool,
+    pub speed_given: bool,
     pub speed: u64,
-    pub parks: bool,
+    pub parking_given: bool,
     pub parking: bool,
 }
 

@@ -2,12 +2,12 @@
 use crate::Flag;
 use crate::Given;
 use crate::Limit;
-use fields::NUMBER;
-use fields::array_in;
-use fields::code_of;
-use fields::integer_in;
-use fields::is_id;
-use fields::member;
+use document::fields::NUMBER;
+use document::fields::array_in;
+use document::fields::code_of;
+use document::fields::integer_in;
+use document::fields::is_id;
+use document::fields::member;
 use walk::ItemStep;
 use walk::item_bytes;
 use walk::pass_item;
@@ -15,8 +15,9 @@ ghost use mathlib.Core.Path.{_≡_};
 ghost use Rattle.walk.specs.Part.{Whole, partTree};
 ghost use Rattle.schema.specs.Pick.{pick};
 ghost use Rattle.schema.specs.Table23.{rule};
-ghost use Rattle.rings.specs.inner.Parts.{Listing, partsOf};
-ghost use Rattle.fields.specs.inner.Values.{truthBy, spelledBy};
+ghost use Rattle.rings.specs.inner.Parts.{Listing};
+ghost use Rattle.document.specs.inner.Items.{pickedItems};
+ghost use Rattle.document.specs.inner.Values.{truthBy, spelledBy};
 ghost use Rattle.zone.specs.Zone.{anyText, applies as appliesTo, applicable};
 ghost use Rattle.zone.specs.inner.Values.{idShape, flagOf, limitOf, givenBy, orGiven, withRule, allGiven};
 
@@ -63,7 +64,7 @@ fn given_in(p: &[u8]) -> Given
 // Whether a type stands among the ids of the array `p`.
 fn names_type(p: &[u8], type_id: &[u8]) -> bool
     requires { ⌜ Listing (now p) ⌝ }
-    ensures { λ r. ⌜ r ≡ anyText (partsOf idShape (now (p .entry))) (now («type_id» .entry)) ⌝ }
+    ensures { λ r. ⌜ r ≡ anyText (pickedItems idShape (now (p .entry))) (now («type_id» .entry)) ⌝ }
 {
     let mut at: usize = 1;
     loop {
@@ -107,7 +108,7 @@ fn with_rule(p: &[u8], type_id: &[u8], start: Given) -> Given
 // What is given so far, joined by what the rules of the array `p` give that are for a type. Once all values are there no further rule is asked.
 pub fn with_rules(p: &[u8], type_id: &[u8], start: Given) -> Given
     requires { ⌜ Listing (now p) ⌝ }
-    ensures { λ r. ⌜ r ≡ orGiven start (allGiven (applicable (partsOf rule (now (p .entry))) (now («type_id» .entry)))) ⌝ }
+    ensures { λ r. ⌜ r ≡ orGiven start (allGiven (applicable (pickedItems rule (now (p .entry))) (now («type_id» .entry)))) ⌝ }
 {
     let mut given = start;
     let mut at: usize = 1;

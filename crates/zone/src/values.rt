@@ -7,8 +7,7 @@ use crate::Ruling;
 ghost use mathlib.Core.Bool.{true};
 ghost use mathlib.Core.Path.{_≡_};
 ghost use Rattle.notation.specs.Choice.{_⇒_else_};
-ghost use Rattle.zone.specs.inner.Values.{nothing as nothingGiven, orFlag, orLimit, orGiven};
-ghost use Rattle.zone.specs.inner.Values.{isFlag, isLimit, isFull, flagged, speedOf, rulingBy};
+ghost use Rattle.zone.specs.inner.Values.{nothing as nothingGiven, orFlag, orLimit, orGiven, isFlag, isLimit, isFull, flagged, speedOf, rulingBy};
 
 impl Flag {
     // This one, or else a later one.
@@ -153,9 +152,9 @@ impl Given {
         return Ruling::Is(Rule {
             ride: ride.value(),
             through: through.value(),
-            limited: limit.is_given(),
+            speed_given: limit.is_given(),
             speed: limit.value(),
-            parks: parking.is_given(),
+            parking_given: parking.is_given(),
             parking: parking.value(),
         });
     }

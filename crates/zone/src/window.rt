@@ -1,11 +1,11 @@
 // When a zone counts.
-use fields::NUMBER;
-use fields::code_of;
-use fields::integer_in;
-use fields::member;
+use document::fields::NUMBER;
+use document::fields::code_of;
+use document::fields::integer_in;
+use document::fields::member;
 ghost use mathlib.Core.Path.{_≡_};
 ghost use Rattle.walk.specs.Part.{Whole, partTree};
-ghost use Rattle.fields.specs.inner.Values.{spelledBy};
+ghost use Rattle.document.specs.inner.Values.{spelledBy};
 ghost use Rattle.zone.specs.Zone.{integer, begun as begunAt, unended as unendedAt};
 ghost use Rattle.zone.specs.inner.Values.{countsBy};
 

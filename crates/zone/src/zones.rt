@@ -4,9 +4,9 @@ use crate::Ruling;
 use crate::area::zone_holds;
 use crate::rules::with_rules;
 use crate::window::counts;
+use document::fields::array_in;
+use document::fields::member;
 use document::records_from;
-use fields::array_in;
-use fields::member;
 use geometry::Position;
 use walk::ItemStep;
 use walk::item_bytes;
@@ -16,8 +16,8 @@ ghost use Rattle.walk.specs.Part.{partTree};
 ghost use Rattle.schema.specs.Table23.{zone};
 ghost use Rattle.schema.specs.Pick.{pick};
 ghost use Rattle.geometry.specs.inner.Shifted.{OnMap, point};
-ghost use Rattle.rings.specs.inner.Parts.{partsOf};
-ghost use Rattle.clean.specs.declared.Outcome.the-variants.{Unbroken};
+ghost use Rattle.fault.specs.declared.outcome.Outcome.the-variants.{Unbroken};
+ghost use Rattle.document.specs.inner.Items.{pickedItems};
 ghost use Rattle.clean.specs.Clean.{cleanOf};
 ghost use Rattle.zone.specs.Zone.{zoneRules, rules, applicable, rulesAt};
 ghost use Rattle.zone.specs.Answer.{answer, ofRules};
@@ -42,7 +42,7 @@ fn with_zone(p: &[u8], q: Position, type_id: &[u8], moment: u64, start: Given) -
 // What the rules of the zones in the array at the front of `p` give. Once all values are there no further zone is asked.
 fn given_by_zones(p: &[u8], q: Position, type_id: &[u8], moment: u64) -> Given
     requires { ⌜ CleanZones (now p) × OnMap q ⌝ }
-    ensures { λ r. ⌜ r ≡ allGiven (applicable (rules (partsOf zone (now (p .entry))) (point q) moment) (now («type_id» .entry))) ⌝ }
+    ensures { λ r. ⌜ r ≡ allGiven (applicable (rules (pickedItems zone (now (p .entry))) (point q) moment) (now («type_id» .entry))) ⌝ }
 {
     let mut given = Given::nothing();
     let mut at: usize = 1;

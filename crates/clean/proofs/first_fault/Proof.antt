@@ -1,11 +1,10 @@
 -- `first_fault` hands the file's value to the judge.
 use borrow.Author.Needs.{needs}
-use mathlib.Core.Path.{_≡_, sym, ap, subst, _∙_}
+use mathlib.Core.Path.{sym, subst, _∙_}
 use mathlib.Core.List.{List}
-use Prim.Native.Nat.{ℕ, _≤_}
-use lib.ListN.{length, length-take, length-drop}
+use Prim.Native.Nat.{ℕ}
+use lib.ListN.{length-take, length-drop}
 use native.Mathlib.Omega.{arith}
-use Rattle.limits.specs.Ceilings.{fileBytes}
 use Rattle.walk.specs.Part.{Whole}
 use Rattle.document.specs.inner.Spans.{Readable}
 use Rattle.clean.specs.Clean.{treeOf}

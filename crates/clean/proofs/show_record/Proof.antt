@@ -2,7 +2,7 @@
 use borrow.Author.Needs.{needs}
 use mathlib.Core.Path.{_≡_, sym, ap, _∙_}
 use native.Mathlib.Omega.{arith}
-use Rattle.clean.specs.declared.Outcome.the-variants.{Unbroken, Broken}
+use Rattle.fault.specs.declared.outcome.Outcome.the-variants.{Unbroken, Broken}
 use Rattle.clean.specs.Show.{ofSpan, shownOf}
 use Rattle.clean.proofs.Judged.{shown-none, shown-of}
 use Rattle.clean.proofs.Shows.{listed}
@@ -38,5 +38,5 @@ returns-5 c = let d = c .before in let r = d .before .before in ap ofSpan (sym (
 pub show-record-spec : {M : Type 1} → statement M
 show-record-spec =
     tie.close
-    (tie.spec returns returns-2 (λ c. omega arith) (λ c κs. search needs) (λ c. search needs) returns-3 (λ c. search needs) (λ c κs. search needs) (λ c. search needs) returns-4
+    (tie.spec returns (λ c. omega arith) returns-2 (λ c. omega arith) (λ c κs. search needs) (λ c. search needs) returns-3 (λ c. search needs) (λ c κs. search needs) (λ c. search needs) returns-4
     (λ c. search needs) returns-5)

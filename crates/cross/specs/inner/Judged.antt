@@ -2,10 +2,10 @@
 use mathlib.Core.Bool.{not}
 use mathlib.Core.List.{List, [], _++_, List·Memᴰ}
 use mathlib.Core.Path.{_≡_}
-use Prim.Native.Nat.{ℕ, _≤_}
+use Prim.Native.Nat.{ℕ, _≤_, _+_, _-_}
 use lib.Dec.{eqb, ltb}
 use lib.ListN.{length, getD}
-use Rattle.notation.specs.Choice.{_⇒_else_, _and_}
+use Rattle.notation.specs.Choice.{_and_}
 use Rattle.word.specs.Kinds.{sumDiffers}
 use Rattle.json.specs.Tree as tree
 use Rattle.json.specs.Tree.{Members}
@@ -13,21 +13,23 @@ use Rattle.walk.specs.declared.Item.{Item}
 use Rattle.walk.specs.Walk.{itemsOf}
 use Rattle.walk.specs.Part.{Whole, partTree}
 use Rattle.walk.proofs.Parts.{itemOf}
-use Rattle.schema.specs.Table23.{available}
+use Rattle.schema.specs.Shape.{Rows}
+use Rattle.schema.specs.Later.{rowsOf}
+use Rattle.schema.specs.inner.Line.{entries, fileLines}
+use Rattle.schema.specs.Table23.{available, table23}
 use Rattle.schema.specs.Records.{recordShape}
 use Rattle.schema.specs.Pick.{Picked, pick}
 use Rattle.slots.specs.declared.Slots.{Slots}
 use Rattle.slots.specs.inner.Slots.{slotAt, Gathered}
 use Rattle.fault.specs.declared.Fault.{Fault}
 use Rattle.fault.specs.declared.Least.{Least}
-use Rattle.fault.specs.Fault.{least}
-use Rattle.judge.specs.declared.Place.{Place}
-use Rattle.judge.specs.Faults.{faulty}
-use Rattle.document.proofs.Records.{pickedItems}
-use Rattle.fields.specs.Values.{integerIn}
-use Rattle.fields.specs.inner.Values.{Standing, foundBytes, textBy, thereBy, arrayBy, spelledBy}
-use Rattle.references.specs.References.{kindIf, hasCapacity, motorized, named, refers, demanded}
-use Rattle.references.specs.inner.Known.{Searchable}
+use Rattle.fault.specs.Fault.{least, faulty}
+use Rattle.fault.specs.declared.Place.{Place}
+use Rattle.document.specs.inner.Items.{pickedItems}
+use Rattle.document.specs.Values.{integerIn}
+use Rattle.document.specs.inner.Values.{FoundWhole, foundBytes, textBy, thereBy, arrayBy, spelledBy}
+use Rattle.ids.specs.References.{kindIf, hasCapacity, motorized, named, refers, demanded}
+use Rattle.ids.specs.inner.Known.{Searchable}
 use Rattle.cross.specs.Cross.{File, Files, recordPlace, sumOf, availableFaults}
 use Rattle.cross.specs.Stage.{Feeds, bytesOf}
 
@@ -46,6 +48,10 @@ fileBy file p = record { here = ltb 0 (length p); records = pickedItems (recordS
 abbrev pub filesBy : Feeds → Files
 filesBy rs file = fileBy file (bytesOf rs file)
 
+-- how many files references name: types, stations and plans
+abbrev pub namedCount : ℕ
+namedCount = 3
+
 -- What is known when the records of a file are judged: the records of types, stations and plans are noted, in this order; those of types not yet for
 -- types themselves, which name none.
 pub record Known (file : ℕ) (rs notes : Feeds) : Type 0 where
@@ -59,20 +65,24 @@ pub record Referring (file : ℕ) : Type 0 where
   pub most : file ≤ 4
   pub other : file ≡ 2 → ⊥
 
--- the lines of the table at which the rows of its records stand: the first of them, and how many
-abbrev pub firstLine : ℕ → ℕ
-firstLine file = eqb file 1 ⇒ 5 else eqb file 3 ⇒ 25 else 40
+-- the rows of its records
+abbrev pub recordRows : ℕ → Rows
+recordRows file = rowsOf (recordShape file)
 
-abbrev pub lineCount : ℕ → ℕ
-lineCount file = eqb file 1 ⇒ 5 else 10
+-- the lines of the table at which they stand, the last of the file's: how many, and the first of them
+unfoldable pub recordCount : ℕ → ℕ
+recordCount file = length (entries (recordRows file))
+
+unfoldable pub recordFirst : ℕ → ℕ
+recordFirst file = fileLines table23 file .first + fileLines table23 file .count - recordCount file
 
 -- the slots of a record of the file
 abbrev pub Slotted : ℕ → List ℕ → Slots → Type 0
-Slotted file p s = Gathered p (firstLine file) (lineCount file) s
+Slotted file p s = Gathered p (recordFirst file) (recordCount file) s
 
 -- q is the value that is read at a slot
 abbrev pub Reads : (p : List ℕ) (s : Slots) (row : ℕ) (q : List ℕ) → Type 0
-Reads p s row q = Standing p (slotAt s row) → q ≡ foundBytes p (slotAt s row)
+Reads p s row q = FoundWhole p (slotAt s row) → q ≡ foundBytes p (slotAt s row)
 
 -- What fields of a record break, by the bytes of their values: the position of a bike, its type, the station of a status, and its counts.
 abbrev pub positionBy : Place → (station lat lon : List ℕ) → List Fault

@@ -8,31 +8,31 @@ use Rattle.json.specs.Text.{syntaxOf}
 use Rattle.schema.specs.Shape.{fileShape}
 use Rattle.schema.specs.Table23.{table23}
 use Rattle.fault.specs.Fault.{least}
+use Rattle.fault.specs.Outcome.{fileCount, outcomeOf, orNext}
 use Rattle.judge.specs.Faults.{fileFaults}
-use Rattle.clean.specs.declared.Outcome.{Outcome}
-use Rattle.clean.specs.declared.Outcome.the-variants.{Unbroken}
-use Rattle.clean.specs.Clean.{treeOf, broken}
+use Rattle.fault.specs.declared.outcome.Outcome.{Outcome}
+use Rattle.fault.specs.declared.outcome.Outcome.the-variants.{Unbroken}
+use Rattle.clean.specs.Clean.{treeOf}
 use Rattle.cross.specs.Cross.{Files, crossFaults}
-use Rattle.cross.specs.Stage.{Feeds, fileCount, bytesOf}
+use Rattle.cross.specs.Stage.{Feeds, bytesOf}
 
--- what is found in a file, or else in the next ones: so many files from one on
-unfoldable pub onward : {A : Type 0} → (step : ℕ → A → A) (none : A) (file left : ℕ) → A
-onward step none file zero = none
-onward step none file (suc left) = step file (onward step none (file + 1) left)
+-- the first broken rule by what is told of each file: of `left` files from a number on, and of all
+unfoldable pub fromFile : (ℕ → Outcome) → (file left : ℕ) → Outcome
+fromFile told file zero = Unbroken
+fromFile told file (suc left) = orNext (told file) (fromFile told (file + 1) left)
 
--- the first file that is not clean
-abbrev pub firstOf : (ℕ → Outcome → Outcome) → Outcome
-firstOf judge = onward judge Unbroken 1 fileCount
+abbrev pub firstOf : (ℕ → Outcome) → Outcome
+firstOf told = fromFile told 1 fileCount
 
 -- stage C
 unfoldable pub firstC : Files → Outcome
-firstC s = firstOf (λ file next. broken file (least (crossFaults s file)) next)
+firstC s = firstOf (λ file. outcomeOf file (least (crossFaults s file)))
 
 -- a file is through stages A and B
-pub record Through (n : ℕ) (s : List ℕ) : Type 0 where
+pub record PassesAB (n : ℕ) (s : List ℕ) : Type 0 where
   pub reads : (length s ≡ 0 → ⊥) → syntaxOf s ≡ Sound
   pub faultless : (length s ≡ 0 → ⊥) → fileFaults (fileShape table23 n) (treeOf s) ≡ []
 
--- and so are all files of a set
-abbrev pub AllThrough : Feeds → Type 0
-AllThrough s = (file : ℕ) → 1 ≤ file → file ≤ fileCount → Through file (bytesOf s file)
+-- all files of a set are through stages A and B
+abbrev pub AllPassAB : Feeds → Type 0
+AllPassAB s = (file : ℕ) → 1 ≤ file → file ≤ fileCount → PassesAB file (bytesOf s file)

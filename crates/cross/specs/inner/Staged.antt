@@ -11,22 +11,21 @@ use Rattle.walk.specs.Walk.{itemsOf}
 use Rattle.walk.specs.inner.Along.{AlongItems}
 use Rattle.schema.specs.Records.{recordShape}
 use Rattle.fault.specs.declared.Least.{Least}
-use Rattle.fault.specs.declared.Least.the-variants.{None, Is}
-use Rattle.fault.specs.Fault.{least, lesser}
-use Rattle.judge.specs.Faults.{top, faulty}
-use Rattle.document.proofs.Records.{pickedItems}
+use Rattle.fault.specs.declared.outcome.Outcome.{Outcome}
+use Rattle.fault.specs.Fault.{least, lesser, top, faulty}
+use Rattle.fault.specs.Outcome.{fileCount, outcomeOf}
+use Rattle.fault.specs.inner.Narrow.{Narrow}
+use Rattle.document.specs.inner.Items.{pickedItems}
 use Rattle.ids.specs.inner.Ids.{idField, recordBytes, firstRepeat}
 use Rattle.clean.specs.inner.Blamed.{blamed}
-use Rattle.references.specs.References.{kindIf}
-use Rattle.references.specs.inner.Known.{Searchable}
+use Rattle.ids.specs.References.{kindIf}
+use Rattle.ids.specs.inner.Known.{Searchable}
 use Rattle.cross.specs.declared.records.Findings.{Findings}
 use Rattle.cross.specs.declared.stage.Named.{Named}
-use Rattle.cross.specs.declared.stage.Crossed.{Crossed}
-use Rattle.cross.specs.declared.stage.Crossed.the-variants.{Nothing, At}
-use Rattle.cross.specs.Cross.{eachRecord, faultsOf, absentees}
-use Rattle.cross.specs.Stage.{Feeds, fileCount, bytesOf}
+use Rattle.cross.specs.Cross.{eachRecord, faultsOf, missingFile}
+use Rattle.cross.specs.Stage.{Feeds, bytesOf}
 use Rattle.cross.specs.inner.Judged.{Objects, filesBy, Known}
-use Rattle.cross.specs.inner.Stage.{onward}
+use Rattle.cross.specs.inner.Stage.{firstOf}
 
 -- an array of records, with whatever follows it, that is within its ceilings; or no bytes
 pub record Recorded (p : List ℕ) : Type 0 where
@@ -35,7 +34,7 @@ pub record Recorded (p : List ℕ) : Type 0 where
   pub few : length (itemsOf p) ≤ records
   pub along : (0 < length p) → AlongItems p 1
 
--- and so are those of all files of a set
+-- the records of all files of a set are such arrays
 abbrev pub AllRecorded : Feeds → Type 0
 AllRecorded rs = (file : ℕ) → 1 ≤ file → file ≤ fileCount → Recorded (bytesOf rs file)
 
@@ -58,8 +57,19 @@ module _ (rs : Feeds) where
   -- the least of a file
   unfoldable pub fileLeast : ℕ → Least
   fileLeast file =
-      lesser (least (faulty top 0 (kindIf (absentees (filesBy rs) file) condition)))
+      lesser (least (faulty top 0 (kindIf (missingFile (filesBy rs) file) condition)))
       (lesser (idsLeast file (bytesOf rs file)) (least (eachRecord (faultsOf (filesBy rs) file) 1 (filesBy rs file .records))))
+
+  -- what is told of a file, and the first broken rule of all
+  abbrev pub fileOutcome : ℕ → Outcome
+  fileOutcome file = outcomeOf file (fileLeast file)
+
+  abbrev pub setOutcome : Outcome
+  setOutcome = firstOf fileOutcome
+
+  -- a word can have the numbers of the least of each file
+  abbrev pub AllNarrow : Type 0
+  AllNarrow = (file : ℕ) → 1 ≤ file → file ≤ fileCount → Narrow (fileLeast file)
 
   -- what is known when types are judged
   pub record Others (stationNotes planNotes : List ℕ) : Type 0 where
@@ -70,14 +80,7 @@ module _ (rs : Feeds) where
   pub record Ready (notes : Feeds) (named : Named) : Type 0 where
     pub known : (file : ℕ) → Known file rs notes
     pub recorded : AllRecorded rs
+    pub narrow : AllNarrow
     pub types : Found 1 (named .types)
     pub stations : Found 2 (named .stations)
     pub plans : Found 5 (named .plans)
-
--- the first file that breaks a rule
-abbrev pub crossing : ℕ → Least → Crossed → Crossed
-crossing file None next = next
-crossing file (Is f) next = At file f
-
-abbrev pub crossed : Feeds → Crossed
-crossed rs = onward (λ file next. crossing file (fileLeast rs file) next) Nothing 1 fileCount

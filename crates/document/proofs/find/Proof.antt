@@ -42,10 +42,10 @@ returns-2 c x w =
     (sym (n .pass-member .ensures .same along) ∙ c .enum-told .given .1) left
 
 -- where a member was found
-abbrev Met : Type 0
-Met = tie.After-known-told Inv-loop μ-loop
+abbrev MemberFound : Type 0
+MemberFound = tie.After-known-told Inv-loop μ-loop
 
-placed : (c : Met) → Placed (c .before .before .before .before .before .before .before .before .before .args .p .now) (c .before .before .before .before .loop .at) (c .before .m .given .0 .0)
+placed : (c : MemberFound) → Placed (c .before .before .before .before .before .before .before .before .before .args .p .now) (c .before .before .before .before .loop .at) (c .before .m .given .0 .0)
 placed c = c .before .before .before .pass-member .ensures .placed (c .before .m .given .0 .0) (c .before .m .given .1)
 
 loop-again : tie.Need-loop-again Inv-loop μ-loop

@@ -34,10 +34,10 @@ returns-2 c h =
     sym (nth-none _ (k .loop .left)) ∙ comes-end (k .loop .inv .1 h) (t .pass-item .ensures) (c .enum-told .given .1)
 
 -- where an item was found
-abbrev Met : Type 0
-Met = tie.After-known-told Inv-loop μ-loop
+abbrev ItemFound : Type 0
+ItemFound = tie.After-known-told Inv-loop μ-loop
 
-placed : (c : Met) → ItemPlaced (c .before .before .before .before .before .before .before .args .p .now) (c .before .before .before .before .loop .at) (c .before .m .given .0 .0)
+placed : (c : ItemFound) → ItemPlaced (c .before .before .before .before .before .before .before .args .p .now) (c .before .before .before .before .loop .at) (c .before .m .given .0 .0)
 placed c = c .before .before .before .pass-item .ensures .placed (c .before .m .given .0 .0) (c .before .m .given .1)
 
 add-t10 : tie.Need-add-t10 Inv-loop μ-loop

@@ -1,12 +1,15 @@
 -- `records_from` goes from rest to rest along the names of the file's number.
 use borrow.Author.Needs.{needs}
+use mathlib.Core.List.{List, [], _∷_, map}
 use mathlib.Core.Path.{_≡_, refl, ap}
 use Prim.Native.Nat.{ℕ, _≤_}
 use native.Mathlib.Omega.{arith}
 use lib.ListN.{length}
 use Rattle.notation.specs.Ascii.{bytes}
-use Rattle.schema.specs.Records.{wayTo, located}
+use Rattle.notation.specs.Maybe.{some}
+use Rattle.schema.specs.Records.{Way, wayTo, located}
 use Rattle.document.specs.Spans.{memberSpan, topSpan}
+use Rattle.document.specs.inner.Spans.{ValueFrom, RecordsFrom}
 use Rattle.walk.proofs.Cuts.{part-length}
 use Rattle.document.proofs.Along.{along-two, along-three, along-none}
 use Rattle.document.proofs.Rests.{Begins, begins-top, begins-member, records-begin, no-records}
@@ -20,35 +23,10 @@ in-data c =
     let k = c .before .before .before in let s = k .before .before .args .s .now in
     begins-member s (bytes "data") (topSpan s) _ _ (begins-top s (k .skip-blanks .result) (k .skip-blanks .ensures)) (c .value-from .ensures)
 
-returns : tie.Need-returns
-unfolding located
-returns c =
-    let m = c .before .before in
-    records-begin _ _ _ _ (along-two _ _ _ _ (ap wayTo (m .match .keys1)) refl) (begins-member _ _ _ _ _ (in-data (m .before)) (c .value-from2 .ensures))
-
-returns-2 : tie.Need-returns-2
-unfolding located
-returns-2 c =
-    let m = c .before .before in
-    records-begin _ _ _ _ (along-two _ _ _ _ (ap wayTo (m .match .keys2)) refl) (begins-member _ _ _ _ _ (in-data (m .before)) (c .value-from3 .ensures))
-
-returns-3 : tie.Need-returns-3
-unfolding located
-returns-3 c =
-    let m = c .before .before in
-    records-begin _ _ _ _ (along-two _ _ _ _ (ap wayTo (m .match .keys3)) refl) (begins-member _ _ _ _ _ (in-data (m .before)) (c .value-from4 .ensures))
-
-returns-4 : tie.Need-returns-4
-unfolding located
-returns-4 c =
-    let m = c .before .before in
-    records-begin _ _ _ _ (along-two _ _ _ _ (ap wayTo (m .match .keys4)) refl) (begins-member _ _ _ _ _ (in-data (m .before)) (c .value-from5 .ensures))
-
-returns-5 : tie.Need-returns-5
-unfolding located
-returns-5 c =
-    let m = c .before .before in
-    records-begin _ _ _ _ (along-two _ _ _ _ (ap wayTo (m .match .keys5)) refl) (begins-member _ _ _ _ _ (in-data (m .before)) (c .value-from6 .ensures))
+-- the records of a file under one name in it
+named : {file : ℕ} {s name p r : List ℕ} {w : Way} → wayTo file ≡ some w → map (λ k. k .name) (w .keys) ≡ bytes "data" ∷ name ∷ []
+    → Begins s (memberSpan s (bytes "data") (topSpan s)) p → ValueFrom p name r → RecordsFrom file s r
+named e names b v = records-begin _ _ _ _ (along-two _ _ _ _ e names) (begins-member _ _ _ _ _ b v)
 
 returns-6 : tie.Need-returns-6
 unfolding located
@@ -66,9 +44,17 @@ returns-7 c =
     no-records _ _ _ (along-none _ _ (no-file _ (r .0 .0 .0 .0 .0 .1) (r .0 .0 .0 .0 .1) (r .0 .0 .0 .1) (r .0 .0 .1) (r .0 .1) (r .1))) (omega (arith, ap length (c .cut .ensures), part-length s 0 0))
 
 pub records-from-spec : {M : Type 1} → statement M
+unfolding located
 records-from-spec =
-    tie.close
-    (tie.spec (λ c κs. search needs) (λ c. search needs) (λ c. search needs) (λ c. search needs) (λ c. search needs) (λ c κs. search needs) (λ c. search needs)
-    (λ c κs. search needs) returns (λ c. search needs) (λ c κs. search needs) returns-2 (λ c. search needs) (λ c κs. search needs) returns-3 (λ c. search needs)
-    (λ c κs. search needs) returns-4 (λ c. search needs) (λ c κs. search needs) returns-5 (λ c. search needs) (λ c κs. search needs) (λ c. search needs)
-    (λ c κs. search needs) returns-6 (λ c κs. search needs) returns-7)
+    tie.close (tie.spec (λ c κs. search needs) (λ c. search needs) (λ c. search needs) (λ c. search needs)
+    (λ c. search needs) (λ c κs. search needs) (λ c. search needs) (λ c κs. search needs)
+    (λ c. let m = c .before .before in named (ap wayTo (m .match .keys1)) refl (in-data (m .before)) (c .value-from2 .ensures))
+    (λ c. search needs) (λ c κs. search needs)
+    (λ c. let m = c .before .before in named (ap wayTo (m .match .keys2)) refl (in-data (m .before)) (c .value-from3 .ensures))
+    (λ c. search needs) (λ c κs. search needs)
+    (λ c. let m = c .before .before in named (ap wayTo (m .match .keys3)) refl (in-data (m .before)) (c .value-from4 .ensures))
+    (λ c. search needs) (λ c κs. search needs)
+    (λ c. let m = c .before .before in named (ap wayTo (m .match .keys4)) refl (in-data (m .before)) (c .value-from5 .ensures))
+    (λ c. search needs) (λ c κs. search needs)
+    (λ c. let m = c .before .before in named (ap wayTo (m .match .keys5)) refl (in-data (m .before)) (c .value-from6 .ensures))
+    (λ c. search needs) (λ c κs. search needs) (λ c. search needs) (λ c κs. search needs) returns-6 (λ c κs. search needs) returns-7)

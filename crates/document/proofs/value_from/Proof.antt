@@ -9,12 +9,12 @@ use Rattle.walk.specs.declared.NameStep.the-variants as names
 use Rattle.walk.specs.inner.Along.{NamePlaced, NamePassed, MemberPassed}
 use Rattle.walk.proofs.Passing.{member-absent}
 use Rattle.walk.proofs.Cuts.{part-rest}
-use Rattle.document.proofs.First.{Unmet, unmet-none, unmet-start, unmet-end, unmet-here, unmet-next, from-none, from-here}
+use Rattle.document.proofs.First.{NotFoundBefore, unmet-none, unmet-start, unmet-end, unmet-here, unmet-next, from-none, from-here}
 use Rattle.document.proofs.value_from.Statement.{statement}
 use Rattle.document.proofs.value_from.Tie as tie
 
 abbrev Inv-loop : tie.InvT-loop
-Inv-loop p name at₀ at = Unmet p name at
+Inv-loop p name at₀ at = NotFoundBefore p name at
 
 abbrev μ-loop : tie.MeasureT-loop
 μ-loop p name at₀ at = length p - at
@@ -36,14 +36,14 @@ returns-2 c =
     (member-absent p (k .loop .at) (subst (NamePassed p (k .loop .at)) (t .enum-told .given .1) (n .pass-name .ensures))))
 
 -- where a front was found
-abbrev Met : Type 0
-Met = tie.After-known-told Inv-loop μ-loop
+abbrev NameFound : Type 0
+NameFound = tie.After-known-told Inv-loop μ-loop
 
-passed : (c : Met) → NamePassed (c .before .before .before .before .before .before .before .before .before .args .p .now) (c .before .before .before .before .loop .at)
+passed : (c : NameFound) → NamePassed (c .before .before .before .before .before .before .before .before .before .args .p .now) (c .before .before .before .before .loop .at)
     (names.Found (c .before .n .given .0 .0))
 passed c = subst (NamePassed _ _) (c .before .n .given .1) (c .before .before .before .pass-name .ensures)
 
-placed : (c : Met) → NamePlaced (c .before .before .before .before .before .before .before .before .before .args .p .now) (c .before .before .before .before .loop .at)
+placed : (c : NameFound) → NamePlaced (c .before .before .before .before .before .before .before .before .before .args .p .now) (c .before .before .before .before .loop .at)
     (c .before .n .given .0 .0)
 placed c = c .before .before .before .pass-name .ensures .placed (c .before .n .given .0 .0) (c .before .n .given .1)
 

@@ -17,7 +17,7 @@ use Rattle.fare.specs.Bounds.{mostCharge, mostKilometres, mostMinutes, m
 abbrev pub mostRide : ℕ
 mostRide = mostMinutes
 
--- so many segments more and neither side of the sum leaves 63 bits
+-- with `more` segments more neither side of the sum leaves 63 bits
 pub record Room (more : ℕ) (sum : Sum) : Type 0 where
   pub added : sum .added + more * mostCharge mostRide < 2 ^ 63
   pub taken : sum .taken + more * mostCharge mostRide < 2 ^ 63

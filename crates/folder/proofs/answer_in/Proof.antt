@@ -19,12 +19,5 @@ returns-3 c = rw (c .before .enum-told3 .given .1) (ap Says (c .parts-of .ensure
 
 pub answer-in-spec : {M : Type 1} → statement M
 answer-in-spec =
-    tie.close
-    (tie.spec
-    (λ c. search needs)
-    (λ c. search needs)
-    (λ c. search needs)
-    parts-of-requires
-    (λ c. search needs)
-    (λ c. search needs)
-    returns-3)
+    tie.close (tie.spec (λ c. search needs) (λ c. search needs) (λ c. search needs) parts-of-requires
+    (λ c. search needs) (λ c. search needs) returns-3)

@@ -1,19 +1,14 @@
--- Rings as code holds them: two lists of one length, of naturals in millionths of a degree, moved up by half the range so that none is
--- negative. Document 01's range of lon and lat, and its ceiling of positions, are the bounds.
+-- Points as code holds them: naturals in millionths of a degree, moved up by half the range so that none is negative. Document 01's range of lon and lat
+-- is their bound.
 use mathlib.Core.Bool.{Bool, false}
-use mathlib.Core.List.{List, [], _∷_}
+use mathlib.Core.List.{List}
 use Prim.Native.Nat.{ℕ, _+_, _*_, _^_, _≤_, _<_}
-use mathlib.Core.Path.{_≡_}
 use lib.IntN.{ℤ}
-use lib.ListN.{length, getD}
-use Rattle.limits.specs.Ceilings.{positions}
 use Rattle.notation.specs.Choice.{_⇒_else_}
 use Rattle.signed.specs.inner.Difference.{difference}
 use Rattle.geometry.specs.Ring.{Point}
 use Rattle.geometry.specs.Held.{onRing, odd, sideOf}
 use Rattle.geometry.specs.declared.Balance.{Balance}
-use Rattle.geometry.specs.declared.Place.{Place}
-use Rattle.geometry.specs.declared.Place.the-variants.{Edge, Inside, Outside}
 use Rattle.geometry.specs.declared.Position.{Position}
 use Rattle.geometry.specs.declared.Standing.{Standing}
 use Rattle.geometry.specs.declared.Standing.the-variants as standing
@@ -36,11 +31,6 @@ point p = shifted (p .lon) (p .lat)
 abbrev pub origin : Position
 origin = record { lon = halfLon; lat = halfLat }
 
-unfoldable pub points : List ℕ → List ℕ → List Point
-points [] ys = []
-points (x ∷ xs) [] = []
-points (x ∷ xs) (y ∷ ys) = shifted x y ∷ points xs ys
-
 -- a number that may be negative: what is added less what is taken away
 abbrev pub value : Balance → ℤ
 value b = difference (b .plus) (b .minus)
@@ -62,20 +52,6 @@ pub record OnMap (p : Position) : Type 0 where
   pub east : p .lon ≤ 360_000_000
   pub north : p .lat ≤ 180_000_000
 
--- the point at an index; past the end it is 0
-abbrev pub positionAt : List ℕ → List ℕ → ℕ → Position
-positionAt xs ys k = record { lon = getD xs k 0; lat = getD ys k 0 }
-
--- a ring that code is asked about: it need not close
-pub record InRange (xs ys : List ℕ) : Type 0 where
-  pub same : length ys ≡ length xs
-  pub most : length xs ≤ positions
-  pub map : (k : ℕ) → OnMap (positionAt xs ys k)
-
--- where a point lies to a ring, whichever way round that goes
-unfoldable pub placeOf : List Point → Point → Place
-placeOf l q = onRing l q ⇒ Edge else odd l q ⇒ Inside else Outside
-
--- where it stands to a polygon's rings once this one was asked too: an edge settles it; the first ring holds its side, and a further one takes its inside away
+-- where a point stands to a polygon's rings once this one was asked too: an edge settles it; the first ring holds its side, and a further one takes its inside away
 unfoldable pub stands : (first held : Bool) → List Point → Point → Standing
 stands first held l q = onRing l q ⇒ standing.Edge else standing.Is (first ⇒ sideOf l q else odd l q ⇒ false else held)

@@ -20,7 +20,7 @@ use Rattle.schema.specs.Records.{idKey}
 use Rattle.slots.specs.declared.Found.the-variants.{Missing, Twice}
 use Rattle.slots.specs.Found.{noted, foundIn}
 use Rattle.document.specs.Document.{Maybe, none, some}
-use Rattle.fields.specs.inner.Values.{memberOf, textBy, isId}
+use Rattle.document.specs.inner.Values.{memberOf, textBy, isId}
 
 -- the field and the name of the ids of a file's own records; 0 and no bytes where they have none
 unfoldable pub idField : ℕ → ℕ
@@ -33,18 +33,18 @@ idName file = elim (idKey file) [ none ↦ [] | some k ↦ k .name ]
 unfoldable pub idValue : ℕ → List ℕ → List ℕ
 idValue file q = memberOf q (idName file)
 
--- the text of it
+-- the text of a record's id
 abbrev pub idOf : ℕ → List ℕ → Maybe (List ℕ)
 idOf file q = textBy (idValue file q)
 
 -- a walk over the members of the record q has come to `at`, and none that it passed has the name of the file's ids
-pub record Unmet (file : ℕ) (q : List ℕ) (at : ℕ) : Type 0 where
+pub record NoIdBefore (file : ℕ) (q : List ℕ) (at : ℕ) : Type 0 where
   pub left : Walk (memberSteps q) (noted q (idName file)) Missing at (foundIn q (idName file))
   pub along : (0 < length q) → AlongMembers q at
 
--- and the next member, if there is one, has it
+-- none of the members before `at` has the name of the file's ids, and the one there, if there is one, has it
 pub record IdPlace (file : ℕ) (q : List ℕ) (at : ℕ) : Type 0 where
-  pub unmet : Unmet file q at
+  pub unmet : NoIdBefore file q at
   pub here : (m : Member) → memberAt q at ≡ members.Found m → same (textOf (part q (m .name) (m .«name_end»))) (idName file) ≡ true
 
 -- v is what an object q holds as its id, where its member is looked for at this place
@@ -52,13 +52,13 @@ abbrev pub IdAt : (q : List ℕ) (at : ℕ) (v : List ℕ) → Type 0
 IdAt q at v = (file : ℕ) (ms : Members) → Whole q (tree.object ms) → IdPlace file q at → (foundIn q (idName file) ≡ Twice → ⊥) → v ≡ idValue file q
 
 -- the record q is an object in which this name stands once at most
-pub record Single (file : ℕ) (q : List ℕ) : Type 0 where
+pub record IdOnce (file : ℕ) (q : List ℕ) : Type 0 where
   pub object : (ms : Members) × (partTree q ≡ tree.object ms)
   pub once : foundIn q (idName file) ≡ Twice → ⊥
 
 -- all records of an array are such objects
-abbrev pub Singles : ℕ → List ℕ → Type 0
-Singles file p = (m : Item) → List·Memᴰ m (itemsOf p) → Single file (itemOf p m)
+abbrev pub AllIdsOnce : ℕ → List ℕ → Type 0
+AllIdsOnce file p = (m : Item) → List·Memᴰ m (itemsOf p) → IdOnce file (itemOf p m)
 
 -- a record has this id
 abbrev pub hasId : ℕ → List ℕ → List ℕ → Bool

@@ -11,9 +11,9 @@ use Rattle.notation.specs.Choice.{_⇒_else_}
 use Rattle.text.specs.inner.Digest as text
 use Rattle.walk.specs.Walk.{part}
 use Rattle.document.specs.Document.{none, some}
-use Rattle.ids.specs.inner.Ids.{idOf, idValue, Unmet, recordBytes}
+use Rattle.ids.specs.inner.Ids.{idOf, idValue, NoIdBefore, recordBytes}
 
--- as many buckets; all numbers
+-- how many buckets there are, and how many numbers in all
 abbrev pub buckets : ℕ
 buckets = 4_096
 
@@ -59,7 +59,7 @@ kept file q = elim (idOf file q) [ none ↦ [] | some id ↦ q ]
 -- the entry j tells where the j-th record of p is, where the member of its id is looked for, and the digest of its id
 pub record Entry (file : ℕ) (p notes : List ℕ) (j : ℕ) : Type 0 where
   pub there : part p (startAt notes j) (endAt notes j) ≡ kept file (getD (recordBytes p) j [])
-  pub unmet : Unmet file (part p (startAt notes j) (endAt notes j)) (memberStart notes j)
+  pub unmet : NoIdBefore file (part p (startAt notes j) (endAt notes j)) (memberStart notes j)
   pub digested : (id : List ℕ) → idOf file (getD (recordBytes p) j []) ≡ some id → digestAt notes j ≡ text.digest id
 
 -- the record between two places of p is the one behind n others; the member of its id is looked for at `member`, and the id is this value
@@ -68,7 +68,7 @@ pub record Next (file : ℕ) (p : List ℕ) (n from upto member : ℕ) (value : 
   pub starts : from ≤ fileBytes
   pub ends : upto ≤ fileBytes
   pub looked : member ≤ fileBytes
-  pub unmet : Unmet file (part p from upto) member
+  pub unmet : NoIdBefore file (part p from upto) member
   pub is : part p from upto ≡ getD (recordBytes p) n []
   pub holds : value ≡ idValue file (part p from upto)
 

@@ -6,21 +6,11 @@ use Rattle.json.proofs.Texts.{too-long, judged}
 use Rattle.json.proofs.check_syntax.Statement.{statement}
 use Rattle.json.proofs.check_syntax.Tie as tie
 
-returns : tie.Need-returns
-returns c = too-long (c .before .before .args .file .now) (c .if1 .taken)
-
-returns-2 : tie.Need-returns-2
-unfolding syntaxBy
-returns-2 c =
-    let r = c .before .before in let l = r .before in
-    judged (l .before .before .args .file .now) _ (l .if1 .left) (sym (c .enum-told .given .1) ∙ r .read-text .ensures)
-
-returns-3 : tie.Need-returns-3
-unfolding syntaxBy
-returns-3 c =
-    let r = c .before .before .before in let l = r .before in
-    judged (l .before .before .args .file .now) _ (l .if1 .left) (sym (c .before .kind .given .1) ∙ r .read-text .ensures)
-
 pub check-syntax-spec : {M : Type 1} → statement M
+unfolding syntaxBy
 check-syntax-spec =
-    tie.close (tie.spec returns (λ c κs. search needs) (λ c. search needs) returns-2 (λ c. search needs) returns-3)
+    tie.close (tie.spec (λ c. too-long (c .before .before .args .file .now) (c .if1 .taken)) (λ c κs. search needs)
+    (λ c. search needs) (λ c. let r = c .before .before in let l = r .before in
+    judged (l .before .before .args .file .now) _ (l .if1 .left) (sym (c .enum-told .given .1) ∙ r .read-text .ensures))
+    (λ c. search needs) (λ c. let r = c .before .before .before in let l = r .before in
+    judged (l .before .before .args .file .now) _ (l .if1 .left) (sym (c .before .kind .given .1) ∙ r .read-text .ensures)))

@@ -11,11 +11,15 @@ returns c x w =
     let f = c .before .before in
     file-unlisted (f .before .before .args .file) (sym (ap (λ (l : Range). l .count) (f .file-lines .ensures)) ∙ c .if1 .taken) x
 
+judge-object-requires : tie.Need-judge-object-requires
+judge-object-requires c κs = (c .before .before .before .before .before .before .pre, c .before .table-bytes .ensures)
+
 returns-2 : tie.Need-returns-2
 returns-2 c =
-    let f = c .before .before .before in
+    let i = c .before .before .before in
+    let f = i .before .before in
     let a = f .before .before .args in
-    file-listed (a .p .now) (c .judge-object .result .end) (a .file) (f .file-lines .ensures) (c .before .if1 .left) (c .judge-object .ensures .0) (c .judge-object .ensures .1)
+    file-listed (a .p .now) (c .judge-object .result .end) (a .file) (f .file-lines .ensures) (i .if1 .left) (c .judge-object .ensures .0) (c .judge-object .ensures .1)
 
 pub judge-file-spec : {M : Type 1} → statement M
-judge-file-spec = tie.close (tie.spec (λ c κs. search needs) returns (λ c κs. search needs) returns-2)
+judge-file-spec = tie.close (tie.spec (λ c κs. search needs) returns (λ c κs. search needs) judge-object-requires returns-2)

@@ -28,10 +28,10 @@ use Rattle.slots.specs.inner.Slots.{slotsOf, slotAt, gathered}
 use Rattle.fault.specs.declared.Fault.{Fault}
 use Rattle.fault.specs.declared.Least.{Least}
 use Rattle.fault.specs.declared.Least.the-variants.{None}
-use Rattle.fault.specs.Fault.{least}
-use Rattle.judge.specs.declared.Place.{Place}
-use Rattle.judge.specs.Faults.{faulty, absence, faults, rowFaults}
-use Rattle.judge.specs.inner.Ready.{ready, readyRows}
+use Rattle.fault.specs.Fault.{least, faulty}
+use Rattle.fault.specs.declared.Place.{Place}
+use Rattle.judge.specs.Faults.{absence, faults, rowFaults}
+use Rattle.judge.specs.inner.Judgeable.{judgeable, judgeableRows}
 
 -- the letter of what has brackets, by a value's kind
 abbrev pub bracketsOf : ValueKind → ℕ
@@ -59,27 +59,43 @@ memberFaults need σ q field (once x) = faults σ q field (pick σ x)
 memberFaults need σ q field twice = faulty q field (nameTwice ∷ [])
 
 -- line i tells of a value of this shape, whose letter is given
-pub record Told (i letter : ℕ) (σ : Shape) : Type 0 where
+pub record LineTells (i letter : ℕ) (σ : Shape) : Type 0 where
   pub there : i < lineCount
   pub lettered : valueLetter σ ≡ letter
   pub words : wordsAt table23 i ≡ shapeWords σ
   pub inner : LaidIn table23 (i + 1) σ
   pub lines : lineAt table23 i .inside ≡ length (inside σ)
 
+-- the row that line i is of
+pub record RowAt (i : ℕ) : Type 0 where
+  pub field : ℕ
+  pub need : Need
+  pub name : List ℕ
+  pub value : Shape
+  pub below : Rows
+  pub laid : Laid table23 i (shape.row field need name value below)
+
+-- the array that the row of line i holds
+pub record ArrayAt (i : ℕ) : Type 0 where
+  pub numbering : Numbering
+  pub most : ℕ
+  pub item : Shape
+  pub row : RowAt i
+  pub is : row .value ≡ shape.array numbering most item
+
 -- a value that is no array
 pub record Single (p : List ℕ) (letter i : ℕ) (q : Place) (level : ℕ) (r : Least) : Type 0 where
-  pub is : (σ : Shape) → Told i letter σ → (letter ≡ code "[" → ⊥) → ready σ level ≡ true → (x : Json) → Whole p x →
+  pub is : (σ : Shape) → LineTells i letter σ → (letter ≡ code "[" → ⊥) → judgeable σ level ≡ true → (x : Json) → Whole p x →
       r ≡ least (faults σ q (lineAt table23 i .field) (pick σ x))
 
 pub record Array (p : List ℕ) (i : ℕ) (q : Place) (level : ℕ) (r : Least) : Type 0 where
-  pub is : (field : ℕ) (need : Need) (name : List ℕ) (numbering : Numbering) (most : ℕ) (σ : Shape) (rows : Rows) →
-      Laid table23 i (shape.row field need name (shape.array numbering most σ) rows) → ready (shape.array numbering most σ) level ≡ true →
-      (x : Json) → Whole p x → r ≡ least (faults (shape.array numbering most σ) q field (pick (shape.array numbering most σ) x))
+  pub is : (a : ArrayAt i) → let σ = shape.array (a .numbering) (a .most) (a .item) in judgeable σ level ≡ true → (x : Json) → Whole p x →
+      r ≡ least (faults σ q (a .row .field) (pick σ x))
 
 -- a member's value
 pub record Member (p : List ℕ) (i : ℕ) (q : Place) (level : ℕ) (r : Least) : Type 0 where
-  pub is : (field : ℕ) (need : Need) (name : List ℕ) (σ : Shape) (rows : Rows) → Laid table23 i (shape.row field need name σ rows) →
-      ready σ level ≡ true → (x : Json) → Whole p x → r ≡ least (memberFaults need σ q field (unlessEmpty x))
+  pub is : (a : RowAt i) → judgeable (a .value) level ≡ true → (x : Json) → Whole p x →
+      r ≡ least (memberFaults (a .need) (a .value) q (a .field) (unlessEmpty x))
 
 -- what a row breaks first, by how often its name was met, and by what the value breaks that was met first
 abbrev pub rowLeast : ℕ → Least → Line → Place → Least
@@ -97,7 +113,7 @@ pub record Listed (first count level : ℕ) (rows : Rows) : Type 0 where
   pub lines : linesIn rows ≡ count
   pub distinct : distinctRows rows ≡ true
   pub few : length (namesIn rows) ≤ mostRows
-  pub readied : readyRows rows level ≡ true
+  pub judgeable-rest : judgeableRows rows level ≡ true
 
 -- all rows, by the columns that an object's members filled
 pub record RowsJudged (state : List ℕ) (leasts : List Least) (first count : ℕ) (q : Place) (r : Least) : Type 0 where
@@ -110,5 +126,5 @@ pub record MembersJudged (p : List ℕ) (first count : ℕ) (q : Place) (level :
   pub is : (rows : Rows) → Listed first count level rows → (ms : Members) → Whole p (Json.object ms) → r ≡ least (rowFaults rows q (pickRows rows ms))
 
 pub record Object (p : List ℕ) (first count field : ℕ) (q : Place) (level : ℕ) (r : Least) : Type 0 where
-  pub is : (rows : Rows) → Laid table23 first rows → linesIn rows ≡ count → ready (shape.object rows) level ≡ true → (x : Json) → Whole p x →
+  pub is : (rows : Rows) → Laid table23 first rows → linesIn rows ≡ count → judgeable (shape.object rows) level ≡ true → (x : Json) → Whole p x →
       r ≡ least (faults (shape.object rows) q field (pick (shape.object rows) x))

@@ -46,14 +46,5 @@ returns-3 c =
 
 pub quote-clean-spec : {M : Type 1} → statement M
 quote-clean-spec =
-    tie.close
-    (tie.spec
-    returns
-    (λ c κs. search needs)
-    find-plan-requires
-    (λ c. search needs)
-    (λ c. search needs)
-    returns-2
-    (λ c κs. search needs)
-    quote-plan-requires
-    returns-3)
+    tie.close (tie.spec returns (λ c κs. search needs) find-plan-requires (λ c. search needs) (λ c. search needs)
+    returns-2 (λ c κs. search needs) quote-plan-requires returns-3)

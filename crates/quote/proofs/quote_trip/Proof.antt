@@ -3,7 +3,7 @@ use borrow.Author.Needs.{needs}
 use borrow.Author.Tests.{not-true, not-false}
 use mathlib.Core.Bool.{true}
 use mathlib.Core.Path.{_≡_, sym, _∙_}
-use Rattle.clean.specs.declared.Outcome.the-variants.{Unbroken, Broken}
+use Rattle.fault.specs.declared.outcome.Outcome.the-variants.{Unbroken, Broken}
 use Rattle.quote.specs.Quote.{short}
 use Rattle.quote.proofs.Files.{short-both, quote-long, quote-of}
 use Rattle.quote.proofs.quote_trip.Statement.{statement}
@@ -37,13 +37,5 @@ returns-3 c =
 
 pub quote-trip-spec : {M : Type 1} → statement M
 quote-trip-spec =
-    tie.close
-    (tie.spec
-    (λ c κs. search needs)
-    returns
-    (λ c κs. search needs)
-    (λ c. search needs)
-    returns-2
-    (λ c. search needs)
-    quote-clean-requires
-    returns-3)
+    tie.close (tie.spec (λ c κs. search needs) returns (λ c κs. search needs) (λ c. search needs) returns-2
+    (λ c. search needs) quote-clean-requires returns-3)

@@ -13,7 +13,7 @@ use Rattle.schema.specs.Shape as shape
 use Rattle.schema.specs.Shape.{Shape, Sort}
 use Rattle.schema.specs.Table23 as table
 use Rattle.schema.specs.Pick.{pick}
-use Rattle.judge.specs.declared.Place.{Place}
+use Rattle.fault.specs.declared.Place.{Place}
 use Rattle.judge.specs.Faults.{faults}
 
 pub record Clear (σ : Shape) (p : List ℕ) : Type 0 where

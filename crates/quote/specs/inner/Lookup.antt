@@ -9,7 +9,7 @@ use Rattle.walk.specs.Part.{partTree}
 use Rattle.schema.specs.Pick.{Picked, pick}
 use Rattle.schema.specs.Table23.{plan}
 use Rattle.document.specs.Document.{text}
-use Rattle.fields.specs.inner.Values.{isId}
+use Rattle.document.specs.inner.Values.{isId}
 use Rattle.quote.specs.declared.Lookup.{Lookup}
 use Rattle.quote.specs.declared.Lookup.the-variants.{Plan, Nothing}
 

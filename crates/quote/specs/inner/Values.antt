@@ -4,8 +4,8 @@ use Prim.Native.Nat.{ℕ}
 use Rattle.notation.specs.Ascii.{bytes}
 use Rattle.walk.specs.Walk.{part, itemsOf}
 use Rattle.decimal.specs.declared.Amount.{Amount}
-use Rattle.fields.specs.Values.{integerIn}
-use Rattle.fields.specs.inner.Values.{memberOf, spelledBy, textBy, thereBy}
+use Rattle.document.specs.Values.{integerIn}
+use Rattle.document.specs.inner.Values.{memberOf, spelledBy, textBy, thereBy}
 use Rattle.fare.specs.declared.Segment.{Segment}
 use Rattle.quote.specs.Plan.{moneyIn, priceIn}
 

@@ -49,16 +49,5 @@ returns c =
 
 pub bytes-number-spec : {M : Type 1} → statement M
 bytes-number-spec =
-    tie.close
-    (tie.spec
-    Inv-loop
-    μ-loop
-    (λ c. (omega arith, omega arith, number-start _))
-    mul-n
-    (λ c. omega arith)
-    (λ c κs. search needs)
-    add-n
-    (λ c. omega arith)
-    (λ c. omega arith)
-    loop-again
-    returns)
+    tie.close (tie.spec Inv-loop μ-loop (λ c. (omega arith, omega arith, number-start _)) mul-n (λ c. omega arith)
+    (λ c κs. search needs) add-n (λ c. omega arith) (λ c. omega arith) loop-again returns)

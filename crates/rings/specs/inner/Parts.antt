@@ -1,40 +1,37 @@
 -- Field 73 as code meets it: the items of an array one after the other, each judged by its own bytes, and what each function tells of them.
-use mathlib.Core.Bool.{Bool, true, false}
+use mathlib.Core.Bool.{Bool, true}
 use mathlib.Core.List.{List, [], _∷_, _++_, map}
 use mathlib.Core.Path.{_≡_}
-use Prim.Native.Nat.{ℕ, _+_, _*_, _≤_, _<_}
-use lib.Dec.{leb}
-use lib.ListN.{length, getD, take}
+use Prim.Native.Nat.{ℕ, _+_, _*_, _^_, _≤_, _<_}
+use lib.Dec.{eqb, leb}
+use lib.ListN.{length}
 use Rattle.limits.specs.Ceilings as ceiling
 use Rattle.notation.specs.Choice.{_⇒_else_, _and_}
 use Rattle.word.specs.Kinds.{wrongType, badRing}
 use Rattle.signed.specs.inner.Difference.{difference}
 use Rattle.json.specs.Tree as tree
-use Rattle.walk.specs.declared.Item.{Item}
 use Rattle.walk.specs.declared.ValueKind.{ValueKind}
-use Rattle.walk.specs.declared.ValueKind.the-variants as kind
-use Rattle.walk.specs.Walk.{part, itemsFrom, itemsOf}
-use Rattle.walk.specs.Part.{Whole, partTree}
-use Rattle.walk.specs.inner.Along.{AlongItems}
+use Rattle.walk.specs.Part.{Whole}
 use Rattle.decimal.specs.Decimals.{numberOf}
 use Rattle.decimal.specs.Exact.{inRange}
 use Rattle.geometry.specs.Ring.{Point, sound}
-use Rattle.geometry.specs.inner.Shifted.{OnMap, InRange, point, points}
+use Rattle.geometry.specs.inner.Shifted.{point}
+use Rattle.geometry.specs.inner.Outline.{Sized, soundFrom}
 use Rattle.schema.specs.Shape as shape
 use Rattle.schema.specs.Shape.{Shape}
-use Rattle.schema.specs.Pick.{Picked, bare, items, slots, pick}
+use Rattle.schema.specs.Pick.{Picked, bare, items, slots}
+use Rattle.document.specs.inner.Values.{kindCode}
 use Rattle.scalar.specs.Scalars.{unless, formedKinds}
 use Rattle.fault.specs.declared.Least.{Least}
 use Rattle.fault.specs.declared.Least.the-variants.{None, Is}
-use Rattle.fault.specs.Fault.{fault, least}
-use Rattle.rings.specs.Rings.{Found, foundAt, numbered, coordinate, coordinateKinds, numberKindsIn, position, allSound, positionsFound, ringsFound, itemTotal, polygon, polygonPositions, itemCount, polygonsFound}
+use Rattle.fault.specs.Fault.{fault, lesser, least}
+use Rattle.rings.specs.Rings.{Found, foundAt, numbered, coordinate, coordinateKinds, numberKindsIn, pointOf, position, allSound, positionsFound, ringFound}
 use Rattle.rings.specs.declared.Field.{Field}
 use Rattle.rings.specs.declared.CoordinateFound.{CoordinateFound}
 use Rattle.rings.specs.declared.PositionFound.{PositionFound}
-use Rattle.rings.specs.declared.RingPoints.{RingPoints}
+use Rattle.rings.specs.declared.RingFound.{RingFound}
 use Rattle.rings.specs.declared.Judged.{Judged}
-use Rattle.rings.specs.declared.PolygonTally.{PolygonTally}
-use Rattle.rings.specs.declared.ZoneTally.{ZoneTally}
+use Rattle.rings.specs.declared.Tally.{Tally}
 
 -- a fault at a position's number, and the first of what is found
 abbrev pub faultAt : Field → (number kind : ℕ) → Least
@@ -60,35 +57,12 @@ polygonShape = shape.array shape.positions ceiling.rings ringShape
 pub record Listing (p : List ℕ) : Type 0 where
   pub whole : 0 < length p → (is : tree.Items) × Whole p (tree.array is)
 
--- an item of the array p, picked; all of them; and those that are left where a walk along the array has come to a place
-abbrev pub picked : Shape → List ℕ → Item → Picked
-picked σ p m = pick σ (partTree (part p (m .value) (m .«value_end»)))
-
-unfoldable pub partsOf : Shape → List ℕ → List Picked
-partsOf σ p = map (picked σ p) (itemsOf p)
-
-pub record Left (σ : Shape) (p : List ℕ) (at : ℕ) (l : List Picked) : Type 0 where
-  pub along : at < length p → AlongItems p at
-  pub most : ℕ
-  pub enough : length p ≤ at + most
-  pub are : map (picked σ p) (itemsFrom most p at) ≡ l
-
 -- what a value's kind is asked for
 abbrev pub isArray : ValueKind → Bool
-isArray kind.Null = false
-isArray kind.Boolean = false
-isArray kind.Number = false
-isArray kind.String = false
-isArray kind.Array = true
-isArray kind.Object = false
+isArray k = eqb (kindCode k) 4
 
 abbrev pub isNumber : ValueKind → Bool
-isNumber kind.Null = false
-isNumber kind.Boolean = false
-isNumber kind.Number = true
-isNumber kind.String = false
-isNumber kind.Array = false
-isNumber kind.Object = false
+isNumber k = eqb (kindCode k) 2
 
 -- a number from -k to k
 abbrev pub rangeKinds : ℕ → Picked → List ℕ
@@ -120,63 +94,76 @@ pub record FindsPosition (q : Field) (n : ℕ) (kinds : List ℕ) (at : Point) (
   pub least : s .least ≡ leastFound q (foundAt n kinds)
   pub point : s .least ≡ None → point (s .point) ≡ at
 
--- a value in which that much is found, with its positions
-pub record Tells (q : Field) (found : List Found) (count : ℕ) (r : Judged) : Type 0 where
-  pub least : r .least ≡ leastFound q found
-  pub positions : r .positions ≡ count
+-- the items of a position, by themselves
+abbrev pub FindsNumbers : Field → ℕ → List Picked → PositionFound → Type 0
+FindsNumbers q n l r = FindsPosition q n (listKinds l) (pointOf l) r
 
--- the rings of a polygon, the first position with the number n; a polygon; and the polygons of a zone
-pub record TellsRings (q : Field) (n : ℕ) (l : List Picked) (r : PolygonTally) : Type 0 where
-  pub rings : r .rings ≡ length l
-  pub positions : r .positions ≡ itemTotal l
-  pub least : r .least ≡ leastFound q (ringsFound n l)
+-- an item of a polygon or of the coordinates in which that much is found
+abbrev pub judgedOf : Field → List Found → (m n : ℕ) → Judged
+judgedOf q found m n = record { items = m; positions = n; least = leastFound q found }
 
-pub record TellsPolygon (q : Field) (n : ℕ) (x : Picked) (r : PolygonTally) : Type 0 where
-  pub rings : r .rings ≡ itemCount x
-  pub positions : r .positions ≡ polygonPositions x
-  pub least : r .least ≡ leastFound q (polygon n x)
+-- the positions of a ring
+abbrev pub ringJudged : Field → ℕ → List Picked → Judged
+ringJudged q n l = judgedOf q (ringFound n l) (length l) (length l)
 
-pub record TellsPolygons (q : Field) (n : ℕ) (l : List Picked) (r : ZoneTally) : Type 0 where
-  pub polygons : r .polygons ≡ length l
-  pub rings : r .rings ≡ itemTotal l
-  pub least : r .least ≡ leastFound q (polygonsFound n l)
+-- what c counts in each of several items, added up
+unfoldable pub sumOver : (Picked → ℕ) → List Picked → ℕ
+sumOver c [] = 0
+sumOver c (x ∷ l) = c x + sumOver c l
+
+-- several items one after the other, numbered: e tells what is found in one, and c how many positions it has
+unfoldable pub foundIn : (ℕ → Picked → List Found) → (Picked → ℕ) → ℕ → List Picked → List Found
+foundIn e c n [] = []
+foundIn e c n (x ∷ l) = e n x ++ foundIn e c (n + c x) l
+
+-- several items, counted and judged: d tells how many items one has
+abbrev pub tallyOf : Field → (ℕ → Picked → List Found) → (d c : Picked → ℕ) → ℕ → List Picked → Tally
+tallyOf q e d c n l = record { count = length l; items = sumOver d l; positions = sumOver c l; least = leastFound q (foundIn e c n l) }
+
+abbrev pub noTally : Tally
+noTally = record { count = 0; items = 0; positions = 0; least = None }
+
+-- with one more item
+abbrev pub tallied : Tally → Judged → Tally
+tallied t j =
+    record {
+      count = t .count + 1;
+      items = t .items + j .items;
+      positions = t .positions + j .positions;
+      least = lesser (t .least) (j .least);
+    }
+
+pub record Countable (t : Tally) : Type 0 where
+  pub count : t .count < 2 ^ 32
+  pub items : t .items < 2 ^ 32
+  pub positions : t .positions < 2 ^ 32
 
 -- what is counted in any bytes: no more than there are bytes
-pub record PolygonRoom (bytes : ℕ) (r : PolygonTally) : Type 0 where
-  pub rings : r .rings ≤ bytes
+pub record Within (bytes : ℕ) (r : Judged) : Type 0 where
+  pub items : r .items ≤ bytes
   pub positions : r .positions ≤ bytes
 
--- the points of a ring, two lists of one length of which the first are filled
-pub record Charted (lons lats : List ℕ) : Type 0 where
-  pub east : length lons ≡ ceiling.positions
-  pub north : length lats ≡ ceiling.positions
-  pub map : (k : ℕ) → OnMap (record { lon = getD lons k 0; lat = getD lats k 0 })
+pub record TallyWithin (bytes : ℕ) (t : Tally) : Type 0 where
+  pub count : t .count ≤ bytes
+  pub positions : t .positions ≤ bytes
 
--- the positions of a ring, the first with the number n; where all are sound and not too many, their points
-pub record RingRead (q : Field) (n : ℕ) (l : List Picked) (r : RingPoints) : Type 0 where
-  pub count : r .count ≡ length l
+-- the positions of a ring, the first with the number n; where all are sound and not too many, whether the ring is
+pub record RingRead (q : Field) (n : ℕ) (l : List Picked) (r : RingFound) : Type 0 where
+  pub count : r .outline .count ≡ length l
   pub least : r .least ≡ leastFound q (positionsFound n l)
-  pub points : allSound l ≡ true → length l ≤ ceiling.positions
-      → points (take (r .count) (r .lons)) (take (r .count) (r .lats)) ≡ map position l
+  pub sound : allSound l ≡ true → length l ≤ ceiling.positions → soundFrom (r .outline) [] ≡ sound (map position l)
 
 -- what is read of any bytes: no more positions than bytes, and each on the map
-pub record RingRoom (bytes : ℕ) (r : RingPoints) : Type 0 where
-  pub within : r .count ≤ bytes
-  pub charted : Charted (r .lons) (r .lats)
+pub record RingRoom (bytes : ℕ) (r : RingFound) : Type 0 where
+  pub within : r .outline .count ≤ bytes
+  pub sized : Sized (r .outline)
 
--- the points of a ring as geometry takes them
-pub record Outlined (l : List Picked) (r : RingPoints) : Type 0 where
-  pub count : r .count ≡ length l
-  pub range : InRange (take (r .count) (r .lons)) (take (r .count) (r .lats))
-  pub points : points (take (r .count) (r .lons)) (take (r .count) (r .lats)) ≡ map position l
-
--- what the code asks of a ring that it has read: kind 11 where all positions are sound, there is room for them, and the ring is not sound
+-- what the code asks of a ring that it has read: kind 11 where all positions are sound, not too many, and the ring is not sound
 abbrev pub onlySound : Least → Least → Least
 onlySound None x = x
 onlySound (Is f) x = None
 
-unfoldable pub areaLeast : Field → ℕ → RingPoints → Least
+unfoldable pub areaLeast : Field → ℕ → RingFound → Least
 areaLeast q n r =
     onlySound (r .least)
-    (leb (r .count) ceiling.positions ⇒
-    leastFound q (foundAt n (unless (sound (points (take (r .count) (r .lons)) (take (r .count) (r .lats)))) badRing)) else None)
+    (leb (r .outline .count) ceiling.positions ⇒ leastFound q (foundAt n (unless (soundFrom (r .outline) []) badRing)) else None)

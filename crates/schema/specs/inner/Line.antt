@@ -1,9 +1,8 @@
 -- A table in lines: the rows of all files in one list, each with the rows of the object inside it right behind it. So that object's
 -- first row is one line on, and the next row of the same object is past as many lines as stand inside.
 use mathlib.Core.List.{List, [], _∷_, _++_, map, flatten}
-use mathlib.Core.Path.{_≡_}
 use Prim.Native.Char.{code}
-use Prim.Native.Nat.{ℕ, _+_}
+use Prim.Native.Nat.{ℕ, _+_, _*_, _/_, _%_}
 use lib.ListN.{length, getD}
 use Rattle.schema.specs.Shape as shape
 use Rattle.schema.specs.Shape.{Shape, Rows, Table, Sort, Need, Numbering}
@@ -108,20 +107,6 @@ linesOf t = map lineOf (entriesOf t)
 abbrev pub lineAt : Table → ℕ → Line
 lineAt t i = getD (linesOf t) i noLine
 
--- of each line, how many lines stand inside
-abbrev pub insidesOf : Table → List ℕ
-insidesOf t = map (λ l. l .inside) (linesOf t)
-
--- the lines column by column
-pub record LineColumns (t : Table) (f n v i u m s : List ℕ) : Type 0 where
-  pub fields : f ≡ map (λ l. l .field) (linesOf t)
-  pub needs : n ≡ map (λ l. l .need) (linesOf t)
-  pub values : v ≡ map (λ l. l .value) (linesOf t)
-  pub items : i ≡ map (λ l. l .item) (linesOf t)
-  pub numberings : u ≡ map (λ l. l .numbering) (linesOf t)
-  pub most : m ≡ map (λ l. l .most) (linesOf t)
-  pub insides : s ≡ insidesOf t
-
 -- Where each of several lists stands once they are laid one after the other: its first place, and how many places it takes.
 unfoldable pub rangesFrom : {A : Type 0} → ℕ → List (List A) → List Range
 rangesFrom k [] = []
@@ -140,11 +125,32 @@ namesOf t = map (λ e. e .name) (entriesOf t)
 abbrev pub nameAt : Table → ℕ → List ℕ
 nameAt t i = getD (namesOf t) i []
 
--- the names column by column: the bytes of all, and where each begins among them and how long it is
-pub record NameColumns (t : Table) (b f n : List ℕ) : Type 0 where
-  pub bytes : b ≡ flatten (namesOf t)
-  pub firsts : f ≡ map (λ r. r .first) (rangesFrom 0 (namesOf t))
-  pub counts : n ≡ map (λ r. r .count) (rangesFrom 0 (namesOf t))
+-- The bytes of the table: the same number for each line, and behind the last line all names one after the other.
+
+-- how many bytes a line has
+abbrev pub lineBytes : ℕ
+lineBytes = 11
+
+-- A line's bytes: what it says, and where its name stands in the table's bytes. A number that may pass 255 has two bytes, the lower one first.
+abbrev pub bytesIn : Line → Range → List ℕ
+bytesIn line name =
+    line .field ∷ line .need ∷ line .value ∷ line .item ∷ line .numbering ∷ line .most % 256 ∷ line .most / 256 ∷ line .inside ∷
+    name .first % 256 ∷ name .first / 256 ∷ name .count ∷ []
+
+unfoldable pub lineRows : List Line → List Range → List (List ℕ)
+lineRows [] names = []
+lineRows (line ∷ lines) [] = []
+lineRows (line ∷ lines) (name ∷ names) = bytesIn line name ∷ lineRows lines names
+
+-- where the names stand: the first of them behind the last line
+abbrev pub nameRanges : Table → List Range
+nameRanges t = rangesFrom (lineBytes * length (linesOf t)) (namesOf t)
+
+abbrev pub nameRangeAt : Table → ℕ → Range
+nameRangeAt t i = getD (nameRanges t) i nowhere
+
+unfoldable pub bytesOf : Table → List ℕ
+bytesOf t = flatten (lineRows (linesOf t) (nameRanges t)) ++ flatten (namesOf t)
 
 -- the words that a line's value is held to: all of an enum's, or the one text
 abbrev pub sortWords : Sort → List (List ℕ)
@@ -192,5 +198,5 @@ fileLines t file = getD (fileRanges t) file nowhere
 
 -- names all that lines, names and words are computed with
 unfoldable pub laidOut : Unit {0}
-unfolding fileRanges rangesFrom flatten linesOf namesOf lineWords wordsOf entriesOf fileEntries inside itemShape
+unfolding fileRanges rangesFrom flatten linesOf namesOf lineRows bytesOf lineWords wordsOf entriesOf fileEntries inside itemShape
 laidOut = tt

@@ -4,27 +4,25 @@ use borrow.Author.Needs.{needs}
 use mathlib.Core.Path.{_≡_, sym, ap, _∙_}
 use Prim.Native.Nat.{_+_, _-_, min}
 use native.Mathlib.Omega.{arith}
-use lib.ListN.{length, getD, List·getD-map}
 use Rattle.text.specs.Text.{textOf}
-use Rattle.schema.specs.declared.Line.{Line}
-use Rattle.schema.specs.inner.Line.{lineAt, linesOf, noLine}
+use Rattle.schema.specs.inner.Line.{lineAt}
 use Rattle.schema.specs.Table23.{table23}
 use Rattle.slots.specs.inner.Rows.{lineCount, mostRows, rowLine}
-use Rattle.slots.proofs.Named.{insides-length, rowFrom, row-full, row-past, row-here, row-next, row-line-first, row-line-next}
+use Rattle.slots.proofs.Named.{rowFrom, row-full, row-past, row-here, row-next, row-line-first, row-line-next}
 use Rattle.slots.proofs.row_of.Statement.{statement}
 use Rattle.slots.proofs.row_of.Tie as tie
 
 abbrev Inv-loop : tie.InvT-loop
-Inv-loop bytes firsts counts insides spelled first count end i₀ row₀ i row =
+Inv-loop table spelled first count end i₀ row₀ i row =
     (end ≡ min lineCount (first + count)) × (rowFrom table23 (textOf spelled) end row i ≡ rowFrom table23 (textOf spelled) (min lineCount (first + count)) 0 first)
     × (i ≡ rowLine table23 first row)
 
 abbrev μ-loop : tie.MeasureT-loop
-μ-loop bytes firsts counts insides spelled first count end i₀ row₀ i row = mostRows - row
+μ-loop table spelled first count end i₀ row₀ i row = mostRows - row
 
 loop-holds : tie.Need-loop-holds Inv-loop μ-loop
 loop-holds c =
-    let a = c .before .before .before .before .args in
+    let a = c .before .before .args in
     (c .lines-end .ensures, ap (λ e. rowFrom table23 (textOf (a .spelled .now)) e 0 (a .first)) (c .lines-end .ensures), sym (row-line-first table23 (a .first)))
 
 returns : tie.Need-returns Inv-loop μ-loop
@@ -43,10 +41,9 @@ returns-2 c =
 
 loop-again : tie.Need-loop-again Inv-loop μ-loop
 loop-again c =
-    let b = c .before .before in let n = b .before in let k = n .before .before .before in let s = k .before .before .before .before .before in
+    let g = c .before in let b = g .before in let n = b .before in let k = n .before .before .before in let s = k .before .before .before in
     let i = k .loop .i in let row = k .loop .row in let x = textOf (s .args .spelled .now) in let end = k .before .lines-end .result in
-    let e : c .wide .result ≡ lineAt table23 i .inside =
-    c .wide .ensures ∙ ap (λ l. getD l i 0) (s .pre .1) ∙ List·getD-map (λ (l : Line). l .inside) (linesOf table23) i noLine in (
+    let e : c .wide .result ≡ lineAt table23 i .inside = c .wide .ensures ∙ g .inside-at .ensures in (
       k .loop .inv .0,
       ap (λ j. rowFrom table23 x end (row + 1) (i + 1 + j)) e
           ∙ row-next table23 x end row i (omega arith) (omega arith) (sym (n .name-is .ensures) ∙ b .if2 .left) ∙ k .loop .inv .1,
@@ -56,18 +53,8 @@ loop-again c =
 returns-3 : tie.Need-returns-3 Inv-loop μ-loop
 returns-3 c = record { named = row-full table23 _ _ _ _ (c .loop-test .left) ∙ c .before .loop .inv .1; few = omega arith; line = λ h. absurd (omega arith) }
 
-shared-slice-read-wide : tie.Need-shared-slice-read-wide Inv-loop μ-loop
-shared-slice-read-wide c =
-    let k = c .before .before .before .before .before in
-    omega (arith, ap length (k .before .before .before .before .before .pre .1), insides-length)
-
-add-i-2 : tie.Need-add-i-2 Inv-loop μ-loop
-add-i-2 c =
-    let k = c .before .before .before .before .before .before in
-    omega (arith, c .before .shared-slice-known4 .given (k .loop .i))
-
 pub row-of-spec : {M : Type 1} → statement M
 row-of-spec =
     tie.close
-    (tie.spec Inv-loop μ-loop (λ c κs. search needs) loop-holds returns (λ c κs. search needs) returns-2 (λ c. omega arith) shared-slice-read-wide
-    (λ c κs. search needs) add-i-2 (λ c. omega arith) (λ c. omega arith) loop-again returns-3)
+    (tie.spec Inv-loop μ-loop (λ c κs. search needs) loop-holds returns (λ c κs. search needs) returns-2 (λ c. omega arith)
+    (λ c κs. search needs) (λ c κs. search needs) (λ c. omega arith) (λ c. omega arith) (λ c. omega arith) loop-again returns-3)

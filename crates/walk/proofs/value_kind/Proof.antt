@@ -8,22 +8,6 @@ use Rattle.walk.proofs.FirstByte.{kind-is, kind-digit, kind-truth, kind
 use Rattle.walk.proofs.value_kind.Statement.{statement}
 use Rattle.walk.proofs.value_kind.Tie as tie
 
-returns : tie.Need-returns
-unfolding start digit within
-returns c = kind-is _ (c .before .first .ensures) 0x22 (c .if1 .taken)
-
-returns-2 : tie.Need-returns-2
-unfolding start digit within
-returns-2 c = kind-is _ (c .before .before .first .ensures) 0x5b (c .if2 .taken)
-
-returns-3 : tie.Need-returns-3
-unfolding start digit within
-returns-3 c = kind-is _ (c .before .before .before .first .ensures) 0x7b (c .if3 .taken)
-
-returns-4 : tie.Need-returns-4
-unfolding start digit within
-returns-4 c = kind-is _ (c .before .before .before .before .first .ensures) 0x2d (c .if4 .taken)
-
 returns-5 : tie.Need-returns-5
 returns-5 c =
     let d = c .before in let n = d .before in let o = n .before in let a = o .before in let q = a .before in
@@ -42,6 +26,10 @@ returns-7 c =
     (sym (e .is-either .ensures) ∙ c .if6 .left)
 
 pub value-kind-spec : {M : Type 1} → statement M
+unfolding start digit within
 value-kind-spec =
-    tie.close
-    (tie.spec (λ c κs. search needs) returns returns-2 returns-3 returns-4 (λ c κs. search needs) returns-5 (λ c κs. search needs) returns-6 returns-7)
+    tie.close (tie.spec (λ c κs. search needs) (λ c. kind-is _ (c .before .first .ensures) 0x22 (c .if1 .taken))
+    (λ c. kind-is _ (c .before .before .first .ensures) 0x5b (c .if2 .taken))
+    (λ c. kind-is _ (c .before .before .before .first .ensures) 0x7b (c .if3 .taken))
+    (λ c. kind-is _ (c .before .before .before .before .first .ensures) 0x2d (c .if4 .taken)) (λ c κs. search needs)
+    returns-5 (λ c κs. search needs) returns-6 returns-7)

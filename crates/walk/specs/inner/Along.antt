@@ -22,7 +22,7 @@ pub data AlongItems (p : List ℕ) : ℕ → Type 0 where
   front : {is : Items} (n : ℕ) → Whole (take n p) (Json.array is) → AlongItems p 1
   next : {at : ℕ} {m : Item} → AlongItems p at → itemAt p at ≡ items.Found m → AlongItems p (m .next)
 
--- the same of an object's members
+-- a walk over the members of the object p, or of the one that the first n bytes of p are, has come to `at`
 pub data AlongMembers (p : List ℕ) : ℕ → Type 0 where
   start : {ms : Members} → Whole p (Json.object ms) → AlongMembers p 1
   front : {ms : Members} (n : ℕ) → Whole (take n p) (Json.object ms) → AlongMembers p 1
@@ -37,14 +37,14 @@ pub record Placed (p : List ℕ) (at : ℕ) (m : Member) : Type 0 where
   pub next : m .«value_end» ≤ m .next
   pub inside : m .next ≤ length p
 
--- those of its front
+-- the places of its front are
 pub record NamePlaced (p : List ℕ) (at : ℕ) (n : Named) : Type 0 where
   pub later : at < n .name
   pub name : n .name ≤ n .«name_end»
   pub apart : n .«name_end» + 1 < n .value
   pub inside : n .value ≤ length p
 
--- those of an item
+-- the places of an item in p that was found at `at` are in order
 pub record ItemPlaced (p : List ℕ) (at : ℕ) (m : Item) : Type 0 where
   pub later : at ≤ m .value
   pub value : m .value < m .«value_end»
@@ -56,12 +56,12 @@ pub record ItemPassed (p : List ℕ) (at : ℕ) (r : ItemStep) : Type 0 where
   pub placed : (m : Item) → r ≡ items.Found m → ItemPlaced p at m
   pub same : AlongItems p at → r ≡ itemAt p at
 
--- the same of an object's members
+-- what is found at `at` in any bytes stands in order, and along a whole object it is the member there
 pub record MemberPassed (p : List ℕ) (at : ℕ) (r : MemberStep) : Type 0 where
   pub placed : (m : Member) → r ≡ members.Found m → Placed p at m
   pub same : AlongMembers p at → r ≡ memberAt p at
 
--- the front of what a step finds, and the same of it
+-- the front of what a step finds; and what is found as a front at `at`: in order in any bytes, and along a whole object the front of the member there
 abbrev pub frontOf : MemberStep → NameStep
 frontOf members.End = names.End
 frontOf (members.Found m) = names.Found (record { name = m .name; «name_end» = m .«name_end»; value = m .value })

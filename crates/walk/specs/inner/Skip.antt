@@ -19,7 +19,7 @@ pub data Side : Type 0 where
   outside : Side
   inside : Bool → Side
 
--- the rest behind the brackets that close so many which stand open; brackets in strings are passed over
+-- the rest behind the bracket that closes the last of n open ones; brackets in strings are passed over
 unfoldable pub enclosed : ℕ → Side → List ℕ → List ℕ
 enclosed n side [] = []
 enclosed n (inside true) (b ∷ l) = enclosed n (inside false) l

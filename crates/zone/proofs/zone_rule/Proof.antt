@@ -72,15 +72,5 @@ returns-3 c =
 
 pub zone-rule-spec : {M : Type 1} → statement M
 zone-rule-spec =
-    tie.close
-    (tie.spec
-    (λ c κs. search needs)
-    returns
-    (λ c κs. search needs)
-    (λ c. search needs)
-    raised-requires
-    raised-requires-2
-    rule-in-requires
-    returns-2
-    (λ c. search needs)
-    returns-3)
+    tie.close (tie.spec (λ c κs. search needs) returns (λ c κs. search needs) (λ c. search needs) raised-requires
+    raised-requires-2 rule-in-requires returns-2 (λ c. search needs) returns-3)

@@ -11,8 +11,9 @@ use Rattle.schema.specs.Shape.{Shape}
 use Rattle.schema.specs.Table23.{zone}
 use Rattle.schema.specs.Pick.{Picked, pick}
 use Rattle.rings.specs.Rings.{Found, ring}
-use Rattle.rings.specs.inner.Parts.{ringShape, Listing, partsOf}
-use Rattle.judge.specs.declared.Place.{Place}
+use Rattle.rings.specs.inner.Parts.{ringShape, Listing}
+use Rattle.document.specs.inner.Items.{pickedItems}
+use Rattle.fault.specs.declared.Place.{Place}
 use Rattle.judge.specs.Faults.{faults}
 
 -- the bytes of a ring
@@ -27,7 +28,7 @@ pub record CleanItems (σ : Shape) (found : ℕ → List Picked → List Found) 
   pub short : length p ≤ fileBytes
   pub listing : Listing p
   pub first : ℕ
-  pub clear : found first (partsOf σ p) ≡ []
+  pub clear : found first (pickedItems σ p) ≡ []
 
 -- a zone in which nothing is found
 pub record Faultless (x : Picked) : Type 0 where
@@ -44,4 +45,4 @@ pub record CleanZone (p : List ℕ) : Type 0 where
 pub record CleanZones (p : List ℕ) : Type 0 where
   pub short : length p ≤ fileBytes
   pub along : AlongItems p 1
-  pub clear : (x : Picked) → List·Memᴰ x (partsOf zone p) → Faultless x
+  pub clear : (x : Picked) → List·Memᴰ x (pickedItems zone p) → Faultless x

@@ -6,8 +6,8 @@ use Rattle.notation.specs.Ascii.{bytes}
 use Rattle.notation.specs.Choice.{_⇒_else_, _and_}
 use Rattle.schema.specs.Shape.{Shape, Sort, scalar}
 use Rattle.schema.specs.Pick.{Picked}
-use Rattle.fields.specs.Values.{integerIn}
-use Rattle.fields.specs.inner.Values.{memberOf, spelledBy, truthBy}
+use Rattle.document.specs.Values.{integerIn}
+use Rattle.document.specs.inner.Values.{memberOf, spelledBy, truthBy}
 use Rattle.document.specs.Document.{Maybe, none, some, spelling, truth}
 use Rattle.zone.specs.declared.Flag.{Flag}
 use Rattle.zone.specs.declared.Flag.the-variants as flag
@@ -116,9 +116,9 @@ rulingBy a =
     Is (record {
       ride = flagged (a .ride);
       through = flagged (a .through);
-      limited = isLimit (a .limit);
+      «speed_given» = isLimit (a .limit);
       speed = speedOf (a .limit);
-      parks = isFlag (a .parking);
+      «parking_given» = isFlag (a .parking);
       parking = flagged (a .parking);
     })
     else NoRule

@@ -11,16 +11,6 @@ below c = let e = c .before .before in turn w64 (e .before .args .n) (lit≤ tt)
 
 pub amount-spec : {M : Type 1} → statement M
 amount-spec =
-    tie.close
-    (tie.spec
-    (λ c. plain w64 (c .before .args .n) (lit≤ tt) (c .before .fits .n) (c .if1 .taken) .0)
-    (λ c κs. search needs)
-    (λ c. search needs)
-    (λ c. search needs)
-    (λ c κs. search needs)
-    (λ c. below c .0)
-    (λ c. below c .1)
-    (λ c. below c .2)
-    (λ c. below c .3)
-    (λ c κs. search needs)
-    (λ c. search needs))
+    tie.close (tie.spec (λ c. plain w64 (c .before .args .n) (lit≤ tt) (c .before .fits .n) (c .if1 .taken) .0)
+    (λ c κs. search needs) (λ c. search needs) (λ c. search needs) (λ c κs. search needs) (λ c. below c .0)
+    (λ c. below c .1) (λ c. below c .2) (λ c. below c .3) (λ c κs. search needs) (λ c. search needs))

@@ -21,11 +21,5 @@ sub-result-2 c =
 
 pub below-spec : {M : Type 1} → statement M
 below-spec =
-    tie.close
-    (tie.spec
-    (λ c. search needs)
-    (λ c. search needs)
-    (λ c. search needs)
-    sub-result-2
-    (λ c. search needs)
+    tie.close (tie.spec (λ c. search needs) (λ c. search needs) (λ c. search needs) sub-result-2 (λ c. search needs)
     (λ c. search needs))

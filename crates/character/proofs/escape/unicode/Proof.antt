@@ -6,21 +6,11 @@ use Rattle.character.proofs.Escapes.{unicode-short, unicode-value}
 use Rattle.character.proofs.escape.unicode.Statement.{statement}
 use Rattle.character.proofs.escape.unicode.Tie as tie
 
-add-t7 : tie.Need-add-t7
-add-t7 c = omega (arith, quad-few _ (c .before .before .before .quad .ensures) (c .before .n .given .1))
-
-returns : tie.Need-returns
-returns c =
-    let q = c .before .before .before in
-    unicode-short _ (q .before .ahead .ensures) (q .quad .ensures) (c .before .n .given .1)
-
-returns-2 : tie.Need-returns-2
-returns-2 c =
-    let q = c .before .before .before .before in
-    unicode-value _ (q .before .ahead .ensures) (q .quad .ensures) (c .before .before .v .given .1) (c .unit .ensures)
-
 pub unicode-spec : {M : Type 1} → statement M
 unicode-spec =
-    tie.close
-    (tie.spec (λ c κs. search needs) (λ c κs. search needs) (λ c. search needs) add-t7 returns (λ c. search needs)
-    (λ c κs. search needs) returns-2)
+    tie.close (tie.spec (λ c κs. search needs) (λ c κs. search needs) (λ c. search needs)
+    (λ c. omega (arith, quad-few _ (c .before .before .before .quad .ensures) (c .before .n .given .1)))
+    (λ c. let q = c .before .before .before in
+    unicode-short _ (q .before .ahead .ensures) (q .quad .ensures) (c .before .n .given .1))
+    (λ c. search needs) (λ c κs. search needs) (λ c. let q = c .before .before .before .before in
+    unicode-value _ (q .before .ahead .ensures) (q .quad .ensures) (c .before .before .v .given .1) (c .unit .ensures)))

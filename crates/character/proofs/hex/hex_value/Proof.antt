@@ -7,23 +7,6 @@ use Rattle.character.proofs.Digits.{hex-digit, hex-upper, hex-lower, he
 use Rattle.character.proofs.hex.hex_value.Statement.{statement}
 use Rattle.character.proofs.hex.hex_value.Tie as tie
 
-sub-result : tie.Need-sub-result
-sub-result c = omega (arith, within-least 0x30 0x39 _ (sym (c .before .within .ensures) ∙ c .if1 .taken))
-
-returns : tie.Need-returns
-returns c = hex-digit _ (c .before .within .ensures) (c .if1 .taken)
-
-sub-result-2 : tie.Need-sub-result-2
-sub-result-2 c = omega (arith, within-least 0x41 0x46 _ (sym (c .before .within2 .ensures) ∙ c .if2 .taken))
-
-returns-2 : tie.Need-returns-2
-returns-2 c =
-    let v = c .before .before in
-    hex-upper _ (v .before .within .ensures) (v .if1 .left) (c .before .within2 .ensures) (c .if2 .taken)
-
-sub-result-3 : tie.Need-sub-result-3
-sub-result-3 c = omega (arith, within-least 0x61 0x66 _ (sym (c .before .within3 .ensures) ∙ c .if3 .taken))
-
 returns-3 : tie.Need-returns-3
 returns-3 c =
     let w = c .before .before in
@@ -40,6 +23,12 @@ returns-4 c =
 
 pub hex-value-spec : {M : Type 1} → statement M
 hex-value-spec =
-    tie.close
-    (tie.spec (λ c κs. search needs) sub-result returns (λ c κs. search needs) sub-result-2 returns-2
-    (λ c κs. search needs) sub-result-3 returns-3 returns-4)
+    tie.close (tie.spec (λ c κs. search needs)
+    (λ c. omega (arith, within-least 0x30 0x39 _ (sym (c .before .within .ensures) ∙ c .if1 .taken)))
+    (λ c. hex-digit _ (c .before .within .ensures) (c .if1 .taken)) (λ c κs. search needs)
+    (λ c. omega (arith, within-least 0x41 0x46 _ (sym (c .before .within2 .ensures) ∙ c .if2 .taken)))
+    (λ c. let v = c .before .before in
+    hex-upper _ (v .before .within .ensures) (v .if1 .left) (c .before .within2 .ensures) (c .if2 .taken))
+    (λ c κs. search needs)
+    (λ c. omega (arith, within-least 0x61 0x66 _ (sym (c .before .within3 .ensures) ∙ c .if3 .taken))) returns-3
+    returns-4)

@@ -4,14 +4,6 @@ use Rattle.character.proofs.Digits.{quad-none, quad-one, quad-two, quad
 use Rattle.character.proofs.hex.quad.Statement.{statement}
 use Rattle.character.proofs.hex.quad.Tie as tie
 
-returns : tie.Need-returns
-returns c = quad-none _ (c .before .hex-at .ensures) (c .if1 .taken)
-
-returns-2 : tie.Need-returns-2
-returns-2 c =
-    let v = c .before .before in
-    quad-one _ (v .before .hex-at .ensures) (v .if1 .left) (c .before .hex-at2 .ensures) (c .if2 .taken)
-
 returns-3 : tie.Need-returns-3
 returns-3 c =
     let w = c .before .before in
@@ -37,7 +29,8 @@ returns-5 c =
 
 pub quad-spec : {M : Type 1} → statement M
 quad-spec =
-    tie.close
-    (tie.spec (λ c κs. search needs) returns (λ c κs. search needs) returns-2 (λ c κs. search needs) returns-3
-    (λ c κs. search needs) returns-4 (λ c. search needs) (λ c. search needs) (λ c. search needs) (λ c. search needs)
-    (λ c. search needs) (λ c. search needs) returns-5)
+    tie.close (tie.spec (λ c κs. search needs) (λ c. quad-none _ (c .before .hex-at .ensures) (c .if1 .taken))
+    (λ c κs. search needs) (λ c. let v = c .before .before in
+    quad-one _ (v .before .hex-at .ensures) (v .if1 .left) (c .before .hex-at2 .ensures) (c .if2 .taken))
+    (λ c κs. search needs) returns-3 (λ c κs. search needs) returns-4 (λ c. search needs) (λ c. search needs)
+    (λ c. search needs) (λ c. search needs) (λ c. search needs) (λ c. search needs) returns-5)

@@ -6,20 +6,11 @@ use Rattle.character.proofs.Escapes.{escape-unicode, escape-none, escap
 use Rattle.character.proofs.length.escape_length.Statement.{statement}
 use Rattle.character.proofs.length.escape_length.Tie as tie
 
-returns : tie.Need-returns
-returns c = c .unicode-length .ensures ∙ ap taken (escape-unicode _ (c .before .before .byte-at .ensures) (c .before .if1 .taken) refl)
-
-returns-2 : tie.Need-returns-2
-returns-2 c =
-    let v = c .before .before in
-    ap taken (escape-none _ (v .before .byte-at .ensures) (v .if1 .left) (c .before .short .ensures) (c .if2 .taken))
-
-returns-3 : tie.Need-returns-3
-returns-3 c =
-    let v = c .before .before in
-    ap taken (escape-short _ (v .before .byte-at .ensures) (v .if1 .left) (c .before .short .ensures) (c .if2 .left))
-
 pub escape-length-spec : {M : Type 1} → statement M
 escape-length-spec =
-    tie.close
-    (tie.spec (λ c κs. search needs) (λ c κs. search needs) returns (λ c κs. search needs) returns-2 returns-3)
+    tie.close (tie.spec (λ c κs. search needs) (λ c κs. search needs)
+    (λ c. c .unicode-length .ensures ∙ ap taken (escape-unicode _ (c .before .before .byte-at .ensures) (c .before .if1 .taken) refl))
+    (λ c κs. search needs) (λ c. let v = c .before .before in
+    ap taken (escape-none _ (v .before .byte-at .ensures) (v .if1 .left) (c .before .short .ensures) (c .if2 .taken)))
+    (λ c. let v = c .before .before in
+    ap taken (escape-short _ (v .before .byte-at .ensures) (v .if1 .left) (c .before .short .ensures) (c .if2 .left))))

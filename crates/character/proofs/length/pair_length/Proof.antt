@@ -8,11 +8,7 @@ use Rattle.character.proofs.Pairs.{high-alone, high-pair}
 use Rattle.character.proofs.length.pair_length.Statement.{statement}
 use Rattle.character.proofs.length.pair_length.Tie as tie
 
-returns : tie.Need-returns
-returns c = ap taken (high-alone _ (c .enum-told .given .1))
-
-returns-2 : tie.Need-returns-2
-returns-2 c = encoded-taken (combined _ _) 11 ∙ ap taken (high-pair _ (c .enum-told2 .given .1) refl refl)
-
 pub pair-length-spec : {M : Type 1} → statement M
-pair-length-spec = tie.close (tie.spec (λ c. search needs) (λ c. search needs) returns returns-2)
+pair-length-spec =
+    tie.close (tie.spec (λ c. search needs) (λ c. search needs) (λ c. ap taken (high-alone _ (c .enum-told .given .1)))
+    (λ c. encoded-taken (combined _ _) 11 ∙ ap taken (high-pair _ (c .enum-told2 .given .1) refl refl)))

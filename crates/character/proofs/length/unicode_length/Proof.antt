@@ -6,17 +6,10 @@ use Rattle.character.proofs.Escapes.{unicode-short, unicode-value}
 use Rattle.character.proofs.length.unicode_length.Statement.{statement}
 use Rattle.character.proofs.length.unicode_length.Tie as tie
 
-returns : tie.Need-returns
-returns c =
-    let q = c .before .before in
-    ap taken (unicode-short _ (q .before .ahead .ensures) (q .quad .ensures) (c .enum-told .given .1))
-
-returns-2 : tie.Need-returns-2
-returns-2 c =
-    let q = c .before .before .before .before in
-    c .unit-length .ensures ∙ ap taken (unicode-value _ (q .before .ahead .ensures) (q .quad .ensures) (c .before .before .v .given .1) refl)
-
 pub unicode-length-spec : {M : Type 1} → statement M
 unicode-length-spec =
-    tie.close
-    (tie.spec (λ c κs. search needs) (λ c κs. search needs) (λ c. search needs) (λ c. search needs) (λ c κs. search needs) returns returns-2)
+    tie.close (tie.spec (λ c κs. search needs) (λ c κs. search needs) (λ c. search needs) (λ c. search needs)
+    (λ c κs. search needs) (λ c. let q = c .before .before in
+    ap taken (unicode-short _ (q .before .ahead .ensures) (q .quad .ensures) (c .enum-told .given .1)))
+    (λ c. let q = c .before .before .before .before in
+    c .unit-length .ensures ∙ ap taken (unicode-value _ (q .before .ahead .ensures) (q .quad .ensures) (c .before .before .v .given .1) refl)))

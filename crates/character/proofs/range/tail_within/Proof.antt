@@ -24,11 +24,8 @@ ranged c =
     let a = p .args in
     c .class-by .ensures .tail (a .lo) (a .hi) (p .pre .1) ∙ ap (within (leastOf (a .lo)) (mostOf (a .hi))) (c .before .byte-at .ensures)
 
-returns : tie.Need-returns
-returns c = within-rest _ _ _ (c .if1 .taken) ∙ ranged (c .before)
-
-returns-2 : tie.Need-returns-2
-returns-2 c = within-low _ _ _ (c .if1 .left) ∙ ranged (c .before)
-
 pub tail-within-spec : {M : Type 1} → statement M
-tail-within-spec = tie.close (tie.spec (λ c κs. search needs) (λ c κs. search needs) returns returns-2)
+tail-within-spec =
+    tie.close (tie.spec (λ c κs. search needs) (λ c κs. search needs)
+    (λ c. within-rest _ _ _ (c .if1 .taken) ∙ ranged (c .before))
+    (λ c. within-low _ _ _ (c .if1 .left) ∙ ranged (c .before)))

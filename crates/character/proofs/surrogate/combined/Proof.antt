@@ -5,9 +5,6 @@ use Rattle.lexeme.specs.Character.{combined}
 use Rattle.character.proofs.surrogate.combined.Statement.{statement}
 use Rattle.character.proofs.surrogate.combined.Tie as tie
 
-returns : tie.Need-returns
-unfolding combined
-returns c = refl
-
 pub combined-spec : {M : Type 1} → statement M
-combined-spec = tie.close (tie.spec (λ c. search needs) (λ c. search needs) (λ c. search needs) returns)
+unfolding combined
+combined-spec = tie.close (tie.spec (λ c. search needs) (λ c. search needs) (λ c. search needs) (λ c. refl))

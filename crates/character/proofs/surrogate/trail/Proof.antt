@@ -4,14 +4,6 @@ use Rattle.character.proofs.Pairs.{trail-other, trail-short, trail-digi
 use Rattle.character.proofs.surrogate.trail.Statement.{statement}
 use Rattle.character.proofs.surrogate.trail.Tie as tie
 
-returns : tie.Need-returns
-returns c = trail-other _ (c .before .byte-at .ensures) (c .if1 .taken)
-
-returns-2 : tie.Need-returns-2
-returns-2 c =
-    let v = c .before .before in
-    trail-short _ (v .before .byte-at .ensures) (v .if1 .left) (c .before .byte-at2 .ensures) (c .if2 .taken)
-
 returns-3 : tie.Need-returns-3
 returns-3 c =
     let w = c .before .before .before in
@@ -21,6 +13,7 @@ returns-3 c =
 
 pub trail-spec : {M : Type 1} → statement M
 trail-spec =
-    tie.close
-    (tie.spec (λ c κs. search needs) returns (λ c κs. search needs) returns-2 (λ c κs. search needs)
-    (λ c κs. search needs) (λ c κs. search needs) returns-3)
+    tie.close (tie.spec (λ c κs. search needs) (λ c. trail-other _ (c .before .byte-at .ensures) (c .if1 .taken))
+    (λ c κs. search needs) (λ c. let v = c .before .before in
+    trail-short _ (v .before .byte-at .ensures) (v .if1 .left) (c .before .byte-at2 .ensures) (c .if2 .taken))
+    (λ c κs. search needs) (λ c κs. search needs) (λ c κs. search needs) returns-3)

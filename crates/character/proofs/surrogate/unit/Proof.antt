@@ -4,9 +4,6 @@ use Rattle.character.proofs.Pairs.{unit-low, unit-high, unit-plain}
 use Rattle.character.proofs.surrogate.unit.Statement.{statement}
 use Rattle.character.proofs.surrogate.unit.Tie as tie
 
-returns : tie.Need-returns
-returns c = unit-low _ _ (c .before .within .ensures) (c .if1 .taken)
-
 returns-2 : tie.Need-returns-2
 returns-2 c =
     let w = c .before .before .before in
@@ -22,6 +19,6 @@ returns-3 c =
 
 pub unit-spec : {M : Type 1} → statement M
 unit-spec =
-    tie.close
-    (tie.spec (λ c κs. search needs) returns (λ c κs. search needs) (λ c κs. search needs) (λ c κs. search needs)
-    (λ c κs. search needs) returns-2 (λ c κs. search needs) returns-3)
+    tie.close (tie.spec (λ c κs. search needs) (λ c. unit-low _ _ (c .before .within .ensures) (c .if1 .taken))
+    (λ c κs. search needs) (λ c κs. search needs) (λ c κs. search needs) (λ c κs. search needs) returns-2
+    (λ c κs. search needs) returns-3)

@@ -5,15 +5,10 @@ use Rattle.character.proofs.Forms.{utf2-whole, utf2-fault}
 use Rattle.character.proofs.utf8.utf2.Statement.{statement}
 use Rattle.character.proofs.utf8.utf2.Tie as tie
 
-returns : tie.Need-returns
-unfolding leastOf mostOf
-returns c =
-    let w = c .before .before in
-    utf2-whole _ (w .before .tail-within .ensures) (w .if1 .taken) (c .before .byte-at .ensures) (c .byte-at2 .ensures)
-
-returns-2 : tie.Need-returns-2
-unfolding leastOf mostOf
-returns-2 c = utf2-fault _ (c .before .tail-within .ensures) (c .if1 .left)
-
 pub utf2-spec : {M : Type 1} → statement M
-utf2-spec = tie.close (tie.spec (λ c κs. search (needs, from80, fromA0)) (λ c κs. search (needs, from80, fromA0)) (λ c κs. search (needs, from80, fromA0)) returns returns-2)
+unfolding leastOf mostOf
+utf2-spec =
+    tie.close (tie.spec (λ c κs. search (needs, from80, fromA0)) (λ c κs. search needs) (λ c κs. search needs)
+    (λ c. let w = c .before .before in
+    utf2-whole _ (w .before .tail-within .ensures) (w .if1 .taken) (c .before .byte-at .ensures) (c .byte-at2 .ensures))
+    (λ c. utf2-fault _ (c .before .tail-within .ensures) (c .if1 .left)))

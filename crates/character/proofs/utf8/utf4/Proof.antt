@@ -5,16 +5,6 @@ use Rattle.character.proofs.Forms.{utf4-first, utf4-second, utf4-third,
 use Rattle.character.proofs.utf8.utf4.Statement.{statement}
 use Rattle.character.proofs.utf8.utf4.Tie as tie
 
-returns : tie.Need-returns
-unfolding leastOf mostOf
-returns c = utf4-first _ _ _ (c .before .tail-within .ensures) (c .if1 .taken)
-
-returns-2 : tie.Need-returns-2
-unfolding leastOf mostOf
-returns-2 c =
-    let v = c .before .before in
-    utf4-second _ _ _ (v .before .tail-within .ensures) (v .if1 .left) (c .before .tail-within2 .ensures) (c .if2 .taken)
-
 returns-3 : tie.Need-returns-3
 unfolding leastOf mostOf
 returns-3 c =
@@ -34,7 +24,11 @@ returns-4 c =
     (c .before .before .byte-at2 .ensures) (c .before .byte-at3 .ensures) (c .byte-at4 .ensures)
 
 pub utf4-spec : {M : Type 1} → statement M
+unfolding leastOf mostOf
 utf4-spec =
-    tie.close
-    (tie.spec (λ c κs. search (needs, from80, fromA0)) returns (λ c κs. search (needs, from80, fromA0)) returns-2 (λ c κs. search (needs, from80, fromA0)) returns-3
-    (λ c κs. search (needs, from80, fromA0)) (λ c κs. search (needs, from80, fromA0)) (λ c κs. search (needs, from80, fromA0)) (λ c κs. search (needs, from80, fromA0)) returns-4)
+    tie.close (tie.spec (λ c κs. search needs)
+    (λ c. utf4-first _ _ _ (c .before .tail-within .ensures) (c .if1 .taken)) (λ c κs. search (needs, from80, fromA0))
+    (λ c. let v = c .before .before in
+    utf4-second _ _ _ (v .before .tail-within .ensures) (v .if1 .left) (c .before .tail-within2 .ensures) (c .if2 .taken))
+    (λ c κs. search (needs, from80, fromA0)) returns-3 (λ c κs. search needs)
+    (λ c κs. search needs) (λ c κs. search needs) (λ c κs. search needs) returns-4)

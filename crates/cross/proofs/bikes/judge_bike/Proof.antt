@@ -6,10 +6,10 @@ use Prim.Native.Nat.{ℕ}
 use native.Mathlib.Omega.{arith}
 use Rattle.schema.specs.Records.{recordShape, identified}
 use Rattle.fault.specs.Fault.{least}
-use Rattle.document.proofs.Records.{pickedItems}
-use Rattle.fields.specs.inner.Values.{textBy}
+use Rattle.document.specs.inner.Items.{pickedItems}
+use Rattle.document.specs.inner.Values.{textBy}
 use Rattle.ids.specs.inner.Ids.{idField}
-use Rattle.references.specs.References.{refers as refersTo}
+use Rattle.ids.specs.References.{refers as refersTo}
 use Rattle.cross.specs.Cross.{recordPlace}
 use Rattle.cross.specs.inner.Judged.{fileBy, filesBy, vehicleBy}
 use Rattle.cross.proofs.Numbers.{searchable-by}

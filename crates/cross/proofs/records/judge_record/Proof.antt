@@ -2,10 +2,10 @@
 use mathlib.Core.List.{map}
 use mathlib.Core.Path.{_≡_, subst}
 use Prim.Native.Nat.{ℕ}
-use native.Mathlib.Omega.{arith}
 use Rattle.slots.specs.inner.Slots.{slotsOf}
 use Rattle.cross.specs.Cross.{faultsOf}
-use Rattle.cross.specs.inner.Judged.{Referring, Slotted, Known}
+use Rattle.cross.specs.inner.Judged.{Slotted, Known}
+use Rattle.cross.proofs.Layouts.{last-referring}
 use Rattle.cross.proofs.records.judge_record.Statement.{statement}
 use Rattle.cross.proofs.records.judge_record.Tie as tie
 
@@ -22,11 +22,8 @@ judge-type-requires c κs = let s = c .before .before in let e = c .match .keys1
 judge-status-requires : tie.Need-judge-status-requires
 judge-status-requires c κs = let s = c .before .before in let e = c .match .keys2 in (slotted s e, known s e, s .pre .3, s .pre .4)
 
-left : {file : ℕ} → Referring file → (file ≡ 1 → ⊥) → (file ≡ 3 → ⊥) → file ≡ 4
-left h i j = let a = h .least in let b = h .most in let c = h .other in omega arith
-
 is-bikes : (c : tie.At-match-rest) → c .before .before .args .file ≡ 4
-is-bikes c = let r = c .match .rest in left (c .before .before .pre .0) (r .0 .1) (r .1)
+is-bikes c = let r = c .match .rest in last-referring (c .before .before .pre .0) (r .0 .1) (r .1)
 
 judge-bike-requires : tie.Need-judge-bike-requires
 judge-bike-requires c κs = let s = c .before .before in let e = is-bikes c in (slotted s e, known s e)

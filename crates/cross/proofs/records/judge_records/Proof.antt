@@ -11,29 +11,30 @@ use Rattle.json.specs.Tree as tree
 use Rattle.json.specs.Tree.{Members}
 use Rattle.walk.specs.Part.{Whole, partTree}
 use Rattle.walk.specs.inner.Along.{ItemPlaced}
+use Rattle.walk.proofs.Left.{nearer}
 use Rattle.walk.proofs.Parts.{itemOf}
 use Rattle.schema.specs.Records.{recordShape}
 use Rattle.schema.specs.Pick.{pick}
 use Rattle.fault.specs.Fault.{least as leastOf}
-use Rattle.fields.proofs.Sizes.{part-short}
+use Rattle.document.proofs.Sizes.{part-short}
 use Rattle.ids.proofs.Passing.{Noting, noting-start, noting-end, noting-room, noting-record, noting-more}
 use Rattle.cross.specs.Cross.{faultsOf}
 use Rattle.cross.specs.inner.Judged.{filesBy}
 use Rattle.cross.proofs.Layouts.{id-slot}
 use Rattle.cross.proofs.Staging.{repeat-is}
-use Rattle.cross.proofs.Walked.{Goes, goes-start, goes-end, goes-more, left-among, left-whole}
+use Rattle.cross.proofs.Walked.{Judging, judging-start, judging-end, judging-among, judging-whole, judging-more}
 use Rattle.cross.proofs.records.judge_records.Statement.{statement}
 use Rattle.cross.proofs.records.judge_records.Tie as tie
 
 abbrev Inv-loop : tie.InvT-loop
 Inv-loop file p noted₀ rs notes repeat₀ least₀ n₀ at₀ noted repeat least n at =
-    Noting file p noted repeat n at × Goes (faultsOf (filesBy (map (λ q. q .now) rs)) file) (recordShape file) p n at least
+    Noting file p noted repeat n at × Judging (faultsOf (filesBy (map (λ q. q .now) rs)) file) (recordShape file) p n at least
 
 abbrev μ-loop : tie.MeasureT-loop
 μ-loop file p noted₀ rs notes repeat₀ least₀ n₀ at₀ noted repeat least n at = length p - at
 
 loop-holds : tie.Need-loop-holds Inv-loop μ-loop
-loop-holds c = let x = c .before .pre in (noting-start (x .2) (x .1 .along), goes-start _ _ _ (x .1 .along))
+loop-holds c = let x = c .before .pre in (noting-start (x .2) (x .1 .along), judging-start _ _ _ (x .1 .along))
 
 returns : tie.Need-returns Inv-loop μ-loop
 returns c =
@@ -41,7 +42,7 @@ returns c =
     let e = noting-end (l .loop .inv .0) (t .pass-item .ensures) (c .enum-told .given .1) in let most = s .pre .0 .most in (
       record {
         repeats = e .0 ∙ repeat-is (a .file) (omega arith) (a .p .now);
-        breaks = goes-end _ _ _ (l .loop .n) (l .loop .at) (l .loop .least) (l .loop .inv .1) (t .pass-item .ensures) (c .enum-told .given .1);
+        breaks = judging-end (l .loop .inv .1) (t .pass-item .ensures) (c .enum-told .given .1);
       },
       record { least = s .pre .0 .least; most = omega arith; noted = e .1 },
     )
@@ -62,13 +63,12 @@ room c = let t = c .before .before in noting-room (t .before .loop .inv .0) (t .
 -- an object
 object : (c : Met) → (ms : Members) × (partTree (itemOf (start c .args .p .now) (c .item .given .0 .0)) ≡ tree.object ms)
 object c =
-    let t = c .before .before in let s = start c in let m = c .item .given .0 .0 in
-    s .pre .1 .objects m (left-among (recordShape (s .args .file)) (s .args .p .now) _ (t .before .loop .inv .1) (t .pass-item .ensures) m (c .item .given .1))
+    let t = c .before .before in start c .pre .1 .objects _ (judging-among (t .before .loop .inv .1) (t .pass-item .ensures) (c .item .given .1))
 
 whole : (c : Met) → Whole (itemOf (start c .args .p .now) (c .item .given .0 .0)) (tree.object (object c .0))
 whole c =
-    let t = c .before .before in let a = start c .args in let m = c .item .given .0 .0 in
-    subst (Whole (itemOf (a .p .now) m)) (object c .1) (left-whole (recordShape (a .file)) (a .p .now) _ (t .before .loop .inv .1) (t .pass-item .ensures) m (c .item .given .1))
+    let t = c .before .before in
+    subst (Whole (itemOf (start c .args .p .now) (c .item .given .0 .0))) (object c .1) (judging-whole (t .before .loop .inv .1) (t .pass-item .ensures) (c .item .given .1))
 
 short : (c : Met) → length (itemOf (start c .args .p .now) (c .item .given .0 .0)) ≤ fileBytes
 short c = let s = start c in let m = c .item .given .0 .0 in omega (arith, s .pre .1 .short, part-short (s .args .p .now) (m .value) (m .«value_end»))
@@ -84,7 +84,7 @@ note-record-requires c κs =
         looked = i .id-place .ensures .0;
         unmet = i .id-place .ensures .1 _ (whole d) .unmet;
         is = noting-record (l .loop .inv .0) (t .pass-item .ensures) _ (d .item .given .1);
-        holds = id-slot (whole d) (s .args .file) (s .pre .0) (g .gather-record .ensures) (v .value-in .ensures .0);
+        holds = id-slot (whole d) (s .args .file) (s .pre .0) _ (g .gather-record .ensures) (v .value-in .ensures .0);
       },
       l .loop .inv .0 .noted,
     )
@@ -98,16 +98,16 @@ abbrev met : tie.After-lesser Inv-loop μ-loop → Met
 met c = c .before .before .before .before .before .before .before .before .before .before .before .before .before .before .before .before .before .before
 
 loop-less : tie.Need-loop-less Inv-loop μ-loop
-loop-less c = let m = placed (met c) in omega arith
+loop-less c = let d = met c in nearer (d .before .before .pass-item .ensures) (d .item .given .1)
 
 loop-again : tie.Need-loop-again Inv-loop μ-loop
 loop-again c =
     let j = c .before in let i = j .before .before .before .before .before in let k = i .before in let d = met c in let t = d .before .before in let l = t .before in
     let a = start d .args in let m = d .item .given .0 .0 in let e = d .item .given .1 in
-    let faults = faultsOf (filesBy (map (λ q. q .now) (a .records))) (a .file) in let σ = recordShape (a .file) in (
+    let faults = faultsOf (filesBy (map (λ q. q .now) (a .records))) (a .file) in (
       noting-more (l .loop .inv .0) (t .pass-item .ensures) m e (k .note-record .ensures .0) (k .note-record .ensures .1) (i .first-of .ensures),
-      goes-more faults σ (a .p .now) (l .loop .n) (l .loop .at) (l .loop .least) (l .loop .inv .1) (t .pass-item .ensures) m e
-          (j .judge-record .ensures (object d .0) (whole d) ∙ ap (λ x. leastOf (faults (l .loop .n + 1) (pick σ x))) (sym (object d .1)))
+      judging-more (l .loop .inv .1) (t .pass-item .ensures) e
+          (j .judge-record .ensures (object d .0) (whole d) ∙ ap (λ x. leastOf (faults (l .loop .n + 1) (pick (recordShape (a .file)) x))) (sym (object d .1)))
           (c .lesser .ensures),
     )
 

@@ -2,7 +2,7 @@
 use mathlib.Core.Path.{_≡_}
 use Prim.Native.Nat.{ℕ, _≤_}
 use native.Mathlib.Omega.{arith}
-use Rattle.cross.specs.Stage.{fileCount}
+use Rattle.fault.specs.Outcome.{fileCount}
 use Rattle.cross.specs.inner.Judged.{Referring}
 use Rattle.cross.proofs.Staging.{found-at}
 use Rattle.cross.proofs.stage.find.Statement.{statement}

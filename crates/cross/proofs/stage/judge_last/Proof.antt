@@ -1,12 +1,12 @@
 -- Zones are judged by what is known of types.
 use borrow.Author.Needs.{needs}
 use mathlib.Core.List.{List}
-use mathlib.Core.Path.{refl, sym, ap, ap₂, subst, _∙_}
+use mathlib.Core.Path.{refl, sym, ap₂, subst, _∙_}
 use Prim.Native.Nat.{ℕ}
 use native.Mathlib.Omega.{arith}
 use Rattle.schema.specs.Records.{recordShape}
 use Rattle.fault.specs.Fault.{least}
-use Rattle.document.proofs.Records.{pickedItems}
+use Rattle.document.specs.inner.Items.{pickedItems}
 use Rattle.cross.specs.Cross.{zoneFaults, eachRecord, faultsOf}
 use Rattle.cross.specs.inner.Staged.{Recorded, repeatOf}
 use Rattle.cross.proofs.Numbers.{searchable-by}

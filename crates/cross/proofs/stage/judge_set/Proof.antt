@@ -1,15 +1,14 @@
 -- `judge_set` finds the records of each file; the first file that breaks a rule is stage C's, and its rule fits the word.
 use borrow.Author.Needs.{needs}
 use mathlib.Core.List.{List, [], _∷_, map}
-use mathlib.Core.Path.{_≡_, sym, ap, _∙_}
+use mathlib.Core.Path.{_∙_}
 use Prim.Native.Nat.{ℕ}
 use native.Mathlib.Omega.{arith}
-use Rattle.clean.specs.declared.Outcome.the-variants.{Broken}
 use Rattle.document.specs.inner.Spans.{RecordsFrom}
 use Rattle.cross.specs.Stage.{bytesOf}
-use Rattle.cross.proofs.Numbers.{by-number}
+use Rattle.cross.proofs.Numbers.{Each, by-number}
 use Rattle.cross.proofs.Files.{file-bytes}
-use Rattle.cross.proofs.Sets.{AllInBytes, cleanness, stage-is, first-small}
+use Rattle.cross.proofs.Sets.{AllInBytes, outcome-is, all-narrow}
 use Rattle.cross.proofs.stage.judge_set.Statement.{statement}
 use Rattle.cross.proofs.stage.judge_set.Tie as tie
 
@@ -30,32 +29,27 @@ rests c =
     c .records-in6 .result .now ∷ []
 
 held : (c : Read) → AllInBytes (files c) (rests c)
+unfolding Each
 held c file h i =
     let p₅ = c .before in let p₄ = p₅ .before in let p₃ = p₄ .before in let p₂ = p₃ .before in let p₁ = p₂ .before in
     file-bytes file h i _ (start c .pre file h i)
-    (by-number (λ n. RecordsFrom n (bytesOf (files c) n) (bytesOf (rests c) n)) (p₁ .records-in .ensures) (p₂ .records-in2 .ensures) (p₃ .records-in3 .ensures)
-    (p₄ .records-in4 .ensures) (p₅ .records-in5 .ensures) (c .records-in6 .ensures) file h i)
+    (by-number (λ n. RecordsFrom n (bytesOf (files c) n) (bytesOf (rests c) n))
+    (p₁ .records-in .ensures, (p₂ .records-in2 .ensures, (p₃ .records-in3 .ensures, (p₄ .records-in4 .ensures, (p₅ .records-in5 .ensures, (c .records-in6 .ensures, tt)))))) file h i)
 
 judge-parts-requires : tie.Need-judge-parts-requires
 judge-parts-requires c κs =
-    let all = held c in
-    (λ file h i. all file h i .recorded, all 2 (omega arith) (omega arith) .singles (omega arith), all 5 (omega arith) (omega arith) .singles (omega arith))
-
-parts-of-requires : tie.Need-parts-of-requires
-parts-of-requires c κs =
-    let d = c .before in let j = d .before .before in first-small (files (j .before)) (rests (j .before)) (held (j .before)) _ _ (sym (j .judge-parts .ensures) ∙ d .file .given .1)
+    let all = held c in (
+      λ file h i. all file h i .recorded,
+      all 2 (omega arith) (omega arith) .singles (omega arith),
+      all 5 (omega arith) (omega arith) .singles (omega arith),
+      all-narrow (files c) (rests c) all,
+    )
 
 returns : tie.Need-returns
-returns c =
-    let j = c .before .before in ap cleanness (sym (c .enum-told .given .1) ∙ j .judge-parts .ensures) ∙ stage-is (files (j .before)) (rests (j .before)) (held (j .before))
-
-returns-2 : tie.Need-returns-2
-returns-2 c =
-    let d = c .before .before in let j = d .before .before in
-    ap Broken (c .parts-of .ensures) ∙ ap cleanness (sym (d .file .given .1) ∙ j .judge-parts .ensures) ∙ stage-is (files (j .before)) (rests (j .before)) (held (j .before))
+returns c = let r = c .before in c .judge-parts .ensures ∙ outcome-is (files r) (rests r) (held r)
 
 pub judge-set-spec : {M : Type 1} → statement M
 judge-set-spec =
     tie.close
     (tie.spec (λ c κs. search needs) (λ c κs. search needs) (λ c κs. search needs) (λ c κs. search needs) (λ c κs. search needs) (λ c κs. search needs)
-    judge-parts-requires (λ c. search needs) (λ c. search needs) parts-of-requires returns returns-2)
+    judge-parts-requires returns)

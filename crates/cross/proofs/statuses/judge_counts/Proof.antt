@@ -13,11 +13,11 @@ use Rattle.walk.specs.inner.Along.{AlongItems}
 use Rattle.schema.specs.Table23.{available}
 use Rattle.schema.specs.Records.{recordShape}
 use Rattle.fault.specs.Fault.{least}
-use Rattle.document.proofs.Records.{pickedItems}
-use Rattle.fields.specs.Values.{integerIn}
-use Rattle.fields.specs.inner.Values.{thereBy, arrayBy, spelledBy}
-use Rattle.fields.proofs.Sizes.{array-short}
-use Rattle.references.specs.References.{kindIf}
+use Rattle.document.specs.inner.Items.{pickedItems}
+use Rattle.document.specs.Values.{integerIn}
+use Rattle.document.specs.inner.Values.{thereBy, arrayBy, spelledBy}
+use Rattle.document.proofs.Sizes.{array-short}
+use Rattle.ids.specs.References.{kindIf}
 use Rattle.cross.specs.Cross.{recordPlace, sumOf, availableFaults}
 use Rattle.cross.proofs.Joined.{both, breaks, joined}
 use Rattle.cross.proofs.statuses.judge_counts.Statement.{statement}

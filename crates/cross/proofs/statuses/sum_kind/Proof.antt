@@ -2,7 +2,7 @@
 use borrow.Author.Needs.{needs}
 use mathlib.Core.Path.{sym, _∙_}
 use Rattle.word.specs.Kinds.{sumDiffers}
-use Rattle.fields.specs.inner.Values.{thereBy}
+use Rattle.document.specs.inner.Values.{thereBy}
 use Rattle.cross.proofs.Fielded.{sum-none, sum-same, sum-apart}
 use Rattle.cross.proofs.statuses.sum_kind.Statement.{statement}
 use Rattle.cross.proofs.statuses.sum_kind.Tie as tie

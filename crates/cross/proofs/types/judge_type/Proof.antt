@@ -7,10 +7,10 @@ use lib.Dec.{ltb}
 use lib.ListN.{length}
 use Rattle.schema.specs.Records.{recordShape, identified}
 use Rattle.fault.specs.Fault.{least}
-use Rattle.document.proofs.Records.{pickedItems}
-use Rattle.fields.specs.inner.Values.{textBy, thereBy}
+use Rattle.document.specs.inner.Items.{pickedItems}
+use Rattle.document.specs.inner.Values.{textBy, thereBy}
 use Rattle.ids.specs.inner.Ids.{idField}
-use Rattle.references.specs.References.{demanded as demandedOf, refers as refersTo}
+use Rattle.ids.specs.References.{demanded as demandedOf, refers as refersTo}
 use Rattle.cross.specs.Cross.{recordPlace}
 use Rattle.cross.specs.inner.Judged.{filesBy}
 use Rattle.cross.proofs.Numbers.{searchable-by}

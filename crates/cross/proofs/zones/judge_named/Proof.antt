@@ -6,33 +6,32 @@ use Prim.Native.Nat.{ℕ, _+_, _-_}
 use native.Mathlib.Omega.{arith}
 use lib.ListN.{length}
 use Rattle.walk.specs.inner.Along.{ItemPlaced}
+use Rattle.walk.proofs.Left.{nearer}
 use Rattle.schema.specs.Shape.{Sort, scalar}
 use Rattle.schema.specs.Records.{recordShape, identified}
 use Rattle.fault.specs.Fault.{least as leastOf}
-use Rattle.document.proofs.Records.{pickedItems}
+use Rattle.document.specs.inner.Items.{pickedItems}
 use Rattle.ids.specs.inner.Ids.{idField}
-use Rattle.references.specs.References.{refers as refersTo}
+use Rattle.ids.specs.References.{refers as refersTo}
 use Rattle.cross.proofs.Joined.{breaks}
-use Rattle.cross.proofs.Walked.{Goes, goes-start, goes-end, goes-more, left-whole}
+use Rattle.cross.proofs.Walked.{Judging, judging-start, judging-end, judging-whole, judging-more}
 use Rattle.cross.proofs.Fielded.{idItem, id-each, id-text}
 use Rattle.cross.proofs.zones.judge_named.Statement.{statement}
 use Rattle.cross.proofs.zones.judge_named.Tie as tie
 
 abbrev Inv-loop : tie.InvT-loop
 Inv-loop p place types typeNotes least₀ at₀ least at =
-    (k : ℕ) × Goes (idItem (pickedItems (recordShape 1) types) (place .«record») (place .sub)) (scalar Sort.id) p k at least
+    (k : ℕ) × Judging (idItem (pickedItems (recordShape 1) types) (place .«record») (place .sub)) (scalar Sort.id) p k at least
 
 abbrev μ-loop : tie.MeasureT-loop
 μ-loop p place types typeNotes least₀ at₀ least at = length p - at
 
 loop-holds : tie.Need-loop-holds Inv-loop μ-loop
-loop-holds c = (0, goes-start _ _ _ (c .before .before .pre .1))
+loop-holds c = (0, judging-start _ _ _ (c .before .before .pre .1))
 
 returns : tie.Need-returns Inv-loop μ-loop
 returns c =
-    let t = c .before .before in let k = t .before in
-    goes-end _ _ _ (k .loop .inv .0) (k .loop .at) (k .loop .least) (k .loop .inv .1) (t .pass-item .ensures) (c .enum-told .given .1)
-    ∙ ap leastOf (id-each _ _ _ 1 _)
+    let t = c .before .before in judging-end (t .before .loop .inv .1) (t .pass-item .ensures) (c .enum-told .given .1) ∙ ap leastOf (id-each _ _ _ 1 _)
 
 -- where an item was found
 abbrev Met : Type 0
@@ -43,19 +42,18 @@ placed : (c : Met) →
 placed c = c .before .before .before .pass-item .ensures .placed _ (c .before .item .given .1)
 
 loop-less : tie.Need-loop-less Inv-loop μ-loop
-loop-less c = let m = placed (c .before .before .before .before) in omega arith
+loop-less c = let d = c .before .before .before .before .before in nearer (d .before .before .pass-item .ensures) (d .item .given .1)
 
 loop-again : tie.Need-loop-again Inv-loop μ-loop
 unfolding identified idField
 loop-again c =
     let b = c .before in let r = b .before in let d = r .before .before .before in let t = d .before .before in let k = t .before in
-    let a = k .before .before .before .args in let m = d .item .given .0 .0 in let e = d .item .given .1 in
+    let a = k .before .before .before .args in let e = d .item .given .1 in
     let types = pickedItems (recordShape 1) (a .types .now) in let w = k .loop .inv .1 in (
       k .loop .inv .0 + 1,
-      goes-more (idItem types (a .place .«record») (a .place .sub)) (scalar Sort.id) (a .p .now) (k .loop .inv .0) (k .loop .at) (k .loop .least) w
-          (t .pass-item .ensures) m e
+      judging-more w (t .pass-item .ensures) e
           (breaks (a .place) 78 (r .refers .result) (b .broken .ensures)
-          (r .refers .ensures ∙ ap (λ z. refersTo z 10 types) (id-text (left-whole (scalar Sort.id) (a .p .now) _ w (t .pass-item .ensures) m e))))
+          (r .refers .ensures ∙ ap (λ z. refersTo z 10 types) (id-text (judging-whole w (t .pass-item .ensures) e))))
           (c .lesser .ensures),
     )
 

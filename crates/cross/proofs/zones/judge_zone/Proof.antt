@@ -12,11 +12,11 @@ use Rattle.schema.specs.Table23.{rule}
 use Rattle.schema.specs.Records.{recordShape, located}
 use Rattle.fault.specs.Fault.{least}
 use Rattle.fault.proofs.Leasts.{none-least}
-use Rattle.document.proofs.Records.{pickedItems}
-use Rattle.fields.specs.inner.Values.{memberOf, arrayBy}
+use Rattle.document.specs.inner.Items.{pickedItems}
+use Rattle.document.specs.inner.Values.{memberOf, arrayBy}
 use Rattle.cross.specs.Cross.{ruleFaults}
-use Rattle.fields.proofs.Arrays.{member-along}
-use Rattle.fields.proofs.Sizes.{member-short, array-short}
+use Rattle.document.proofs.Arrays.{member-along}
+use Rattle.document.proofs.Sizes.{member-short, array-short}
 use Rattle.cross.proofs.Fielded.{no-bytes, properties-whole, zone-rules, zone-bare}
 use Rattle.cross.proofs.zones.judge_zone.Statement.{statement}
 use Rattle.cross.proofs.zones.judge_zone.Tie as tie

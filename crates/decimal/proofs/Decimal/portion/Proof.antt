@@ -7,8 +7,5 @@ use Rattle.decimal.proofs.Decimal.portion.Tie as tie
 
 pub portion-spec : {M : Type 1} → statement M
 portion-spec =
-    tie.close
-    (tie.spec
-    (λ c. portion-below _ (c .before .pre) (c .if1 .taken))
-    (λ c κs. search needs)
+    tie.close (tie.spec (λ c. portion-below _ (c .before .pre) (c .if1 .taken)) (λ c κs. search needs)
     (λ c. c .within .ensures ∙ portion-within _ (c .before .before .pre) (c .before .if1 .left)))

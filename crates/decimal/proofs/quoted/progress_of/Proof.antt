@@ -20,7 +20,7 @@ abbrev μ-loop : tie.MeasureT-loop
 loop-holds : tie.Need-loop-holds Inv-loop μ-loop
 loop-holds c =
     let s = c .before .before .before .args .spelled .now in
-    let e = c .before .start .ensures in
+    let e = c .before .empty .ensures in
     (subst Held (sym e) start-held, ap (λ p. steps p (left s (c .cursor-at .result))) e ∙ ap (steps start) (left-at s 0 _ (c .cursor-at .ensures)))
 
 returns : tie.Need-returns Inv-loop μ-loop
@@ -46,17 +46,6 @@ loop-again c =
 
 pub progress-of-spec : {M : Type 1} → statement M
 progress-of-spec =
-    tie.close
-    (tie.spec
-    Inv-loop
-    μ-loop
-    (λ c κs. search needs)
-    (λ c κs. search needs)
-    loop-holds
-    (λ c κs. search needs)
-    (λ c. search needs)
-    returns
-    (λ c. search needs)
-    (λ c κs. c .before .before .before .before .loop .inv .0)
-    loop-less
+    tie.close (tie.spec Inv-loop μ-loop (λ c κs. search needs) (λ c κs. search needs) loop-holds (λ c κs. search needs)
+    (λ c. search needs) returns (λ c. search needs) (λ c κs. c .before .before .before .before .loop .inv .0) loop-less
     loop-again)

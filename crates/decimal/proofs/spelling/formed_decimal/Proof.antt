@@ -34,13 +34,6 @@ returns-2 c =
 
 pub formed-decimal-spec : {M : Type 1} → statement M
 formed-decimal-spec =
-    tie.close
-    (tie.spec
-    (λ c. omega (arith, some c))
-    (λ c. omega (arith, some (c .before)))
-    (λ c. omega (arith, some (c .before)))
-    (λ c. search needs)
-    formed-unsigned-requires
-    returns
-    formed-unsigned-requires-2
-    returns-2)
+    tie.close (tie.spec (λ c. omega (arith, some c)) (λ c. omega (arith, some (c .before)))
+    (λ c. omega (arith, some (c .before))) (λ c. search needs) formed-unsigned-requires returns
+    formed-unsigned-requires-2 returns-2)

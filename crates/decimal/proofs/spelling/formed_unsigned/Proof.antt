@@ -2,7 +2,7 @@
 use mathlib.Core.Path.{ap, _∙_}
 use Prim.Native.Nat.{_+_}
 use native.Mathlib.Omega.{arith}
-use lib.ListN.{length-take, drop}
+use lib.ListN.{drop}
 use borrow.Author.Needs.{needs}
 use Rattle.decimal.specs.declared.Number.the-variants.{Value}
 use Rattle.decimal.specs.inner.Spelling.{runFrom}
@@ -15,43 +15,31 @@ returns : tie.Need-returns
 returns c =
     let w = c .before .before in
     ap Value (c .decimal .ensures)
-    ∙ whole-only _ _ _ (w .before .before .least .ensures) (w .of .result) (w .of .ensures) (c .before .if1 .taken)
+    ∙ whole-only _ _ (w .whole-run .result) (w .whole-run .ensures) (c .before .if1 .taken)
 
-of-requires-2 : tie.Need-of-requires-2
-of-requires-2 c κs =
-    let i = c .before in let w = i .before in let k = w .before .before .before .before in
-    rw (part-from (k .args .s .now) (w .of .result .count + 1))
-    (part-short _ _ _ (w .before .before .least .ensures) (w .of .result) (w .of .ensures) (i .if1 .left) (k .pre))
+of-requires : tie.Need-of-requires
+of-requires c κs =
+    let i = c .before in let w = i .before in let k = w .before .before in
+    rw (part-from (k .args .s .now) (w .whole-run .result .count + 1))
+    (part-short _ _ (w .whole-run .result) (w .whole-run .ensures) (i .if1 .left) (k .pre))
 
 decimal-requires-2 : tie.Need-decimal-requires-2
 decimal-requires-2 c κs =
-    let i = c .before .before in let w = i .before in let k = w .before .before .before .before in
-    let s = k .args .s .now in let n = w .of .result .count + 1 in
-    rw (c .of2 .ensures, part-from s n) (
-      omega (arith, run-within (drop n s), part-short _ _ _ (w .before .before .least .ensures) (w .of .result) (w .of .ensures) (i .if1 .left) (k .pre)),
+    let i = c .before .before in let w = i .before in let k = w .before .before in
+    let s = k .args .s .now in let n = w .whole-run .result .count + 1 in
+    rw (c .of .ensures, part-from s n) (
+      omega (arith, run-within (drop n s), part-short _ _ (w .whole-run .result) (w .whole-run .ensures) (i .if1 .left) (k .pre)),
       run-below (drop n s),
     )
 
 returns-2 : tie.Need-returns-2
 returns-2 c =
-    let o = c .before in let i = o .before .before in let w = i .before in let k = w .before .before .before .before in
+    let o = c .before in let i = o .before .before in let w = i .before in let k = w .before .before in
     ap Value (c .decimal2 .ensures)
-    ∙ part-digits _ _ _ (w .before .before .least .ensures) (w .of .result) (w .of .ensures) (i .if1 .left) (k .pre) (o .of2 .result)
-    (o .of2 .ensures ∙ ap (runFrom 0 0) (part-from (k .args .s .now) (w .of .result .count + 1)))
+    ∙ part-digits _ _ (w .whole-run .result) (w .whole-run .ensures) (i .if1 .left) (k .pre) (o .of .result)
+    (o .of .ensures ∙ ap (runFrom 0 0) (part-from (k .args .s .now) (w .whole-run .result .count + 1)))
 
 pub formed-unsigned-spec : {M : Type 1} → statement M
 formed-unsigned-spec =
-    tie.close
-    (tie.spec
-    (λ c κs. search needs)
-    (λ c. simp length-take (omega arith))
-    (λ c κs. simp length-take (omega arith))
-    (λ c κs. search needs)
-    returns
-    (λ c. search needs)
-    (λ c. search needs)
-    (λ c. search needs)
-    (λ c. search needs)
-    of-requires-2
-    decimal-requires-2
-    returns-2)
+    tie.close (tie.spec (λ c κs. search needs) (λ c κs. search needs) returns (λ c. search needs) (λ c. search needs)
+    (λ c. search needs) (λ c. search needs) of-requires decimal-requires-2 returns-2)

@@ -18,14 +18,5 @@ returns-3 c =
 
 pub read-decimal-spec : {M : Type 1} → statement M
 read-decimal-spec =
-    tie.close
-    (tie.spec
-    (λ c. number-none _ (c .if1 .taken))
-    (λ c. search needs)
-    (λ c. search needs)
-    (λ c. search needs)
-    (λ c. search needs)
-    (λ c κs. search needs)
-    returns-2
-    (λ c κs. search needs)
-    returns-3)
+    tie.close (tie.spec (λ c. number-none _ (c .if1 .taken)) (λ c. search needs) (λ c. search needs) (λ c. search needs)
+    (λ c. search needs) (λ c κs. search needs) returns-2 (λ c κs. search needs) returns-3)

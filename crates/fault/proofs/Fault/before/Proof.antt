@@ -15,9 +15,6 @@ returns-4 c =
 
 pub before-spec : {M : Type 1} → statement M
 before-spec =
-    tie.close
-    (tie.spec
-    (λ c. by-record _ _ (c .before .before .if1 .taken))
-    (λ c. by-field _ _ (c .before .before .before .before .before .if1 .left) (c .before .before .if2 .taken))
-    returns-3
+    tie.close (tie.spec (λ c. by-record _ _ (c .before .before .if1 .taken))
+    (λ c. by-field _ _ (c .before .before .before .before .before .if1 .left) (c .before .before .if2 .taken)) returns-3
     returns-4)

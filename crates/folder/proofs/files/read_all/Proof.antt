@@ -11,14 +11,14 @@ use Rattle.folder.specs.declared.reading.Turn.the-variants.{Ended}
 use Rattle.folder.specs.Reading.{turnOf, Decides}
 use Rattle.folder.specs.Places.{InOrder}
 use Rattle.folder.specs.Desk.{most}
-use Rattle.folder.proofs.Placing.{Standing, standing-next}
+use Rattle.folder.proofs.Placing.{PlacesInOrder, standing-next}
 use Rattle.folder.proofs.Turns.{decided-as, whole}
 use Rattle.folder.proofs.files.read_all.Statement.{statement}
 use Rattle.folder.proofs.files.read_all.Tie as tie
 
 abbrev Inv-loop : tie.InvT-loop
 Inv-loop bytes₀ places₀ left₀ i₀ bytes places left i =
-    (i ≤ 6) × (length bytes ≡ length bytes₀) × (length places ≡ 7) × Standing i most places × (turnOf left ≡ Ended)
+    (i ≤ 6) × (length bytes ≡ length bytes₀) × (length places ≡ 7) × PlacesInOrder i most places × (turnOf left ≡ Ended)
 
 abbrev μ-loop : tie.MeasureT-loop
 μ-loop bytes₀ places₀ left₀ i₀ bytes places left i = 6 - i
@@ -62,27 +62,7 @@ returns-3 c =
 
 pub read-all-spec : {M : Type 1} → statement M
 read-all-spec =
-    tie.close
-    (tie.spec
-    Inv-loop
-    μ-loop
-    (λ c. search needs)
-    loop-holds
-    (λ c. search needs)
-    (λ c. search needs)
-    (λ c κs. search needs)
-    (λ c. search needs)
-    (λ c. search needs)
-    returns
-    (λ c. search needs)
-    (λ c. search needs)
-    returns-2
-    (λ c. search needs)
-    (λ c. search needs)
-    (λ c. search needs)
-    (λ c. search needs)
-    (λ c. search needs)
-    loop-again
-    (λ c. search needs)
-    (λ c. search needs)
-    returns-3)
+    tie.close (tie.spec Inv-loop μ-loop (λ c. search needs) loop-holds (λ c. search needs) (λ c. search needs)
+    (λ c κs. search needs) (λ c. search needs) (λ c. search needs) returns (λ c. search needs) (λ c. search needs)
+    returns-2 (λ c. search needs) (λ c. search needs) (λ c. search needs) (λ c. search needs) (λ c. search needs)
+    loop-again (λ c. search needs) (λ c. search needs) returns-3)

@@ -18,11 +18,5 @@ slice-aggregate-read-named c = counted (c .before) .1
 
 pub read-file-spec : {M : Type 1} → statement M
 read-file-spec =
-    tie.close
-    (tie.spec
-    (λ c κs. search needs)
-    array-share-prefix-name
-    slice-aggregate-read-named
-    (λ c κs. search needs)
-    (λ c. search needs)
-    (λ c. search needs))
+    tie.close (tie.spec (λ c κs. search needs) array-share-prefix-name slice-aggregate-read-named (λ c κs. search needs)
+    (λ c. search needs) (λ c. search needs))

@@ -8,13 +8,13 @@ use Rattle.limits.specs.Ceilings.{fileBytes}
 use Rattle.json.specs.Tree as tree
 use Rattle.json.specs.Tree.{Members}
 use Rattle.walk.specs.Part.{Whole}
-use Rattle.ids.specs.inner.Ids.{Unmet}
-use Rattle.ids.proofs.Single.{passed-end, passed-found, unmet-start, unmet-next, place-end, place-here}
+use Rattle.ids.specs.inner.Ids.{NoIdBefore}
+use Rattle.ids.proofs.IdOnce.{passed-end, passed-found, unmet-start, unmet-next, place-end, place-here}
 use Rattle.ids.proofs.id.id_place.Statement.{statement}
 use Rattle.ids.proofs.id.id_place.Tie as tie
 
 abbrev Inv-loop : tie.InvT-loop
-Inv-loop file q at₀ at = (at ≤ fileBytes) × ((ms : Members) → Whole q (tree.object ms) → Unmet file q at)
+Inv-loop file q at₀ at = (at ≤ fileBytes) × ((ms : Members) → Whole q (tree.object ms) → NoIdBefore file q at)
 
 abbrev μ-loop : tie.MeasureT-loop
 μ-loop file q at₀ at = length q - at

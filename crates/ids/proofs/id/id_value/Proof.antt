@@ -5,10 +5,11 @@ use Prim.Native.Nat.{ℕ}
 use mathlib.Core.List.{List}
 use Rattle.json.specs.Tree as tree
 use Rattle.json.specs.Tree.{Members}
-use Rattle.walk.specs.Part.{Whole, kindAt}
+use Rattle.walk.specs.Part.{Whole}
+use Rattle.walk.specs.inner.Kind.{kindAt}
 use Rattle.walk.proofs.Wholes.{whole-kind}
-use Rattle.fields.specs.inner.Values.{kindCode}
-use Rattle.ids.proofs.Single.{passed-end, passed-found, value-end, value-here}
+use Rattle.document.specs.inner.Values.{kindCode}
+use Rattle.ids.proofs.IdOnce.{passed-end, passed-found, value-end, value-here}
 use Rattle.ids.proofs.id.id_value.Statement.{statement}
 use Rattle.ids.proofs.id.id_value.Tie as tie
 

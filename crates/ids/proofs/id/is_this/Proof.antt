@@ -2,8 +2,8 @@
 use borrow.Author.Needs.{needs}
 use mathlib.Core.Path.{sym, ap, _∙_}
 use Rattle.text.specs.Text.{textOf, same}
-use Rattle.fields.specs.inner.Values.{isId}
-use Rattle.fields.proofs.Ways.{text-none, text-some}
+use Rattle.document.specs.inner.Values.{isId}
+use Rattle.document.proofs.ByKind.{text-none, text-some}
 use Rattle.ids.proofs.id.is_this.Statement.{statement}
 use Rattle.ids.proofs.id.is_this.Tie as tie
 

@@ -13,33 +13,23 @@ use Rattle.ids.proofs.id.names_id.Tie as tie
 
 returns : tie.Need-returns
 unfolding identified idName
-returns c =
-    let m = c .before .before in
-    c .text-is .ensures ∙ ap (λ (f : ℕ). same (textOf (m .before .before .args .spelled .now)) (idName f)) (sym (m .match .keys1))
+returns c = rw (c .before .before .match .keys1) (c .text-is .ensures)
 
 returns-2 : tie.Need-returns-2
 unfolding identified idName
-returns-2 c =
-    let m = c .before .before in
-    c .text-is2 .ensures ∙ ap (λ (f : ℕ). same (textOf (m .before .before .args .spelled .now)) (idName f)) (sym (m .match .keys2))
+returns-2 c = rw (c .before .before .match .keys2) (c .text-is2 .ensures)
 
 returns-3 : tie.Need-returns-3
 unfolding identified idName
-returns-3 c =
-    let m = c .before .before in
-    c .text-is3 .ensures ∙ ap (λ (f : ℕ). same (textOf (m .before .before .args .spelled .now)) (idName f)) (sym (m .match .keys3))
+returns-3 c = rw (c .before .before .match .keys3) (c .text-is3 .ensures)
 
 returns-4 : tie.Need-returns-4
 unfolding identified idName
-returns-4 c =
-    let m = c .before .before in
-    c .text-is4 .ensures ∙ ap (λ (f : ℕ). same (textOf (m .before .before .args .spelled .now)) (idName f)) (sym (m .match .keys4))
+returns-4 c = rw (c .before .before .match .keys4) (c .text-is4 .ensures)
 
 returns-5 : tie.Need-returns-5
 unfolding identified idName
-returns-5 c =
-    let m = c .before .before in
-    c .text-is5 .ensures ∙ ap (λ (f : ℕ). same (textOf (m .before .before .args .spelled .now)) (idName f)) (sym (m .match .keys5))
+returns-5 c = rw (c .before .before .match .keys5) (c .text-is5 .ensures)
 
 -- another number than these
 other : (n : ℕ) → (n ≡ 1 → ⊥) → (n ≡ 2 → ⊥) → (n ≡ 3 → ⊥) → (n ≡ 4 → ⊥) → (n ≡ 5 → ⊥) → idName n ≡ []

@@ -1,7 +1,7 @@
 -- `note` goes over the records once. The loop's invariant: those passed are noted, and those left come after them.
 use borrow.Author.Needs.{needs}
 use mathlib.Core.List.{List}
-use mathlib.Core.Path.{_≡_, sym, ap, subst, _∙_}
+use mathlib.Core.Path.{_≡_, ap, subst}
 use Prim.Native.Nat.{ℕ, _-_, _≤_, _<_}
 use native.Mathlib.Omega.{arith}
 use lib.ListN.{length}
@@ -14,8 +14,8 @@ use Rattle.walk.proofs.Left.{left-among, left-whole}
 use Rattle.walk.specs.inner.Along.{ItemPlaced}
 use Rattle.slots.specs.declared.Found.the-variants.{Twice}
 use Rattle.slots.specs.Found.{foundIn}
-use Rattle.fields.proofs.Sizes.{part-short}
-use Rattle.ids.specs.inner.Ids.{idName, idValue, Single, IdPlace}
+use Rattle.document.proofs.Sizes.{part-short}
+use Rattle.ids.specs.inner.Ids.{idName, idValue, IdOnce, IdPlace}
 use Rattle.ids.proofs.Passing.{Noting, noting-start, noting-end, noting-room, noting-record, noting-more}
 use Rattle.ids.proofs.note.note.Statement.{statement}
 use Rattle.ids.proofs.note.note.Tie as tie
@@ -33,23 +33,23 @@ returns : tie.Need-returns Inv-loop μ-loop
 returns c = let t = c .before .before in noting-end (t .before .loop .inv) (t .pass-item .ensures) (c .enum-told .given .1)
 
 -- where a record is found
-abbrev Met : Type 0
-Met = tie.After-m Inv-loop μ-loop
+abbrev ItemFound : Type 0
+ItemFound = tie.After-m Inv-loop μ-loop
 
-abbrev start : Met → tie.Start Inv-loop μ-loop
+abbrev start : ItemFound → tie.Start Inv-loop μ-loop
 start c = c .before .before .before .before .before
 
-placed : (c : Met) → ItemPlaced (start c .args .p .now) (c .before .before .before .loop .at) (c .m .given .0 .0)
+placed : (c : ItemFound) → ItemPlaced (start c .args .p .now) (c .before .before .before .loop .at) (c .m .given .0 .0)
 placed c = c .before .before .pass-item .ensures .placed _ (c .m .given .1)
 
-room : (c : Met) → c .before .before .before .loop .n < records
+room : (c : ItemFound) → c .before .before .before .loop .n < records
 room c = let t = c .before .before in noting-room (t .before .loop .inv) (t .pass-item .ensures) _ (c .m .given .1) (start c .pre .1)
 
 -- it is one object, and has its id once
-single : (c : Met) → Single (start c .args .file) (itemOf (start c .args .p .now) (c .m .given .0 .0))
+single : (c : ItemFound) → IdOnce (start c .args .file) (itemOf (start c .args .p .now) (c .m .given .0 .0))
 single c = let t = c .before .before in start c .pre .4 (c .m .given .0 .0) (left-among (t .before .loop .inv .left) (t .pass-item .ensures) (c .m .given .1))
 
-object : (c : Met) → let p = start c .args .p .now in (ms : Members) × Whole (itemOf p (c .m .given .0 .0)) (tree.object ms)
+object : (c : ItemFound) → let p = start c .args .p .now in (ms : Members) × Whole (itemOf p (c .m .given .0 .0)) (tree.object ms)
 object c =
     let t = c .before .before in let p = start c .args .p .now in let m = c .m .given .0 .0 in let o = single c .object in
     (o .0, subst (Whole (itemOf p m)) (o .1) (left-whole (t .before .loop .inv .left) (t .pass-item .ensures) (c .m .given .1)))
@@ -66,7 +66,7 @@ place c =
     let u = c .before in let d = u .before .before in let a = start d .args in let o = object d in
     subst (λ (q : List ℕ). Whole q (tree.object (o .0)) → IdPlace (a .file) q (c .id-place .result)) (u .item-bytes .ensures) (c .id-place .ensures .1 (o .0)) (o .1)
 
--- and what it holds
+-- what that member holds
 value-is : (c : tie.After-id-value Inv-loop μ-loop) →
     let d = c .before .before .before .before in let a = start d .args in c .id-value .result .now ≡ idValue (a .file) (itemOf (a .p .now) (d .m .given .0 .0))
 value-is c =

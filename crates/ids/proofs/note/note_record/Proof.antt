@@ -7,8 +7,8 @@ use lib.Dec.{ltb}
 use Rattle.text.specs.Text.{textOf}
 use Rattle.walk.specs.Walk.{part}
 use Rattle.document.specs.Document.{none, some}
-use Rattle.fields.specs.inner.Values.{textBy}
-use Rattle.fields.proofs.Ways.{text-none, text-some}
+use Rattle.document.specs.inner.Values.{textBy}
+use Rattle.document.proofs.ByKind.{text-none, text-some}
 use Rattle.ids.specs.inner.Ids.{idOf, recordBytes}
 use Rattle.ids.specs.inner.Notes.{Noted}
 use Rattle.ids.proofs.Chains.{from-head, head-all}

@@ -11,16 +11,16 @@ use native.Mathlib.Omega.{arith}
 use lib.ListN.{length, getD}
 use Rattle.limits.specs.Ceilings.{records}
 use Rattle.text.specs.Text.{textOf}
-use Rattle.ids.specs.inner.Ids.{Unmet, hasId, recordBytes, lastWith}
+use Rattle.ids.specs.inner.Ids.{NoIdBefore, hasId, recordBytes, lastWith}
 use Rattle.ids.specs.inner.Notes.{kept, Searched}
-use Rattle.ids.proofs.Single.{passed-end, passed-found, unmet-at, unmet-next, member-lacking, member-decides}
+use Rattle.ids.proofs.IdOnce.{passed-end, passed-found, unmet-at, unmet-next, member-lacking, member-decides}
 use Rattle.ids.proofs.Chains.{with-none, chain-room, chain-entry, chain-unmet, chain-apart, chain-next, chain-less, chain-met, chain-past}
 use Rattle.ids.proofs.search.search.Statement.{statement}
 use Rattle.ids.proofs.search.search.Tie as tie
 
 abbrev Inv-loop : tie.InvT-loop
 Inv-loop file p notes from id digest met₀ j k «record» at₀ met at =
-    (met ≡ 0) × Unmet file «record» at
+    (met ≡ 0) × NoIdBefore file «record» at
 
 abbrev μ-loop : tie.MeasureT-loop
 μ-loop file p notes from id digest met₀ j k «record» at₀ met at = length «record» - at

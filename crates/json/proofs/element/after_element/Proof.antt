@@ -8,10 +8,6 @@ use Rattle.json.proofs.Follow.{follow-end, follow-close, follow-comma, 
 use Rattle.json.proofs.element.after_element.Statement.{statement}
 use Rattle.json.proofs.element.after_element.Tie as tie
 
-returns : tie.Need-returns
-unfolding turn
-returns c = let a = c .before .before .before .before .args in ap (turn (a .s .now) (a .close)) (sym (c .before .element .given .1))
-
 returns-2 : tie.Need-returns-2
 unfolding turn
 returns-2 c =
@@ -42,18 +38,9 @@ returns-5 c =
     follow-wrong s (a .close) (g .0 .0) i k (omega arith) (c .before .if2 .left) (c .if3 .left) ∙ ap (turn s (a .close)) (sym (g .1))
 
 pub after-element-spec : {M : Type 1} → statement M
+unfolding turn
 after-element-spec =
-    tie.close
-    (tie.spec
-    (λ c. search needs)
-    returns
-    (λ c. search needs)
-    (λ c κs. search needs)
-    returns-2
-    (λ c. search needs)
-    (λ c. search needs)
-    returns-3
-    (λ c. search needs)
-    (λ c κs. search needs)
-    returns-4
-    returns-5)
+    tie.close (tie.spec (λ c. search needs)
+    (λ c. let a = c .before .before .before .before .args in ap (turn (a .s .now) (a .close)) (sym (c .before .element .given .1)))
+    (λ c. search needs) (λ c κs. search needs) returns-2 (λ c. search needs) (λ c. search needs) returns-3
+    (λ c. search needs) (λ c κs. search needs) returns-4 returns-5)

@@ -7,7 +7,7 @@ use Rattle.lexeme.proofs.Placed.{ends-at, faults-at, passes, lands, takes-leave
 use Rattle.lexeme.proofs.Reading.{Ok}
 use Rattle.lexeme.proofs.Spans.{skipped}
 use Rattle.json.specs.Text.{value}
-use Rattle.json.proofs.Takes.{value-takes}
+use Rattle.json.proofs.StrongPrefixes.{value-takes}
 use Rattle.json.proofs.Texts.{text-bad, text-more, text-ends}
 use Rattle.json.proofs.reader.read_text.Statement.{statement}
 use Rattle.json.proofs.reader.read_text.Tie as tie
@@ -37,14 +37,5 @@ returns-3 c =
 
 pub read-text-spec : {M : Type 1} → statement M
 read-text-spec =
-    tie.close
-    (tie.spec
-    (λ c κs. search needs)
-    (λ c κs. search needs)
-    (λ c κs. search needs)
-    (λ c. search needs)
-    returns
-    (λ c. search needs)
-    (λ c κs. search needs)
-    returns-2
-    returns-3)
+    tie.close (tie.spec (λ c κs. search needs) (λ c κs. search needs) (λ c κs. search needs) (λ c. search needs) returns
+    (λ c. search needs) (λ c κs. search needs) returns-2 returns-3)

@@ -7,17 +7,18 @@ use mathlib.Core.Path.{sym, ap, subst, _∙_}
 use Prim.Native.Nat.{ℕ, _+_, _*_, _-_, _<_, _≤_}
 use native.Mathlib.Omega.{arith}
 use lib.ListN.{length, drop, take, length-drop}
+use Rattle.notation.proofs.Booleans.{true-false}
 use Rattle.lexeme.proofs.Spans.{Skipped, skipped}
 use Rattle.walk.specs.inner.Along.{NamePlaced, NamePassed}
 use Rattle.walk.specs.inner.Front.{Ends}
 use Rattle.walk.proofs.Passing.{placed-next}
-use Rattle.walk.proofs.Fronts.{tail-cut, item-later}
+use Rattle.walk.proofs.Cuts.{part-rest as tail-cut}
+use Rattle.walk.proofs.Fronts.{item-later}
 use Rattle.fault.specs.declared.Least.{Least}
 use Rattle.fault.specs.Fault.{lesser}
-use Rattle.fault.proofs.Order.{true-false}
 use Rattle.judge.specs.inner.Judged.{Single, Member}
 use Rattle.judge.proofs.Values.{single-past, single-object, member-blank, member-array, member-single, object-shut, object-past, object-other, object-members}
-use Rattle.judge.proofs.Going.{ItemsMet, items-begin, items-next, items-end, array-ends, array-other}
+use Rattle.judge.proofs.Items.{ItemsMet, items-begin, items-next, items-end, array-ends, array-other}
 use Rattle.judge.proofs.Meeting.{Meeting, meeting-start, meeting-next, meeting-ends, meeting-end}
 use Rattle.judge.proofs.Nested.{array-positions}
 use borrow.Fn.Kinds.{In}
@@ -38,10 +39,10 @@ use Rattle.judge.proofs.part.judge_single.Reads as judge-single
 use Rattle.judge.proofs.part.judge_single.Kinds as judge-single-kinds
 use Rattle.judge.proofs.part.+judge_array+judge_member+judge_members+judge_object+judge_single.Lts-judge_single as judge-single-lts
 use Rattle.fault.proofs.lesser.Reads as lesser-reads
-use Rattle.judge.proofs.Place.absent.Reads as absent-reads
-use Rattle.judge.proofs.Place.broken.Reads as broken-reads
-use Rattle.judge.proofs.Place.excess.Reads as excess-reads
-use Rattle.judge.proofs.Place.item.Reads as item-reads
+use Rattle.judge.proofs.absent.Reads as absent-reads
+use Rattle.fault.proofs.Place.broken.Reads as broken-reads
+use Rattle.judge.proofs.excess.Reads as excess-reads
+use Rattle.judge.proofs.item.Reads as item-reads
 use Rattle.judge.proofs.part.brackets.Reads as brackets-reads
 use Rattle.judge.proofs.part.judge_plain.Reads as judge-plain-reads
 use Rattle.judge.proofs.part.judge_positions.Reads as judge-positions-reads
@@ -50,10 +51,6 @@ use Rattle.judge.proofs.part.passed.Reads as passed-reads
 use Rattle.judge.proofs.part.wide.Reads as wide-reads
 use Rattle.lexeme.proofs.blank.skip_blanks.Reads as skip-blanks-reads
 use Rattle.schema.proofs.lines.line_at.Reads as line-at-reads
-use Rattle.schema.proofs.lines.line_columns.Reads as line-columns-reads
-use Rattle.schema.proofs.names.name_bytes.Reads as name-bytes-reads
-use Rattle.schema.proofs.names.name_counts.Reads as name-counts-reads
-use Rattle.schema.proofs.names.name_firsts.Reads as name-firsts-reads
 use Rattle.slots.proofs.begins_blank.Reads as begins-blank-reads
 use Rattle.slots.proofs.count_name.Reads as count-name-reads
 use Rattle.slots.proofs.is_new.Reads as is-new-reads
@@ -68,76 +65,50 @@ use Rattle.judge.proofs.part.+judge_array+judge_member+judge_members+ju
   close,
 }
 
-abbrev μ-judge-array : Measures 1 judge-array-kinds.ps ℕ
-μ-judge-array κs a = 5 * a .1 .1 .1 .1 .0 + 2
+abbrev μ-judge-array : Measures 2 judge-array-kinds.ps ℕ
+μ-judge-array κs a = 5 * a .1 .1 .1 .1 .1 .0 + 2
 
-abbrev μ-judge-member : Measures 1 judge-member-kinds.ps ℕ
-μ-judge-member κs a = 5 * a .1 .1 .1 .1 .1 .0 + 3
+abbrev μ-judge-member : Measures 2 judge-member-kinds.ps ℕ
+μ-judge-member κs a = 5 * a .1 .1 .1 .1 .1 .1 .0 + 3
 
-abbrev μ-judge-members : Measures 5 judge-members-kinds.ps ℕ
-μ-judge-members κs a = 5 * a .1 .1 .1 .1 .1 .1 .1 .1 .1 .1 .1 .1 .1 .1 .0 + 4
+abbrev μ-judge-members : Measures 2 judge-members-kinds.ps ℕ
+μ-judge-members κs a = 5 * a .1 .1 .1 .1 .1 .0 + 4
 
-abbrev μ-judge-object : Measures 1 judge-object-kinds.ps ℕ
-μ-judge-object κs a = 5 * a .1 .1 .1 .1 .1 .0
+abbrev μ-judge-object : Measures 2 judge-object-kinds.ps ℕ
+μ-judge-object κs a = 5 * a .1 .1 .1 .1 .1 .1 .0
 
-abbrev μ-judge-single : Measures 1 judge-single-kinds.ps ℕ
-μ-judge-single κs a = 5 * a .1 .1 .1 .1 .1 .0 + 1
+abbrev μ-judge-single : Measures 2 judge-single-kinds.ps ℕ
+μ-judge-single κs a = 5 * a .1 .1 .1 .1 .1 .1 .0 + 1
 
-abbrev judge-array-at : ℕ → In 1 judge-array-kinds.ps
-judge-array-at t =
-    and 1 judge-array-kinds.ps (is 1 judge-array-kinds.ps μ-judge-array t) judge-array.Pre
+abbrev judge-array-at : ℕ → In 2 judge-array-kinds.ps
+judge-array-at t = and 2 judge-array-kinds.ps (is 2 judge-array-kinds.ps μ-judge-array t) judge-array.Pre
 
-abbrev judge-array-below : ℕ → In 1 judge-array-kinds.ps
-judge-array-below t =
-    and 1 judge-array-kinds.ps (falls 1 judge-array-kinds.ps _<_ μ-judge-array t) judge-array.Pre
+abbrev judge-array-below : ℕ → In 2 judge-array-kinds.ps
+judge-array-below t = and 2 judge-array-kinds.ps (falls 2 judge-array-kinds.ps _<_ μ-judge-array t) judge-array.Pre
 
-abbrev judge-member-at : ℕ → In 1 judge-member-kinds.ps
-judge-member-at t =
-    and 1 judge-member-kinds.ps (is 1 judge-member-kinds.ps μ-judge-member t) judge-member.Pre
+abbrev judge-member-at : ℕ → In 2 judge-member-kinds.ps
+judge-member-at t = and 2 judge-member-kinds.ps (is 2 judge-member-kinds.ps μ-judge-member t) judge-member.Pre
 
-abbrev judge-member-below : ℕ → In 1 judge-member-kinds.ps
-judge-member-below t =
-    and
-    1
-    judge-member-kinds.ps
-    (falls 1 judge-member-kinds.ps _<_ μ-judge-member t)
-    judge-member.Pre
+abbrev judge-member-below : ℕ → In 2 judge-member-kinds.ps
+judge-member-below t = and 2 judge-member-kinds.ps (falls 2 judge-member-kinds.ps _<_ μ-judge-member t) judge-member.Pre
 
-abbrev judge-members-at : ℕ → In 5 judge-members-kinds.ps
-judge-members-at t =
-    and 5 judge-members-kinds.ps (is 5 judge-members-kinds.ps μ-judge-members t) judge-members.Pre
+abbrev judge-members-at : ℕ → In 2 judge-members-kinds.ps
+judge-members-at t = and 2 judge-members-kinds.ps (is 2 judge-members-kinds.ps μ-judge-members t) judge-members.Pre
 
-abbrev judge-members-below : ℕ → In 5 judge-members-kinds.ps
-judge-members-below t =
-    and
-    5
-    judge-members-kinds.ps
-    (falls 5 judge-members-kinds.ps _<_ μ-judge-members t)
-    judge-members.Pre
+abbrev judge-members-below : ℕ → In 2 judge-members-kinds.ps
+judge-members-below t = and 2 judge-members-kinds.ps (falls 2 judge-members-kinds.ps _<_ μ-judge-members t) judge-members.Pre
 
-abbrev judge-object-at : ℕ → In 1 judge-object-kinds.ps
-judge-object-at t =
-    and 1 judge-object-kinds.ps (is 1 judge-object-kinds.ps μ-judge-object t) judge-object.Pre
+abbrev judge-object-at : ℕ → In 2 judge-object-kinds.ps
+judge-object-at t = and 2 judge-object-kinds.ps (is 2 judge-object-kinds.ps μ-judge-object t) judge-object.Pre
 
-abbrev judge-object-below : ℕ → In 1 judge-object-kinds.ps
-judge-object-below t =
-    and
-    1
-    judge-object-kinds.ps
-    (falls 1 judge-object-kinds.ps _<_ μ-judge-object t)
-    judge-object.Pre
+abbrev judge-object-below : ℕ → In 2 judge-object-kinds.ps
+judge-object-below t = and 2 judge-object-kinds.ps (falls 2 judge-object-kinds.ps _<_ μ-judge-object t) judge-object.Pre
 
-abbrev judge-single-at : ℕ → In 1 judge-single-kinds.ps
-judge-single-at t =
-    and 1 judge-single-kinds.ps (is 1 judge-single-kinds.ps μ-judge-single t) judge-single.Pre
+abbrev judge-single-at : ℕ → In 2 judge-single-kinds.ps
+judge-single-at t = and 2 judge-single-kinds.ps (is 2 judge-single-kinds.ps μ-judge-single t) judge-single.Pre
 
-abbrev judge-single-below : ℕ → In 1 judge-single-kinds.ps
-judge-single-below t =
-    and
-    1
-    judge-single-kinds.ps
-    (falls 1 judge-single-kinds.ps _<_ μ-judge-single t)
-    judge-single.Pre
+abbrev judge-single-below : ℕ → In 2 judge-single-kinds.ps
+judge-single-below t = and 2 judge-single-kinds.ps (falls 2 judge-single-kinds.ps _<_ μ-judge-single t) judge-single.Pre
 
 abbrev judge-array-calls : ℕ → judge-array-lts.Claims
 judge-array-calls t = (judge-positions-reads.Asked, judge-positions-reads.Learnt, brackets-reads.Asked, brackets-reads.Learnt, broken-reads.Asked, broken-reads.Learnt, passed-reads.Asked, passed-reads.Learnt, skip-blanks-reads.Asked, skip-blanks-reads.Learnt, item-reads.Asked, item-reads.Learnt, judge-single-below t, judge-single.Post, excess-reads.Asked, excess-reads.Learnt, lesser-reads.Asked, lesser-reads.Learnt, closed-end-reads.Asked, closed-end-reads.Learnt, next-place-reads.Asked, next-place-reads.Learnt)
@@ -149,17 +120,17 @@ abbrev judge-members-calls : ℕ → judge-members-lts.Claims
 judge-members-calls t = (pass-name-reads.Asked, pass-name-reads.Learnt, judge-rows-reads.Asked, judge-rows-reads.Learnt, closed-end-reads.Asked, closed-end-reads.Learnt, row-of-reads.Asked, row-of-reads.Learnt, line-at-reads.Asked, line-at-reads.Learnt, is-new-reads.Asked, is-new-reads.Learnt, judge-member-below t, judge-member.Post, count-name-reads.Asked, count-name-reads.Learnt, next-place-reads.Asked, next-place-reads.Learnt)
 
 abbrev judge-object-calls : ℕ → judge-object-lts.Claims
-judge-object-calls t = (passed-reads.Asked, passed-reads.Learnt, brackets-reads.Asked, brackets-reads.Learnt, broken-reads.Asked, broken-reads.Learnt, name-bytes-reads.Asked, name-bytes-reads.Learnt, name-firsts-reads.Asked, name-firsts-reads.Learnt, name-counts-reads.Asked, name-counts-reads.Learnt, line-columns-reads.Asked, line-columns-reads.Learnt, judge-members-below t, judge-members.Post)
+judge-object-calls t = (passed-reads.Asked, passed-reads.Learnt, brackets-reads.Asked, brackets-reads.Learnt, broken-reads.Asked, broken-reads.Learnt, judge-members-below t, judge-members.Post)
 
 abbrev judge-single-calls : ℕ → judge-single-lts.Claims
 judge-single-calls t = (passed-reads.Asked, passed-reads.Learnt, wide-reads.Asked, wide-reads.Learnt, judge-object-below t, judge-object.Post, judge-plain-reads.Asked, judge-plain-reads.Learnt)
 
 -- arrays
 abbrev judge-array-Inv-loop : judge-array-lts.InvT-loop
-judge-array-Inv-loop p i line place level least₀ n₀ at₀ least n at = (n < at) × (at ≤ length p + 1) × ItemsMet p i place level at least n
+judge-array-Inv-loop p table i line place level least₀ n₀ at₀ least n at = (n < at) × (at ≤ length p + 1) × ItemsMet p i place level at least n
 
 abbrev judge-array-μ-loop : judge-array-lts.MeasureT-loop
-judge-array-μ-loop p i line place level least₀ n₀ at₀ least n at = length p + 1 - at
+judge-array-μ-loop p table i line place level least₀ n₀ at₀ least n at = length p + 1 - at
 
 judge-array-returns : (t : ℕ) → judge-array-lts.Need-returns (judge-array-calls t) (judge-array-at t) judge-array.Post judge-array-Inv-loop judge-array-μ-loop
 judge-array-returns t c =
@@ -187,7 +158,7 @@ judge-array-here t c = let l = c .before in skipped (l .before .before .before .
 judge-array-judge-single-requires : (t : ℕ) → judge-array-lts.Need-judge-single-requires (judge-array-calls t) (judge-array-at t) judge-array.Post judge-array-Inv-loop judge-array-μ-loop
 judge-array-judge-single-requires t c κs =
     let s = c .before .before .before .before .before .before .before .before .before in
-    (omega arith, (rw (tail-cut (s .args .p .now) (c .before .before .skip-blanks .result)) (omega (arith, s .pre .1 .0, length-drop (c .before .before .skip-blanks .result) (s .args .p .now))), s .pre .1 .1))
+    (omega arith, (rw (tail-cut (s .args .p .now) (c .before .before .skip-blanks .result)) (omega (arith, s .pre .1 .0, length-drop (c .before .before .skip-blanks .result) (s .args .p .now))), s .pre .1 .1, s .pre .1 .2))
 
 -- what the judge of an item answers, of the bytes from it on
 judge-array-ends : (t : ℕ) (c : judge-array-lts.After-judge-single (judge-array-calls t) (judge-array-at t) judge-array.Post judge-array-Inv-loop judge-array-μ-loop) →
@@ -279,21 +250,21 @@ judge-member-returns-4 t c =
 
 -- the members of an object
 abbrev judge-members-Inv-loop : judge-members-lts.InvT-loop
-judge-members-Inv-loop p bytes firsts counts fields needs values items numberings most insides first count place level state₀ leasts₀ at₀ state leasts at =
+judge-members-Inv-loop p table first count place level state₀ leasts₀ at₀ state leasts at =
     Meeting p first count place level state leasts at
 
 abbrev judge-members-μ-loop : judge-members-lts.MeasureT-loop
-judge-members-μ-loop p bytes firsts counts fields needs values items numberings most insides first count place level state₀ leasts₀ at₀ state leasts at = length p - at
+judge-members-μ-loop p table first count place level state₀ leasts₀ at₀ state leasts at = length p - at
 
 judge-members-loop-holds : (t : ℕ) → judge-members-lts.Need-loop-holds (judge-members-calls t) (judge-members-at t) judge-members.Post judge-members-Inv-loop judge-members-μ-loop
-judge-members-loop-holds t c = let a = c .before .before .args in meeting-start (a .p .now) (a .first) (a .count) (a .place) (a .level)
+judge-members-loop-holds t c = let a = c .before .args in meeting-start (a .p .now) (a .first) (a .count) (a .place) (a .level)
 
 judge-members-returns : (t : ℕ) → judge-members-lts.Need-returns (judge-members-calls t) (judge-members-at t) judge-members.Post judge-members-Inv-loop judge-members-μ-loop
 judge-members-returns t c =
     let m = c .before .before .before in
     let n = m .before .before in
     let l = n .before in
-    let s = l .before .before .before in
+    let s = l .before .before in
     let a = s .args in
     let none = subst (NamePassed (a .p .now) (l .loop .at)) (m .enum-told .given .1) (n .pass-name .ensures) in (
       meeting-ends (a .p .now) (a .first) (a .count) (a .place) (a .level) (l .loop .state) (l .loop .leasts) (l .loop .at) none (l .loop .inv) (s .pre .1 .2)
@@ -304,35 +275,35 @@ judge-members-returns t c =
 
 -- where the name that was met stands
 judge-members-placed : (t : ℕ) (c : judge-members-lts.After-known-told (judge-members-calls t) (judge-members-at t) judge-members.Post judge-members-Inv-loop judge-members-μ-loop) →
-    let l = c .before .before .before .before in NamePlaced (l .before .before .before .args .p .now) (l .loop .at) (c .before .m .given .0 .0)
+    let l = c .before .before .before .before in NamePlaced (l .before .before .args .p .now) (l .loop .at) (c .before .m .given .0 .0)
 judge-members-placed t c = c .before .before .before .pass-name .ensures .placed _ (c .before .m .given .1)
 
 -- what the judge of its value answers, of the bytes from it on
 judge-members-ends : (t : ℕ) (c : judge-members-lts.After-judge-member (judge-members-calls t) (judge-members-at t) judge-members.Post judge-members-Inv-loop judge-members-μ-loop) →
-    let k = c .before .before .before .before .before .before .before .before in Ends (drop (k .before .m .given .0 .0 .value) (k .before .before .before .before .before .before .before .args .p .now)) (c .judge-member .result .end)
+    let k = c .before .before .before .before .before .before .before in Ends (drop (k .before .m .given .0 .0 .value) (k .before .before .before .before .before .before .args .p .now)) (c .judge-member .result .end)
 judge-members-ends t c =
-    let k = c .before .before .before .before .before .before .before .before in
-    subst (λ l. Ends l (c .judge-member .result .end)) (tail-cut (k .before .before .before .before .before .before .before .args .p .now) (k .before .m .given .0 .0 .value)) (c .judge-member .ensures .0)
+    let k = c .before .before .before .before .before .before .before in
+    subst (λ l. Ends l (c .judge-member .result .end)) (tail-cut (k .before .before .before .before .before .before .args .p .now) (k .before .m .given .0 .0 .value)) (c .judge-member .ensures .0)
 
 judge-members-judge-member-requires : (t : ℕ) → judge-members-lts.Need-judge-member-requires (judge-members-calls t) (judge-members-at t) judge-members.Post judge-members-Inv-loop judge-members-μ-loop
 judge-members-judge-member-requires t c κs =
-    let k = c .before .before .before .before .before .before .before in
-    let s = k .before .before .before .before .before .before .before in
+    let k = c .before .before .before .before .before .before in
+    let s = k .before .before .before .before .before .before in
     let v = k .before .m .given .0 .0 .value in
-    (omega (arith, s .pre .0), (rw (tail-cut (s .args .p .now) v) (omega (arith, s .pre .1 .0, length-drop v (s .args .p .now))), c .before .before .before .line-at .ensures))
+    (omega (arith, s .pre .0), (rw (tail-cut (s .args .p .now) v) (omega (arith, s .pre .1 .0, length-drop v (s .args .p .now))), c .before .before .before .line-at .ensures, s .pre .1 .3))
 
 judge-members-add-next-place : (t : ℕ) → judge-members-lts.Need-add-next-place (judge-members-calls t) (judge-members-at t) judge-members.Post judge-members-Inv-loop judge-members-μ-loop
 judge-members-add-next-place t c =
     let j = c .before .before .before in
-    let k = j .before .before .before .before .before .before .before .before in
-    let s = k .before .before .before .before .before .before .before in
+    let k = j .before .before .before .before .before .before .before in
+    let s = k .before .before .before .before .before .before in
     omega (arith, judge-members-placed t k .inside, judge-members-ends t j .inside, length-drop (k .before .m .given .0 .0 .value) (s .args .p .now), s .pre .1 .0)
 
 judge-members-loop-less : (t : ℕ) → judge-members-lts.Need-loop-less (judge-members-calls t) (judge-members-at t) judge-members.Post judge-members-Inv-loop judge-members-μ-loop
 judge-members-loop-less t c =
     let j = c .before .before .before .before in
-    let k = j .before .before .before .before .before .before .before .before in
-    let s = k .before .before .before .before .before .before .before in
+    let k = j .before .before .before .before .before .before .before in
+    let s = k .before .before .before .before .before .before in
     let p = s .args .p .now in
     let v = k .before .m .given .0 .0 .value in
     let e = j .judge-member .result .end in
@@ -346,10 +317,10 @@ judge-members-loop-again t c =
     let j = c .before .before .before .before in
     let w = j .before .before in
     let r = w .before .before .before in
-    let k = r .before .before .before in
+    let k = r .before .before in
     let n = k .before .before .before in
     let l = n .before in
-    let a = l .before .before .before .args in
+    let a = l .before .before .args in
     let p = a .p .now in
     let m = k .before .m .given .0 .0 in
     let e = j .judge-member .result .end in
@@ -373,28 +344,19 @@ judge-object-returns-4 t c =
 
 judge-object-judge-members-requires : (t : ℕ) → judge-object-lts.Need-judge-members-requires (judge-object-calls t) (judge-object-at t) judge-object.Post
 judge-object-judge-members-requires t c κs =
-    let l = c .before .before .before .before .before .before .before .before .before .before .before in
-    let k = l .before .before .before .before in
-    let g = k .before in
+    let g = c .before in
     let s = g .before .before .before .before .before in (
       omega (arith, s .pre .0, g .before .before .before .if1 .left),
-      (
-        s .pre .1,
-        omega (arith, g .before .before .if2 .left, g .before .if3 .left),
-        sym (g .brackets .ensures) ∙ k .if4 .left,
-        record { bytes = l .before .before .before .name-bytes .ensures; firsts = l .before .before .name-firsts .ensures; counts = l .before .name-counts .ensures },
-        l .line-columns .ensures,
-      ),
+      (s .pre .1 .0, omega (arith, g .before .before .if2 .left, g .before .if3 .left), sym (g .brackets .ensures) ∙ c .if4 .left, s .pre .1 .1),
     )
 
 judge-object-returns-5 : (t : ℕ) → judge-object-lts.Need-returns-5 (judge-object-calls t) (judge-object-at t) judge-object.Post
 judge-object-returns-5 t c =
-    let k = c .before .before .before .before .before .before .before .before .before .before .before .before .before .before .before .before in
-    let g = k .before in
+    let g = c .before .before in
     let a = g .before .before .before .before .before .args in (
       c .judge-members .ensures .0,
       object-members (a .p .now) (c .judge-members .result .end) (a .first) (a .count) (a .field) (a .place) (a .level) (g .brackets .ensures)
-          (g .before .before .before .if1 .left) (k .if4 .left) (c .judge-members .ensures .1),
+          (g .before .before .before .if1 .left) (c .before .if4 .left) (c .judge-members .ensures .1),
     )
 
 -- single values
@@ -407,97 +369,44 @@ judge-single-returns-3 t c = (c .judge-plain .ensures .0, c .judge-plain .ensure
 
 pub +judge-array+judge-member+judge-members+judge-object+judge-single-spec : {M : Type 1} → statement M
 +judge-array+judge-member+judge-members+judge-object+judge-single-spec =
-    close
-    μ-judge-array
-    μ-judge-member
-    μ-judge-members
-    μ-judge-object
-    μ-judge-single
+    close μ-judge-array μ-judge-member μ-judge-members μ-judge-object μ-judge-single
     (λ t. judge-array-lts.spec (judge-array-calls t) (judge-array-at t) judge-array.Post judge-array-Inv-loop judge-array-μ-loop
-    (λ c κs. search needs)
-    (judge-array-returns t)
-    (λ c κs. search needs)
-    (λ c κs. search needs)
-    (λ c κs. search needs)
-    (judge-array-returns-2 t)
-    (judge-array-loop-holds t)
-    (λ c κs. search needs)
-    (λ c. omega arith)
-    (λ c κs. search needs)
+    (λ c κs. search needs) (judge-array-returns t) (λ c κs. search needs) (λ c κs. search needs) (λ c κs. search needs)
+    (judge-array-returns-2 t) (judge-array-loop-holds t) (λ c κs. search needs) (λ c. omega arith)
+    (λ c κs. search needs) (λ c. let h = judge-array-here t (c .before) in omega (arith, h .upto))
     (λ c. let h = judge-array-here t (c .before) in omega (arith, h .upto))
-    (λ c. let h = judge-array-here t (c .before) in omega (arith, h .upto))
-    (λ c. let h = judge-array-here t (c .before) in omega (arith, h .upto))
-    (judge-array-judge-single-requires t)
-    (λ c κs. search needs)
-    (λ c κs. search needs)
-    (λ c κs. search needs)
-    (judge-array-returns-3 t)
+    (λ c. let h = judge-array-here t (c .before) in omega (arith, h .upto)) (judge-array-judge-single-requires t)
+    (λ c κs. search needs) (λ c κs. search needs) (λ c κs. search needs) (judge-array-returns-3 t)
     (λ c. let l = c .before .before .before .before .before .before in omega (arith, l .loop .inv .0, l .loop .inv .1, l .before .before .before .before .before .before .pre .1 .0))
-    (λ c κs. search needs)
-    (judge-array-add-next-place t)
-    (λ c κs. search needs)
-    (λ c. let h = judge-array-later t c in omega (arith, h))
-    (judge-array-loop-again t))
-    (λ t. judge-member-lts.spec (judge-member-calls t) (judge-member-at t) judge-member.Post
-    (λ c κs. search needs)
-    (judge-member-returns t)
-    (λ c κs. search needs)
-    (λ c κs. search needs)
-    (judge-member-returns-2 t)
-    (λ c κs. (omega arith, c .before .before .before .before .before .before .pre .1))
-    (judge-member-returns-3 t)
-    (λ c κs. (omega arith, c .before .before .before .before .before .before .pre .1))
-    (judge-member-returns-4 t))
+    (λ c κs. search needs) (judge-array-add-next-place t) (λ c κs. search needs)
+    (λ c. let h = judge-array-later t c in omega (arith, h)) (judge-array-loop-again t))
+    (λ t. judge-member-lts.spec (judge-member-calls t) (judge-member-at t) judge-member.Post (λ c κs. search needs)
+    (judge-member-returns t) (λ c κs. search needs) (λ c κs. search needs) (judge-member-returns-2 t)
+    (λ c κs. (omega arith, c .before .before .before .before .before .before .pre .1)) (judge-member-returns-3 t)
+    (λ c κs. (omega arith, c .before .before .before .before .before .before .pre .1)) (judge-member-returns-4 t))
     (λ t. judge-members-lts.spec (judge-members-calls t) (judge-members-at t) judge-members.Post judge-members-Inv-loop judge-members-μ-loop
-    (judge-members-loop-holds t)
-    (λ c κs. search needs)
-    (λ c. search needs)
-    (λ c κs. let s = c .before .before .before .before .before .before .before in (s .pre .1 .4, s .pre .1 .1))
-    (λ c κs. search needs)
-    (judge-members-returns t)
-    (λ c. search needs)
-    (λ c. let m = judge-members-placed t (c .before) in omega arith)
-    (λ c. let m = judge-members-placed t (c .before) in omega arith)
-    (λ c. let m = judge-members-placed t (c .before) in omega arith)
-    (λ c κs. let s = c .before .before .before .before .before .before .before .before .before in (s .pre .1 .3, s .pre .1 .4 .insides))
-    (λ c κs. c .before .before .before .before .before .before .before .before .before .before .pre .1 .4)
-    (λ c κs. search needs)
-    (λ c. let m = judge-members-placed t (c .before .before .before .before .before .before) in omega (arith, m .inside))
-    (λ c. let m = judge-members-placed t (c .before .before .before .before .before .before) in omega (arith, m .inside))
-    (λ c. let m = judge-members-placed t (c .before .before .before .before .before .before) in omega (arith, m .inside))
-    (judge-members-judge-member-requires t)
-    (λ c κs. search needs)
+    (judge-members-loop-holds t) (λ c κs. search needs) (λ c. search needs)
+    (λ c κs. let s = c .before .before .before .before .before .before in (s .pre .1 .3, s .pre .1 .1))
+    (λ c κs. search needs) (judge-members-returns t) (λ c. search needs)
+    (λ c. let m = judge-members-placed t c in omega arith) (λ c. let m = judge-members-placed t c in omega arith)
+    (λ c. let m = judge-members-placed t c in omega arith)
+    (λ c κs. c .before .before .before .before .before .before .before .pre .1 .3)
+    (λ c κs. c .before .before .before .before .before .before .before .before .pre .1 .3) (λ c κs. search needs)
+    (λ c. let m = judge-members-placed t (c .before .before .before .before .before) in omega (arith, m .inside))
+    (λ c. let m = judge-members-placed t (c .before .before .before .before .before) in omega (arith, m .inside))
+    (λ c. let m = judge-members-placed t (c .before .before .before .before .before) in omega (arith, m .inside))
+    (judge-members-judge-member-requires t) (λ c κs. search needs)
     (λ c. omega (arith, c .before .before .before .before .before .before .before .row-of .ensures .few))
     (λ c. omega (arith, c .before .before .before .before .before .before .before .row-of .ensures .few))
-    (judge-members-add-next-place t)
-    (λ c κs. search needs)
-    (judge-members-loop-less t)
-    (judge-members-loop-again t))
-    (λ t. judge-object-lts.spec (judge-object-calls t) (judge-object-at t) judge-object.Post
-    (λ c κs. search needs)
-    (λ c. (c .passed .ensures .0, object-shut (c .before .if1 .taken)))
-    (λ c κs. search needs)
-    (λ c. (c .passed2 .ensures .0, object-past (omega (arith, c .before .if2 .taken))))
-    (λ c κs. search needs)
+    (judge-members-add-next-place t) (λ c κs. search needs) (judge-members-loop-less t) (judge-members-loop-again t))
+    (λ t. judge-object-lts.spec (judge-object-calls t) (judge-object-at t) judge-object.Post (λ c κs. search needs)
+    (λ c. (c .passed .ensures .0, object-shut (c .before .if1 .taken))) (λ c κs. search needs)
+    (λ c. (c .passed2 .ensures .0, object-past (omega (arith, c .before .if2 .taken)))) (λ c κs. search needs)
     (λ c. (c .passed3 .ensures .0, object-past (omega (arith, c .before .if3 .taken, c .before .before .if2 .left))))
+    (λ c κs. search needs) (λ c κs. search needs) (λ c κs. search needs) (judge-object-returns-4 t)
+    (λ c. omega (arith, c .before .before .before .before .if1 .left)) (judge-object-judge-members-requires t)
+    (judge-object-returns-5 t)) λ t. judge-single-lts.spec (judge-single-calls t) (judge-single-at t) judge-single.Post
+    (λ c κs. search needs) (λ c. (c .passed .ensures .0, single-past (c .before .if1 .taken))) (λ c. omega arith)
     (λ c κs. search needs)
-    (λ c κs. search needs)
-    (λ c κs. search needs)
-    (judge-object-returns-4 t)
-    (λ c κs. search needs)
-    (λ c κs. search needs)
-    (λ c κs. search needs)
-    (λ c κs. search needs)
-    (λ c. search needs)
-    (λ c. omega (arith, c .before .before .before .before .before .before .before .before .before .before .before .before .before .before .before .before .before .before .before .if1 .left))
-    (judge-object-judge-members-requires t)
-    (judge-object-returns-5 t))
-    λ t. judge-single-lts.spec (judge-single-calls t) (judge-single-at t) judge-single.Post
-    (λ c κs. search needs)
-    (λ c. (c .passed .ensures .0, single-past (c .before .if1 .taken)))
-    (λ c. omega arith)
-    (λ c κs. search needs)
-    (λ c κs. omega arith)
-    (judge-single-returns-2 t)
-    (λ c κs. c .before .before .before .pre .1 .1)
-    (judge-single-returns-3 t)
+    (λ c κs. let s = c .before .before .before .before in (omega arith, (s .pre .1 .0, s .pre .1 .2)))
+    (judge-single-returns-2 t) (λ c κs. c .before .before .before .pre .1 .1) (judge-single-returns-3 t)

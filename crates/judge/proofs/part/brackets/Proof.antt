@@ -12,8 +12,7 @@ pub brackets-spec : {M : Type 1} → statement M
 brackets-spec =
     tie.close
     (tie.spec (λ c κs. search needs) (λ c. search needs) (λ c. search needs) (λ c. search needs) (λ c. search needs) (λ c. search needs) (λ c. search needs)
-    returns
-    (λ c. ap bracketsOf (sym (c .enum-told2 .given .1) ∙ c .before .before .value-kind .ensures))
+    returns (λ c. ap bracketsOf (sym (c .enum-told2 .given .1) ∙ c .before .before .value-kind .ensures))
     (λ c. ap bracketsOf (sym (c .enum-told3 .given .1) ∙ c .before .before .value-kind .ensures))
     (λ c. ap bracketsOf (sym (c .enum-told4 .given .1) ∙ c .before .before .value-kind .ensures))
     (λ c. ap bracketsOf (sym (c .enum-told5 .given .1) ∙ c .before .before .value-kind .ensures))

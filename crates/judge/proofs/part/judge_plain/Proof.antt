@@ -17,6 +17,4 @@ cut-there c = let v = c .before in let p = v .before .before .args .p .now in en
 
 pub judge-plain-spec : {M : Type 1} → statement M
 judge-plain-spec =
-    tie.close
-    (tie.spec (λ c κs. search needs) cut-there (λ c κs. search needs)
-    (λ c κs. search needs) returns)
+    tie.close (tie.spec (λ c κs. search needs) cut-there (λ c κs. search needs) (λ c κs. search needs) returns)

@@ -13,21 +13,21 @@ use Rattle.judge.proofs.part.judge_rows.Statement.{statement}
 use Rattle.judge.proofs.part.judge_rows.Tie as tie
 
 abbrev Inv-loop : tie.InvT-loop
-Inv-loop state fields needs values items numberings most insides first count place leasts least₀ i₀ row₀ least i row =
+Inv-loop table state first count place leasts least₀ i₀ row₀ least i row =
     (i ≡ rowLine table23 first row) × RowsGo state leasts first count place i row least
 
 abbrev μ-loop : tie.MeasureT-loop
-μ-loop state fields needs values items numberings most insides first count place leasts least₀ i₀ row₀ least i row = mostRows - row
+μ-loop table state first count place leasts least₀ i₀ row₀ least i row = mostRows - row
 
 loop-holds : tie.Need-loop-holds Inv-loop μ-loop
 loop-holds c =
     let a = c .args in
-    (sym (row-line-first table23 (a .first)), rows-start (a .state .now) (a .t2) (a .first) (a .count) (a .place))
+    (sym (row-line-first table23 (a .first)), rows-start (a .state .now) (a .t3) (a .first) (a .count) (a .place))
 
 returns : tie.Need-returns Inv-loop μ-loop
 returns c =
     let l = c .before .before in let a = l .before .args in
-    rows-end (a .state .now) (a .t2) (a .first) (a .count) (a .place) (l .loop .i) (l .loop .row) (l .loop .least) (c .if1 .taken) (l .loop .inv .1)
+    rows-end (a .state .now) (a .t3) (a .first) (a .count) (a .place) (l .loop .i) (l .loop .row) (l .loop .least) (c .if1 .taken) (l .loop .inv .1)
 
 loop-again : tie.Need-loop-again Inv-loop μ-loop
 loop-again c =
@@ -38,14 +38,14 @@ loop-again c =
       ap (λ j. i + 1 + j) (e ∙ ap (λ (m : Line). m .inside) (n .line-at .ensures)) ∙ ap (λ j. j + 1 + lineAt table23 j .inside) (l .loop .inv .0)
           ∙ sym (row-line-next table23 (a .first) row),
       rw (c .before .lesser .ensures, e)
-          (rows-next (a .state .now) (a .t2) (a .first) (a .count) (a .place) i row (l .loop .least) (n .line-at .ensures) here (n .before .before .loop-test .taken)
+          (rows-next (a .state .now) (a .t3) (a .first) (a .count) (a .place) i row (l .loop .least) (n .line-at .ensures) here (n .before .before .loop-test .taken)
           (l .loop .inv .0) (k .judge-row .ensures) (l .loop .inv .1)),
     )
 
 returns-2 : tie.Need-returns-2 Inv-loop μ-loop
 returns-2 c =
     let l = c .before in let a = l .before .args in
-    rows-full (a .state .now) (a .t2) (a .first) (a .count) (a .place) (l .loop .i) (l .loop .row) (l .loop .least) (c .loop-test .left) (l .loop .inv .1)
+    rows-full (a .state .now) (a .t3) (a .first) (a .count) (a .place) (l .loop .i) (l .loop .row) (l .loop .least) (c .loop-test .left) (l .loop .inv .1)
 
 pub judge-rows-spec : {M : Type 1} → statement M
 judge-rows-spec =

@@ -5,13 +5,9 @@ use Rattle.lexeme.specs.Tokens.{blank}
 use Rattle.lexeme.proofs.ascii.is_blank.Statement.{statement}
 use Rattle.lexeme.proofs.ascii.is_blank.Tie as tie
 
-returns : tie.Need-returns
-unfolding blank
-returns c = rw (sym (c .before .is-either .ensures) ∙ c .if1 .taken, blank)
-
-returns-2 : tie.Need-returns-2
-unfolding blank
-returns-2 c = rw (sym (c .before .before .is-either .ensures) ∙ c .before .if1 .left, blank) (c .is-either2 .ensures)
-
 pub is-blank-spec : {M : Type 1} → statement M
-is-blank-spec = tie.close (tie.spec (λ c κs. search needs) returns (λ c κs. search needs) returns-2)
+unfolding blank
+is-blank-spec =
+    tie.close (tie.spec (λ c κs. search needs) (λ c. rw (sym (c .before .is-either .ensures) ∙ c .if1 .taken, blank))
+    (λ c κs. search needs)
+    (λ c. rw (sym (c .before .before .is-either .ensures) ∙ c .before .if1 .left, blank) (c .is-either2 .ensures)))

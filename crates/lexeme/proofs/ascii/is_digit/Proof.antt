@@ -5,13 +5,8 @@ use Rattle.lexeme.specs.Numbers.{digit}
 use Rattle.lexeme.proofs.ascii.is_digit.Statement.{statement}
 use Rattle.lexeme.proofs.ascii.is_digit.Tie as tie
 
-returns : tie.Need-returns
-unfolding digit within
-returns c = rw (lt-leb _ _ (c .if1 .taken), digit, within)
-
-returns-2 : tie.Need-returns-2
-unfolding digit within
-returns-2 c = rw (le-leb _ _ (c .if1 .left), digit, within)
-
 pub is-digit-spec : {M : Type 1} → statement M
-is-digit-spec = tie.close (tie.spec returns returns-2)
+unfolding digit within
+is-digit-spec =
+    tie.close
+    (tie.spec (λ c. rw (lt-leb _ _ (c .if1 .taken), digit, within)) (λ c. rw (le-leb _ _ (c .if1 .left), digit, within)))

@@ -8,9 +8,6 @@ use Rattle.lexeme.proofs.Classes.{classifies}
 use Rattle.lexeme.proofs.class.class_table.Statement.{statement}
 use Rattle.lexeme.proofs.class.class_table.Tie as tie
 
-returns : tie.Need-returns
-unfolding lead start blank digit within either
-returns c = classifies
-
 pub class-table-spec : {M : Type 1} → statement M
-class-table-spec = tie.close (tie.spec returns)
+unfolding lead start blank digit within either
+class-table-spec = tie.close (tie.spec (λ c. classifies))

@@ -4,9 +4,6 @@ use Rattle.lexeme.specs.inner.Class.{blankOf}
 use Rattle.lexeme.proofs.class.is_blank_class.Statement.{statement}
 use Rattle.lexeme.proofs.class.is_blank_class.Tie as tie
 
-returns : tie.Need-returns
-unfolding blankOf
-returns c = refl
-
 pub is-blank-class-spec : {M : Type 1} → statement M
-is-blank-class-spec = tie.close (tie.spec returns)
+unfolding blankOf
+is-blank-class-spec = tie.close (tie.spec (λ c. refl))

@@ -7,14 +7,9 @@ use Rattle.lexeme.proofs.Rests.{no-byte}
 use Rattle.lexeme.proofs.front.byte_at.Statement.{statement}
 use Rattle.lexeme.proofs.front.byte_at.Tie as tie
 
-returns : tie.Need-returns
-returns c = let a = c .before .args in no-byte (a .s .now) (a .at) (a .k) (omega arith)
-
-returns-2 : tie.Need-returns-2
-returns-2 c = let a = c .before .before .args in no-byte (a .s .now) (a .at) (a .k) (omega arith)
-
-returns-3 : tie.Need-returns-3
-returns-3 c = let a = c .before .before .before .args in sym (getD-drop (a .at) (a .s .now) (a .k) 0)
-
 pub byte-at-spec : {M : Type 1} → statement M
-byte-at-spec = tie.close (tie.spec returns (λ c. search needs) returns-2 (λ c. search needs) (λ c. search needs) returns-3)
+byte-at-spec =
+    tie.close
+    (tie.spec (λ c. let a = c .before .args in no-byte (a .s .now) (a .at) (a .k) (omega arith)) (λ c. search needs)
+    (λ c. let a = c .before .before .args in no-byte (a .s .now) (a .at) (a .k) (omega arith)) (λ c. search needs)
+    (λ c. search needs) (λ c. let a = c .before .before .before .args in sym (getD-drop (a .at) (a .s .now) (a .k) 0)))

@@ -4,11 +4,7 @@ use native.Mathlib.Omega.{arith}
 use Rattle.lexeme.proofs.front.place.Statement.{statement}
 use Rattle.lexeme.proofs.front.place.Tie as tie
 
-returns : tie.Need-returns
-returns c = let a = c .before .args in place-end (a .s .now) (a .at) (omega arith)
-
-returns-2 : tie.Need-returns-2
-returns-2 c = let a = c .before .args in place-at (a .s .now) (a .at) (omega arith)
-
 pub place-spec : {M : Type 1} → statement M
-place-spec = tie.close (tie.spec returns returns-2)
+place-spec =
+    tie.close (tie.spec (λ c. let a = c .before .args in place-end (a .s .now) (a .at) (omega arith))
+    (λ c. let a = c .before .args in place-at (a .s .now) (a .at) (omega arith)))

@@ -17,40 +17,17 @@ Inv-loop s at word i₀ k₀ i k = literal word (tt {0}) (drop at s) ≡ literal
 abbrev μ-loop : tie.MeasureT-loop
 μ-loop s at word i₀ k₀ i k = length word - k
 
-returns : tie.Need-returns Inv-loop μ-loop
-returns c =
-    let p = c .before .before in let a = p .before .before .before .args in let s = a .s .now in let i = p .loop .i in let k = p .loop .k in
-    faults s (drop i s) _ _ (place-end s i (omega arith)) _ (p .loop .inv ∙ literal-short tt s (a .word .now) i k (omega arith) (omega arith))
-
-returns-2 : tie.Need-returns-2 Inv-loop μ-loop
-returns-2 c =
-    let p = c .before .before .before .before .before in let a = p .before .before .before .args in let s = a .s .now in let i = p .loop .i in let k = p .loop .k in
-    faults s (drop i s) _ _ (place-at s i (omega arith)) _ (p .loop .inv ∙ literal-wrong tt s (a .word .now) i k (omega arith) (omega arith) (c .if2 .taken))
-
-loop-again : tie.Need-loop-again Inv-loop μ-loop
-loop-again c =
-    let p = c .before .before .before .before .before in let a = p .before .before .before .args in let s = a .s .now in let i = p .loop .i in let k = p .loop .k in
-    p .loop .inv ∙ literal-next tt s (a .word .now) i k (omega arith) (omega arith) (c .if2 .left)
-
-returns-3 : tie.Need-returns-3 Inv-loop μ-loop
-returns-3 c =
-    let p = c .before .before in let a = p .before .before .before .args in let s = a .s .now in let i = p .loop .i in let k = p .loop .k in
-    ends s (drop i s) _ _ (c .place .ensures) _ (p .loop .inv ∙ literal-all tt s (a .word .now) i k (omega arith))
-
 pub read-literal-spec : {M : Type 1} → statement M
 read-literal-spec =
-    tie.close
-    (tie.spec
-    Inv-loop
-    μ-loop
-    (λ c. refl)
-    returns
-    (λ c. omega arith)
-    (λ c. omega arith)
-    returns-2
-    (λ c. omega arith)
-    (λ c. omega arith)
-    (λ c. omega arith)
-    loop-again
+    tie.close (tie.spec Inv-loop μ-loop (λ c. refl)
+    (λ c. let p = c .before .before in let a = p .before .before .before .args in let s = a .s .now in let i = p .loop .i in let k = p .loop .k in
+    faults s (drop i s) _ _ (place-end s i (omega arith)) _ (p .loop .inv ∙ literal-short tt s (a .word .now) i k (omega arith) (omega arith)))
+    (λ c. omega arith) (λ c. omega arith)
+    (λ c. let p = c .before .before .before .before .before in let a = p .before .before .before .args in let s = a .s .now in let i = p .loop .i in let k = p .loop .k in
+    faults s (drop i s) _ _ (place-at s i (omega arith)) _ (p .loop .inv ∙ literal-wrong tt s (a .word .now) i k (omega arith) (omega arith) (c .if2 .taken)))
+    (λ c. omega arith) (λ c. omega arith) (λ c. omega arith)
+    (λ c. let p = c .before .before .before .before .before in let a = p .before .before .before .args in let s = a .s .now in let i = p .loop .i in let k = p .loop .k in
+    p .loop .inv ∙ literal-next tt s (a .word .now) i k (omega arith) (omega arith) (c .if2 .left))
     (λ c κs. search needs)
-    returns-3)
+    (λ c. let p = c .before .before in let a = p .before .before .before .args in let s = a .s .now in let i = p .loop .i in let k = p .loop .k in
+    ends s (drop i s) _ _ (c .place .ensures) _ (p .loop .inv ∙ literal-all tt s (a .word .now) i k (omega arith))))

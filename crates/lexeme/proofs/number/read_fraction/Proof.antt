@@ -10,16 +10,6 @@ use Rattle.lexeme.proofs.NumberParts.{equal-inside, some-leaves, fracti
 use Rattle.lexeme.proofs.number.read_fraction.Statement.{statement}
 use Rattle.lexeme.proofs.number.read_fraction.Tie as tie
 
-returns : tie.Need-returns
-returns c =
-    let p = c .before .before in let a = p .before .before .args in
-    c .read-exponent .ensures ∙ sym (fraction-none (a .s .now) (a .at) (λ z. c .before .if1 .taken (p .first .ensures ∙ z)))
-
-add-read-digits : tie.Need-add-read-digits
-add-read-digits c =
-    let p = c .before in let a = p .before .before .args in
-    omega (arith, equal-inside 0x2e refl (a .s .now) (a .at) (sym (p .first .ensures) ∙ c .if1 .left))
-
 returns-2 : tie.Need-returns-2
 returns-2 c =
     let r = c .before .before .before in let p = r .before .before in let a = p .before .before .args in let s = a .s .now in
@@ -34,15 +24,9 @@ returns-3 c =
 
 pub read-fraction-spec : {M : Type 1} → statement M
 read-fraction-spec =
-    tie.close
-    (tie.spec
-    (λ c κs. search needs)
-    (λ c κs. search needs)
-    returns
-    add-read-digits
-    (λ c κs. search needs)
-    (λ c. search needs)
-    (λ c. search needs)
-    (λ c κs. search needs)
-    returns-2
-    returns-3)
+    tie.close (tie.spec (λ c κs. search needs) (λ c κs. search needs)
+    (λ c. let p = c .before .before in let a = p .before .before .args in
+    c .read-exponent .ensures ∙ sym (fraction-none (a .s .now) (a .at) (λ z. c .before .if1 .taken (p .first .ensures ∙ z))))
+    (λ c. let p = c .before in let a = p .before .before .args in
+    omega (arith, equal-inside 0x2e refl (a .s .now) (a .at) (sym (p .first .ensures) ∙ c .if1 .left)))
+    (λ c κs. search needs) (λ c. search needs) (λ c. search needs) (λ c κs. search needs) returns-2 returns-3)

@@ -6,19 +6,9 @@ use lib.ListN.{drop}
 use Rattle.lexeme.specs.Numbers.{someDigits, both, integer, fraction, exponent}
 use Rattle.lexeme.proofs.Placed.{passes, lands}
 use Rattle.lexeme.proofs.Steps.{both-fails}
-use Rattle.lexeme.proofs.NumberParts.{equal-inside, some-leaves, both-goes, integer-zero, integer-some}
+use Rattle.lexeme.proofs.NumberParts.{equal-inside, some-leaves, both-second, integer-zero, integer-some}
 use Rattle.lexeme.proofs.number.read_integer.Statement.{statement}
 use Rattle.lexeme.proofs.number.read_integer.Tie as tie
-
-add-read-fraction : tie.Need-add-read-fraction
-add-read-fraction c =
-    let p = c .before in let a = p .before .before .args in
-    omega (arith, equal-inside 0x30 refl (a .s .now) (a .at) (sym (p .first .ensures) ∙ c .if1 .taken))
-
-returns : tie.Need-returns
-returns c =
-    let p = c .before .before in let a = p .before .before .args in
-    c .read-fraction .ensures ∙ sym (integer-zero (a .s .now) (a .at) (sym (p .first .ensures) ∙ c .before .if1 .taken) (both fraction exponent))
 
 returns-2 : tie.Need-returns-2
 returns-2 c =
@@ -32,19 +22,12 @@ returns-3 c =
     let r = c .before .before .before .before in let p = r .before .before in let a = p .before .before .args in let s = a .s .now in let l = drop (a .at) s in
     let e = integer-some l (λ z. r .before .if1 .left (p .first .ensures ∙ z)) in
     let d = lands someDigits s (a .at) _ some-leaves (sym (c .before .before .next .given .1) ∙ r .read-digits .ensures) in
-    c .read-fraction2 .ensures ∙ sym (both-goes integer (both fraction exponent) l _ _ (e ∙ d .reads) s)
+    c .read-fraction2 .ensures ∙ sym (both-second integer (both fraction exponent) l _ _ (e ∙ d .reads) s)
 
 pub read-integer-spec : {M : Type 1} → statement M
 read-integer-spec =
-    tie.close
-    (tie.spec
-    (λ c κs. search needs)
-    add-read-fraction
-    (λ c κs. search needs)
-    returns
-    (λ c κs. search needs)
-    (λ c. search needs)
-    (λ c. search needs)
-    (λ c κs. search needs)
-    returns-2
-    returns-3)
+    tie.close (tie.spec (λ c κs. search needs) (λ c. let p = c .before in let a = p .before .before .args in
+    omega (arith, equal-inside 0x30 refl (a .s .now) (a .at) (sym (p .first .ensures) ∙ c .if1 .taken)))
+    (λ c κs. search needs) (λ c. let p = c .before .before in let a = p .before .before .args in
+    c .read-fraction .ensures ∙ sym (integer-zero (a .s .now) (a .at) (sym (p .first .ensures) ∙ c .before .if1 .taken) (both fraction exponent)))
+    (λ c κs. search needs) (λ c. search needs) (λ c. search needs) (λ c κs. search needs) returns-2 returns-3)

@@ -6,28 +6,11 @@ use Rattle.lexeme.proofs.NumberParts.{equal-inside, number-minus, numbe
 use Rattle.lexeme.proofs.number.read_number.Statement.{statement}
 use Rattle.lexeme.proofs.number.read_number.Tie as tie
 
-add-read-integer : tie.Need-add-read-integer
-add-read-integer c =
-    let p = c .before in let a = p .before .before .args in
-    omega (arith, equal-inside 0x2d refl (a .s .now) (a .at) (sym (p .first .ensures) ∙ c .if1 .taken))
-
-returns : tie.Need-returns
-returns c =
-    let p = c .before .before in let a = p .before .before .args in
-    c .read-integer .ensures ∙ sym (number-minus (a .s .now) (a .at) (sym (p .first .ensures) ∙ c .before .if1 .taken))
-
-returns-2 : tie.Need-returns-2
-returns-2 c =
-    let p = c .before .before in let a = p .before .before .args in
-    c .read-integer2 .ensures ∙ sym (number-plain (a .s .now) (a .at) (λ z. c .before .if1 .left (p .first .ensures ∙ z)))
-
 pub read-number-spec : {M : Type 1} → statement M
 read-number-spec =
-    tie.close
-    (tie.spec
-    (λ c κs. search needs)
-    add-read-integer
-    (λ c κs. search needs)
-    returns
-    (λ c κs. search needs)
-    returns-2)
+    tie.close (tie.spec (λ c κs. search needs) (λ c. let p = c .before in let a = p .before .before .args in
+    omega (arith, equal-inside 0x2d refl (a .s .now) (a .at) (sym (p .first .ensures) ∙ c .if1 .taken)))
+    (λ c κs. search needs) (λ c. let p = c .before .before in let a = p .before .before .args in
+    c .read-integer .ensures ∙ sym (number-minus (a .s .now) (a .at) (sym (p .first .ensures) ∙ c .before .if1 .taken)))
+    (λ c κs. search needs) (λ c. let p = c .before .before in let a = p .before .before .args in
+    c .read-integer2 .ensures ∙ sym (number-plain (a .s .now) (a .at) (λ z. c .before .if1 .left (p .first .ensures ∙ z)))))

@@ -2,11 +2,11 @@
 use borrow.Author.Needs.{needs}
 use mathlib.Core.Path.{_≡_, sym, ap, subst, _∙_}
 use Rattle.text.specs.Text.{textOf}
-use Rattle.walk.specs.Part.{kindAt}
+use Rattle.walk.specs.inner.Kind.{kindAt}
 use Rattle.decimal.specs.Decimals.{priceOf}
 use Rattle.decimal.specs.inner.Formed.{IsPrice}
 use Rattle.decimal.proofs.Formed.{number-formed, price-formed}
-use Rattle.fields.specs.inner.Values.{kindCode}
+use Rattle.document.specs.inner.Values.{kindCode}
 use Rattle.quote.proofs.Cleared.{price-number-clear, price-text-clear}
 use Rattle.quote.proofs.Ways.{price-read, price-text-read}
 use Rattle.quote.proofs.numbers.price_in.Statement.{statement}
@@ -46,13 +46,5 @@ returns-2 c =
 
 pub price-in-spec : {M : Type 1} → statement M
 price-in-spec =
-    tie.close
-    (tie.spec
-    (λ c κs. search needs)
-    (λ c κs. search needs)
-    formed-price-requires
-    amount-requires
-    returns
-    formed-decimal-requires
-    amount-requires-2
-    returns-2)
+    tie.close (tie.spec (λ c κs. search needs) (λ c κs. search needs) formed-price-requires amount-requires returns
+    formed-decimal-requires amount-requires-2 returns-2)

@@ -1,7 +1,7 @@
 -- The member `plan_id` is field 50.
 use borrow.Author.Needs.{needs}
 use mathlib.Core.Path.{ap, _∙_}
-use Rattle.fields.specs.inner.Values.{textBy, isId}
+use Rattle.document.specs.inner.Values.{textBy, isId}
 use Rattle.quote.proofs.Fields.{plan-id}
 use Rattle.quote.proofs.plans.is_plan.Statement.{statement}
 use Rattle.quote.proofs.plans.is_plan.Tie as tie

@@ -39,18 +39,6 @@ returns c =
 
 pub segment-in-spec : {M : Type 1} → statement M
 segment-in-spec =
-    tie.close
-    (tie.spec
-    (λ c. search needs)
-    (λ c κs. search needs)
-    (λ c. search needs)
-    (λ c κs. search needs)
-    integer-in-requires
-    (λ c. search needs)
-    (λ c κs. search needs)
-    money-in-requires
-    (λ c. search needs)
-    (λ c κs. search needs)
-    integer-in-requires-2
-    end-in-requires
-    returns)
+    tie.close (tie.spec (λ c. search needs) (λ c κs. search needs) (λ c. search needs) (λ c κs. search needs)
+    integer-in-requires (λ c. search needs) (λ c κs. search needs) money-in-requires (λ c. search needs)
+    (λ c κs. search needs) integer-in-requires-2 end-in-requires returns)

@@ -79,16 +79,6 @@ returns c =
 
 pub quote-plan-spec : {M : Type 1} → statement M
 quote-plan-spec =
-    tie.close
-    (tie.spec
-    (λ c κs. search needs)
-    (λ c κs. search needs)
-    (λ c κs. search needs)
-    (λ c. search needs)
-    segments-of-requires
-    with-minutes-requires
-    (λ c. search needs)
-    segments-of-requires-2
-    with-kilometres-requires
-    (λ c κs. omega (arith, room-timed (c .before), room-all (c .before)))
-    returns)
+    tie.close (tie.spec (λ c κs. search needs) (λ c κs. search needs) (λ c κs. search needs) (λ c. search needs)
+    segments-of-requires with-minutes-requires (λ c. search needs) segments-of-requires-2 with-kilometres-requires
+    (λ c κs. omega (arith, room-timed (c .before), room-all (c .before))) returns)

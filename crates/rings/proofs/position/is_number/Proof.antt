@@ -1,30 +1,10 @@
--- The kind that the first byte tells, asked for one kind.
-use mathlib.Core.Path.{sym, ap, _∙_}
+-- The kind by its number.
 use borrow.Author.Needs.{needs}
-use Rattle.rings.specs.inner.Parts.{isNumber}
 use Rattle.rings.proofs.position.is_number.Statement.{statement}
 use Rattle.rings.proofs.position.is_number.Tie as tie
 
 returns : tie.Need-returns
-returns c = ap isNumber (sym (c .enum-told .given .1) ∙ c .before .before .value-kind .ensures)
-
-returns-2 : tie.Need-returns-2
-returns-2 c = ap isNumber (sym (c .enum-told2 .given .1) ∙ c .before .before .value-kind .ensures)
-
-returns-3 : tie.Need-returns-3
-returns-3 c = ap isNumber (sym (c .enum-told3 .given .1) ∙ c .before .before .value-kind .ensures)
-
-returns-4 : tie.Need-returns-4
-returns-4 c = ap isNumber (sym (c .enum-told4 .given .1) ∙ c .before .before .value-kind .ensures)
-
-returns-5 : tie.Need-returns-5
-returns-5 c = ap isNumber (sym (c .enum-told5 .given .1) ∙ c .before .before .value-kind .ensures)
-
-returns-6 : tie.Need-returns-6
-returns-6 c = ap isNumber (sym (c .enum-told6 .given .1) ∙ c .before .before .value-kind .ensures)
+returns c = rw (c .code-of .ensures)
 
 pub is-number-spec : {M : Type 1} → statement M
-is-number-spec =
-    tie.close
-    (tie.spec (λ c κs. search needs) (λ c. search needs) (λ c. search needs) (λ c. search needs) (λ c. search needs) (λ c. search needs) (λ c. search needs)
-    returns returns-2 returns-3 returns-4 returns-5 returns-6)
+is-number-spec = tie.close (tie.spec (λ c κs. search needs) returns)

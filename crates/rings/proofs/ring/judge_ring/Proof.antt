@@ -8,12 +8,12 @@ use Rattle.rings.proofs.ring.judge_ring.Statement.{statement}
 use Rattle.rings.proofs.ring.judge_ring.Tie as tie
 
 returns : tie.Need-returns
-returns c = (omega arith, λ x w. ring-other w _ _ _ (sym (c .before .before .is-array .ensures) ∙ not-true _ (c .before .if1 .taken)) (c .broken .ensures))
+returns c = (record { items = omega arith; positions = omega arith }, λ x w. ring-other w _ _ _ (sym (c .before .before .is-array .ensures) ∙ not-true _ (c .before .if1 .taken)) (c .broken .ensures))
 
 returns-2 : tie.Need-returns-2
 returns-2 c = (
   c .judge-positions .ensures .0,
-  λ x w. ring-array w _ _ _ (sym (c .before .before .is-array .ensures) ∙ not-false _ (c .before .if1 .left)) (c .judge-positions .ensures .1),
+  λ x w. ring-array w _ _ (sym (c .before .before .is-array .ensures) ∙ not-false _ (c .before .if1 .left)) (c .judge-positions .ensures .1),
 )
 
 pub judge-ring-spec : {M : Type 1} → statement M

@@ -15,16 +15,16 @@ use Rattle.rings.proofs.zone.judge_polygon.Statement.{statement}
 use Rattle.rings.proofs.zone.judge_polygon.Tie as tie
 
 returns : tie.Need-returns
-returns c = (record { rings = omega arith; positions = omega arith }, λ x w. polygon-other w _ _ _ (sym (c .before .before .is-array .ensures) ∙ not-true _ (c .before .if1 .taken)) (c .broken .ensures))
+returns c = (record { items = omega arith; positions = omega arith }, λ x w. polygon-other w _ _ _ (sym (c .before .before .is-array .ensures) ∙ not-true _ (c .before .if1 .taken)) (c .broken .ensures))
 
 returns-2 : tie.Need-returns-2
 returns-2 c =
     let q = c .before .before in let r = q .before .judge-rings in let o = q .before .before in
     let a = o .before .before .before .args in
     let counted = c .before .unless .ensures ∙ ap (λ (t : Bool). leastFound (a .field) (foundAt (a .n) (unless t badRing))) (q .is-ring-count .ensures) in (
-      record { rings = r .ensures .0 .rings; positions = r .ensures .0 .positions },
+      record { items = r .ensures .0 .count; positions = r .ensures .0 .positions },
       λ x w.
-          polygon-array w _ _ (r .result) _ (sym (o .before .is-array .ensures) ∙ not-false _ (o .if1 .left)) (r .ensures .1)
+          polygon-array w _ _ _ (sym (o .before .is-array .ensures) ∙ not-false _ (o .if1 .left)) (r .ensures .1)
           (c .lesser .ensures ∙ ap (λ (z : Least). lesser z (r .result .least)) counted),
     )
 

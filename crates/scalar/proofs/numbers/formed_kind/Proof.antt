@@ -2,7 +2,7 @@
 use mathlib.Core.Path.{sym, _∙_}
 use borrow.Author.Needs.{needs}
 use Rattle.decimal.proofs.Formed.{number-formed}
-use Rattle.scalar.specs.inner.Listed.{inBounds}
+use Rattle.scalar.specs.inner.Bounds.{inBounds}
 use Rattle.scalar.proofs.Ranges.{formed-value, formed-unformed}
 use Rattle.scalar.proofs.numbers.formed_kind.Statement.{statement}
 use Rattle.scalar.proofs.numbers.formed_kind.Tie as tie
@@ -25,12 +25,5 @@ returns-2 c =
 
 pub formed-kind-spec : {M : Type 1} → statement M
 formed-kind-spec =
-    tie.close
-    (tie.spec
-    (λ c κs. search needs)
-    (λ c. search needs)
-    keeps-requires
-    (λ c κs. search needs)
-    (λ c. search needs)
-    returns
-    returns-2)
+    tie.close (tie.spec (λ c κs. search needs) (λ c. search needs) keeps-requires (λ c κs. search needs)
+    (λ c. search needs) returns returns-2)

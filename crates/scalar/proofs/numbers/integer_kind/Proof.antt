@@ -1,7 +1,7 @@
 -- The point decides first.
 use mathlib.Core.Path.{sym, _∙_}
 use borrow.Author.Needs.{needs}
-use Rattle.scalar.specs.inner.Listed.{inBounds}
+use Rattle.scalar.specs.inner.Bounds.{inBounds}
 use Rattle.scalar.proofs.numbers.integer_kind.Statement.{statement}
 use Rattle.scalar.proofs.numbers.integer_kind.Tie as tie
 

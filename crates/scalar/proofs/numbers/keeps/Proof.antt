@@ -5,7 +5,7 @@ use borrow.Author.Needs.{needs}
 use borrow.Author.Tests.{not-true, not-false}
 use Rattle.decimal.specs.declared.Decimal.{Decimal}
 use Rattle.scalar.specs.declared.numbers.Bounds.{Bounds}
-use Rattle.scalar.specs.inner.Listed.{inBounds}
+use Rattle.scalar.specs.inner.Bounds.{inBounds}
 use Rattle.scalar.proofs.Ranges.{price-below, price-money}
 use Rattle.scalar.proofs.numbers.keeps.Statement.{statement}
 use Rattle.scalar.proofs.numbers.keeps.Tie as tie
@@ -17,22 +17,6 @@ returns : tie.Need-returns
 unfolding inBounds
 returns c = bounded _ (c .before .before .enum-told4 .given .1) (price-below _ (sym (c .before .natural2 .ensures) ∙ not-true _ (c .if1 .taken)))
 
-returns-2 : tie.Need-returns-2
-unfolding inBounds
-returns-2 c = bounded _ (c .before .enum-told .given .1) (c .natural .ensures)
-
-returns-3 : tie.Need-returns-3
-unfolding inBounds
-returns-3 c = bounded _ (c .before .enum-told2 .given .1) (c .portion .ensures)
-
-returns-4 : tie.Need-returns-4
-unfolding inBounds
-returns-4 c = bounded _ (c .before .before .bounds .given .1) (c .within .ensures)
-
-returns-5 : tie.Need-returns-5
-unfolding inBounds
-returns-5 c = bounded _ (c .before .enum-told3 .given .1) (c .is-money .ensures)
-
 returns-6 : tie.Need-returns-6
 unfolding inBounds
 returns-6 c =
@@ -41,23 +25,12 @@ returns-6 c =
     (c .is-money2 .ensures ∙ price-money _ (sym (n .natural2 .ensures) ∙ not-false _ (c .before .if1 .left)))
 
 pub keeps-spec : {M : Type 1} → statement M
+unfolding inBounds
 keeps-spec =
-    tie.close
-    (tie.spec
-    (λ c. search needs)
-    (λ c κs. search needs)
-    (λ c. search needs)
-    (λ c κs. search needs)
-    (λ c. search needs)
-    (λ c κs. search needs)
-    (λ c. search needs)
-    (λ c κs. search needs)
-    (λ c. search needs)
-    (λ c κs. search needs)
-    returns
-    (λ c κs. search needs)
-    returns-2
-    returns-3
-    returns-4
-    returns-5
-    returns-6)
+    tie.close (tie.spec (λ c. search needs) (λ c κs. search needs) (λ c. search needs) (λ c κs. search needs)
+    (λ c. search needs) (λ c κs. search needs) (λ c. search needs) (λ c κs. search needs) (λ c. search needs)
+    (λ c κs. search needs) returns (λ c κs. search needs)
+    (λ c. bounded _ (c .before .enum-told .given .1) (c .natural .ensures))
+    (λ c. bounded _ (c .before .enum-told2 .given .1) (c .portion .ensures))
+    (λ c. bounded _ (c .before .before .bounds .given .1) (c .within .ensures))
+    (λ c. bounded _ (c .before .enum-told3 .given .1) (c .is-money .ensures)) returns-6)

@@ -50,16 +50,5 @@ returns-2 c = let w = c .before .loop in words-end (wordsOf table23) _ (w .k) _ 
 
 pub is-a-word-spec : {M : Type 1} → statement M
 is-a-word-spec =
-    tie.close
-    (tie.spec
-    Inv-loop
-    μ-loop
-    (λ c κs. search needs)
-    add-end
-    loop-holds
-    (λ c κs. search needs)
-    returns
-    (λ c. omega (arith, all-words))
-    (λ c. omega arith)
-    loop-again
-    returns-2)
+    tie.close (tie.spec Inv-loop μ-loop (λ c κs. search needs) add-end loop-holds (λ c κs. search needs) returns
+    (λ c. omega (arith, all-words)) (λ c. omega arith) loop-again returns-2)

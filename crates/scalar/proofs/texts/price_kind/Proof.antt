@@ -3,7 +3,7 @@ use mathlib.Core.Path.{sym, _∙_}
 use borrow.Author.Needs.{needs}
 use Rattle.text.specs.Text.{textOf}
 use Rattle.decimal.proofs.Formed.{price-formed}
-use Rattle.scalar.specs.inner.Listed.{inBounds}
+use Rattle.scalar.specs.inner.Bounds.{inBounds}
 use Rattle.scalar.proofs.Ranges.{pricing-value, pricing-unformed, pricing-none}
 use Rattle.scalar.proofs.texts.price_kind.Statement.{statement}
 use Rattle.scalar.proofs.texts.price_kind.Tie as tie
@@ -27,14 +27,5 @@ returns-3 c = pricing-none (sym (c .before .before .read-price .ensures) ∙ c .
 
 pub price-kind-spec : {M : Type 1} → statement M
 price-kind-spec =
-    tie.close
-    (tie.spec
-    (λ c κs. search needs)
-    (λ c. search needs)
-    keeps-requires
-    (λ c κs. search needs)
-    (λ c. search needs)
-    (λ c. search needs)
-    returns
-    returns-2
-    returns-3)
+    tie.close (tie.spec (λ c κs. search needs) (λ c. search needs) keeps-requires (λ c κs. search needs)
+    (λ c. search needs) (λ c. search needs) returns returns-2 returns-3)

@@ -16,24 +16,6 @@ use Rattle.scalar.proofs.texts.text_kind.Tie as tie
 tested : {t u : Bool} → u ≡ t → unless t outOfRange ≡ unless u outOfRange
 tested e = ap (λ (b : Bool). unless b outOfRange) (sym e)
 
-returns : tie.Need-returns
-unfolding sortKinds sortFrom
-returns c σ e h = by-letter textKinds _ _ (c .before .match .keys1) (λ ws. c .price-kind .ensures) σ e
-
-returns-2 : tie.Need-returns-2
-unfolding sortKinds sortFrom
-returns-2 c σ e h = by-letter textKinds _ _ (c .match .keys2) (λ ws. refl) σ e
-
-returns-3 : tie.Need-returns-3
-unfolding sortKinds sortFrom
-returns-3 c σ e h =
-    by-letter textKinds _ _ (c .before .before .match .keys3) (λ ws. tested (ap not (c .before .longer-than .ensures)) ∙ c .range-kind .ensures) σ e
-
-returns-4 : tie.Need-returns-4
-unfolding sortKinds sortFrom
-returns-4 c σ e h =
-    by-letter textKinds _ _ (c .before .before .match .keys4) (λ ws. tested (c .before .is-currency .ensures) ∙ c .range-kind2 .ensures) σ e
-
 returns-5 : tie.Need-returns-5
 returns-5 c σ e h =
     let m = c .before .before in
@@ -49,22 +31,12 @@ returns-7 c σ e h =
     no-text _ (t .0 .1) (t .1) (i .1) (y .1) (x .1) (w .1) σ e
 
 pub text-kind-spec : {M : Type 1} → statement M
+unfolding sortKinds sortFrom
 text-kind-spec =
-    tie.close
-    (tie.spec
-    (λ c κs. search needs)
-    (λ c κs. search needs)
-    (λ c κs. search needs)
-    (λ c κs. search needs)
-    (λ c κs. search needs)
-    (λ c κs. search needs)
-    (λ c κs. search needs)
-    (λ c κs. search needs)
-    (λ c κs. search needs)
-    returns
-    returns-2
-    returns-3
-    returns-4
-    returns-5
-    returns-6
-    returns-7)
+    tie.close (tie.spec (λ c κs. search needs) (λ c κs. search needs) (λ c κs. search needs) (λ c κs. search needs)
+    (λ c κs. search needs) (λ c κs. search needs) (λ c κs. search needs) (λ c κs. search needs) (λ c κs. search needs)
+    (λ c σ e h. by-letter textKinds _ _ (c .before .match .keys1) (λ ws. c .price-kind .ensures) σ e)
+    (λ c σ e h. by-letter textKinds _ _ (c .match .keys2) (λ ws. refl) σ e)
+    (λ c σ e h. by-letter textKinds _ _ (c .before .before .match .keys3) (λ ws. tested (ap not (c .before .longer-than .ensures)) ∙ c .range-kind .ensures) σ e)
+    (λ c σ e h. by-letter textKinds _ _ (c .before .before .match .keys4) (λ ws. tested (c .before .is-currency .ensures) ∙ c .range-kind2 .ensures) σ e)
+    returns-5 returns-6 returns-7)

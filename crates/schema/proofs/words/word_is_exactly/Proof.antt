@@ -29,12 +29,5 @@ returns c =
 
 pub word-is-exactly-spec : {M : Type 1} → statement M
 word-is-exactly-spec =
-    tie.close
-    (tie.spec
-    (λ c κs. search needs)
-    add-end
-    (λ c. search needs)
-    (λ c. search needs)
-    part-text-is-end
-    (λ c κs. search needs)
-    returns)
+    tie.close (tie.spec (λ c κs. search needs) add-end (λ c. search needs) (λ c. search needs) part-text-is-end
+    (λ c κs. search needs) returns)

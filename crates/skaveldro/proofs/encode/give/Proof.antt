@@ -2,7 +2,7 @@
 use borrow.Author.Needs.{needs}
 use native.Mathlib.Omega.{arith}
 use mathlib.Core.List.{List, _++_}
-use mathlib.Core.Path.{_≡_, _∙_}
+use mathlib.Core.Path.{_∙_}
 use Prim.Native.Nat.{ℕ, _+_, _*_, _-_, _≤_}
 use lib.ListN.{length, drop, length-drop}
 use lib.Seq.{length-take-le}
@@ -40,7 +40,7 @@ room c =
 put-requires : tie.Need-put-requires
 put-requires c κs = let v = c .before .before in rw (v .part-values .ensures) (omega (arith, room (v .before)))
 
--- and still have it after the first `put`
+-- the buffer still has room for all values after the first `put`
 room-left : (p : tie.After-put) → 8 * count (p .before .before .before .before .before .before .before .before .before) ≤ length (p .put .last .1 .0)
 room-left p = omega (arith, room (p .before .before .before .before), p .put .kept .1 .0)
 

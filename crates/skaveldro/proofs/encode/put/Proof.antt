@@ -38,19 +38,7 @@ returns c =
 
 pub put-spec : {M : Type 1} → statement M
 put-spec =
-    tie.close
-    (tie.spec
-    Inv-loop
-    μ-loop
-    loop-holds
-    (λ c. omega arith)
-    (λ c. c .before .loop-test .taken)
-    (λ c. omega arith)
-    (λ c. omega arith)
-    (λ c κs. omega arith)
-    (λ c. omega (arith, kept-length (c .before .before .before)))
-    (λ c. omega arith)
-    (λ c. omega arith)
-    loop-again
-    (λ c. kept-length (c .before))
-    returns)
+    tie.close (tie.spec Inv-loop μ-loop loop-holds (λ c. omega arith) (λ c. c .before .loop-test .taken)
+    (λ c. omega arith) (λ c. omega arith) (λ c κs. omega arith)
+    (λ c. omega (arith, kept-length (c .before .before .before))) (λ c. omega arith) (λ c. omega arith) loop-again
+    (λ c. kept-length (c .before)) returns)

@@ -4,11 +4,7 @@ use Rattle.character.proofs.Ranges.{within-low, within-rest}
 use Rattle.text.proofs.ascii.is_capital.Statement.{statement}
 use Rattle.text.proofs.ascii.is_capital.Tie as tie
 
-returns : tie.Need-returns
-returns c = within-low 0x41 0x5a (c .before .args .b) (omega arith)
-
-returns-2 : tie.Need-returns-2
-returns-2 c = within-rest 0x41 0x5a (c .before .args .b) (omega arith)
-
 pub is-capital-spec : {M : Type 1} → statement M
-is-capital-spec = tie.close (tie.spec returns returns-2)
+is-capital-spec =
+    tie.close (tie.spec (λ c. within-low 0x41 0x5a (c .before .args .b) (omega arith))
+    (λ c. within-rest 0x41 0x5a (c .before .args .b) (omega arith)))

@@ -5,7 +5,7 @@ use Prim.Native.Nat.{ℕ, _≤_, _<_}
 use native.Mathlib.Omega.{arith}
 use lib.Dec.{eqb, ltb}
 use borrow.Author.Tests.{eq-eqb, ne-eqb, lt-ltb, le-ltb}
-use Rattle.lexeme.proofs.Steps.{by-test}
+use Rattle.notation.proofs.Booleans.{by-test}
 use Rattle.text.specs.inner.Walk.{alone}
 use Rattle.text.proofs.ascii.is_plain.Statement.{statement}
 use Rattle.text.proofs.ascii.is_plain.Tie as tie

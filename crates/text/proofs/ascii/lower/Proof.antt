@@ -6,14 +6,9 @@ use Rattle.text.proofs.Steps.{within-most, lower-capital, lower-other}
 use Rattle.text.proofs.ascii.lower.Statement.{statement}
 use Rattle.text.proofs.ascii.lower.Tie as tie
 
-add-result : tie.Need-add-result
-add-result c = let b = c .before .before .args .b in omega (arith, within-most 0x41 0x5a b (sym (c .before .is-capital .ensures) ∙ c .if1 .taken))
-
-returns : tie.Need-returns
-returns c = lower-capital (c .before .before .args .b) (sym (c .before .is-capital .ensures) ∙ c .if1 .taken)
-
-returns-2 : tie.Need-returns-2
-returns-2 c = lower-other (c .before .before .args .b) (sym (c .before .is-capital .ensures) ∙ c .if1 .left)
-
 pub lower-spec : {M : Type 1} → statement M
-lower-spec = tie.close (tie.spec (λ c κs. search needs) add-result returns returns-2)
+lower-spec =
+    tie.close (tie.spec (λ c κs. search needs)
+    (λ c. let b = c .before .before .args .b in omega (arith, within-most 0x41 0x5a b (sym (c .before .is-capital .ensures) ∙ c .if1 .taken)))
+    (λ c. lower-capital (c .before .before .args .b) (sym (c .before .is-capital .ensures) ∙ c .if1 .taken))
+    (λ c. lower-other (c .before .before .args .b) (sym (c .before .is-capital .ensures) ∙ c .if1 .left)))

@@ -6,7 +6,7 @@ use native.Mathlib.Omega.{arith}
 use borrow.Author.Needs.{needs}
 use borrow.Author.Tests.{not-true, not-false}
 use lib.ListN.{length, drop, drop-of-length-le}
-use Rattle.lexeme.proofs.Rests.{at-cons}
+use Rattle.notation.proofs.Lists.{at-cons}
 use Rattle.text.specs.Text.{textOf}
 use Rattle.text.specs.inner.Walk.{agreeing, cased, left}
 use Rattle.text.proofs.Decoding.{left-at, no-byte, one-byte}
@@ -19,11 +19,6 @@ Inv-loop spelled plain from fold c₀ j₀ c j = agreeing fold (left spelled c) 
 
 abbrev μ-loop : tie.MeasureT-loop
 μ-loop spelled plain from fold c₀ j₀ c j = length plain - j
-
-loop-holds : tie.Need-loop-holds Inv-loop μ-loop
-loop-holds c =
-    let q = c .before .before .before .args in
-    ap (λ x. agreeing (q .fold) x (drop (q .from) (q .plain .now))) (left-at (q .spelled .now) (q .from) _ (c .cursor-at .ensures))
 
 returns : tie.Need-returns Inv-loop μ-loop
 returns c =
@@ -59,5 +54,7 @@ returns-3 c =
 
 pub agrees-spec : {M : Type 1} → statement M
 agrees-spec =
-    tie.close
-    (tie.spec Inv-loop μ-loop (λ c κs. search needs) loop-holds (λ c κs. search needs) (λ c. search needs) returns (λ c. search needs) (λ c. omega arith) (λ c κs. search needs) returns-2 (λ c. omega arith) (λ c. omega arith) loop-again (λ c κs. search needs) returns-3)
+    tie.close (tie.spec Inv-loop μ-loop (λ c κs. search needs) (λ c. let q = c .before .before .before .args in
+    ap (λ x. agreeing (q .fold) x (drop (q .from) (q .plain .now))) (left-at (q .spelled .now) (q .from) _ (c .cursor-at .ensures)))
+    (λ c κs. search needs) (λ c. search needs) returns (λ c. search needs) (λ c. omega arith) (λ c κs. search needs)
+    returns-2 (λ c. omega arith) (λ c. omega arith) loop-again (λ c κs. search needs) returns-3)

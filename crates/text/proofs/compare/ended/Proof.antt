@@ -6,11 +6,8 @@ use Rattle.text.proofs.Steps.{same-end, same-long}
 use Rattle.text.proofs.compare.ended.Statement.{statement}
 use Rattle.text.proofs.compare.ended.Tie as tie
 
-returns : tie.Need-returns
-returns c = sym (same-end (no-byte _ _ (c .before .before .next-byte .ensures) (c .enum-told .given .1)) refl)
-
-returns-2 : tie.Need-returns-2
-returns-2 c = sym (same-long (one-byte _ _ _ _ (c .before .before .next-byte .ensures) (c .enum-told2 .given .1)) refl)
-
 pub ended-spec : {M : Type 1} → statement M
-ended-spec = tie.close (tie.spec (λ c κs. search needs) (λ c. search needs) (λ c. search needs) returns returns-2)
+ended-spec =
+    tie.close (tie.spec (λ c κs. search needs) (λ c. search needs) (λ c. search needs)
+    (λ c. sym (same-end (no-byte _ _ (c .before .before .next-byte .ensures) (c .enum-told .given .1)) refl))
+    (λ c. sym (same-long (one-byte _ _ _ _ (c .before .before .next-byte .ensures) (c .enum-told2 .given .1)) refl)))

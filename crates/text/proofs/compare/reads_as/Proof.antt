@@ -6,7 +6,7 @@ use native.Mathlib.Omega.{arith}
 use borrow.Author.Needs.{needs}
 use borrow.Author.Tests.{not-true, not-false}
 use lib.ListN.{length, drop, drop-of-length-le}
-use Rattle.lexeme.proofs.Rests.{at-cons}
+use Rattle.notation.proofs.Lists.{at-cons}
 use Rattle.text.specs.Text.{textOf}
 use Rattle.text.specs.inner.Walk.{agreeing, cased}
 use Rattle.text.proofs.Decoding.{text-end, text-plain}
@@ -20,9 +20,6 @@ Inv-loop spelled plain fold i₀ i = agreeing fold (textOf (drop i spelled)) (dr
 
 abbrev μ-loop : tie.MeasureT-loop
 μ-loop spelled plain fold i₀ i = length spelled - i
-
-returns : tie.Need-returns Inv-loop μ-loop
-returns c = let q = c .before .before .before .args in sym (agreeing-longer (q .fold) (q .spelled .now) (q .plain .now) (c .if1 .taken))
 
 returns-3 : tie.Need-returns-3 Inv-loop μ-loop
 returns-3 c =
@@ -58,7 +55,8 @@ returns-5 c =
 
 pub reads-as-spec : {M : Type 1} → statement M
 reads-as-spec =
-    tie.close
-    (tie.spec Inv-loop μ-loop returns (λ c. refl) (λ c. omega arith) (λ c κs. search needs) (λ c κs. search needs)
-    (λ c. c .agrees .ensures ∙ c .before .before .before .before .before .loop .inv) returns-3 (λ c. omega arith) (λ c. omega arith)
-    (λ c κs. search needs) returns-4 (λ c. omega arith) (λ c. omega arith) loop-again returns-5)
+    tie.close (tie.spec Inv-loop μ-loop
+    (λ c. let q = c .before .before .before .args in sym (agreeing-longer (q .fold) (q .spelled .now) (q .plain .now) (c .if1 .taken)))
+    (λ c. refl) (λ c. omega arith) (λ c κs. search needs) (λ c κs. search needs)
+    (λ c. c .agrees .ensures ∙ c .before .before .before .before .before .loop .inv) returns-3 (λ c. omega arith)
+    (λ c. omega arith) (λ c κs. search needs) returns-4 (λ c. omega arith) (λ c. omega arith) loop-again returns-5)

@@ -4,7 +4,7 @@ use Prim.Native.Nat.{_-_}
 use native.Mathlib.Omega.{arith}
 use borrow.Author.Tests.{eq-eqb, ne-eqb}
 use lib.ListN.{length, drop, drop-of-length-le}
-use Rattle.lexeme.proofs.Rests.{at-cons}
+use Rattle.notation.proofs.Lists.{at-cons}
 use Rattle.text.specs.Text.{same}
 use Rattle.text.proofs.Laws.{same-lengths}
 use Rattle.text.proofs.Steps.{same-end, same-differ, same-next}
@@ -16,9 +16,6 @@ Inv-loop a b i₀ i = same (drop i a) (drop i b) ≡ same a b
 
 abbrev μ-loop : tie.MeasureT-loop
 μ-loop a b i₀ i = length a - i
-
-returns : tie.Need-returns Inv-loop μ-loop
-returns c = sym (same-lengths _ _ (c .if1 .taken))
 
 returns-2 : tie.Need-returns-2 Inv-loop μ-loop
 returns-2 c =
@@ -40,5 +37,5 @@ returns-3 c =
 
 pub same-bytes-spec : {M : Type 1} → statement M
 same-bytes-spec =
-    tie.close
-    (tie.spec Inv-loop μ-loop returns (λ c. refl) (λ c. omega arith) (λ c. omega arith) returns-2 (λ c. omega arith) (λ c. omega arith) loop-again returns-3)
+    tie.close (tie.spec Inv-loop μ-loop (λ c. sym (same-lengths _ _ (c .if1 .taken))) (λ c. refl) (λ c. omega arith)
+    (λ c. omega arith) returns-2 (λ c. omega arith) (λ c. omega arith) loop-again returns-3)

@@ -23,26 +23,11 @@ loop-holds c =
     ap (λ x. same x (left (q .b .now) (c .cursor-at2 .result))) (left-at (q .a .now) 0 _ (c .before .cursor-at .ensures))
     ∙ ap (same (textOf (q .a .now))) (left-at (q .b .now) 0 _ (c .cursor-at2 .ensures))
 
-returns : tie.Need-returns Inv-loop μ-loop
-returns c =
-    let w = c .before .before .before .before .loop in
-    c .ended .ensures ∙ ends-text _ (no-byte _ _ (c .before .before .before .next-byte .ensures) (c .before .enum-told .given .1)) ∙ w .inv
-
-returns-2 : tie.Need-returns-2 Inv-loop μ-loop
-returns-2 c =
-    let e = one-byte _ _ _ _ (c .before .before .before .before .before .before .next-byte .ensures) (c .before .before .before .before .x .given .1) in
-    sym (same-long e (no-byte _ _ (c .before .before .next-byte2 .ensures) (c .enum-told2 .given .1))) ∙ c .before .before .before .before .before .before .before .loop .inv
-
 returns-3 : tie.Need-returns-3 Inv-loop μ-loop
 returns-3 c =
     let e = one-byte _ _ _ _ (c .before .before .before .before .before .before .before .before .next-byte .ensures) (c .before .before .before .before .before .before .x .given .1) in
     let f = one-byte _ _ _ _ (c .before .before .before .before .next-byte2 .ensures) (c .before .before .y .given .1) in
     sym (same-differ f e (ne-eqb _ _ (c .if1 .taken))) ∙ c .before .before .before .before .before .before .before .before .before .loop .inv
-
-loop-less : tie.Need-loop-less Inv-loop μ-loop
-loop-less c =
-    let e = one-byte _ _ _ _ (c .before .before .before .before .before .before .before .before .next-byte .ensures) (c .before .before .before .before .before .before .x .given .1) in
-    omega (arith, ap length e)
 
 loop-again : tie.Need-loop-again Inv-loop μ-loop
 loop-again c =
@@ -52,5 +37,12 @@ loop-again c =
 
 pub same-decoded-spec : {M : Type 1} → statement M
 same-decoded-spec =
-    tie.close
-    (tie.spec Inv-loop μ-loop (λ c κs. search needs) (λ c κs. search needs) loop-holds (λ c κs. search needs) (λ c. search needs) (λ c κs. search needs) returns (λ c. search needs) (λ c κs. search needs) (λ c. search needs) returns-2 (λ c. search needs) returns-3 loop-less loop-again)
+    tie.close (tie.spec Inv-loop μ-loop (λ c κs. search needs) (λ c κs. search needs) loop-holds (λ c κs. search needs)
+    (λ c. search needs) (λ c κs. search needs) (λ c. let w = c .before .before .before .before .loop in
+    c .ended .ensures ∙ ends-text _ (no-byte _ _ (c .before .before .before .next-byte .ensures) (c .before .enum-told .given .1)) ∙ w .inv)
+    (λ c. search needs) (λ c κs. search needs) (λ c. search needs)
+    (λ c. let e = one-byte _ _ _ _ (c .before .before .before .before .before .before .next-byte .ensures) (c .before .before .before .before .x .given .1) in
+    sym (same-long e (no-byte _ _ (c .before .before .next-byte2 .ensures) (c .enum-told2 .given .1))) ∙ c .before .before .before .before .before .before .before .loop .inv)
+    (λ c. search needs) returns-3
+    (λ c. let e = one-byte _ _ _ _ (c .before .before .before .before .before .before .before .before .next-byte .ensures) (c .before .before .before .before .before .before .x .given .1) in
+    omega (arith, ap length e)) loop-again)

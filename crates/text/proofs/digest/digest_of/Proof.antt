@@ -21,10 +21,6 @@ Inv-loop spelled h₀ i₀ h i = digestFrom h (textOf (drop i spelled)) ≡ dige
 abbrev μ-loop : tie.MeasureT-loop
 μ-loop spelled h₀ i₀ h i = length spelled - i
 
-loop-holds : tie.Need-loop-holds Inv-loop μ-loop
-unfolding digest
-loop-holds c = refl
-
 loop-again : tie.Need-loop-again Inv-loop μ-loop
 loop-again c =
     let w = c .before .before .before .before .before .before in
@@ -63,14 +59,11 @@ loop-again-2 c =
     let e = text-character s i (omega arith) x (sym (n .next-char .ensures) ∙ c .before .before .before .x .given .1) in
     ap (λ h. digestFrom h rest) (c .before .mixed-char .ensures) ∙ digest-append (w .loop .h) (bytesOf x) rest ∙ ap (digestFrom (w .loop .h)) (sym e) ∙ w .loop .inv
 
-returns-3 : tie.Need-returns-3 Inv-loop μ-loop
-returns-3 c =
-    let w = c .before in
-    digest-end (w .loop .h) (text-end (w .before .before .args .spelled .now) (w .loop .i) (omega arith)) ∙ w .loop .inv
-
 pub digest-of-spec : {M : Type 1} → statement M
+unfolding digest
 digest-of-spec =
-    tie.close
-    (tie.spec Inv-loop μ-loop loop-holds (λ c. omega arith) (λ c κs. search needs) (λ c. omega arith) (λ c κs. search needs) (λ c. omega arith)
-    (λ c. omega arith) loop-again (λ c κs. search needs) (λ c. search needs) returns (λ c. search needs) returns-2 (λ c. search needs)
-    (λ c κs. search needs) (λ c. omega arith) add-i-3 (λ c. omega arith) loop-again-2 returns-3)
+    tie.close (tie.spec Inv-loop μ-loop (λ c. refl) (λ c. omega arith) (λ c κs. search needs) (λ c. omega arith)
+    (λ c κs. search needs) (λ c. omega arith) (λ c. omega arith) loop-again (λ c κs. search needs) (λ c. search needs)
+    returns (λ c. search needs) returns-2 (λ c. search needs) (λ c κs. search needs) (λ c. omega arith) add-i-3
+    (λ c. omega arith) loop-again-2 (λ c. let w = c .before in
+    digest-end (w .loop .h) (text-end (w .before .before .args .spelled .now) (w .loop .i) (omega arith)) ∙ w .loop .inv))

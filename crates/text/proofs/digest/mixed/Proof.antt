@@ -5,9 +5,6 @@ use Rattle.text.specs.inner.Digest.{mixed}
 use Rattle.text.proofs.digest.mixed.Statement.{statement}
 use Rattle.text.proofs.digest.mixed.Tie as tie
 
-returns : tie.Need-returns
-unfolding mixed
-returns c = refl
-
 pub mixed-spec : {M : Type 1} → statement M
-mixed-spec = tie.close (tie.spec (λ c. search needs) (λ c. search needs) (λ c. search needs) returns)
+unfolding mixed
+mixed-spec = tie.close (tie.spec (λ c. search needs) (λ c. search needs) (λ c. search needs) (λ c. refl))

@@ -12,17 +12,6 @@ use Rattle.text.proofs.Decoding.{text-end, text-quote, text-fault, left
 use Rattle.text.proofs.walk.first_byte.Statement.{statement}
 use Rattle.text.proofs.walk.first_byte.Tie as tie
 
-returns : tie.Need-returns
-returns c = let q = c .before .before .args in step-end (q .s .now) (text-end (q .s .now) (q .at) (omega arith))
-
-returns-2 : tie.Need-returns-2
-returns-2 c =
-    let q = c .before .before .before .before .before .before .before .args in
-    step-byte (q .s .now) _ (left-plain (q .s .now) (q .at) (omega arith) _ (sym (c .before .before .before .is-plain .ensures) ∙ c .before .before .if2 .taken) (c .cursor-at .ensures))
-
-returns-3 : tie.Need-returns-3
-returns-3 c = let q = c .before .before .before .before .before .before .before .before .args in step-end (q .s .now) (text-quote (drop (q .at) (q .s .now)) (cc))
-
 returns-4 : tie.Need-returns-4
 returns-4 c =
     let q = c .before .before .before .before .before .before .before .before .args in
@@ -52,6 +41,11 @@ returns-5 c =
 
 pub first-byte-spec : {M : Type 1} → statement M
 first-byte-spec =
-    tie.close
-    (tie.spec returns (λ c. search needs) (λ c κs. search needs) (λ c. search needs) (λ c. search needs) (λ c κs. search needs) returns-2
-    (λ c κs. search needs) (λ c. search needs) returns-3 (λ c. search needs) returns-4 (λ c. search needs) (λ c κs. search needs) (λ c. search needs) add-t16 returns-5)
+    tie.close (tie.spec
+    (λ c. let q = c .before .before .args in step-end (q .s .now) (text-end (q .s .now) (q .at) (omega arith)))
+    (λ c. search needs) (λ c κs. search needs) (λ c. search needs) (λ c. search needs) (λ c κs. search needs)
+    (λ c. let q = c .before .before .before .before .before .before .before .args in
+    step-byte (q .s .now) _ (left-plain (q .s .now) (q .at) (omega arith) _ (sym (c .before .before .before .is-plain .ensures) ∙ c .before .before .if2 .taken) (c .cursor-at .ensures)))
+    (λ c κs. search needs) (λ c. search needs)
+    (λ c. let q = c .before .before .before .before .before .before .before .before .args in step-end (q .s .now) (text-quote (drop (q .at) (q .s .now)) (cc)))
+    (λ c. search needs) returns-4 (λ c. search needs) (λ c κs. search needs) (λ c. search needs) add-t16 returns-5)

@@ -6,14 +6,9 @@ use Rattle.text.proofs.Decoding.{tail-some, tail-most}
 use Rattle.text.proofs.walk.tail.Statement.{statement}
 use Rattle.text.proofs.walk.tail.Tie as tie
 
-returns : tie.Need-returns
-returns c = let x = c .before .before .before .args .x in tail-some x (x .len - 1) (omega arith) (omega arith)
-
-returns-2 : tie.Need-returns-2
-returns-2 c = let x = c .before .before .before .args .x in tail-some x (x .len) (omega arith) (omega arith)
-
-returns-3 : tie.Need-returns-3
-returns-3 c = let x = c .before .before .args .x in tail-most x (omega arith)
-
 pub tail-spec : {M : Type 1} → statement M
-tail-spec = tie.close (tie.spec (λ c. search needs) returns returns-2 returns-3)
+tail-spec =
+    tie.close (tie.spec (λ c. search needs)
+    (λ c. let x = c .before .before .before .args .x in tail-some x (x .len - 1) (omega arith) (omega arith))
+    (λ c. let x = c .before .before .before .args .x in tail-some x (x .len) (omega arith) (omega arith))
+    (λ c. let x = c .before .before .args .x in tail-most x (omega arith)))

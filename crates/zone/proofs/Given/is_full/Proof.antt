@@ -1,7 +1,7 @@
 -- The first value that is not given tells; where none is left to ask, the last one.
 use borrow.Author.Needs.{needs}
 use borrow.Author.Tests.{not-true, not-false}
-use mathlib.Core.Bool.{true, false}
+use mathlib.Core.Bool.{true}
 use mathlib.Core.Path.{_≡_, sym, _∙_}
 use Rattle.zone.specs.inner.Values.{isFlag, isLimit, isFull}
 use Rattle.zone.proofs.Given.is_full.Statement.{statement}
@@ -49,14 +49,5 @@ returns-5 c =
 
 pub is-full-spec : {M : Type 1} → statement M
 is-full-spec =
-    tie.close
-    (tie.spec
-    returns
-    (λ c κs. search needs)
-    returns-2
-    (λ c κs. search needs)
-    returns-3
-    (λ c κs. search needs)
-    returns-4
-    (λ c κs. search needs)
-    returns-5)
+    tie.close (tie.spec returns (λ c κs. search needs) returns-2 (λ c κs. search needs) returns-3 (λ c κs. search needs)
+    returns-4 (λ c κs. search needs) returns-5)

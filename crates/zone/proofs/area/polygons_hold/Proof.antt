@@ -8,7 +8,8 @@ use Rattle.walk.proofs.Left.{nearer, left-among, Comes, comes-start, comes-end,
 use Rattle.schema.specs.Pick.{elements}
 use Rattle.geometry.specs.inner.Shifted.{point}
 use Rattle.rings.specs.Rings.{ringsFound}
-use Rattle.rings.specs.inner.Parts.{ringShape, polygonShape, picked, partsOf}
+use Rattle.rings.specs.inner.Parts.{ringShape, polygonShape}
+use Rattle.document.specs.inner.Items.{picked, pickedItems}
 use Rattle.zone.specs.Zone.{ringsHold, polygonsHold}
 use Rattle.zone.specs.inner.Clean.{CleanItems}
 use Rattle.zone.proofs.Cleared.{polygon-rings, polygon-clean}
@@ -17,13 +18,12 @@ use Rattle.zone.proofs.area.polygons_hold.Statement.{statement}
 use Rattle.zone.proofs.area.polygons_hold.Tie as tie
 
 abbrev Inv-loop : tie.InvT-loop
-Inv-loop p q at₀ at = Comes p (polygons p (point q)) at (polygonsHold (partsOf polygonShape p) (point q))
+Inv-loop p q at₀ at = Comes p (polygons p (point q)) at (polygonsHold (pickedItems polygonShape p) (point q))
 
 abbrev μ-loop : tie.MeasureT-loop
 μ-loop p q at₀ at = length p - at
 
 loop-holds : tie.Need-loop-holds Inv-loop μ-loop
-unfolding partsOf
 loop-holds c = let s = c .before in comes-start (polygons (s .args .p .now) (point (s .args .q))) (λ h. AlongItems.start (s .pre .0 .listing .whole h .1))
 
 returns : tie.Need-returns Inv-loop μ-loop
@@ -45,7 +45,7 @@ asked c =
     let b = c .before in let d = b .before .before in let n = d .before .before in let k = n .before in let s = k .before .before in
     let i = left-among (k .loop .inv .left) (n .pass-item .ensures) (d .m .given .1) in
     c .rings-hold .ensures
-    ∙ ap (λ l. ringsHold l (point (s .args .q))) (ap (partsOf ringShape) (b .item-bytes .ensures) ∙ polygon-rings i (s .pre .0))
+    ∙ ap (λ l. ringsHold l (point (s .args .q))) (ap (pickedItems ringShape) (b .item-bytes .ensures) ∙ polygon-rings i (s .pre .0))
 
 returns-2 : tie.Need-returns-2 Inv-loop μ-loop
 returns-2 c =

@@ -11,7 +11,8 @@ use Rattle.walk.proofs.Left.{nearer, left-among, Comes, comes-start, comes-end,
 use Rattle.schema.specs.Pick.{pick}
 use Rattle.geometry.specs.inner.Shifted.{point, stands}
 use Rattle.geometry.proofs.Holed.{from-none, from-edge, from-next}
-use Rattle.rings.specs.inner.Parts.{ringShape, picked, partsOf}
+use Rattle.rings.specs.inner.Parts.{ringShape}
+use Rattle.document.specs.inner.Items.{picked, pickedItems}
 use Rattle.zone.specs.Zone.{outline, ringsHold}
 use Rattle.zone.specs.inner.Clean.{CleanRing}
 use Rattle.zone.proofs.Cleared.{ring-clean}
@@ -20,7 +21,7 @@ use Rattle.zone.proofs.area.rings_hold.Statement.{statement}
 use Rattle.zone.proofs.area.rings_hold.Tie as tie
 
 abbrev Inv-loop : tie.InvT-loop
-Inv-loop p q first₀ held₀ at₀ first held at = Comes p (rings p (point q) first held) at (ringsHold (partsOf ringShape p) (point q))
+Inv-loop p q first₀ held₀ at₀ first held at = Comes p (rings p (point q) first held) at (ringsHold (pickedItems ringShape p) (point q))
 
 abbrev μ-loop : tie.MeasureT-loop
 μ-loop p q first₀ held₀ at₀ first held at = length p - at

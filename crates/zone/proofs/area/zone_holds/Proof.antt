@@ -5,8 +5,9 @@ use Rattle.notation.specs.Ascii.{bytes}
 use Rattle.walk.specs.Part.{Whole, partTree}
 use Rattle.geometry.specs.inner.Shifted.{point}
 use Rattle.rings.specs.Rings.{polygonsFound}
-use Rattle.rings.specs.inner.Parts.{polygonShape, partsOf}
-use Rattle.fields.specs.inner.Values.{memberOf, arrayBy}
+use Rattle.rings.specs.inner.Parts.{polygonShape}
+use Rattle.document.specs.inner.Items.{pickedItems}
+use Rattle.document.specs.inner.Values.{memberOf, arrayBy}
 use Rattle.zone.specs.Zone.{polygonsHold}
 use Rattle.zone.specs.inner.Clean.{CleanItems}
 use Rattle.zone.proofs.Zoned.{polygonBytes, zone-polygons}
@@ -31,16 +32,9 @@ returns : tie.Need-returns
 returns c =
     let s = c .before .before .before .before .before .before .before in
     c .polygons-hold .ensures
-    ∙ ap (λ l. polygonsHold l (point (s .args .q))) (ap (partsOf polygonShape) (found (c .before)) ∙ zone-polygons (s .pre .0 .whole))
+    ∙ ap (λ l. polygonsHold l (point (s .args .q))) (ap (pickedItems polygonShape) (found (c .before)) ∙ zone-polygons (s .pre .0 .whole))
 
 pub zone-holds-spec : {M : Type 1} → statement M
 zone-holds-spec =
-    tie.close
-    (tie.spec
-    (λ c. search needs)
-    (λ c κs. search needs)
-    (λ c. search needs)
-    (λ c κs. search needs)
-    (λ c κs. search needs)
-    polygons-hold-requires
-    returns)
+    tie.close (tie.spec (λ c. search needs) (λ c κs. search needs) (λ c. search needs) (λ c κs. search needs)
+    (λ c κs. search needs) polygons-hold-requires returns)

@@ -3,8 +3,9 @@ use borrow.Author.Needs.{needs}
 use mathlib.Core.Path.{_≡_, sym, ap, subst, _∙_}
 use lib.ListN.{length}
 use Rattle.notation.specs.Ascii.{bytes}
-use Rattle.rings.specs.inner.Parts.{Listing, partsOf}
-use Rattle.fields.specs.inner.Values.{memberOf, arrayBy}
+use Rattle.rings.specs.inner.Parts.{Listing}
+use Rattle.document.specs.inner.Items.{pickedItems}
+use Rattle.document.specs.inner.Values.{memberOf, arrayBy}
 use Rattle.zone.specs.Zone.{anyText}
 use Rattle.zone.specs.inner.Values.{idShape}
 use Rattle.zone.proofs.Fields.{member-listing, applies-all, applies-named}
@@ -26,16 +27,10 @@ names-type-requires c κs = subst Listing (sym (c .array-in .ensures ∙ ap arra
 returns-2 : tie.Need-returns-2
 returns-2 c =
     let i = c .before .before in let m = i .before in let s = m .before .before .before .before in
-    c .names-type .ensures ∙ ap (λ q. anyText (partsOf idShape q) (s .args .type-id .now)) (c .before .array-in .ensures ∙ ap arrayBy (ids-are m))
+    c .names-type .ensures ∙ ap (λ q. anyText (pickedItems idShape q) (s .args .type-id .now)) (c .before .array-in .ensures ∙ ap arrayBy (ids-are m))
     ∙ applies-named (s .pre) (s .args .type-id .now) (λ e. i .if1 .left (ap length (ids-are m) ∙ e))
 
 pub applies-spec : {M : Type 1} → statement M
 applies-spec =
-    tie.close
-    (tie.spec
-    (λ c. search needs)
-    (λ c κs. search needs)
-    returns
-    (λ c κs. search needs)
-    names-type-requires
+    tie.close (tie.spec (λ c. search needs) (λ c κs. search needs) returns (λ c κs. search needs) names-type-requires
     returns-2)

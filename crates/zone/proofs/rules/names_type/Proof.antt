@@ -5,9 +5,9 @@ use Prim.Native.Nat.{_-_}
 use lib.ListN.{length}
 use Rattle.walk.specs.inner.Along.{AlongItems}
 use Rattle.walk.proofs.Left.{nearer, left-whole, Comes, comes-start, comes-end, comes-here, comes-more}
-use Rattle.rings.specs.inner.Parts.{picked, partsOf}
+use Rattle.document.specs.inner.Items.{picked, pickedItems}
 use Rattle.document.specs.Document.{textIn}
-use Rattle.fields.specs.inner.Values.{textBy, isId}
+use Rattle.document.specs.inner.Values.{textBy, isId}
 use Rattle.zone.specs.Zone.{anyText}
 use Rattle.zone.specs.inner.Values.{idShape}
 use Rattle.zone.proofs.Fields.{id-text}
@@ -16,13 +16,12 @@ use Rattle.zone.proofs.rules.names_type.Statement.{statement}
 use Rattle.zone.proofs.rules.names_type.Tie as tie
 
 abbrev Inv-loop : tie.InvT-loop
-Inv-loop p type-id at₀ at = Comes p (ids p type-id) at (anyText (partsOf idShape p) type-id)
+Inv-loop p type-id at₀ at = Comes p (ids p type-id) at (anyText (pickedItems idShape p) type-id)
 
 abbrev μ-loop : tie.MeasureT-loop
 μ-loop p type-id at₀ at = length p - at
 
 loop-holds : tie.Need-loop-holds Inv-loop μ-loop
-unfolding partsOf
 loop-holds c = let s = c .before .before in comes-start (ids (s .args .p .now) (s .args .type-id .now)) (λ h. AlongItems.start (s .pre .whole h .1))
 
 returns : tie.Need-returns Inv-loop μ-loop

@@ -11,7 +11,7 @@ use Rattle.walk.specs.inner.Along.{AlongItems}
 use Rattle.walk.proofs.Left.{nearer, left-whole, Comes, comes-start, comes-end, comes-here, comes-more}
 use Rattle.schema.specs.Table23.{rule}
 use Rattle.schema.specs.Pick.{pick}
-use Rattle.rings.specs.inner.Parts.{picked, partsOf}
+use Rattle.document.specs.inner.Items.{picked, pickedItems}
 use Rattle.zone.specs.inner.Values.{withRule}
 use Rattle.zone.proofs.Combining.{withRules, rules-none, rules-next, given-full}
 use Rattle.zone.proofs.Loops.{rulesFor}
@@ -19,13 +19,12 @@ use Rattle.zone.proofs.rules.with_rules.Statement.{statement}
 use Rattle.zone.proofs.rules.with_rules.Tie as tie
 
 abbrev Inv-loop : tie.InvT-loop
-Inv-loop p type-id given₀ at₀ given at = Comes p (rulesFor p type-id given) at (withRules type-id given₀ (partsOf rule p))
+Inv-loop p type-id given₀ at₀ given at = Comes p (rulesFor p type-id given) at (withRules type-id given₀ (pickedItems rule p))
 
 abbrev μ-loop : tie.MeasureT-loop
 μ-loop p type-id given₀ at₀ given at = length p - at
 
 loop-holds : tie.Need-loop-holds Inv-loop μ-loop
-unfolding partsOf
 loop-holds c =
     let s = c .before .before in let a = s .args in comes-start (rulesFor (a .p .now) (a .type-id .now) (a .start)) (λ h. AlongItems.start (s .pre .whole h .1))
 

@@ -2,7 +2,7 @@
 use borrow.Author.Needs.{needs}
 use borrow.Author.Tests.{not-true, not-false}
 use mathlib.Core.Path.{sym, ap, _∙_}
-use Rattle.fields.specs.inner.Values.{spelledBy}
+use Rattle.document.specs.inner.Values.{spelledBy}
 use Rattle.zone.specs.Zone.{integer, begun, unended}
 use Rattle.zone.proofs.Ways.{counts-not, counts-begun}
 use Rattle.zone.proofs.window.counts.Statement.{statement}
@@ -25,13 +25,5 @@ returns-2 c =
 
 pub counts-spec : {M : Type 1} → statement M
 counts-spec =
-    tie.close
-    (tie.spec
-    (λ c. search needs)
-    (λ c κs. search needs)
-    (λ c κs. search needs)
-    returns
-    (λ c. search needs)
-    (λ c κs. search needs)
-    (λ c κs. search needs)
-    returns-2)
+    tie.close (tie.spec (λ c. search needs) (λ c κs. search needs) (λ c κs. search needs) returns (λ c. search needs)
+    (λ c κs. search needs) (λ c κs. search needs) returns-2)

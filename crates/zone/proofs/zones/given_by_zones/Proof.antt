@@ -11,7 +11,7 @@ use Rattle.walk.proofs.Left.{nearer, left-among, Comes, comes-start, comes-end,
 use Rattle.schema.specs.Table23.{zone}
 use Rattle.schema.specs.Pick.{pick}
 use Rattle.geometry.specs.inner.Shifted.{point}
-use Rattle.rings.specs.inner.Parts.{picked, partsOf}
+use Rattle.document.specs.inner.Items.{picked, pickedItems}
 use Rattle.zone.specs.Zone.{zoneRules, rules, applicable}
 use Rattle.zone.specs.inner.Values.{nothing, allGiven}
 use Rattle.zone.specs.inner.Clean.{CleanZone}
@@ -23,13 +23,12 @@ use Rattle.zone.proofs.zones.given_by_zones.Tie as tie
 
 abbrev Inv-loop : tie.InvT-loop
 Inv-loop p q type-id moment given₀ at₀ given at =
-    Comes p (zonesFor p type-id (point q) moment given) at (allGiven (applicable (rules (partsOf zone p) (point q) moment) type-id))
+    Comes p (zonesFor p type-id (point q) moment given) at (allGiven (applicable (rules (pickedItems zone p) (point q) moment) type-id))
 
 abbrev μ-loop : tie.MeasureT-loop
 μ-loop p q type-id moment given₀ at₀ given at = length p - at
 
 loop-holds : tie.Need-loop-holds Inv-loop μ-loop
-unfolding partsOf
 loop-holds c =
     let s = c .before .before .before in let a = s .args in let none = zonesFor (a .p .now) (a .type-id .now) (point (a .q)) (a .moment) nothing in
     rw (c .nothing .ensures) (subst (Comes (a .p .now) none 1) (nothing-given _) (comes-start none (λ h. s .pre .0 .along)))

@@ -7,8 +7,9 @@ use Rattle.notation.specs.Ascii.{bytes}
 use Rattle.walk.specs.Part.{Whole, partTree}
 use Rattle.schema.specs.Table23.{rule}
 use Rattle.geometry.specs.inner.Shifted.{point}
-use Rattle.rings.specs.inner.Parts.{Listing, partsOf}
-use Rattle.fields.specs.inner.Values.{memberOf, arrayBy}
+use Rattle.rings.specs.inner.Parts.{Listing}
+use Rattle.document.specs.inner.Items.{pickedItems}
+use Rattle.document.specs.inner.Values.{memberOf, arrayBy}
 use Rattle.zone.specs.inner.Values.{countsBy}
 use Rattle.zone.proofs.Combining.{withRules}
 use Rattle.zone.proofs.Fields.{member-listing}
@@ -61,22 +62,11 @@ returns-3 : tie.Need-returns-3
 returns-3 c =
     let j = c .before .before .before .before in let h = j .before in let i = h .before in let s = i .before .before .before .before .before .before in
     c .with-rules .ensures
-    ∙ ap (λ p. withRules (s .args .type-id .now) (s .args .start) (partsOf rule p)) (rules-are (c .before))
+    ∙ ap (λ p. withRules (s .args .type-id .now) (s .args .start) (pickedItems rule p)) (rules-are (c .before))
     ∙ zone-given (s .pre .0 .whole) (point (s .args .q)) (s .args .moment) (s .args .type-id .now) (s .args .start) (in-window i)
     (sym (h .zone-holds .ensures) ∙ not-false (h .zone-holds .result) (j .if2 .left))
 
 pub with-zone-spec : {M : Type 1} → statement M
 with-zone-spec =
-    tie.close
-    (tie.spec
-    (λ c. search needs)
-    (λ c κs. search needs)
-    (λ c κs. whole c)
-    returns
-    (λ c κs. search needs)
-    returns-2
-    (λ c. search needs)
-    (λ c κs. search needs)
-    (λ c κs. search needs)
-    with-rules-requires
-    returns-3)
+    tie.close (tie.spec (λ c. search needs) (λ c κs. search needs) (λ c κs. whole c) returns (λ c κs. search needs)
+    returns-2 (λ c. search needs) (λ c κs. search needs) (λ c κs. search needs) with-rules-requires returns-3)

@@ -19,7 +19,7 @@ returns-2 c =
 
 returns-3 : tie.Need-returns-3
 returns-3 c =
-    c .lost .ensures
+    c .empty .ensures
     ∙ step-other _ _ (sym (c .before .before .before .is-digit .ensures) ∙ c .before .before .if1 .left) (ne-eqb _ _ (c .before .if2 .left))
 
 pub step-spec : {M : Type 1} → statement M

@@ -63,18 +63,6 @@ returns-2 c =
 
 pub of-spec : {M : Type 1} → statement M
 of-spec =
-    tie.close
-    (tie.spec
-    Inv-loop
-    μ-loop
-    (λ c. (omega arith, omega arith, refl))
-    (λ c. omega arith)
-    (λ c κs. search needs)
-    returns
-    mul-value
-    digit-value-requires
-    add-value
-    (λ c. omega arith)
-    (λ c. omega arith)
-    loop-again
-    returns-2)
+    tie.close (tie.spec Inv-loop μ-loop (λ c. (omega arith, omega arith, refl)) (λ c. omega arith)
+    (λ c κs. search needs) returns mul-value digit-value-requires add-value (λ c. omega arith) (λ c. omega arith)
+    loop-again returns-2)

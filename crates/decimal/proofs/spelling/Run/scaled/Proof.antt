@@ -31,13 +31,5 @@ returns c = let l = c .before .loop in scale-end (l .v) (l .n) (c .loop-test .le
 
 pub scaled-spec : {M : Type 1} → statement M
 scaled-spec =
-    tie.close
-    (tie.spec
-    Inv-loop
-    μ-loop
-    (λ c. (c .pre .0, c .pre .1, refl))
-    mul-v
-    (λ c. omega arith)
-    (λ c. omega arith)
-    loop-again
-    returns)
+    tie.close (tie.spec Inv-loop μ-loop (λ c. (c .pre .0, c .pre .1, refl)) mul-v (λ c. omega arith) (λ c. omega arith)
+    loop-again returns)

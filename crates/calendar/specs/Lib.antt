@@ -1,0 +1,4 @@
+pub mod Calendar
+pub mod Written
+pub mod Counted
+pub mod Cases

@@ -1,0 +1,34 @@
+-- `check_ids` names the first record whose id is used before, in the files whose records have ids.
+use borrow.Author.Needs.{needs}
+use mathlib.Core.Path.{_≡_, sym, ap, subst, _∙_}
+use native.Mathlib.Omega.{arith}
+use Rattle.fault.specs.Outcome.{outcomeOf}
+use Rattle.fault.specs.inner.Narrow.{Narrow}
+use Rattle.ids.specs.inner.Ids.{idField}
+use Rattle.ids.proofs.Picked.{id-field}
+use Rattle.clean.proofs.Repeated.{repeats-none}
+use Rattle.clean.proofs.Judged.{blamed-narrow}
+use Rattle.clean.proofs.check_ids.Statement.{statement}
+use Rattle.clean.proofs.check_ids.Tie as tie
+
+returns : tie.Need-returns
+returns c =
+    let f = c .before in let file = f .before .before .args .file in let e : idField file ≡ 0 = sym (f .id-field .ensures) ∙ c .if1 .taken in
+    ap (outcomeOf file) (sym (repeats-none file (λ h i. omega (arith, id-field file i, e)) _))
+
+repeat-of-requires : tie.Need-repeat-of-requires
+repeat-of-requires c κs =
+    let f = c .before in let x = f .before .before .pre in (λ e. c .if1 .left (f .id-field .ensures ∙ e), x .0, x .1)
+
+outcome-of-requires : tie.Need-outcome-of-requires
+outcome-of-requires c κs =
+    let r = c .before in let file = r .before .before .before .before .args .file in
+    subst Narrow (sym (c .blame .ensures)) (blamed-narrow (idField file) (r .repeat-of .result) (omega arith))
+
+returns-2 : tie.Need-returns-2
+returns-2 c =
+    let b = c .before in let r = b .before in let file = r .before .before .before .before .args .file in
+    c .outcome-of .ensures ∙ ap (outcomeOf file) (b .blame .ensures ∙ sym (r .repeat-of .ensures))
+
+pub check-ids-spec : {M : Type 1} → statement M
+check-ids-spec = tie.close (tie.spec (λ c κs. search needs) returns repeat-of-requires (λ c κs. search needs) outcome-of-requires returns-2)

@@ -1,0 +1,10 @@
+-- A file of which stage A finds this, by the rules on coordinates that hold.
+use mathlib.Core.List.{List}
+use Prim.Native.Nat.{ℕ}
+use Rattle.json.specs.declared.Syntax.{Syntax}
+use Rattle.fault.specs.declared.outcome.Outcome.{Outcome}
+use Rattle.rings.specs.Rings.{coordinatesFound}
+use Rattle.clean.specs.Clean.{judgedBy}
+
+abbrev pub judged : ℕ → List ℕ → Syntax → Outcome
+judged = judgedBy coordinatesFound

@@ -1,2 +1,0 @@
--- Definitions that follow the code. Contracts of inner functions cite them; nobody has to believe them.
-pub mod Values

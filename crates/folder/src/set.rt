@@ -1,0 +1,37 @@
+// The verdict on the files that stand in a buffer.
+use verdict::verdict;
+use word::Parts;
+use word::Word;
+ghost use mathlib.Core.Path.{_≡_};
+ghost use Prim.Native.Nat.{_<_};
+ghost use lib.ListN.{length};
+ghost use Rattle.verdict.specs.Verdict.{said, verdictOf};
+ghost use Rattle.folder.specs.Places.{InOrder, fileIn, setIn};
+
+// What the verdict's word says; it can always be read back.
+pub fn parts_of(bytes: &[u8], places: &[usize; 7]) -> Parts
+    requires { ⌜ InOrder 6 (length (now bytes)) (now places) ⌝ }
+    ensures { λ r. ⌜ r ≡ said (verdictOf (setIn (now (bytes .entry)) (now (places .entry)))) ⌝ }
+{
+    let mut word: [u8; Word::SIZE] = [0; Word::SIZE];
+    verdict(
+        file(bytes, places, 0),
+        file(bytes, places, 1),
+        file(bytes, places, 2),
+        file(bytes, places, 3),
+        file(bytes, places, 4),
+        file(bytes, places, 5),
+        &mut word,
+    );
+    Word::read(&word).word_parts()
+}
+
+// The bytes of a file, counted from 0.
+fn file<'a>(bytes: &'a [u8], places: &[usize; 7], i: usize) -> &'a [u8]
+    requires { ⌜ (i < 6) × InOrder 6 (length (now bytes)) (now places) ⌝ }
+    ensures { λ r. ⌜ now r ≡ fileIn (now (bytes .entry)) (now (places .entry)) i ⌝ }
+{
+    let from = places[i];
+    let upto = places[i + 1];
+    &bytes[from..upto]
+}

@@ -1,0 +1,89 @@
+-- The search in bytes is the search among what is picked: the id of a record and what it is asked are the fields of its picked rows, and some record is
+-- met from the back just where one is from the front.
+use mathlib.Core.Bool.{Bool, true, false}
+use mathlib.Core.List.{List, [], _∷_, map, List·Memᴰ, List·Memᴰ·head, List·Memᴰ·tail}
+use mathlib.Core.Path.{_≡_, refl, sym, ap, ap₂, _∙_}
+use Prim.Native.Nat.{ℕ, zero, suc, _≤_}
+use native.Mathlib.Omega.{arith}
+use lib.ListN.{length, getD}
+use borrow.Author.Tests.{ne-eqb}
+use Rattle.notation.specs.Choice.{_⇒_else_, _and_}
+use Rattle.json.specs.Tree.{Json}
+use Rattle.text.specs.Text.{same}
+use Rattle.walk.specs.declared.Item.{Item}
+use Rattle.walk.specs.Walk.{itemsOf}
+use Rattle.walk.specs.Part.{Whole, partTree}
+use Rattle.walk.proofs.Parts.{itemOf, items-whole}
+use Rattle.schema.specs.Table23.{vehicleType, station}
+use Rattle.schema.specs.Records.{recordShape, located}
+use Rattle.schema.specs.Pick.{Picked, pick}
+use Rattle.document.specs.Document.{Maybe, none, some, text}
+use Rattle.document.specs.inner.Items.{pickedItems}
+use Rattle.document.specs.inner.Values.{isId}
+use Rattle.document.proofs.FieldBytes.{rowOf, listed, field-text, field-given}
+use Rattle.ids.specs.inner.Ids.{idField, idOf, recordBytes}
+use Rattle.ids.proofs.Picked.{id-picked}
+use Rattle.ids.specs.References.{anyWith, notHuman}
+use Rattle.ids.specs.inner.Known.{passing, meeting, anyMeets, testOf, testedOf}
+
+-- the record of a file answers alike in bytes and picked
+record Alike (file : ℕ) (q : List ℕ) (x : Picked) : Type 0 where
+  id : idOf file q ≡ text (idField file) x
+  passed : passing file q ≡ testOf file x
+
+passed-picked : (file : ℕ) → 1 ≤ file → {q : List ℕ} {x : Json} → Whole q x → passing file q ≡ testOf file (pick (recordShape file) x)
+unfolding located vehicleType station rowOf
+passed-picked zero h w = absurd (omega arith)
+passed-picked (suc zero) h w = ap notHuman (field-text (listed refl) w)
+passed-picked (suc (suc zero)) h w = field-given (listed refl) w
+passed-picked (suc (suc (suc n))) h w = rw (ne-eqb (suc (suc (suc n))) 1 (λ e. omega arith), ne-eqb (suc (suc (suc n))) 2 (λ e. omega arith))
+
+alike : (file : ℕ) → 1 ≤ file → file ≤ 5 → {q : List ℕ} {x : Json} → Whole q x → Alike file q (pick (recordShape file) x)
+alike file h i w = record { id = id-picked file h i w; passed = passed-picked file h w }
+
+module _ (file : ℕ) (tested : Bool) (id : List ℕ) where
+  asked : (t : Bool) {q : List ℕ} {x : Picked} → Alike file q x → (t ⇒ passing file q else true) ≡ testedOf file t x
+  asked true a = a .passed
+  asked false a = refl
+
+  alike-meeting : {q : List ℕ} {x : Picked} → Alike file q x → meeting file tested id q ≡ (isId id (text (idField file) x) and testedOf file tested x)
+  alike-meeting a = ap₂ _and_ (ap (isId id) (a .id)) (asked tested a)
+
+  -- from the front
+  any-step : (test : Picked → Bool) (f : ℕ) (x : Picked) (l : List Picked) → anyWith test f (x ∷ l) id ≡ (isId id (text f x) and test x ⇒ true else anyWith test f l id)
+  unfolding anyWith
+  any-step test f x l = go (text f x)
+    where
+      go : (o : Maybe (List ℕ)) → (elim o [ none ↦ anyWith test f l id | some t ↦ same t id and test x ⇒ true else anyWith test f l id ])
+          ≡ (isId id o and test x ⇒ true else anyWith test f l id)
+      go none = refl
+      go (some t) = refl
+
+  any-front : (q : List ℕ) (l : List (List ℕ)) (n : ℕ) → anyMeets file tested id (q ∷ l) (suc n) ≡ (meeting file tested id q ⇒ true else anyMeets file tested id l n)
+  unfolding anyMeets
+  any-front q l zero = refl
+  any-front q l (suc n) =
+      let ih = any-front q l n in
+      ap (λ (t : Bool). meeting file tested id (getD l n []) ⇒ true else t) ih ∙ swapped (meeting file tested id (getD l n [])) (meeting file tested id q) (anyMeets file tested id l n)
+    where
+      swapped : (a b c : Bool) → (a ⇒ true else (b ⇒ true else c)) ≡ (b ⇒ true else (a ⇒ true else c))
+      swapped true true c = refl
+      swapped true false c = refl
+      swapped false true c = refl
+      swapped false false c = refl
+
+  alike-all : (bytesOf : Item → List ℕ) (pickedOf : Item → Picked) (ms : List Item) → ((m : Item) → List·Memᴰ m ms → Alike file (bytesOf m) (pickedOf m))
+      → anyMeets file tested id (map bytesOf ms) (length ms) ≡ anyWith (testedOf file tested) (idField file) (map pickedOf ms) id
+  unfolding anyMeets anyWith
+  alike-all f g [] a = refl
+  alike-all f g (m ∷ ms) a =
+      any-front (f m) (map f ms) (length ms)
+      ∙ ap₂ (λ (t u : Bool). t ⇒ true else u) (alike-meeting (a m (List·Memᴰ·head refl))) (alike-all f g ms (λ n i. a n (List·Memᴰ·tail i)))
+      ∙ sym (any-step (testedOf file tested) (idField file) (g m) (map g ms))
+
+-- all records of an array
+pub meets-picked : (file : ℕ) → 1 ≤ file → file ≤ 5 → (tested : Bool) (id p : List ℕ)
+    → anyMeets file tested id (recordBytes p) (length (itemsOf p)) ≡ anyWith (testedOf file tested) (idField file) (pickedItems (recordShape file) p) id
+unfolding recordBytes
+meets-picked file h i tested id p =
+    alike-all file tested id (itemOf p) (λ m. pick (recordShape file) (partTree (itemOf p m))) (itemsOf p) (λ m j. alike file h i (items-whole p m j))

@@ -1,0 +1,11 @@
+pub mod Rests
+pub mod Sorts
+pub mod Records
+pub mod Merging
+pub mod Halves
+pub mod InOrder
+pub mod Orders
+pub mod Halving
+pub mod Neighbours
+pub mod Repeated
+pub mod Alike

@@ -1,0 +1,53 @@
+-- Where stages A and B find nothing, every file of the set is through them: what stage C starts from.
+use mathlib.Core.List.{List, [], _∷_, map}
+use mathlib.Core.Path.{_≡_, refl, _∙_}
+use Prim.Native.Nat.{ℕ, _≤_}
+use native.Mathlib.Omega.{arith}
+use lib.ListN.{length}
+use Rattle.json.specs.declared.Syntax.{Syntax}
+use Rattle.json.specs.declared.Syntax.the-variants as syntax
+use Rattle.json.specs.Text.{syntaxOf}
+use Rattle.schema.specs.Shape.{fileShape}
+use Rattle.schema.specs.Table23.{table23}
+use Rattle.fault.specs.declared.Fault.{Fault}
+use Rattle.judge.specs.Faults.{fileFaults}
+use Rattle.fault.specs.declared.outcome.Outcome.the-variants.{Unbroken}
+use Rattle.fault.specs.Outcome.{fileCount, faultParts}
+use Rattle.clean.specs.Clean.{treeOf}
+use Rattle.cross.specs.inner.Stage.{AllPassAB}
+use Rattle.cross.specs.Stage.{Feeds, bytesOf}
+use Rattle.verdict.specs.Verdict.{syntaxRules, rulesA, stageA, stageBBy}
+use Rattle.verdict.specs.declared.stages.Stage.the-variants as stage
+use Rattle.verdict.specs.inner.Stages.{faultsB, stageB, firstIn}
+use Rattle.verdict.proofs.Every.{every-none}
+use Rattle.verdict.proofs.First.{first-clean}
+use Rattle.verdict.proofs.ByFile.{first-stageA, first-stageB}
+
+no-syntax : (file : ℕ) (x : Syntax) → syntaxRules file x ≡ [] → x ≡ syntax.Sound
+no-syntax file syntax.Sound e = refl
+no-syntax file (syntax.Fault k o) e = let z : _≡_ {A = ℕ} 0 1 = cc in absurd (omega arith)
+
+no-places : (file : ℕ) (l : List Fault) → map (faultParts file) l ≡ [] → l ≡ []
+no-places file [] e = refl
+no-places file (f ∷ l) e = let z : _≡_ {A = ℕ} 0 1 = cc in absurd (omega arith)
+
+-- one file
+reads : (file : ℕ) (s : List ℕ) → rulesA file s ≡ [] → (length s ≡ 0 → ⊥) → syntaxOf s ≡ syntax.Sound
+reads file [] e h = absurd (h refl)
+reads file (b ∷ s) e h = no-syntax file (syntaxOf (b ∷ s)) e
+
+faultless : (file : ℕ) (s : List ℕ) → faultsB file s ≡ [] → (length s ≡ 0 → ⊥) → fileFaults (fileShape table23 file) (treeOf s) ≡ []
+faultless file [] e h = absurd (h refl)
+faultless file (b ∷ s) e h = e
+
+-- all files
+pub all-read : (s : Feeds) → firstIn stage.A s ≡ Unbroken → (file : ℕ) → 1 ≤ file → file ≤ fileCount → (length (bytesOf s file) ≡ 0 → ⊥) → syntaxOf (bytesOf s file) ≡ syntax.Sound
+unfolding stageA
+all-read s a file h i =
+    reads file (bytesOf s file) (every-none (λ n. rulesA n (bytesOf s n)) (first-clean (stageA s) (first-stageA s ∙ a)) file h i)
+
+pub all-through : (s : Feeds) → firstIn stage.A s ≡ Unbroken → firstIn stage.B s ≡ Unbroken → AllPassAB s
+unfolding stageBBy
+all-through s a b file h i =
+    let y = every-none (λ n. map (faultParts n) (faultsB n (bytesOf s n))) (first-clean (stageB s) (first-stageB s ∙ b)) file h i in
+    record { reads = all-read s a file h i; faultless = faultless file (bytesOf s file) (no-places file (faultsB file (bytesOf s file)) y) }
