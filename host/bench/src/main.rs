@@ -2,10 +2,11 @@
 //!
 //!     bench [QUESTION]                    every question or one, timed side by side with the reference, and stage A with RapidJSON too
 //!     bench write SET FILE                writes a set into a file, for `once`
-//!     bench once FILE QUESTION SIDE       asks once, in a function of its own name, for counting instructions
+//!     bench once FILE QUESTION SIDE       asks once, in a function of its own name, to count instructions or to measure the stack
+//!     bench worst                         the names of the worst sets, each with the questions that it is made for
 //!
-//! Sets are `many` (records up to their ceiling) and `full` (everything within a record at its ceiling). RapidJSON is there where the
-//! bench was built with `RAPIDJSON_INCLUDE` naming the directory of its headers.
+//! Sets are `many` (records up to their ceiling), `full` (everything within a record at its ceiling) and the worst ones. RapidJSON is
+//! there where the bench was built with `RAPIDJSON_INCLUDE` naming the directory of its headers.
 
 #![deny(unsafe_code)]
 
@@ -13,16 +14,20 @@ mod questions;
 mod rapidjson;
 mod set;
 mod timing;
+mod worst;
 
 use questions::{Question, Side};
 use set::Bench;
 use std::process::ExitCode;
+use std::thread;
+use std::time::Instant;
 
 fn main() -> ExitCode {
     let arguments: Vec<String> = std::env::args().skip(1).collect();
     let words: Vec<&str> = arguments.iter().map(String::as_str).collect();
     let done = match words.as_slice() {
-        [] => compare(&Question::ALL),
+        [] => compare(&Question::TIMED),
+        ["worst"] => list(),
         [question] => Question::named(question).and_then(|question| compare(&[question])),
         ["write", name, path] => Bench::named(name).and_then(|set| set.write(path).ok()),
         ["once", path, question, side] => once(path, question, side),
@@ -32,16 +37,27 @@ fn main() -> ExitCode {
         Some(()) => ExitCode::SUCCESS,
         None => {
             let (questions, sides) = (Question::NAMES.join("|"), Side::NAMES.join("|"));
-            eprintln!("bench [{questions}]\nbench write many|full FILE\nbench once FILE {questions} {sides}");
+            eprintln!("bench [{questions}]\nbench write SET FILE\nbench worst\nbench once FILE {questions} {sides}");
             ExitCode::from(2)
         }
     }
 }
 
+/// Asks once. The set is read by a thread of its own, so that nothing but the question needs this one's stack.
 fn once(path: &str, question: &str, side: &str) -> Option<()> {
     let (question, side) = (Question::named(question)?, Side::named(side)?);
-    let number = question.ask(side, &Bench::read(path)?)?;
-    println!("answer {number}");
+    let path = path.to_owned();
+    let set = thread::spawn(move || Bench::read(&path)).join().ok()??;
+    let began = Instant::now();
+    let number = question.ask(side, &set)?;
+    println!("answer {number} bytes {} milliseconds {}", question.bytes(&set), began.elapsed().as_millis());
+    Some(())
+}
+
+fn list() -> Option<()> {
+    for worst in &worst::ALL {
+        println!("{} {}", worst.name, worst.questions.iter().map(|question| question.name()).collect::<Vec<_>>().join(" "));
+    }
     Some(())
 }
 

@@ -17,7 +17,15 @@ pub enum Question {
     Quote,
     /// A zone rule where none applies, so that every zone is looked at.
     Zone,
+    /// The bike of the greatest number there may be, so that file 4 is judged and every record of it passed.
+    Show,
+    /// A word read back.
+    Word,
 }
+
+/// The record that is asked for, and the word that is read.
+const RECORD: u64 = reference::ceiling::RECORDS as u64;
+const WORD: [u8; 8] = [0x14, 0x62, 0x80, 0x03, 0, 0, 0, 0];
 
 /// Who is asked.
 #[derive(Clone, Copy, PartialEq, Eq)]
@@ -42,8 +50,19 @@ impl Side {
 }
 
 impl Question {
-    pub const ALL: [Question; 5] = [Question::StageA, Question::StagesAB, Question::Verdict, Question::Quote, Question::Zone];
-    pub const NAMES: [&str; 5] = ["stage-a", "stages-ab", "verdict", "quote", "zone"];
+    pub const ALL: [Question; 7] = [
+        Question::StageA,
+        Question::StagesAB,
+        Question::Verdict,
+        Question::Quote,
+        Question::Zone,
+        Question::Show,
+        Question::Word,
+    ];
+    /// Those that read files, which takes a time that can be measured.
+    pub const TIMED: [Question; 6] =
+        [Question::StageA, Question::StagesAB, Question::Verdict, Question::Quote, Question::Zone, Question::Show];
+    pub const NAMES: [&str; 7] = ["stage-a", "stages-ab", "verdict", "quote", "zone", "show", "word"];
 
     pub fn named(name: &str) -> Option<Question> {
         Question::ALL.into_iter().find(|question| question.name() == name)
@@ -59,6 +78,8 @@ impl Question {
             Question::StageA | Question::StagesAB | Question::Verdict => set.files(self).map(<[u8]>::len).iter().sum(),
             Question::Quote => set.files[4].len(),
             Question::Zone => set.files[5].len(),
+            Question::Show => set.files[3].len(),
+            Question::Word => WORD.len(),
         }
     }
 
@@ -86,6 +107,8 @@ fn asked_library(question: Question, set: &Bench) -> u8 {
             let point = Point { lon: place.lon, lat: place.lat };
             skaveldro::zone_rule(&files[5], point, &place.vehicle_type, place.moment).number()
         }
+        Question::Show => skaveldro::show_record(4, RECORD, &files[3]).number(),
+        Question::Word => skaveldro::read_word(&WORD).number(),
     }
 }
 
@@ -94,7 +117,7 @@ fn asked_library(question: Question, set: &Bench) -> u8 {
 #[no_mangle]
 #[allow(unsafe_code)]
 fn asked_reference(question: Question, set: &Bench) -> u8 {
-    use reference::{quote, verdict, zone_rule, Quote, Ruling, Verdict};
+    use reference::{quote, read_word, show_record, verdict, zone_rule, Quote, Ruling, Shown, Verdict};
     let Bench { files, ride, place, .. } = set;
     match question {
         Question::StageA | Question::StagesAB | Question::Verdict => u8::from(verdict(set.files(question)) != Verdict::Accepted),
@@ -106,6 +129,11 @@ fn asked_reference(question: Question, set: &Bench) -> u8 {
             Ruling::NoRule => 9,
             _ => 0,
         },
+        Question::Show => match show_record(4, RECORD, &files[3]) {
+            Shown::Record(..) => 0,
+            _ => 10,
+        },
+        Question::Word => read_word(&WORD).map_or(3, |_| 0),
     }
 }
 

@@ -1,12 +1,13 @@
 //! A set near the ceilings, with questions that its files answer.
 
 use crate::questions::Question;
+use crate::worst::Made;
 use feeds::questions::{Questions, Ride, Where};
 use feeds::{sound, Set, Size};
 use std::ffi::CString;
 use std::{fs, io};
 
-/// A sound set and what is asked about it.
+/// A set and what is asked about it.
 pub struct Bench {
     pub files: Set,
     pub ride: Ride,
@@ -24,7 +25,10 @@ impl Bench {
         let size = match name {
             "many" => Size::MANY,
             "full" => Size::FULL,
-            _ => return None,
+            _ => {
+                let Made { files, ride, place } = Made::named(name)?;
+                return Bench::of(files, ride, place);
+            }
         };
         let mut files = sound(7, &size);
         files.iter_mut().for_each(|file| within_double(file));
