@@ -1,6 +1,6 @@
 -- Texts of a form have as many bytes as the form, each admitted by the form's byte at its place. So a part of the text is of that part of the form; and the
 -- text's first bytes, one more than the form has, tell whether the whole is of the form.
-use mathlib.Core.Bool.{Bool, true, false}
+use mathlib.Core.Bool.{true, false}
 use mathlib.Core.List.{List, [], _∷_}
 use mathlib.Core.Path.{_≡_, refl, sym, ap}
 use Prim.Native.Nat.{ℕ, zero, suc, _+_, _≤_, _<_}

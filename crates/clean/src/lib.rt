@@ -42,7 +42,6 @@ pub enum Shown {
 
 impl Shown {
     // The number of the answer.
-    // Shut out: a record told of a file that is not clean.
     pub fn number(self) -> u8
         ensures { λ n. ⌜ n ≡ answer self .number ⌝ }
     {

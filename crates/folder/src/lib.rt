@@ -43,7 +43,7 @@ fn judge_in(bytes: &mut [u8], places: &mut [usize; 7], left: &mut isize) -> Answ
 }
 
 // The answer on the files that stand in a buffer.
-// Shut out: a file judged as another, or with none of its bytes; a verdict on a set that is too large.
+// Shut out: a file judged as another.
 fn answer_in(taken: Taken, bytes: &[u8], places: &[usize; 7]) -> Answer
     requires { ⌜ (length (now bytes) ≡ room) × Placed most (now places) taken ⌝ }
     ensures { λ r. ⌜ r ≡ answerOf taken (now (bytes .entry)) (now (places .entry)) ⌝ }

@@ -21,7 +21,7 @@ pub fn line(a: Answer) {
 }
 
 // Puts the line at the start of a buffer, and answers its length.
-// Shut out: a part printed for another; words misspelt; a line without its line feed.
+// Shut out: a part printed for another.
 fn put_line(a: Answer, text: &mut [u8; ROOM]) -> usize
     ensures { λ r. ⌜ Written (lineOf a) (now (text .entry)) 0 (now (text .exit)) r ⌝ }
 {

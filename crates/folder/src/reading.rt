@@ -89,7 +89,6 @@ fn read_some(fd: i32, room: &mut [u8], left: &mut isize) -> Turn
 }
 
 // What a read came to, by the number that it left.
-// Shut out: a failed read taken for the file's end; a read of one byte taken for it.
 fn came_to(got: isize) -> Turn
     ensures { λ r. ⌜ r ≡ turnOf got ⌝ }
 {

@@ -21,7 +21,7 @@ use Rattle.lexeme.specs.Tokens.{blank, blanks}
 use Rattle.lexeme.specs.inner.Start.{Start, start}
 use Rattle.lexeme.proofs.Reading.{Consumes, Any, Ok, numeric, Stops, Consumed, StrongPrefix, Faulted, Faults}
 use Rattle.lexeme.proofs.Reading.Ok.{alike, stops}
-use Rattle.lexeme.proofs.Steps.{blanks-stop, then-done, bad-done, done-bad, bad-kind, bad-rest, made-reads, made-fails, made-same, made-bad, then-reads, then-fails}
+use Rattle.lexeme.proofs.Steps.{blanks-stop, then-done, bad-done, done-bad, bad-kind, bad-rest, made-reads, made-same, made-bad, then-reads, then-fails}
 use Rattle.lexeme.proofs.StrongPrefixes.{string-takes, blanks-of, solid-first}
 use Rattle.lexeme.proofs.Starts.{blank-other}
 use Rattle.lexeme.proofs.Faults.{behind-faulted, made-faults, cons-faulted, end-faulted, byte-faulted, string-faults, number-faults, literal-faults}

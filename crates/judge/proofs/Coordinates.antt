@@ -1,18 +1,18 @@
 -- Each ring takes at most as many numbers as a ring may have positions, so all rings of a zone take at most fifteen times that; the first fault is told by
 -- `Positions`, and the law of one ring is that of `rings`, with the judge's names.
 use mathlib.Core.List.{List, [], _∷_, List·Memᴰ, List·Memᴰ·head, List·Memᴰ·tail}
-use mathlib.Core.Path.{_≡_, refl, ap}
-use Prim.Native.Nat.{ℕ, _+_, _*_, _≤_}
+use mathlib.Core.Path.{refl, ap}
+use Prim.Native.Nat.{_*_, _≤_}
 use native.Mathlib.Omega.{arith}
 use lib.Dec.{leb}
 use lib.ListN.{length}
 use borrow.Author.Tests.{leb-true}
 use Rattle.limits.specs.Ceilings as ceiling
 use Rattle.notation.proofs.Booleans.{and-right}
-use Rattle.schema.specs.Pick.{Picked, PickedItems, bare, items, slots, listOf, elements}
+use Rattle.schema.specs.Pick.{Picked, listOf, elements}
 use Rattle.rings.specs.Rings.{numbered, count, itemCount, itemTotal, polygonPositions}
 use Rattle.rings.proofs.OneRing.{coordinates-one}
-use Rattle.judge.specs.Coordinates.{Coordinates, WithinCeilings, polygonsPositions}
+use Rattle.judge.specs.Coordinates.{Coordinates, polygonsPositions}
 use Rattle.judge.proofs.Holds.{holds-is}
 use Rattle.judge.proofs.Positions.{coordinates-fit}
 

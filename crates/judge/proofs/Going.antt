@@ -10,7 +10,6 @@ use Rattle.notation.proofs.Booleans.{and-left, and-right}
 use Rattle.json.specs.Tree.{Json, Members}
 use Rattle.walk.specs.Walk.{part}
 use Rattle.walk.specs.Part.{Whole}
-use Rattle.walk.specs.inner.Kind.{kindAt}
 use Rattle.schema.specs.declared.Line.{Line}
 use Rattle.schema.specs.Shape as shape
 use Rattle.schema.specs.Shape.{Shape, Rows, Need}
@@ -24,7 +23,7 @@ use Rattle.slots.specs.inner.Slots.{slotsOf, slotAt, gathered}
 use Rattle.slots.proofs.Picks.{Slotted, slotted-all}
 use Rattle.fault.specs.declared.Least.{Least}
 use Rattle.fault.specs.declared.Least.the-variants.{None}
-use Rattle.fault.specs.Fault.{lesser, least, faulty}
+use Rattle.fault.specs.Fault.{lesser, least}
 use Rattle.fault.proofs.Leasts.{lesser-none, none-lesser, lesser-assoc, least-append}
 use Rattle.fault.specs.declared.Place.{Place}
 use Rattle.judge.specs.Faults.{rowFaultsBy, rowFaults}

@@ -2,7 +2,7 @@
 -- below the weight comes back from its digits. Both by induction on the bases, over any number `acc` of the digits before.
 use mathlib.Core.List.{List, [], _∷_}
 use mathlib.Core.Path.{_≡_, refl, sym, _∙_}
-use Prim.Native.Nat.{ℕ, zero, suc, _+_, _*_, _/_, _%_, _^_, _<_, _≤_}
+use Prim.Native.Nat.{ℕ, _+_, _*_, _/_, _^_, _<_, _≤_}
 use native.Mathlib.Nat.{add-assoc, add-mul, add-zero, div-add-mod', div-div-eq-div-mul, div-eq-of-lt, div-one, lt-of-lt-of-le, mul-assoc, mul-comm, mul-one, pow-le-pow-right, pow-suc, zero-add, zero-mul}
 use native.Mathlib.Numerals.{add-one}
 use native.Mathlib.Omega.{arith}

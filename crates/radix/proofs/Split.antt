@@ -2,7 +2,7 @@
 -- them, nor does what stands below. So a layout of more than 64 bits is written and read as two numbers.
 use mathlib.Core.List.{List, [], _∷_, _++_}
 use mathlib.Core.Path.{_≡_, refl, sym, ap, _∙_}
-use Prim.Native.Nat.{ℕ, zero, suc, _+_, _*_, _/_, _%_, _<_}
+use Prim.Native.Nat.{ℕ, zero, suc, _+_, _*_, _/_, _<_}
 use native.Mathlib.Nat.{div-div-eq-div-mul, mul-add-div-right, mul-add-mod-self-right, mul-assoc, mul-comm, mul-zero, one-mul}
 use native.Mathlib.Omega.{arith}
 use lib.Arith.{digits-div}

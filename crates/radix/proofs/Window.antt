@@ -1,7 +1,7 @@
 -- A field out of a byte string by a few of its bytes: those that hold it. The bytes behind them are divided away, those before them leave no trace in the
 -- rest, and the field stands as many bits above their end as it does above the end of the whole, less the bits behind.
 use mathlib.Core.List.{List, [], _∷_, _++_}
-use mathlib.Core.Path.{_≡_, refl, sym, ap, subst, _∙_}
+use mathlib.Core.Path.{_≡_, sym, ap, subst, _∙_}
 use Prim.Native.Nat.{ℕ, zero, suc, _+_, _-_, _*_, _/_, _%_, _^_, _≤_, _<_}
 use native.Mathlib.Nat.{add-assoc, add-mul, div-add-mod', div-div-eq-div-mul, mul-add-div-right, mul-add-mod-self-right, mul-assoc}
 use native.Mathlib.Omega.{arith}
@@ -9,7 +9,7 @@ use lib.Arith.{digits-div, digits-mod}
 use lib.ListN.{length, take, drop, getD, length-drop, length-append, take-append-drop}
 use lib.Seq.{length-take-le, drop-drop}
 use lib.Pow.{pow-add, pow-pos}
-use Rattle.radix.specs.Radix.{weight, number, Fit}
+use Rattle.radix.specs.Radix.{weight, number}
 use Rattle.radix.specs.Fields.{bases, octets, bits, bytesNumber, Bytes}
 use Rattle.radix.proofs.Digits.{number-below}
 use Rattle.radix.proofs.Packing.{weight-bases, octets-bits}

@@ -1,6 +1,6 @@
 -- A table's bytes read at one line. All lines have the same number of bytes, so those of line i begin after i times that number; its name stands behind the
 -- last line where they say, since the names are laid one after the other there.
-use mathlib.Core.List.{List, [], _∷_, _++_, map, flatten}
+use mathlib.Core.List.{List, [], _∷_, _++_, flatten}
 use mathlib.Core.Path.{_≡_, refl, sym, ap, _∙_}
 use Prim.Native.Nat.{ℕ, zero, suc, _+_, _*_, _-_, _<_, _≤_}
 use native.Mathlib.Omega.{arith}

@@ -1,6 +1,6 @@
 -- The later tree on a bikes file: a bike's first two members change places and an unlisted one comes in. A member of a listed name
 -- cannot come in: what `added` asks for is false.
-use mathlib.Core.Bool.{true, false}
+use mathlib.Core.Bool.{false}
 use mathlib.Core.List.{[], _∷_}
 use mathlib.Core.Path.{_≡_, refl}
 use Prim.Native.String.{String}

@@ -1,5 +1,5 @@
 -- The field table of version 2.3: document 01, "Field table", line by line, with its letters for needs and sorts (see the imports).
-use mathlib.Core.List.{List, [], _∷_}
+use mathlib.Core.List.{[], _∷_}
 use Prim.Native.Nat.{ℕ, _+_}
 use Prim.Native.String.{String}
 use Rattle.limits.specs.Ceilings as ceiling

@@ -1,5 +1,5 @@
 -- Finding and gathering on cases, computed.
-use mathlib.Core.List.{List, [], _∷_, map}
+use mathlib.Core.List.{List, [], _∷_}
 use mathlib.Core.Path.{_≡_, refl}
 use Prim.Native.Nat.{ℕ}
 use Rattle.notation.specs.Ascii.{bytes}

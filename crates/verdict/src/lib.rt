@@ -22,7 +22,6 @@ pub enum Acceptance {
 
 impl Acceptance {
     // The number of the answer.
-    // Shut out: the number of an accepted set answered for one that is not.
     pub fn number(self) -> u8
         ensures { λ n. ⌜ n ≡ number self ⌝ }
     {

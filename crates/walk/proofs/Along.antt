@@ -30,16 +30,14 @@ use Rattle.json.proofs.StrongPrefixes.{bracketed-takes}
 use Rattle.json.proofs.Values.{value-none}
 use Rattle.json.proofs.Spellings.{expect-done}
 use Rattle.walk.specs.declared.Member.{Member}
-use Rattle.walk.specs.declared.Item.{Item}
 use Rattle.walk.specs.declared.MemberStep.{MemberStep}
 use Rattle.walk.specs.declared.MemberStep.the-variants as members
-use Rattle.walk.specs.declared.ItemStep.the-variants as items
-use Rattle.walk.specs.Walk.{onward, memberAt, membersOf, itemAt}
+use Rattle.walk.specs.Walk.{onward, memberAt, membersOf}
 use Rattle.walk.specs.Part.{Whole}
 use Rattle.walk.specs.inner.Along.{AlongItems, AlongMembers, MemberPassed}
 use Rattle.walk.proofs.Steps.{Reads}
 use Rattle.walk.proofs.Folds as Folds
-use Rattle.walk.proofs.Folds.{Walk, walk-more, walk-end, memberSteps, itemSteps}
+use Rattle.walk.proofs.Folds.{Walk, walk-more, walk-end, memberSteps}
 use Rattle.walk.proofs.Wholes.{whole-some, whole-array, whole-object}
 use Rattle.walk.proofs.Trees.{Elements, next-closes, next-begins, leaves, deepen, itemsWithin, member-reads, membersWithin}
 

@@ -1,5 +1,4 @@
 -- The run of the first twelve bytes, or of all where there are fewer.
-use mathlib.Core.List.{List}
 use mathlib.Core.Path.{ap, _∙_}
 use Prim.Native.Nat.{ℕ}
 use native.Mathlib.Omega.{arith}

@@ -1,5 +1,5 @@
 -- The bytes that are read at a line are those of the line; past the last line both sides are zeros.
-use mathlib.Core.Path.{_≡_, sym}
+use mathlib.Core.Path.{sym}
 use native.Mathlib.Omega.{arith}
 use lib.ListN.{List·getD-eq-default}
 use borrow.Author.Needs.{needs}

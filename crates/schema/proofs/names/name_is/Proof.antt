@@ -1,12 +1,11 @@
 -- The part of the table's bytes at the name's range is that name.
-use mathlib.Core.Path.{_≡_, ap, _∙_}
-use Prim.Native.Nat.{_+_, _-_, _≤_}
+use mathlib.Core.Path.{ap, _∙_}
+use Prim.Native.Nat.{_+_, _-_}
 use native.Mathlib.Omega.{arith}
 use lib.ListN.{length, take, drop}
 use borrow.Author.Needs.{needs}
 use Rattle.text.specs.Text.{textOf, same}
 use Rattle.schema.specs.Table23.{table23}
-use Rattle.schema.specs.inner.Line.{bytesOf}
 use Rattle.schema.proofs.Bytes.{named-fits, named-part}
 use Rattle.schema.proofs.Computed.{table-length}
 use Rattle.schema.proofs.names.name_is.Statement.{statement}
