@@ -29,11 +29,11 @@ use Rattle.document.proofs.Rows.{Lists, over, at-row}
 use Rattle.document.proofs.Ways.{Requires, here, below, lists, Leads, arrived, into}
 
 -- where nothing is in two lists together, nothing is in either
-none-left : {A : Type 0} (xs ys : List A) → xs ++ ys ≡ [] → xs ≡ []
+pub none-left : {A : Type 0} (xs ys : List A) → xs ++ ys ≡ [] → xs ≡ []
 none-left [] ys e = refl
 none-left (x ∷ xs) ys e = cons-nil e
 
-none-right : {A : Type 0} (xs ys : List A) → xs ++ ys ≡ [] → ys ≡ []
+pub none-right : {A : Type 0} (xs ys : List A) → xs ++ ys ≡ [] → ys ≡ []
 none-right [] ys e = e
 none-right (x ∷ xs) ys e = cons-nil e
 

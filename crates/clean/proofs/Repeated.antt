@@ -41,7 +41,7 @@ use Rattle.document.specs.Document.{Maybe, none, some, elementsOf, along}
 use Rattle.document.specs.Spans.{recordsSpan}
 use Rattle.document.specs.inner.Spans.{RecordsFrom}
 use Rattle.document.proofs.Ways.{records-of}
-use Rattle.document.proofs.Rests.{rest-along, rest-picked}
+use Rattle.document.proofs.Rests.{rest-is, rest-along, rest-picked}
 use Rattle.document.proofs.Records.{Records, records-stand}
 use Rattle.document.specs.inner.Items.{pickedItems}
 use Rattle.ids.specs.inner.Ids.{idField, idOf, AllIdsOnce, recordBytes, anyHas, repeated, repeatFrom, firstRepeat}
@@ -173,7 +173,7 @@ unfolding repeats
 repeats-none n h x = let none = no-id n h in rw (repeats, repeatsIn, none) (none-least [] refl)
 
 -- and the others
-repeats-some : (n : ℕ) → Identified n → (x : Picked) → repeats n x ≡ repeatsFrom (idField n) 1 [] (recordsOf n x)
+pub repeats-some : (n : ℕ) → Identified n → (x : Picked) → repeats n x ≡ repeatsFrom (idField n) 1 [] (recordsOf n x)
 unfolding repeats idField
 repeats-some n d x = rw (repeats, repeatsIn, idField, d .is)
 
@@ -186,8 +186,13 @@ module _ (n : ℕ) (s : List ℕ) (reads : syntaxOf s ≡ Sound) (faultless : le
   none-found : (t : Passed s) → fileFaults (fileShape table23 n) (t .tree) ≡ []
   none-found t = ap (fileFaults (fileShape table23 n)) (sym (tree-is s t)) ∙ least-none _ faultless
 
-  -- of ids, by the array p of its records
   module _ (h : 1 ≤ n) (i : n ≤ 5) where
+    -- its rest from its records on is one
+    pub records-same : {p q : List ℕ} → RecordsFrom n s p → RecordsFrom n s q → p ≡ q
+    records-same f g =
+        let t = passed s reads in let r = held n h (omega arith) s t (none-found t) in rest-is f reads (r .there) ∙ sym (rest-is g reads (r .there))
+
+    -- of ids, by the array p of its records
     pub repeats-are : {p : List ℕ} → RecordsFrom n s p → Repeats n s p
     repeats-are {p} f =
         let t = passed s reads in let r = held n h (omega arith) s t (none-found t) in

@@ -1,3 +1,4 @@
 -- Definitions that follow the code. Contracts of inner functions cite them; nobody has to believe them.
 pub mod Blamed
 pub mod Judged
+pub mod Noted

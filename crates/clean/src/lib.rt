@@ -6,16 +6,18 @@ use fault::Least;
 use fault::outcome::Outcome;
 use fault::outcome::outcome_of;
 use fault::outcome::syntax_parts;
+use ids::Notes;
 use ids::id::id_field;
 use json::Syntax;
 use json::check_syntax;
 use judge::judge_file;
 use repeats::blame;
-use repeats::repeat_of;
+use repeats::note_file;
 use walk::cut;
 use word::Parts;
 use word::Word;
 ghost use mathlib.Core.Path.{_≡_};
+ghost use lib.ListN.{length};
 ghost use Rattle.json.specs.declared.Syntax.the-variants.{Sound};
 ghost use Rattle.json.specs.Text.{syntaxOf};
 ghost use Rattle.walk.specs.Walk.{part};
@@ -23,12 +25,15 @@ ghost use Rattle.schema.specs.Shape.{fileShape};
 ghost use Rattle.schema.specs.Table23.{table23};
 ghost use Rattle.schema.specs.Pick.{pick};
 ghost use Rattle.fault.specs.declared.Least.the-variants.{None};
+ghost use Rattle.fault.specs.declared.outcome.Outcome.the-variants.{Unbroken};
 ghost use Rattle.fault.specs.Fault.{least};
 ghost use Rattle.fault.specs.Outcome.{outcomeOf};
 ghost use Rattle.judge.specs.Faults.{fileFaults};
+ghost use Rattle.ids.specs.inner.Notes.{size};
 ghost use Rattle.clean.specs.Clean.{treeOf, repeats, syntaxOutcome, cleanOf};
 ghost use Rattle.clean.specs.Show.{answer, shownOf};
 ghost use Rattle.clean.specs.inner.Judged.{judged};
+ghost use Rattle.clean.specs.inner.Noted.{RecordsNoted};
 
 pub mod repeats;
 
@@ -99,40 +104,50 @@ pub fn check_fields(file: u8, s: &[u8]) -> Outcome
     outcome_of(file, first_fault(file, s))
 }
 
-// Kind 12 of a file that stages A and B pass; there is none where its records have no ids.
-fn check_ids(file: u8, s: &[u8]) -> Outcome
-    requires { ⌜ (syntaxOf (now s) ≡ Sound) × (least (fileFaults (fileShape table23 file) (treeOf (now s))) ≡ None) ⌝ }
-    ensures { λ r. ⌜ r ≡ outcomeOf file (least (repeats file (pick (fileShape table23 file) (treeOf (now (s .entry)))))) ⌝ }
+// Kind 12 of a file that stages A and B pass, whose records are noted; there is none where they have no ids.
+fn check_ids(file: u8, s: &[u8], notes: &mut [u32; Notes::SIZE]) -> Outcome
+    requires { ⌜ (syntaxOf (now s) ≡ Sound) × (least (fileFaults (fileShape table23 file) (treeOf (now s))) ≡ None) × (length (now notes) ≡ size) ⌝ }
+    ensures { λ r. ⌜ (r ≡ outcomeOf file (least (repeats file (pick (fileShape table23 file) (treeOf (now (s .entry))))))) × RecordsNoted file (now (s .entry)) (now (notes .exit)) ⌝ }
 {
     if id_field(file) == 0 {
         return Outcome::Unbroken;
     }
-    outcome_of(file, blame(file, repeat_of(file, s)))
+    outcome_of(file, blame(file, note_file(file, s, notes)))
 }
 
 // A file that stage A passes.
-fn judge_passed(file: u8, s: &[u8]) -> Outcome
-    requires { ⌜ syntaxOf (now s) ≡ Sound ⌝ }
-    ensures { λ r. ⌜ r ≡ judged file (now (s .entry)) Sound ⌝ }
+fn judge_passed(file: u8, s: &[u8], notes: &mut [u32; Notes::SIZE]) -> Outcome
+    requires { ⌜ (syntaxOf (now s) ≡ Sound) × (length (now notes) ≡ size) ⌝ }
+    ensures { λ r. ⌜ (r ≡ judged file (now (s .entry)) Sound) × (r ≡ Unbroken → RecordsNoted file (now (s .entry)) (now (notes .exit))) ⌝ }
 {
     match check_fields(file, s) {
         Outcome::Broken(p) => Outcome::Broken(p),
-        Outcome::Unbroken => check_ids(file, s),
+        Outcome::Unbroken => check_ids(file, s, notes),
     }
 }
 
-// Whether a file is clean, by its number, from 1 to 6, and its bytes; where nothing is there it is. Under any other number stage A alone counts.
-// Shut out: a repeated id named where stage B finds a fault; an absent file refused as no JSON text.
-pub fn check_clean(file: u8, s: &[u8]) -> Outcome
-    ensures { λ r. ⌜ r ≡ cleanOf file (now (s .entry)) ⌝ }
+// Whether a file is clean, by its number, from 1 to 6, and its bytes; where nothing is there it is. Under any other number stage A alone counts. Where it is
+// clean, its records are left noted.
+// Shut out: a repeated id named where stage B finds a fault; an absent file refused as no JSON text; notes trusted of a file that is not clean.
+pub fn check_noted(file: u8, s: &[u8], notes: &mut [u32; Notes::SIZE]) -> Outcome
+    requires { ⌜ length (now notes) ≡ size ⌝ }
+    ensures { λ r. ⌜ (r ≡ cleanOf file (now (s .entry))) × (r ≡ Unbroken → RecordsNoted file (now (s .entry)) (now (notes .exit))) ⌝ }
 {
     if s.len() == 0 {
         return Outcome::Unbroken;
     }
     match check_text(file, s) {
         Outcome::Broken(p) => Outcome::Broken(p),
-        Outcome::Unbroken => judge_passed(file, s),
+        Outcome::Unbroken => judge_passed(file, s, notes),
     }
+}
+
+// Whether a file is clean, where nobody asks for its records by their ids.
+pub fn check_clean(file: u8, s: &[u8]) -> Outcome
+    ensures { λ r. ⌜ r ≡ cleanOf file (now (s .entry)) ⌝ }
+{
+    let mut notes: [u32; Notes::SIZE] = [0; Notes::SIZE];
+    check_noted(file, s, &mut notes)
 }
 
 // The record of a number, counted from 1, of a file, of which s are the bytes. Every number of a file or of a record may be asked for.

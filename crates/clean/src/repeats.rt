@@ -7,39 +7,27 @@ use ids::id::id_field;
 use ids::note::note;
 use word::kind::Kind;
 ghost use mathlib.Core.Path.{_≡_};
-ghost use Prim.Native.Nat.{_≤_, _<_};
 ghost use lib.ListN.{length};
-ghost use Rattle.limits.specs.Ceilings.{fileBytes, records};
 ghost use Rattle.json.specs.declared.Syntax.the-variants.{Sound};
 ghost use Rattle.json.specs.Text.{syntaxOf};
-ghost use Rattle.walk.specs.Walk.{itemsOf};
-ghost use Rattle.walk.specs.inner.Along.{AlongItems};
 ghost use Rattle.schema.specs.Shape.{fileShape};
 ghost use Rattle.schema.specs.Table23.{table23};
 ghost use Rattle.schema.specs.Pick.{pick};
 ghost use Rattle.fault.specs.declared.Least.the-variants.{None};
 ghost use Rattle.fault.specs.Fault.{least};
 ghost use Rattle.judge.specs.Faults.{fileFaults};
-ghost use Rattle.ids.specs.inner.Ids.{idField, AllIdsOnce, recordBytes, firstRepeat};
+ghost use Rattle.ids.specs.inner.Ids.{idField};
+ghost use Rattle.ids.specs.inner.Notes.{size};
 ghost use Rattle.clean.specs.Clean.{treeOf, repeats};
 ghost use Rattle.clean.specs.inner.Blamed.{blamed};
+ghost use Rattle.clean.specs.inner.Noted.{RecordsNoted};
 
-// The number of the first record of the array `p` whose id one before it has; 0 where there is none.
-// Shut out: the earlier of two records blamed.
-fn first_repeat(file: u8, p: &[u8]) -> u16
-    requires { ⌜ (length (now p) ≤ fileBytes) × (length (itemsOf (now p)) ≤ records) × ((0 < length (now p)) → AlongItems (now p) 1) × AllIdsOnce file (now p) ⌝ }
-    ensures { λ r. ⌜ r ≡ firstRepeat file (recordBytes (now (p .entry))) ⌝ }
+// Notes the records of a file that stages A and B pass and whose records have ids; the number of the first whose id one before it has, or 0.
+pub fn note_file(file: u8, s: &[u8], notes: &mut [u32; Notes::SIZE]) -> u16
+    requires { ⌜ (idField file ≡ 0 → ⊥) × (syntaxOf (now s) ≡ Sound) × (least (fileFaults (fileShape table23 file) (treeOf (now s))) ≡ None) × (length (now notes) ≡ size) ⌝ }
+    ensures { λ r. ⌜ (least (repeats file (pick (fileShape table23 file) (treeOf (now (s .entry))))) ≡ blamed (idField file) r) × RecordsNoted file (now (s .entry)) (now (notes .exit)) ⌝ }
 {
-    let mut notes: [u32; Notes::SIZE] = [0; Notes::SIZE];
-    note(file, p, &mut notes)
-}
-
-// The number of the first record whose id one before it has, or 0, of a file that stages A and B pass and whose records have ids.
-pub fn repeat_of(file: u8, s: &[u8]) -> u16
-    requires { ⌜ (idField file ≡ 0 → ⊥) × (syntaxOf (now s) ≡ Sound) × (least (fileFaults (fileShape table23 file) (treeOf (now s))) ≡ None) ⌝ }
-    ensures { λ r. ⌜ least (repeats file (pick (fileShape table23 file) (treeOf (now (s .entry))))) ≡ blamed (idField file) r ⌝ }
-{
-    first_repeat(file, records_from(file, s))
+    note(file, records_from(file, s), notes)
 }
 
 // The rule that a record breaks whose id one before it has, by its number; none where that is 0.

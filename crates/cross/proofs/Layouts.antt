@@ -1,9 +1,8 @@
--- The rows of a file's records stand in the last of its lines; and so what a slot gives is the member of its row's name, and the first one the id.
+-- The rows of a file's records stand in the last of its lines; and so what a slot gives is the member of its row's name.
 use mathlib.Core.Bool.{true}
 use mathlib.Core.List.{List, [], _++_}
-use mathlib.Core.Path.{_≡_, refl, sym, ap, subst, _∙_}
+use mathlib.Core.Path.{_≡_, refl, sym, ap, _∙_}
 use Prim.Native.Nat.{ℕ, _+_, _≤_, _<_}
-use native.Mathlib.Decide.{ℕ-discrete}
 use native.Mathlib.Omega.{arith}
 use lib.ListN.{length, getD, drop}
 use Rattle.text.specs.Text.{same}
@@ -23,7 +22,6 @@ use Rattle.slots.specs.inner.Rows.{mostRows, namesIn}
 use Rattle.slots.specs.inner.Slots.{slotAt}
 use Rattle.document.specs.inner.Values.{kindCode, memberOf}
 use Rattle.document.proofs.ByKind.{found-standing, member-found}
-use Rattle.ids.specs.inner.Ids.{idName, idValue}
 use Rattle.cross.specs.inner.Judged.{Referring, recordFirst, recordCount, Slotted, Reads}
 
 -- these rows fill the lines of a file's records, with a slot each
@@ -62,20 +60,3 @@ module _ {p : List ℕ} {file : ℕ} {s : Slots} (g : Slotted file p s) {rows : 
 -- past files 1 and 3 it is file 4
 pub last-referring : {file : ℕ} → Referring file → (file ≡ 1 → ⊥) → (file ≡ 3 → ⊥) → file ≡ 4
 last-referring h i j = let a = h .least in let b = h .most in let c = h .other in omega arith
-
-by-referring : (P : ℕ → Type 0) → P 1 → P 3 → P 4 → (file : ℕ) → Referring file → P file
-by-referring P a b c file h =
-    elim (ℕ-discrete file 1) [
-      | yes e ↦ subst P (sym e) a
-      | no e ↦ elim (ℕ-discrete file 3) [ yes f ↦ subst P (sym f) b | no f ↦ subst P (sym (last-referring h e f)) c ]
-    ]
-
--- the first row of each file's records is their id
-abbrev pub IdRead : (p q : List ℕ) → ℕ → Type 0
-IdRead p q file = (s : Slots) → Slotted file p s → Reads p s 0 q → q ≡ idValue file p
-
-pub id-slot : {p : List ℕ} {ms : Members} → Whole p (tree.object ms) → {q : List ℕ} → (file : ℕ) → Referring file → IdRead p q file
-unfolding idValue idName identified namesIn
-id-slot {p} w {q} =
-    by-referring (IdRead p q) (λ s g r. slot-member g type-layout 0 (omega arith) r w) (λ s g r. slot-member g status-layout 0 (omega arith) r w)
-    (λ s g r. slot-member g bike-layout 0 (omega arith) r w)

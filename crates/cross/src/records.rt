@@ -2,25 +2,25 @@
 use crate::bikes::judge_bike;
 use crate::set::FILES;
 use crate::set::NAMED;
-use crate::slotted::value_in;
 use crate::statuses::judge_status;
 use crate::types::judge_type;
 use fault::Least;
 use fault::lesser;
 use ids::Notes;
-use ids::id::id_place;
-use ids::note::first_of;
 use ids::note::note_record;
+use ids::order::order_notes;
 use slots::Slots;
 use slots::gather;
 use walk::ItemStep;
 use walk::pass_item;
 ghost use mathlib.Core.List.{map};
+ghost use mathlib.Core.Path.{_≡_};
 ghost use Prim.Native.Nat.{_≤_};
 ghost use lib.ListN.{length};
 ghost use Rattle.limits.specs.Ceilings.{fileBytes};
 ghost use Rattle.slots.specs.inner.Slots.{slotsOf};
-ghost use Rattle.ids.specs.inner.Notes.{Blank};
+ghost use Rattle.ids.specs.inner.Ids.{AllIdsOnce};
+ghost use Rattle.ids.specs.inner.Notes.{size};
 ghost use Rattle.ids.specs.inner.Known.{Searchable};
 ghost use Rattle.cross.specs.Cross.{faultsOf};
 ghost use Rattle.cross.specs.inner.Judged.{Object, filesBy, Known, Referring, Slotted, Judges};
@@ -65,7 +65,7 @@ fn judge_record<'a, 'n, 's>(
     }
 }
 
-// All records of the array `p`, numbered from 1. Each is gathered once, for its id and for its rules.
+// All records of the array `p`, numbered from 1, noted and judged.
 // Shut out: the first broken rule in the order of the bytes; one that stops at a record which breaks nothing; a record left out of the notes because it
 // breaks a rule.
 pub fn judge_records<'a, 'n>(
@@ -75,25 +75,22 @@ pub fn judge_records<'a, 'n>(
     records: [&'a [u8]; FILES],
     notes: [&'n [u32; Notes::SIZE]; NAMED],
 ) -> Findings
-    requires { ⌜ Referring file × Recorded (now p) × Blank (now noted) × Known file (map now records) (map now notes) ⌝ }
+    requires { ⌜ Referring file × Recorded (now p) × AllIdsOnce file (now p) × (length (now noted) ≡ size) × Known file (map now records) (map now notes) ⌝ }
     ensures { λ r. ⌜ Finds (map now (records .entry)) file (now (p .entry)) r × Searchable file (now (p .entry)) (now (noted .exit)) ⌝ }
 {
-    let mut repeat: u16 = 0;
     let mut least = Least::None;
     let mut n: usize = 0;
     let mut at: usize = 1;
     loop {
         let ItemStep::Found(item) = pass_item(p, at) else {
+            let repeat = order_notes(p, n, noted);
             return Findings { repeat, least };
         };
         let start = item.value;
         let end = item.value_end;
         let q = &p[start..end];
         let slots = gather_record(file, q);
-        let id = value_in(q, &slots.state, &slots.from, &slots.upto, 0);
-        let member = id_place(file, q);
-        let repeats = note_record(file, p, start, end, member, id, n, noted);
-        repeat = first_of(repeat, repeats, n);
+        note_record(file, p, item, n, noted);
         n += 1;
         let broken = judge_record(
             file,

@@ -25,21 +25,20 @@ ghost use Prim.Native.Nat.{_≤_};
 ghost use lib.ListN.{length};
 ghost use Rattle.notation.specs.Choice.{_and_};
 ghost use Rattle.word.specs.Kinds.{condition};
-ghost use Rattle.walk.specs.Walk.{itemsOf};
 ghost use Rattle.fault.specs.declared.Least.the-variants.{None};
 ghost use Rattle.fault.specs.Fault.{least, top, faulty};
 ghost use Rattle.fault.specs.inner.Narrow.{Narrow};
 ghost use Rattle.fault.specs.Outcome.{fileCount};
 ghost use Rattle.document.specs.inner.Spans.{RecordsFrom};
 ghost use Rattle.ids.specs.inner.Ids.{AllIdsOnce};
-ghost use Rattle.ids.specs.inner.Notes.{Noted, Blank};
+ghost use Rattle.ids.specs.inner.Notes.{size, Indexed};
 ghost use Rattle.ids.specs.References.{kindIf};
 ghost use Rattle.ids.specs.inner.Known.{Searchable};
 ghost use Rattle.cross.specs.Cross.{missingFile};
 ghost use Rattle.cross.specs.Stage.{bytesOf, picked};
 ghost use Rattle.cross.specs.inner.Judged.{filesBy, Known, Referring};
 ghost use Rattle.cross.specs.inner.Stage.{AllPassAB, firstC};
-ghost use Rattle.cross.specs.inner.Staged.{Recorded, AllRecorded, Others, Found, Ready, repeatOf, fileLeast, AllNarrow, fileOutcome, setOutcome};
+ghost use Rattle.cross.specs.inner.Staged.{Recorded, AllRecorded, AllSingle, Others, Found, Ready, repeatOf, fileLeast, AllNarrow, fileOutcome, setOutcome};
 
 // What is found of the records of each file that references name.
 pub struct Named {
@@ -94,8 +93,8 @@ fn judge_file<'a>(file: u8, found: Findings, records: [&'a [u8]; FILES]) -> Outc
 
 // The records of file 2 or 5, which break no rule but by their ids.
 fn note_records(file: u8, p: &[u8], notes: &mut [u32; Notes::SIZE]) -> Findings
-    requires { ⌜ (file ≤ 5) × Recorded (now p) × Blank (now notes) × AllIdsOnce file (now p) ⌝ }
-    ensures { λ r. ⌜ (r .repeat ≡ repeatOf file (now (p .entry))) × (r .least ≡ None) × Noted file (now (p .entry)) (length (itemsOf (now (p .entry)))) (now (notes .exit)) ⌝ }
+    requires { ⌜ (file ≤ 5) × Recorded (now p) × AllIdsOnce file (now p) × (length (now notes) ≡ size) ⌝ }
+    ensures { λ r. ⌜ (r .repeat ≡ repeatOf file (now (p .entry))) × (r .least ≡ None) × Indexed file (now (p .entry)) (now (notes .exit)) ⌝ }
 {
     Findings {
         repeat: note(file, p, notes),
@@ -111,7 +110,7 @@ fn judge_types<'a, 'n>(
     station_notes: &'n [u32; Notes::SIZE],
     plan_notes: &'n [u32; Notes::SIZE],
 ) -> Findings
-    requires { ⌜ Recorded (bytesOf (map now records) 1) × Blank (now noted) × Others (map now records) (now «station_notes») (now «plan_notes») ⌝ }
+    requires { ⌜ Recorded (bytesOf (map now records) 1) × AllIdsOnce 1 (bytesOf (map now records) 1) × (length (now noted) ≡ size) × Others (map now records) (now «station_notes») (now «plan_notes») ⌝ }
     ensures { λ r. ⌜ Found (map now (records .entry)) 1 r × Searchable 1 (bytesOf (map now (records .entry)) 1) (now (noted .exit)) ⌝ }
 {
     let notes = [plan_notes, station_notes, plan_notes];
@@ -124,7 +123,7 @@ fn judge_unnamed<'a, 'n>(
     records: [&'a [u8]; FILES],
     notes: [&'n [u32; Notes::SIZE]; NAMED],
 ) -> Findings
-    requires { ⌜ Referring file × Recorded (bytesOf (map now records) file) × Known file (map now records) (map now notes) ⌝ }
+    requires { ⌜ Referring file × Recorded (bytesOf (map now records) file) × AllIdsOnce file (bytesOf (map now records) file) × Known file (map now records) (map now notes) ⌝ }
     ensures { λ r. ⌜ Found (map now (records .entry)) file r ⌝ }
 {
     let mut noted: [u32; Notes::SIZE] = [0; Notes::SIZE];
@@ -190,7 +189,7 @@ fn judge_noted<'a, 'n>(
 
 // The first file with a broken rule, where nothing is noted yet.
 fn judge_parts<'a>(records: [&'a [u8]; FILES]) -> Outcome
-    requires { ⌜ AllRecorded (map now records) × AllIdsOnce 2 (bytesOf (map now records) 2) × AllIdsOnce 5 (bytesOf (map now records) 5) × AllNarrow (map now records) ⌝ }
+    requires { ⌜ AllRecorded (map now records) × AllSingle (map now records) × AllNarrow (map now records) ⌝ }
     ensures { λ r. ⌜ r ≡ setOutcome (map now (records .entry)) ⌝ }
 {
     let mut type_notes: [u32; Notes::SIZE] = [0; Notes::SIZE];

@@ -22,23 +22,21 @@ use Rattle.walk.specs.declared.Member.{Member}
 use Rattle.walk.specs.declared.MemberStep.{MemberStep}
 use Rattle.walk.specs.declared.MemberStep.the-variants as members
 use Rattle.walk.specs.Walk.{part, memberIn, memberAt, membersFrom, membersOf}
-use Rattle.walk.specs.Part.{Whole}
+use Rattle.walk.specs.Part.{Whole, inside}
 use Rattle.walk.specs.inner.Kind.{kindAt}
 use Rattle.walk.specs.inner.Along.{AlongMembers, MemberPassed}
 use Rattle.walk.proofs.Folds.{Walk, memberSteps, members-start, walk-more, walk-end}
-use Rattle.walk.proofs.Places.{member-placed}
 use Rattle.walk.proofs.Parts.{member-whole}
 use Rattle.slots.specs.declared.Found.{Found}
 use Rattle.slots.specs.declared.Found.the-variants.{Missing, Once, Twice}
 use Rattle.slots.specs.Found.{noted, foundIn}
-use Rattle.document.specs.Document.{Maybe, none, some}
-use Rattle.document.specs.inner.Values.{kindCode, foundBytes, FoundWhole, memberOf, textBy, isId}
+use Rattle.document.specs.Document.{none, some}
+use Rattle.document.specs.inner.Values.{kindCode, foundBytes, FoundWhole, memberOf, textBy}
 use Rattle.document.proofs.ByKind.{member-found}
-use Rattle.ids.specs.inner.Ids.{idName, idValue, idOf, NoIdBefore, IdPlace, hasId}
-use Rattle.ids.specs.inner.Notes.{kept}
+use Rattle.ids.specs.inner.Ids.{idName, idValue, idOf, NoIdBefore}
 
 -- no bytes have no id
-no-text : textBy [] ≡ none
+pub no-text : textBy [] ≡ none
 unfolding textBy kindAt start digit within
 no-text = refl
 
@@ -54,48 +52,22 @@ none-found file q o e z =
     (by-test (eqb (kindCode (kindAt q)) 5) (λ t. rw (idValue, memberOf, t, ← e) z) (λ t. rw (idValue, memberOf, t)))
     ∙ no-text
 
--- what is kept of a record has the record's id, and once
-module _ (file : ℕ) (q : List ℕ) where
-  abbrev held : Maybe (List ℕ) → List ℕ
-  held o = elim o [ none ↦ [] | some id ↦ q ]
+-- a record with an id is an object in which its name stands once
+module _ (file : ℕ) (q id : List ℕ) (e : idOf file q ≡ some id) where
+  pub id-single : foundIn q (idName file) ≡ Twice → ⊥
+  id-single t = let n = none-found file q Twice (sym t) refl in let z : _≡_ {A = ℕ} 0 1 = cc in omega arith
 
-  kept-id : idOf file (kept file q) ≡ idOf file q
-  kept-id = go (idOf file q) refl
-    where
-      go : (o : Maybe (List ℕ)) → idOf file q ≡ o → idOf file (held o) ≡ o
-      go none e = none-found file [] Missing (sym (nothing-found (idName file))) refl
-      go (some t) e = e
-
-  -- it is the record itself where there is an id
-  pub kept-whole : (id : List ℕ) → hasId file id q ≡ true → kept file q ≡ q
-  kept-whole id = go (idOf file q)
-    where
-      go : (o : Maybe (List ℕ)) → isId id o ≡ true → held o ≡ q
-      go none e = let z : _≡_ {A = ℕ} 0 1 = cc in absurd (omega arith)
-      go (some t) e = refl
-
-  kept-single : foundIn (kept file q) (idName file) ≡ Twice → ⊥
-  kept-single = go (idOf file q) refl
-    where
-      go : (o : Maybe (List ℕ)) → idOf file q ≡ o → foundIn (held o) (idName file) ≡ Twice → ⊥
-      go none e t = let n = nothing-found (idName file) in let z : _≡_ {A = ℕ} 0 1 = cc in omega arith
-      go (some id) e t = let n = none-found file q Twice (sym t) refl in let z : _≡_ {A = ℕ} 0 1 = cc in omega arith
-
-  -- a record with an id is an object
-  object-id : (id : List ℕ) → idOf file q ≡ some id → 5 ≡ kindCode (kindAt q)
+  pub id-object : 5 ≡ kindCode (kindAt q)
   unfolding idValue memberOf
-  object-id id e =
+  id-object =
       by-test (eqb (kindCode (kindAt q)) 5)
       (λ t. sym (eqb-true (kindCode (kindAt q)) 5 t))
       (λ t.
       let n : none ≡ some id = sym no-text ∙ (rw (idValue, memberOf, t) at e) in let z : _≡_ {A = ℕ} 0 1 = cc in absurd (omega arith))
 
-  kept-object : (0 < length (kept file q)) → 5 ≡ kindCode (kindAt (kept file q))
-  kept-object = go (idOf file q) refl
-    where
-      go : (o : Maybe (List ℕ)) → idOf file q ≡ o → 0 < length (held o) → 5 ≡ kindCode (kindAt (held o))
-      go none e h = absurd (omega arith)
-      go (some id) e h = object-id id e
+pub id-some : (file : ℕ) (q id : List ℕ) → idOf file q ≡ some id → 0 < length q
+id-some file [] id e = let n = none-found file [] Missing (sym (nothing-found (idName file))) refl in let z : _≡_ {A = ℕ} 0 1 = cc in absurd (omega arith)
+id-some file (b ∷ q) id e = omega arith
 
 -- a step that passes over values, along such a record or in nothing
 nothing-at : (at : ℕ) → memberAt [] at ≡ members.End
@@ -131,10 +103,6 @@ module _ (q name : List ℕ) where
 
 -- Where no member of the name is met.
 
-pub unmet-none : (file at : ℕ) → NoIdBefore file [] at
-unfolding foundIn membersOf membersFrom
-unmet-none file at = record { left = (0, omega arith, refl); along = λ h. absurd (omega arith) }
-
 pub unmet-start : (file : ℕ) {q : List ℕ} {ms : Members} → Whole q (Json.object ms) → NoIdBefore file q 1
 unfolding foundIn
 unmet-start file w = record { left = members-start _ _ Missing; along = λ h. AlongMembers.start w }
@@ -147,14 +115,6 @@ module _ {file : ℕ} {q : List ℕ} {at : ℕ} (u : NoIdBefore file q at) where
   unmet-end : memberAt q at ≡ members.End → Missing ≡ foundIn q (idName file)
   unmet-end e = walk-end (memberSteps q) (noted q (idName file)) Missing at (foundIn q (idName file)) e (u .left)
 
-  pub place-end : memberAt q at ≡ members.End → IdPlace file q at
-  place-end e =
-      record { unmet = u; here = λ m f. let k : members.End ≡ members.Found m = sym e ∙ f in let z : _≡_ {A = ℕ} 0 1 = cc in absurd (omega arith) }
-
-  pub value-end : memberAt q at ≡ members.End → 5 ≡ kindCode (kindAt q) → [] ≡ idValue file q
-  unfolding idValue
-  value-end e object = member-found q (idName file) 5 object refl Missing (unmet-end e)
-
   -- the member there, x its name
   module _ (m : Member) (f : memberAt q at ≡ members.Found m) (x : List ℕ) (is : x ≡ part q (m .name) (m .«name_end»)) where
     onward : {t : Bool} → same (textOf x) (idName file) ≡ t
@@ -166,15 +126,6 @@ module _ {file : ℕ} {q : List ℕ} {at : ℕ} (u : NoIdBefore file q at) where
     pub unmet-next : same (textOf x) (idName file) ≡ false → NoIdBefore file q (m .next)
     unmet-next e = record { left = onward e; along = λ h. AlongMembers.next (u .along h) f }
 
-    pub place-here : same (textOf x) (idName file) ≡ true → IdPlace file q at
-    place-here e =
-        record {
-          unmet = u;
-          here = λ n g.
-              let k : members.Found m ≡ members.Found n = sym f ∙ g in let z : m ≡ n = cc in
-              subst (λ (o : Member). same (textOf (part q (o .name) (o .«name_end»))) (idName file) ≡ true) z (ap (λ (y : List ℕ). same (textOf y) (idName file)) (sym is) ∙ e);
-        }
-
     -- v is what it holds
     pub value-here : same (textOf x) (idName file) ≡ true → 5 ≡ kindCode (kindAt q) → (foundIn q (idName file) ≡ Twice → ⊥) → {v : List ℕ}
         → (FoundWhole q (Once (m .value) (m .«value_end»)) → v ≡ foundBytes q (Once (m .value) (m .«value_end»))) → v ≡ idValue file q
@@ -183,19 +134,21 @@ module _ {file : ℕ} {q : List ℕ} {at : ℕ} (u : NoIdBefore file q at) where
         holds (member-whole q at m f)
         ∙ member-found q (idName file) 5 object refl (Once (m .value) (m .«value_end»)) (first-found q (idName file) (m .value) (m .«value_end») (m .next) (onward e) single)
 
--- whether the record r, of which q is kept, has an id
-module _ (file : ℕ) (id r q : List ℕ) (keeps : q ≡ kept file r) {at : ℕ} (u : NoIdBefore file q at) where
-  kept-has : hasId file id q ≡ hasId file id r
-  kept-has = ap (isId id) (ap (λ (x : List ℕ). idOf file x) keeps ∙ kept-id file r)
+-- where no member has the name, the record has no id
+pub end-none : {file : ℕ} {q : List ℕ} {at : ℕ} → NoIdBefore file q at → memberAt q at ≡ members.End → idOf file q ≡ none
+end-none {file} {q} u e = none-found file q Missing (unmet-end u e) refl
 
-  pub member-lacking : memberAt q at ≡ members.End → hasId file id r ≡ false
-  member-lacking e = sym kept-has ∙ ap (isId id) (none-found file q Missing (unmet-end u e) refl)
+-- the text that a value stands for, which is a string
+module _ (v t : List ℕ) (e : textBy v ≡ some t) where
+  pub text-kind : 3 ≡ kindCode (kindAt v)
+  unfolding textBy
+  text-kind =
+      by-test (eqb (kindCode (kindAt v)) 3) (λ h. sym (eqb-true (kindCode (kindAt v)) 3 h)) λ h.
+      let k : none ≡ some t = (rw (textBy, h) at e) in let z : _≡_ {A = ℕ} 0 1 = cc in absurd (omega arith)
 
-  pub member-decides : (m : Member) → memberAt q at ≡ members.Found m → (x : List ℕ) → x ≡ part q (m .name) (m .«name_end») → same (textOf x) (idName file) ≡ true
-      → {v : List ℕ} → (FoundWhole q (Once (m .value) (m .«value_end»)) → v ≡ foundBytes q (Once (m .value) (m .«value_end»))) → isId id (textBy v) ≡ hasId file id r
-  member-decides m f x is e holds =
-      let single : foundIn q (idName file) ≡ Twice → ⊥ = λ t. kept-single file r (ap (λ (y : List ℕ). foundIn y (idName file)) (sym keeps) ∙ t) in
-      let k = member-placed q at m f in
-      let some : 0 < length (kept file r) = omega (arith, ap length keeps) in
-      let object : 5 ≡ kindCode (kindAt q) = kept-object file r some ∙ ap (λ (y : List ℕ). kindCode (kindAt y)) (sym keeps) in
-      ap (λ (y : List ℕ). isId id (textBy y)) (value-here u m f x is e object single holds) ∙ kept-has
+  pub text-inside : textOf (inside v) ≡ t
+  unfolding textBy
+  text-inside =
+      by-test (eqb (kindCode (kindAt v)) 3)
+      (λ h. let k : some (textOf (inside v)) ≡ some t = (rw (textBy, h) at e) in cc)
+      (λ h. let k : none ≡ some t = (rw (textBy, h) at e) in let z : _≡_ {A = ℕ} 0 1 = cc in absurd (omega arith))

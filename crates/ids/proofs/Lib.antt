@@ -1,7 +1,12 @@
 pub mod IdOnce
-pub mod Chains
+pub mod Texts
 pub mod Entering
 pub mod Passing
 pub mod Picked
 pub mod Meets
+pub mod Firsts
+pub mod Spreads
+pub mod Gathers
+pub mod Indexes
+pub mod Reading
 pub mod Searches

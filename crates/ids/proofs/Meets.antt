@@ -21,10 +21,10 @@ use Rattle.document.specs.Document.{Maybe, none, some, text}
 use Rattle.document.specs.inner.Items.{pickedItems}
 use Rattle.document.specs.inner.Values.{isId}
 use Rattle.document.proofs.FieldBytes.{rowOf, listed, field-text, field-given}
-use Rattle.ids.specs.inner.Ids.{idField, idOf, recordBytes}
+use Rattle.ids.specs.inner.Ids.{idField, idOf, recordBytes, passing, meeting, anyMeets}
 use Rattle.ids.proofs.Picked.{id-picked}
 use Rattle.ids.specs.References.{anyWith, notHuman}
-use Rattle.ids.specs.inner.Known.{passing, meeting, anyMeets, testOf, testedOf}
+use Rattle.ids.specs.inner.Known.{testOf, testedOf}
 
 -- the record of a file answers alike in bytes and picked
 record Alike (file : ℕ) (q : List ℕ) (x : Picked) : Type 0 where

@@ -7,16 +7,17 @@ use lib.Dec.{eqb}
 use Rattle.notation.specs.Ascii.{bytes}
 use Rattle.notation.specs.Case.{Case, Answers}
 use Rattle.notation.specs.Choice.{_⇒_else_}
+use Rattle.sorting.specs.Cases.{sorting}
 use Rattle.schema.specs.Records.{identified}
 use Rattle.slots.specs.Cases.{gathering}
 use Rattle.slots.specs.Found.{foundIn}
 use Rattle.document.specs.inner.Values.{memberOf, textBy}
-use Rattle.ids.specs.inner.Ids.{idName, idValue, recordBytes, lastWith, anyHas, repeatFrom, firstRepeat, earlier}
-use Rattle.ids.specs.inner.Notes.{lastIn}
+use Rattle.ids.specs.inner.Ids.{idName, idValue, idText, recordBytes, anyHas, repeatFrom, firstRepeat, earlier}
+use Rattle.ids.specs.inner.Notes.{inOrder}
 
 -- opens every definition of ids
 unfoldable pub identifying : Unit {0}
-unfolding gathering foundIn memberOf textBy identified idName idValue recordBytes lastWith anyHas repeatFrom firstRepeat earlier lastIn
+unfolding gathering foundIn memberOf textBy identified idName idValue idText recordBytes anyHas repeatFrom firstRepeat earlier
 identifying = tt
 
 abbrev mark : ℕ → ℕ
@@ -44,26 +45,14 @@ repeats-answered : Answers (λ c. repeatIn (c .0) (c .1)) repeats
 unfolding identifying recordsIn repeatIn
 repeats-answered = refl
 
--- of three stations the last with an id, before a place
-abbrev lasts : List (Case (List ℕ × ℕ) ℕ)
-lasts =
-    ("of two", (bytes "a", 3), 2) ∷
-    ("before the second", (bytes "a", 1), 1) ∷
-    ("none", (bytes "c", 3), 0) ∷
+-- the records of an array in the order of their ids
+abbrev orders : List (Case String (List ℕ))
+orders =
+    ("none", "[]", []) ∷
+    ("by their ids, and those without one first", "[{'bike_id':'b'},{},{'bike_id':'a'}]", 1 ∷ 2 ∷ 0 ∷ []) ∷
+    ("decoded, and equal ids by record", "[{'bike_id':'b'},{'bike_id':'\\u0061'},{'bike_id':'a'}]", 1 ∷ 2 ∷ 0 ∷ []) ∷
     []
 
-lasts-answered : Answers (λ c. lastWith 2 (c .0) (recordsIn "[{'station_id':'a'},{'station_id':'a'},{'station_id':'b'}]") (c .1)) lasts
-unfolding identifying recordsIn
-lasts-answered = refl
-
--- of entries with digests that fall into the buckets 1, 2 and 1, the last of a bucket before a place
-abbrev buckets : List (Case (ℕ × ℕ) ℕ)
-buckets =
-    ("of all three", (1, 3), 3) ∷
-    ("of the first two", (1, 2), 1) ∷
-    ("none", (3, 3), 0) ∷
-    []
-
-buckets-answered : Answers (λ c. lastIn (4_097 ∷ 2 ∷ 1 ∷ []) (c .0) (c .1)) buckets
-unfolding identifying
-buckets-answered = refl
+orders-answered : Answers (λ s. inOrder 4 (map mark (bytes s))) orders
+unfolding identifying sorting inOrder
+orders-answered = refl

@@ -2,3 +2,5 @@
 pub mod Ids
 pub mod Notes
 pub mod Known
+pub mod Gather
+pub mod Spread

@@ -2,80 +2,99 @@
 use crate::Notes;
 use walk::cut;
 ghost use mathlib.Core.Path.{_≡_};
-ghost use Prim.Native.Nat.{_%_, _≤_, _<_};
+ghost use Prim.Native.Nat.{_+_, _*_, _≤_, _<_};
+ghost use lib.Dec.{eqb};
+ghost use lib.ListN.{drop, getD};
 ghost use Rattle.limits.specs.Ceilings.{records, fileBytes};
-ghost use Rattle.walk.specs.Walk.{part};
-ghost use Rattle.ids.specs.inner.Notes.{buckets, digestAt, startAt, endAt, memberStart, linkAt, headAt, entered};
+ghost use Rattle.ids.specs.inner.Notes.{startAt, memberStart, passAt, countIn, skipIn, bit, entered};
 
-// A place or an index as a number of 64 bits.
+// A place or a number as one of 64 bits.
 fn wide(x: u32) -> usize
     ensures { λ r. ⌜ r ≡ x ⌝ }
 {
     x as usize
 }
 
-// The digest of the id of the entry `k`.
-pub fn digest_at(notes: &[u32; Notes::SIZE], k: usize) -> u32
-    requires { ⌜ k < records ⌝ }
-    ensures { λ r. ⌜ r ≡ digestAt (now (notes .entry)) k ⌝ }
+// The key of the id at the place `i` of the order.
+pub fn key_at(notes: &[u32; Notes::SIZE], i: usize) -> u32
+    requires { ⌜ i < records ⌝ }
+    ensures { λ r. ⌜ r ≡ getD (now (notes .entry)) i 0 ⌝ }
 {
-    notes[k]
+    notes[i]
 }
 
-// The record of the entry `k`, where it has an id; no bytes where it has none.
-pub fn record_at<'a>(p: &'a [u8], notes: &[u32; Notes::SIZE], k: usize) -> &'a [u8]
-    requires { ⌜ k < records ⌝ }
-    ensures { λ r. ⌜ now r ≡ part (now (p .entry)) (startAt (now (notes .entry)) k) (endAt (now (notes .entry)) k) ⌝ }
+// Where the record at a place starts.
+pub fn start_at(notes: &[u32; Notes::SIZE], i: usize) -> usize
+    requires { ⌜ i < records ⌝ }
+    ensures { λ r. ⌜ r ≡ startAt (now (notes .entry)) i ⌝ }
 {
-    cut(
-        p,
-        wide(notes[Notes::STARTS + k]),
-        wide(notes[Notes::ENDS + k]),
-    )
+    wide(notes[Notes::STARTS + i])
 }
 
-// Where in the record of the entry `k` the member of its id is looked for.
-pub fn member_at(notes: &[u32; Notes::SIZE], k: usize) -> usize
-    requires { ⌜ k < records ⌝ }
-    ensures { λ r. ⌜ r ≡ memberStart (now (notes .entry)) k ⌝ }
+// What stands in `p` from the record at a place on.
+pub fn record_from<'a>(p: &'a [u8], notes: &[u32; Notes::SIZE], i: usize) -> &'a [u8]
+    requires { ⌜ i < records ⌝ }
+    ensures { λ r. ⌜ now r ≡ drop (startAt (now (notes .entry)) i) (now (p .entry)) ⌝ }
 {
-    wide(notes[Notes::MEMBERS + k])
+    cut(p, start_at(notes, i), p.len())
 }
 
-// One more than the entry before the entry `k` in its chain; 0 where there is none.
-pub fn link_at(notes: &[u32; Notes::SIZE], k: usize) -> usize
-    requires { ⌜ k < records ⌝ }
-    ensures { λ r. ⌜ r ≡ linkAt (now (notes .entry)) k ⌝ }
+// Where in the record at a place the member of its id is looked for.
+pub fn member_at(notes: &[u32; Notes::SIZE], i: usize) -> usize
+    requires { ⌜ i < records ⌝ }
+    ensures { λ r. ⌜ r ≡ memberStart (now (notes .entry)) i ⌝ }
 {
-    wide(notes[Notes::LINKS + k])
+    wide(notes[Notes::MEMBERS + i] / 2)
 }
 
-// One more than the last entry of the chain that a digest falls into; 0 where there is none.
-pub fn last(notes: &[u32; Notes::SIZE], digest: u32) -> usize
-    ensures { λ r. ⌜ r ≡ headAt (now (notes .entry)) (digest % buckets) ⌝ }
+// Whether the record at a place is noted to pass.
+pub fn is_passed(notes: &[u32; Notes::SIZE], i: usize) -> bool
+    requires { ⌜ i < records ⌝ }
+    ensures { λ r. ⌜ r ≡ eqb (passAt (now (notes .entry)) i) 1 ⌝ }
 {
-    wide(notes[Notes::HEADS + digest as usize % Notes::BUCKETS])
+    notes[Notes::MEMBERS + i] % 2 == 1
 }
 
-// One entry more, the last of its chain.
-// Shut out: an entry that is not linked to those before it in its chain.
+// How many records are noted.
+pub fn count(notes: &[u32; Notes::SIZE]) -> usize
+    ensures { λ r. ⌜ r ≡ countIn (now (notes .entry)) ⌝ }
+{
+    wide(notes[Notes::COUNT])
+}
+
+// How many bytes all ids begin with alike.
+pub fn skip(notes: &[u32; Notes::SIZE]) -> usize
+    ensures { λ r. ⌜ r ≡ skipIn (now (notes .entry)) ⌝ }
+{
+    wide(notes[Notes::SKIP])
+}
+
+// A place and a truth as they are noted.
+fn doubled(member: usize, passes: bool) -> u32
+    requires { ⌜ member ≤ fileBytes ⌝ }
+    ensures { λ r. ⌜ r ≡ 2 * member + bit passes ⌝ }
+{
+    if passes {
+        return 2 * (member as u32) + 1;
+    }
+    2 * (member as u32)
+}
+
+// One entry more.
+// Shut out: a place that is lost.
 pub fn enter(
     notes: &mut [u32; Notes::SIZE],
     k: usize,
-    digest: u32,
+    place: usize,
     from: usize,
-    upto: usize,
     member: usize,
+    passes: bool,
 )
-    requires { ⌜ (k < records) × (from ≤ fileBytes) × (upto ≤ fileBytes) × (member ≤ fileBytes) ⌝ }
-    ensures { λ r. ⌜ now (notes .exit) ≡ entered (now (notes .entry)) k digest from upto member ⌝ }
+    requires { ⌜ (k < records) × (place ≤ fileBytes) × (from ≤ fileBytes) × (member ≤ fileBytes) ⌝ }
+    ensures { λ r. ⌜ now (notes .exit) ≡ entered (now (notes .entry)) k place from member (bit passes) ⌝ }
 {
-    let bucket = digest as usize % Notes::BUCKETS;
-    let head = notes[Notes::HEADS + bucket];
-    notes[k] = digest;
+    let mark = doubled(member, passes);
+    notes[k] = place as u32;
     notes[Notes::STARTS + k] = from as u32;
-    notes[Notes::ENDS + k] = upto as u32;
-    notes[Notes::MEMBERS + k] = member as u32;
-    notes[Notes::LINKS + k] = head;
-    notes[Notes::HEADS + bucket] = (k + 1) as u32;
+    notes[Notes::MEMBERS + k] = mark;
 }

@@ -1,24 +1,21 @@
 // The id of a record.
+use crate::IdText;
 use document::fields::STRING;
 use document::fields::code_of;
-use document::fields::unquoted;
 use document::fields::value_at;
 use slots::Found;
-use text::compare::same_text;
 use text::compare::text_is;
 use walk::MemberStep;
 use walk::cut;
 use walk::pass_member;
 ghost use mathlib.Core.Path.{_≡_};
-ghost use Prim.Native.Nat.{_≤_};
+ghost use Prim.Native.Nat.{_≤_, _<_};
 ghost use lib.ListN.{length};
 ghost use Rattle.limits.specs.Ceilings.{fileBytes};
-ghost use Rattle.json.specs.Tree as tree;
-ghost use Rattle.json.specs.Tree.{Members};
-ghost use Rattle.walk.specs.Part.{Whole};
 ghost use Rattle.text.specs.Text.{textOf, same};
-ghost use Rattle.document.specs.inner.Values.{textBy, isId};
-ghost use Rattle.ids.specs.inner.Ids.{idField, idName, IdPlace, IdAt};
+ghost use Rattle.slots.specs.declared.Found.the-variants.{Once};
+ghost use Rattle.document.specs.inner.Values.{foundBytes, FoundWhole, textBy};
+ghost use Rattle.ids.specs.inner.Ids.{idField, idName, TextPlace, IdTold};
 
 // The field of a file's own ids; 0 where its records have none.
 // Shut out: plans whose ids are not looked at.
@@ -45,43 +42,34 @@ pub fn names_id(file: u8, spelled: &[u8]) -> bool
     }
 }
 
-// Where the member of the record `q` is looked for that has the name of the file's ids; where the members end, if none has it.
-pub fn id_place(file: u8, q: &[u8]) -> usize
+// Where the text begins that stands in `q` from one place up to another; 0 where no text stands there, or one with nothing in it.
+fn text_from(q: &[u8], from: usize, upto: usize) -> usize
+    requires { ⌜ (length (now q) ≤ fileBytes) × (from < upto) × (upto ≤ length (now q)) ⌝ }
+    ensures { λ r. ⌜ (r ≤ length (now (q .entry))) × (FoundWhole (now (q .entry)) (Once from upto) → TextPlace (now (q .entry)) (textBy (foundBytes (now (q .entry)) (Once from upto))) r) ⌝ }
+{
+    if code_of(value_at(q, Found::Once(from, upto))) != STRING {
+        return 0;
+    }
+    from + 1
+}
+
+// Where the id of the record `q` is: its members are passed over up to the one that has the name of the file's ids.
+pub fn id_text(file: u8, q: &[u8]) -> IdText
     requires { ⌜ length (now q) ≤ fileBytes ⌝ }
-    ensures { λ r. ⌜ (r ≤ fileBytes) × ((ms : Members) → Whole (now (q .entry)) (tree.object ms) → IdPlace file (now (q .entry)) r) ⌝ }
+    ensures { λ r. ⌜ IdTold file (now (q .entry)) r ⌝ }
 {
     let mut at: usize = 1;
     loop {
         let MemberStep::Found(m) = pass_member(q, at) else {
-            return at;
+            return IdText {
+                member: at,
+                text: 0,
+            };
         };
         if names_id(file, cut(q, m.name, m.name_end)) {
-            return at;
+            let text = text_from(q, m.value, m.value_end);
+            return IdText { member: at, text };
         }
         at = m.next;
     }
-}
-
-// What the record `q` holds as its id, of which the member is looked for at `at`.
-pub fn id_value(q: &[u8], at: usize) -> &[u8]
-    ensures { λ r. ⌜ IdAt (now (q .entry)) at (now r) ⌝ }
-{
-    match pass_member(q, at) {
-        MemberStep::End => {
-            return value_at(q, Found::Missing);
-        }
-        MemberStep::Found(m) => {
-            return value_at(q, Found::Once(m.value, m.value_end));
-        }
-    }
-}
-
-// Whether a value is a text, and that of an id.
-pub fn is_this(value: &[u8], id: &[u8]) -> bool
-    ensures { λ r. ⌜ r ≡ isId (textOf (now (id .entry))) (textBy (now (value .entry))) ⌝ }
-{
-    if code_of(value) != STRING {
-        return false;
-    }
-    same_text(unquoted(value), id)
 }

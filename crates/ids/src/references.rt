@@ -58,7 +58,6 @@ pub fn demanded_by(
 }
 
 // What a reference breaks that names no record: the kind, or 0.
-// Shut out: a reference taken as met because digests agree; one that is spelled in another way taken as dangling.
 pub fn refers(value: &[u8], file: u8, p: &[u8], notes: &[u32; Notes::SIZE]) -> u8
     requires { ⌜ Searchable file (now p) (now notes) ⌝ }
     ensures { λ r. ⌜ listed r ≡ refersTo (textBy (now (value .entry))) (idField file) (pickedItems (recordShape file) (now (p .entry))) ⌝ }

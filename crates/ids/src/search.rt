@@ -1,65 +1,102 @@
 // The search for the record of an id.
 use crate::Notes;
-use crate::columns::digest_at;
-use crate::columns::link_at;
+use crate::Start;
+use crate::columns::count;
+use crate::columns::key_at;
 use crate::columns::member_at;
-use crate::columns::record_at;
-use crate::id::is_this;
+use crate::columns::record_from;
+use crate::columns::skip;
+use crate::columns::start_at;
 use crate::id::names_id;
-use document::fields::value_at;
-use slots::Found;
+use document::fields::unquoted;
+use sorting::Lookup;
+use text::Order;
+use text::key::key_of;
+use text::ordering::order_of;
 use walk::MemberStep;
 use walk::cut;
 use walk::pass_member;
 ghost use mathlib.Core.Path.{_≡_};
-ghost use Rattle.text.specs.Text.{textOf};
-ghost use Rattle.text.specs.inner.Digest.{digest as digestOf};
-ghost use Rattle.ids.specs.inner.Ids.{lastWith, recordBytes};
-ghost use Rattle.ids.specs.inner.Notes.{Searched};
+ghost use Prim.Native.Nat.{_<_};
+ghost use lib.ListN.{length};
+ghost use Rattle.text.specs.Text.{meant};
+ghost use Rattle.sorting.specs.inner.Halves.{foundBy};
+ghost use Rattle.walk.specs.Walk.{itemsOf};
+ghost use Rattle.ids.specs.inner.Notes.{Indexed};
+ghost use Rattle.ids.specs.inner.Known.{probe, Searchable, RecordOf};
 
-// One more than the index of the last record of the array `p` that has the id of this digest, among those before `from` and in its chain; 0 where none has it. The
-// search goes along the chain and over a record's members, from the one that was noted on, and is left where the id is met. A record that is noted has its
-// id once.
-// Shut out: two ids taken for one because their digests agree; an id passed over because it is spelled in another way.
-pub fn search(
-    file: u8,
-    p: &[u8],
-    notes: &[u32; Notes::SIZE],
-    from: usize,
-    id: &[u8],
-    digest: u32,
-) -> usize
-    requires { ⌜ (digest ≡ digestOf (textOf (now id))) × Searched file (now p) (now notes) from (textOf (now id)) ⌝ }
-    ensures { λ r. ⌜ r ≡ lastWith file (textOf (now (id .entry))) (recordBytes (now (p .entry))) from ⌝ }
+// A record of the array `p` that has the id, by its place in the order of ids, counted from 1; 0 where none has it. The id is spelled as in a file, or raw. The
+// search goes by halves over the records in order: the key of the one in the middle tells in which half to go on. Where it is the key of the id, the search
+// goes over the members of that record, from the one that was noted on, and is left where the id is met. A record without an id comes before all others.
+// Shut out: a read that is not counted.
+pub fn search(file: u8, p: &[u8], notes: &[u32; Notes::SIZE], id: &[u8], raw: bool) -> Lookup
+    requires { ⌜ Indexed file (now p) (now notes) × (0 < length (meant raw (now id))) ⌝ }
+    ensures { λ r. ⌜ r ≡ foundBy (probe file (now (p .entry)) (now (notes .entry)) (meant raw (now (id .entry)))) 14 0 (length (itemsOf (now (p .entry)))) ⌝ }
 {
+    let wanted = key_of(id, skip(notes), raw);
     let mut met: usize = 0;
-    let mut j = from;
-    'search: while 0 < j {
-        let k = j - 1;
-        if digest_at(notes, k) == digest {
-            let record = record_at(p, notes, k);
-            let mut at = member_at(notes, k);
-            loop {
-                match pass_member(record, at) {
-                    MemberStep::End => {
-                        break;
-                    }
-                    MemberStep::Found(m) => {
-                        let name = cut(record, m.name, m.name_end);
-                        if names_id(file, name) {
-                            let value = value_at(record, Found::Once(m.value, m.value_end));
-                            if is_this(value, id) {
-                                met = j;
+    let mut left: u8 = 14;
+    let mut lo: usize = 0;
+    let mut hi = count(notes);
+    'search: while lo < hi {
+        let middle = lo + (hi - lo) / 2;
+        let key = key_at(notes, middle);
+        left -= 1;
+        if key < wanted {
+            lo = middle + 1;
+            continue;
+        }
+        if wanted < key {
+            hi = middle;
+            continue;
+        }
+        let record = record_from(p, notes, middle);
+        let mut at = member_at(notes, middle);
+        loop {
+            match pass_member(record, at) {
+                MemberStep::End => {
+                    lo = middle + 1;
+                    break;
+                }
+                MemberStep::Found(m) => {
+                    let name = cut(record, m.name, m.name_end);
+                    if names_id(file, name) {
+                        let value = cut(record, m.value, m.value_end);
+                        match order_of(unquoted(value), id, raw) {
+                            Order::Less => {
+                                lo = middle + 1;
+                                break;
+                            }
+                            Order::Greater => {
+                                hi = middle;
+                                break;
+                            }
+                            Order::Equal => {
+                                met = middle + 1;
                                 break 'search;
                             }
-                            break;
                         }
-                        at = m.next;
                     }
+                    at = m.next;
                 }
             }
         }
-        j = link_at(notes, k);
     }
-    met
+    Lookup { met, left }
+}
+
+// Where the record of the array `p` starts that has the id, which is no spelling but its bytes. An id of no bytes is none.
+// Shut out: a record found by an id that it spells as asked and that decodes to another.
+pub fn find_record(file: u8, p: &[u8], notes: &[u32; Notes::SIZE], id: &[u8]) -> Start
+    requires { ⌜ Searchable file (now p) (now notes) ⌝ }
+    ensures { λ r. ⌜ RecordOf file (now (p .entry)) (now (id .entry)) r ⌝ }
+{
+    if id.len() == 0 {
+        return Start::Nowhere;
+    }
+    let found = search(file, p, notes, id, true);
+    if found.met == 0 {
+        return Start::Nowhere;
+    }
+    Start::At(start_at(notes, found.met - 1))
 }

@@ -15,12 +15,12 @@ use Rattle.schema.specs.Table23 as table
 use Rattle.schema.specs.Pick.{pick}
 use Rattle.decimal.specs.declared.Amount.{Amount}
 use Rattle.fare.specs.declared.Segment.{Segment}
-use Rattle.document.specs.Document.{fieldItems, text}
+use Rattle.document.specs.Document.{fieldItems}
 use Rattle.document.proofs.Rows.{here, below}
 use Rattle.document.proofs.Ways as required
 use Rattle.document.specs.inner.Items.{pickedItems}
 use Rattle.document.specs.Values.{integerIn}
-use Rattle.document.specs.inner.Values.{memberOf, textBy, arrayBy}
+use Rattle.document.specs.inner.Values.{memberOf, arrayBy}
 use Rattle.document.proofs.Arrays.{member-along}
 use Rattle.document.proofs.FieldBytes.{field-spelled, field-text, field-given, field-items, rowOf, listed}
 use Rattle.quote.specs.Plan.{moneyIn, priceIn, priceAt, planSegment}
@@ -30,10 +30,6 @@ use Rattle.quote.proofs.Cleared.{member-clear, required-clear, items-mo
 
 -- a plan
 module _ {p : List ℕ} {x : Json} (w : Whole p x) where
-  pub plan-id : textBy (memberOf p (bytes "plan_id")) ≡ text 50 (pick table.plan x)
-  unfolding table.plan rowOf
-  plan-id = field-text (listed refl) w
-
   pub plan-price : priceBy (memberOf p (bytes "price")) ≡ priceAt (pick table.plan x)
   unfolding table.plan rowOf priceBy priceAt
   plan-price = ap₂ priceIn (field-spelled (listed refl) w) (field-text (listed refl) w)

@@ -1,45 +1,50 @@
--- Of a clean file of plans: its records are the items at the front of the rest, the plan that is looked up is the picked one, and clear, and its quote is
+-- Of a clean file of plans: its records are the items at the front of the rest, a record that has an id is the picked plan, and clear, and its quote is
 -- the file's. An absent file has no plans.
 use mathlib.Core.Bool.{true, false}
-use mathlib.Core.List.{List, [], _∷_, map, List·Memᴰ, List·Memᴰ·head, List·Memᴰ·tail}
-use mathlib.Core.Path.{_≡_, refl, sym, ap, subst, _∙_}
-use Prim.Native.Nat.{ℕ, _≤_, _<_}
+use mathlib.Core.List.{List, [], _∷_, List·Memᴰ, Memᴰ·map}
+use mathlib.Core.Path.{_≡_, refl, sym, ap, ap₂, subst, _∙_}
+use Prim.Native.Nat.{ℕ, _-_, _≤_, _<_}
 use native.Mathlib.Omega.{arith}
 use lib.Dec.{eqb, leb}
 use lib.ListN.{length, drop, length-drop}
 use borrow.Author.Tests.{le-leb, lt-leb, leb-true, eqb-true, eqb-false}
+use Rattle.limits.specs.Ceilings.{depth}
 use Rattle.notation.proofs.Booleans.{by-test, and-left, and-right}
 use Rattle.lexeme.specs.Read as read
 use Rattle.lexeme.specs.Tokens.{blanks}
 use Rattle.json.specs.Text.{text, value, valueBy}
 use Rattle.walk.specs.declared.Item.{Item}
-use Rattle.walk.specs.Walk.{part, itemsOf}
-use Rattle.walk.specs.Part.{Whole, partTree}
-use Rattle.walk.specs.inner.Along.{AlongItems}
+use Rattle.walk.specs.declared.ItemStep.the-variants as items
+use Rattle.walk.specs.Walk.{part, itemAt, itemsOf}
+use Rattle.walk.specs.Part.{partTree}
+use Rattle.walk.specs.inner.Skip.{skipped}
+use Rattle.walk.proofs.Places.{found-item}
+use Rattle.walk.proofs.Folds.{each, itemSteps}
+use Rattle.walk.proofs.Skips.{skip-value}
 use Rattle.walk.proofs.Parts.{itemOf, items-whole}
 use Rattle.schema.specs.Shape.{fileShape}
 use Rattle.schema.specs.Table23.{table23, plan}
-use Rattle.schema.specs.Records.{located}
+use Rattle.schema.specs.Records.{located, identified}
 use Rattle.schema.specs.Pick.{Picked, pick}
-use Rattle.fault.specs.declared.Place.{Place}
-use Rattle.judge.specs.Faults.{faults}
+use Rattle.document.specs.Document as document
 use Rattle.document.specs.Document.{none, some, field, along}
 use Rattle.document.specs.inner.Spans.{RecordsFrom}
-use Rattle.document.specs.inner.Items.{pickedItems}
-use Rattle.document.proofs.Rests.{rest-along, rest-picked}
+use Rattle.document.specs.inner.Items.{picked, pickedItems}
+use Rattle.document.specs.inner.Values.{isId}
+use Rattle.document.proofs.Rests.{rest-picked}
 use Rattle.fault.specs.declared.outcome.Outcome.{Outcome}
 use Rattle.fault.specs.declared.outcome.Outcome.the-variants.{Unbroken}
+use Rattle.ids.specs.inner.Ids.{idField, hasId}
+use Rattle.ids.proofs.Picked.{id-picked}
 use Rattle.clean.specs.Clean as clean
 use Rattle.clean.specs.Clean.{recordsOf, cleanOf}
 use Rattle.clean.proofs.Repeated.{Held}
 use Rattle.clean.proofs.Cleans.{Sound, clean-sound, clean-held}
-use Rattle.quote.specs.declared.Lookup.{Lookup}
-use Rattle.quote.specs.declared.Lookup.the-variants as found
+use Rattle.clean.proofs.Apart.{Apart, clean-apart}
 use Rattle.quote.specs.Plan.{planOf, plans}
-use Rattle.quote.specs.inner.Lookup.{isPlan, lookupIn, lookup}
 use Rattle.quote.specs.inner.Clear.{ClearPlan}
 use Rattle.quote.specs.Quote.{mostSeconds, mostMetres, refused, planQuote, cleanQuote, short, ofClean, quoteOf}
-use Rattle.quote.proofs.Looking.{recordOf, planAt, lookup-plan}
+use Rattle.quote.proofs.Plans.{plan-is, plan-none, plan-among}
 
 -- short rides
 module _ (seconds metres : ℕ) where
@@ -58,22 +63,18 @@ module _ (seconds metres : ℕ) where
       let b = and-right (leb seconds mostSeconds) (leb metres mostMetres) e in
       (leb-true seconds mostSeconds a, leb-true metres mostMetres b)
 
--- a plan that is found is one of the records
-module _ (p id : List ℕ) (φ from upto : ℕ) where
-  clear-in : (ms : List Item) → ((m : Item) → List·Memᴰ m ms → Whole (itemOf p m) (partTree (itemOf p m)))
-      → ((y : Picked) → List·Memᴰ y (map (recordOf p) ms) → (q : Place) × (faults plan q φ y ≡ [])) → lookupIn p id ms ≡ found.Plan from upto → ClearPlan (part p from upto)
-  unfolding lookupIn
-  clear-in [] w sound e = let z : _≡_ {A = ℕ} 0 1 = cc in absurd (omega arith)
-  clear-in (m ∷ ms) w sound e =
-      by-test (isPlan id (recordOf p m)) (λ t. here (rw (lookupIn, t) at e))
-      (λ t. clear-in ms (λ n i. w n (List·Memᴰ·tail i)) (λ y i. sound y (List·Memᴰ·tail i)) (rw (lookupIn, t) at e))
-    where
-      here : found.Plan (m .value) (m .«value_end») ≡ found.Plan from upto → ClearPlan (part p from upto)
-      here h =
-          let a : m .value ≡ from = cc in
-          let b : m .«value_end» ≡ upto = cc in
-          let n = sound (recordOf p m) (List·Memᴰ·head refl) in
-          rw (← a, ← b) (record { whole = w m (List·Memᴰ·head refl); place = n .0; field = φ; clear = n .1 })
+-- the bytes of an item, from its start to where its value is skipped to
+module _ (p : List ℕ) where
+  item-skipped : (at : ℕ) (m : Item) → itemAt p at ≡ items.Found m → length p - length (skipped (drop (m .value) p)) ≡ m .«value_end»
+  item-skipped at m e =
+      let f = found-item p at m e .spelt in let k = f .placed in
+      ap (λ (l : List ℕ). length p - length l) (skip-value depth _ (drop (m .value) p) _ (f .reads)) ∙ omega (arith, length-drop (m .«value_end») p, k .next, k .inside)
+
+  pub item-ends : (m : Item) → List·Memᴰ m (itemsOf p) → {start end : ℕ} → m .value ≡ start → end ≡ length p - length (skipped (drop start p)) → part p start end ≡ itemOf p m
+  unfolding itemsOf
+  item-ends m i {start} {end} v e =
+      let is = each (itemSteps p) (λ n. length p - length (skipped (drop (n .value) p)) ≡ n .«value_end») item-skipped (length p) 1 m i in
+      ap₂ (part p) (sym v) (e ∙ ap (λ (n : ℕ). length p - length (skipped (drop n p))) (sym v) ∙ is)
 
 -- an absent file has no plans
 plans-absent : (s id : List ℕ) → length s ≡ 0 → planOf (plans (pick (fileShape table23 5) (clean.treeOf s))) id ≡ none
@@ -99,44 +100,49 @@ module _ {s p : List ℕ} (k : Sound 5 s) (f : RecordsFrom 5 s p) where
   abbrev held : Held 5 s (clean.treeOf s)
   held = clean-held 5 (omega arith) (omega arith) s k
 
-  pub plans-along : AlongItems p 1
-  plans-along = rest-along f (k .reads) (held .there)
-
   records-are : held .list ≡ pickedItems plan p
   unfolding located
   records-are = rest-picked f (k .reads) (held .there)
 
+  plans-are : plans (pick (fileShape table23 5) (clean.treeOf s)) ≡ pickedItems plan p
+  unfolding plans
+  plans-are = held .are ∙ records-are
+
+  -- no two plans have one id
+  apart : Apart 50 (pickedItems plan p)
+  unfolding identified idField plans
+  apart = subst (Apart 50) plans-are (clean-apart 5 (omega arith) (omega arith) s k)
+
+  -- each is clear
+  pub item-clear : (m : Item) → List·Memᴰ m (itemsOf p) → ClearPlan (itemOf p m)
+  unfolding located
+  item-clear m i =
+      let n = held .sound (picked plan p m) (subst (List·Memᴰ (picked plan p m)) (sym records-are) (Memᴰ·map (picked plan p) i)) in
+      record { whole = items-whole p m i; place = n .0; field = held .field; clear = n .1 }
+
   module _ (id : List ℕ) where
-    plans-are : planAt p (lookup p id) ≡ planOf (plans (pick (fileShape table23 5) (clean.treeOf s))) id
-    unfolding plans
-    plans-are = lookup-plan p id ∙ ap (λ (l : List Picked). planOf l id) (sym (held .are ∙ records-are))
+    -- the id of a record is its field 50
+    has-plan : (m : Item) → List·Memᴰ m (itemsOf p) → hasId 5 id (itemOf p m) ≡ isId id (document.text 50 (picked plan p m))
+    unfolding located identified idField
+    has-plan m i = ap (isId id) (id-picked 5 (omega arith) (omega arith) (items-whole p m i))
 
-    quoted : (o : Lookup) → lookup p id ≡ o → (seconds metres : ℕ)
-        → planQuote seconds metres (planAt p o) ≡ cleanQuote (pick (fileShape table23 5) (clean.treeOf s)) id seconds metres
+    pub quote-none : (seconds metres : ℕ) → ((m : Item) → List·Memᴰ m (itemsOf p) → hasId 5 id (itemOf p m) ≡ false)
+        → refused 6 ≡ cleanQuote (pick (fileShape table23 5) (clean.treeOf s)) id seconds metres
     unfolding cleanQuote
-    quoted o e seconds metres = ap (planQuote seconds metres) (ap (planAt p) (sym e) ∙ plans-are)
+    quote-none seconds metres h =
+        ap (planQuote seconds metres)
+        (sym (ap (λ (l : List Picked). planOf l id) plans-are ∙ plan-none id (picked plan p) (itemsOf p) (λ m i. sym (has-plan m i) ∙ h m i)))
 
-    pub quote-none : (seconds metres : ℕ) → lookup p id ≡ found.Nothing → refused 6 ≡ cleanQuote (pick (fileShape table23 5) (clean.treeOf s)) id seconds metres
-    quote-none seconds metres e = quoted found.Nothing e seconds metres
+    pub quote-some : (m : Item) → List·Memᴰ m (itemsOf p) → hasId 5 id (itemOf p m) ≡ true → (seconds metres : ℕ)
+        → planQuote seconds metres (some (picked plan p m)) ≡ cleanQuote (pick (fileShape table23 5) (clean.treeOf s)) id seconds metres
+    unfolding cleanQuote
+    quote-some m i h seconds metres =
+        ap (planQuote seconds metres)
+        (sym (ap (λ (l : List Picked). planOf l id) plans-are ∙ plan-is id apart (picked plan p m) (Memᴰ·map (picked plan p) i) (sym (has-plan m i) ∙ h)))
 
-    module _ (start end : ℕ) (e : lookup p id ≡ found.Plan start end) where
-      pub quote-clear : ClearPlan (part p start end)
-      unfolding lookup located
-      quote-clear =
-          clear-in p id (held .field) start end (itemsOf p) (items-whole p) (λ y i. held .sound y (subst (List·Memᴰ y) (sym records-are) i)) e
-
-      pub quote-some : (seconds metres : ℕ) → planQuote seconds metres (some (pick plan (partTree (part p start end))))
-          ≡ cleanQuote (pick (fileShape table23 5) (clean.treeOf s)) id seconds metres
-      quote-some seconds metres = quoted (found.Plan start end) e seconds metres
-
-    -- and a plan that is there is found so
     pub plan-clear : (y : Picked) → planOf (plans (pick (fileShape table23 5) (clean.treeOf s))) id ≡ some y → (q : List ℕ) × ClearPlan q × (y ≡ pick plan (partTree q))
-    plan-clear y e = go (lookup p id) refl
-      where
-        go : (o : Lookup) → lookup p id ≡ o → (q : List ℕ) × ClearPlan q × (y ≡ pick plan (partTree q))
-        go found.Nothing h = let n : none ≡ some y = ap (planAt p) (sym h) ∙ plans-are ∙ e in let z : _≡_ {A = ℕ} 0 1 = cc in absurd (omega arith)
-        go (found.Plan start end) h =
-            let n : some (pick plan (partTree (part p start end))) ≡ some y = ap (planAt p) (sym h) ∙ plans-are ∙ e in (part p start end, quote-clear start end h, cc)
+    plan-clear y e =
+        let (m, i, h) = plan-among id (picked plan p) (itemsOf p) y (ap (λ (l : List Picked). planOf l id) (sym plans-are) ∙ e) in (itemOf p m, item-clear m i, h)
 
 -- so the plan of an id in a clean file is clear
 pub found-clear : (s id : List ℕ) (y : Picked) → cleanOf 5 s ≡ Unbroken → planOf (plans (pick (fileShape table23 5) (clean.treeOf s))) id ≡ some y

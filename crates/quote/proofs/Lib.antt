@@ -1,7 +1,7 @@
 pub mod Cleared
 pub mod Ways
 pub mod Fields
-pub mod Looking
+pub mod Plans
 pub mod Segments
 pub mod Trips
 pub mod Files

@@ -1,4 +1,3 @@
 -- Definitions that follow the code. Contracts of inner functions cite them; nobody has to believe them.
 pub mod Clear
-pub mod Lookup
 pub mod Values

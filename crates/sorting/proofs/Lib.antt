@@ -5,7 +5,10 @@ pub mod Merging
 pub mod Halves
 pub mod InOrder
 pub mod Orders
+pub mod Keying
+pub mod Making
 pub mod Halving
+pub mod Finding
 pub mod Neighbours
 pub mod Repeated
 pub mod Alike

@@ -1,6 +1,6 @@
 -- In an order of all records, those with one id stand side by side, the earlier record first: so a record repeats an id exactly where its left neighbour
 -- has it.
-use mathlib.Core.Bool.{Bool, true, false}
+use mathlib.Core.Bool.{Bool, true, false, not}
 use mathlib.Core.List.{List, [], _∷_}
 use mathlib.Core.Path.{_≡_, refl, sym, ap, subst, _∙_}
 use Prim.Native.Nat.{ℕ, zero, suc, _+_, _≤_, _<_}
@@ -21,7 +21,7 @@ use Rattle.sorting.proofs.Records.{by-cases, after-equal}
 use Rattle.sorting.proofs.Orders.{stands, is-record, two-records, places-order, no-greater}
 
 -- whether there is an id
-pub none-given : (x : List ℕ) → same x [] ≡ true → ltb 0 (length x) ≡ false
+none-given : (x : List ℕ) → same x [] ≡ true → ltb 0 (length x) ≡ false
 none-given x e = ap (λ y. ltb 0 (length y)) (same-true x [] e) ∙ le-ltb 0 0 (omega arith)
 
 pub some-given : (x : List ℕ) → same x [] ≡ false → ltb 0 (length x) ≡ true
@@ -34,14 +34,14 @@ module _ (ids : ℕ → List ℕ) where
   unfolding sameId
   same-given i j t e = rw (t, sameId) (ap (λ x. same x (ids j)) e ∙ same-refl (ids j))
 
-  pub same-none : (i j : ℕ) → ltb 0 (length (ids j)) ≡ false → sameId ids i j ≡ false
+  same-none : (i j : ℕ) → ltb 0 (length (ids j)) ≡ false → sameId ids i j ≡ false
   unfolding sameId
   same-none i j t = rw (t, sameId)
 
-  is-given : (i j : ℕ) → sameId ids i j ≡ true → ltb 0 (length (ids j)) ≡ true
+  pub is-given : (i j : ℕ) → sameId ids i j ≡ true → ltb 0 (length (ids j)) ≡ true
   is-given i j e = by-test (ltb 0 (length (ids j))) (λ t. t) λ t. true-false e (same-none i j t)
 
-  is-same : (i j : ℕ) → sameId ids i j ≡ true → ids i ≡ ids j
+  pub is-same : (i j : ℕ) → sameId ids i j ≡ true → ids i ≡ ids j
   unfolding sameId
   is-same i j e = same-true (ids i) (ids j) (rw (is-given i j e, sameId) at e)
 
@@ -52,6 +52,12 @@ module _ (ids : ℕ → List ℕ) where
   same-differs : (i j : ℕ) → (orderOf (ids i) (ids j) ≡ Equal → ⊥) → sameId ids i j ≡ false
   same-differs i j n =
       by-test (sameId ids i j) (λ e. absurd (n (ap (λ x. orderOf x (ids j)) (is-same i j e) ∙ order-refl (ids j)))) λ e. e
+
+  -- where the order is told first, and then whether there is an id
+  pub same-told : (i j : ℕ) {t : Bool} → orderOf (ids i) (ids j) ≡ Equal → t ≡ same (ids j) [] → not t ≡ sameId ids i j
+  same-told i j e f =
+      by-test (same (ids j) []) (λ s. ap not (f ∙ s) ∙ sym (same-none i j (none-given (ids j) s))) λ s.
+      ap not (f ∙ s) ∙ sym (same-ordered i j (some-given (ids j) s) e)
 
   pub same-less : (i j : ℕ) → orderOf (ids i) (ids j) ≡ Less → sameId ids i j ≡ false
   same-less i j e = same-differs i j (λ f. less-equal (sym e ∙ f))

@@ -13,6 +13,7 @@ use Rattle.text.specs.Ordering.{orderOf}
 use Rattle.text.proofs.Ordered.{greater-equal, order-refl}
 use Rattle.sorting.specs.Sorting.{sorted, numbers}
 use Rattle.sorting.specs.Ids.{notAfter, Ordered}
+use Rattle.sorting.specs.inner.Halves.{Ascending}
 use Rattle.sorting.proofs.InOrder.{Has, has-at, at-has, numbers-has, has-numbers, Apart, numbers-apart, apart-at, has-sorted, sorted-has, sorted-apart, InOrder, sorted-order, order-at}
 use Rattle.sorting.proofs.Records.{records-total, after-greater}
 
@@ -45,3 +46,7 @@ module _ (ids : ℕ → List ℕ) (order : List ℕ) (o : Ordered ids order) whe
       let m : j ≤ i = ltb-false i j t in
       let z : j ≡ i = omega arith in
       greater-equal (sym e ∙ ap (λ k. orderOf (ids (getD order i 0)) (ids (getD order k 0))) z ∙ order-refl (ids (getD order i 0)))
+
+  -- so the ids by place are in order
+  pub ascending : Ascending (λ i. ids (getD order i 0)) (length order)
+  ascending i j g h e = no-greater i j g h e

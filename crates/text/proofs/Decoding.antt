@@ -131,6 +131,11 @@ module _ (s : List ℕ) where
     left-character x c e f g =
         text-character s i h x e ∙ ap (λ k. bytesOf x ++ textOf (drop k s)) (sym g) ∙ first-left x c (next-whole (drop i s) x e) f
 
+    -- an escape of six bytes that stands for one
+    pub left-escaped : (b : ℕ) (c : Cursor) → next paired (drop i s) ≡ char1 b 5 → c ≡ cursorAt (i + 6) → textOf (drop i s) ≡ b ∷ left s c
+    left-escaped b c e g =
+        let z : i + 6 ≡ i + 1 + 5 = omega arith in left-character _ c e (ap (λ (d : Cursor). bytesOf (d .begun)) g) (ap (λ (d : Cursor). d .at) g ∙ z)
+
   -- what a step tells, of bytes that are known; and what the bytes are of which it tells
   module _ {x : List ℕ} where
     pub step-end : x ≡ [] → told s End ≡ x

@@ -1,4 +1,4 @@
--- Comparing texts: `same` is equality, so equal texts have equal digests and equal spellings are equal texts; and words are alike to themselves,
+-- Comparing texts: `same` is equality, so equal spellings are equal texts; and words are alike to themselves,
 -- either way round.
 use mathlib.Core.Bool.{true, false}
 use mathlib.Core.List.{List, [], _∷_, map}
@@ -8,8 +8,7 @@ use lib.Dec.{eqb}
 use lib.ListN.{length}
 use borrow.Author.Tests.{eq-eqb, eqb-true}
 use Rattle.notation.proofs.Booleans.{by-test, true-false}
-use Rattle.text.specs.Text.{textOf, same, lower, sameWord}
-use Rattle.text.specs.inner.Digest.{digest}
+use Rattle.text.specs.Text.{same, lower, sameWord}
 
 pub same-refl : (x : List ℕ) → same x x ≡ true
 unfolding same
@@ -37,12 +36,6 @@ same-sym x y =
 
 pub same-lengths : (x y : List ℕ) → (length x ≡ length y → ⊥) → same x y ≡ false
 same-lengths x y h = by-test (same x y) (λ t. absurd (h (ap length (same-true x y t)))) λ f. f
-
-pub text-same : (x y : List ℕ) → same x y ≡ true → same (textOf x) (textOf y) ≡ true
-text-same x y e = ap (λ z. same (textOf x) (textOf z)) (sym (same-true x y e)) ∙ same-refl (textOf x)
-
-pub digest-same : (x y : List ℕ) → same x y ≡ true → digest x ≡ digest y
-digest-same x y e = ap digest (same-true x y e)
 
 pub word-refl : (x : List ℕ) → sameWord x x ≡ true
 unfolding sameWord

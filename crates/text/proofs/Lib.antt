@@ -5,4 +5,9 @@ pub mod Steps
 pub mod Filling
 pub mod Laws
 pub mod Ordered
+pub mod Bytes
+pub mod Keys
+pub mod Seeing
+pub mod Fronts
 pub mod Quoted
+pub mod Escapes

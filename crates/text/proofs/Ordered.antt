@@ -28,27 +28,33 @@ module _ {A : Type 0} where
   pub less-equal : _≡_ {A = Order} Less Equal → A
   less-equal e = let z : _≡_ {A = ℕ} 0 1 = cc in absurd (omega arith)
 
+  pub less-greater : _≡_ {A = Order} Less Greater → A
+  less-greater e = let z : _≡_ {A = ℕ} 0 1 = cc in absurd (omega arith)
+
+  pub equal-greater : _≡_ {A = Order} Equal Greater → A
+  equal-greater e = let z : _≡_ {A = ℕ} 0 1 = cc in absurd (omega arith)
+
   pub greater-equal : _≡_ {A = Order} Greater Equal → A
   greater-equal e = let z : _≡_ {A = ℕ} 0 1 = cc in absurd (omega arith)
 
 -- two strings that begin with a byte each, by these bytes
 module _ (a : ℕ) (x : List ℕ) (b : ℕ) (y : List ℕ) where
-  first-less : a < b → orderOf (a ∷ x) (b ∷ y) ≡ Less
+  pub first-less : a < b → orderOf (a ∷ x) (b ∷ y) ≡ Less
   unfolding orderOf
   first-less h = rw (orderOf, lt-ltb a b h)
 
-  first-greater : b < a → orderOf (a ∷ x) (b ∷ y) ≡ Greater
+  pub first-greater : b < a → orderOf (a ∷ x) (b ∷ y) ≡ Greater
   unfolding orderOf
   first-greater h = let l : b ≤ a = omega arith in rw (orderOf, le-ltb a b l, lt-ltb b a h)
 
-  first-same : a ≡ b → orderOf (a ∷ x) (b ∷ y) ≡ orderOf x y
+  pub first-same : a ≡ b → orderOf (a ∷ x) (b ∷ y) ≡ orderOf x y
   unfolding orderOf
   first-same h =
       let l : b ≤ a = omega arith in
       let m : a ≤ b = omega arith in
       rw (orderOf, le-ltb a b l, le-ltb b a m)
 
-by-first : {A : Type 0} (a b : ℕ) → (a < b → A) → (b < a → A) → (a ≡ b → A) → A
+pub by-first : {A : Type 0} (a b : ℕ) → (a < b → A) → (b < a → A) → (a ≡ b → A) → A
 by-first a b f g h =
     by-test (ltb a b) (λ t. f (ltb-true a b t)) λ t.
     by-test (ltb b a) (λ s. g (ltb-true b a s)) λ s. h (same (ltb-false a b t) (ltb-false b a s))

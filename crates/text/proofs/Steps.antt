@@ -1,18 +1,15 @@
 -- One step of each question on a text's bytes: how it goes on from the first of them.
 use mathlib.Core.Bool.{Bool, true, false}
-use mathlib.Core.List.{List, [], _∷_, _++_, map}
+use mathlib.Core.List.{List, [], _∷_, map}
 use mathlib.Core.Path.{_≡_, refl, sym, ap, _∙_}
 use Prim.Native.Nat.{ℕ, _+_, _≤_}
-use native.Mathlib.Omega.{arith}
-use lib.Dec.{eqb, leb, ltb}
+use lib.Dec.{eqb, leb}
 use lib.ListN.{length, drop, drop-of-length-le}
-use borrow.Author.Tests.{ne-eqb, lt-ltb, le-ltb, leb-true, leb-false}
-use Rattle.notation.specs.Choice.{_and_}
-use Rattle.notation.proofs.Booleans.{by-test, true-false, and-true, and-false}
+use borrow.Author.Tests.{leb-true, leb-false}
+use Rattle.notation.proofs.Booleans.{by-test, true-false}
 use Rattle.notation.proofs.Lists.{at-cons}
 use Rattle.lexeme.specs.Character.{within}
 use Rattle.text.specs.Text.{same, lower, sameWord}
-use Rattle.text.specs.inner.Digest.{mixed, digestFrom}
 use Rattle.text.specs.inner.Walk.{agreeing, cased}
 
 -- small letters
@@ -91,33 +88,3 @@ agreeing-none x y = ap (λ z. same z (map (cased false) y)) (cased-none x) ∙ a
 pub agreeing-all : (x y : List ℕ) → agreeing true x y ≡ sameWord x y
 unfolding cased sameWord
 agreeing-all x y = refl
-
--- a text, of which n bytes were passed
-module _ {x : List ℕ} (n : ℕ) where
-  pub count-end : (m : ℕ) → n ≤ m → x ≡ [] → false ≡ ltb m (n + length x)
-  count-end m h e = rw e (sym (le-ltb m (n + 0) (omega arith)))
-
-  module _ {b : ℕ} {u : List ℕ} (e : x ≡ b ∷ u) where
-    longer : n + length x ≡ n + 1 + length u
-    longer = ap (λ z. n + length z) e ∙ omega arith
-
-    pub count-past : (m : ℕ) → n ≡ m → true ≡ ltb m (n + length x)
-    count-past m h = sym (lt-ltb m (n + length x) (omega (arith, longer)))
-
-    pub count-next : (m : ℕ) → ltb m (n + 1 + length u) ≡ ltb m (n + length x)
-    count-next m = sym (ap (ltb m) longer)
-
--- digests
-module _ {x : List ℕ} (h : ℕ) where
-  pub digest-end : x ≡ [] → h ≡ digestFrom h x
-  unfolding digestFrom
-  digest-end e = rw e
-
-  pub digest-next : {b : ℕ} {u : List ℕ} → x ≡ b ∷ u → digestFrom (mixed h b) u ≡ digestFrom h x
-  unfolding digestFrom
-  digest-next e = rw e
-
-pub digest-append : (h : ℕ) (x y : List ℕ) → digestFrom (digestFrom h x) y ≡ digestFrom h (x ++ y)
-unfolding digestFrom
-digest-append h [] y = refl
-digest-append h (b ∷ x) y = digest-append (mixed h b) x y

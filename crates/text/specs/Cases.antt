@@ -1,21 +1,22 @@
 -- Texts, computed.
 use mathlib.Core.Bool.{Bool, true, false}
 use mathlib.Core.List.{List, [], _∷_, _++_}
-use mathlib.Core.Path.{_≡_, refl}
+use mathlib.Core.Path.{refl}
 use Prim.Native.Nat.{ℕ, zero, suc}
-use lib.ListN.{length}
+use lib.ListN.{length, drop}
 use Rattle.notation.specs.Ascii.{bytes}
 use Rattle.notation.specs.Case.{Case, Answers}
 use Rattle.lexeme.specs.Cases.{lexing}
-use Rattle.text.specs.Text.{textOf, same, lower, sameWord}
+use Rattle.text.specs.Text.{textOf, meant, same, lower, sameWord}
 use Rattle.text.specs.declared.Order.{Order}
 use Rattle.text.specs.declared.Order.the-variants.{Less, Equal, Greater}
 use Rattle.text.specs.Ordering.{orderOf}
-use Rattle.text.specs.inner.Digest.{mixed, digestFrom, digest}
+use Rattle.text.specs.inner.Key.{keyBy, keyOf}
+use Rattle.text.specs.inner.Walk.{alone, seen, samePlain}
 
 -- opens every definition of this layer
 unfoldable pub comparing : Unit {0}
-unfolding lexing same lower sameWord orderOf mixed digestFrom digest
+unfolding lexing same lower sameWord orderOf keyBy alone seen samePlain
 comparing = tt
 
 -- n times the same bytes
@@ -74,6 +75,61 @@ orders-answered : Answers (λ c. orderOf (textOf (c .0)) (textOf (c .1))) orders
 unfolding comparing
 orders-answered = refl
 
+-- what a backslash and a letter mean, as raw bytes and as a spelling
+abbrev meanings : List (Case Bool (List ℕ))
+meanings =
+    ("raw", true, bytes "\\n") ∷
+    ("spelled", false, 0x0a ∷ []) ∷
+    []
+
+meanings-answered : Answers (λ raw. meant raw (bytes "\\n")) meanings
+unfolding comparing
+meanings-answered = refl
+
+-- the keys of texts behind their first bytes
+abbrev keys : List (Case (ℕ × List ℕ) ℕ)
+keys =
+    ("four bytes, the first most significant", (0, bytes "abcde"), 0x61626364) ∷
+    ("behind a front", (2, bytes "abcdefg"), 0x63646566) ∷
+    ("zeros where the text ends", (2, bytes "abc"), 0x63000000) ∷
+    ("past the end", (3, bytes "ab"), 0) ∷
+    ("decoded bytes", (1, bytes "a\\u20acb\"c"), 0xe282ac62) ∷
+    []
+
+keys-answered : Answers (λ c. keyOf (drop (c .0) (textOf (c .1)))) keys
+unfolding comparing
+keys-answered = refl
+
+-- what is seen at the front, raw or not
+abbrev sights : List (Case (Bool × List ℕ) ℕ)
+sights =
+    ("nothing", (false, []), 0) ∷
+    ("a byte that stands for itself", (false, bytes "ab"), 0x62) ∷
+    ("the end of a spelling", (false, bytes "\"a"), 0) ∷
+    ("a raw quotation mark", (true, bytes "\"a"), 0x23) ∷
+    ("an escape", (false, bytes "\\n"), 257) ∷
+    ("past ASCII", (false, 0xc3 ∷ 0xa9 ∷ []), 257) ∷
+    ("past ASCII, raw", (true, 0xc3 ∷ 0xa9 ∷ []), 0xc4) ∷
+    []
+
+sights-answered : Answers (λ c. seen (c .0) (c .1)) sights
+unfolding comparing
+sights-answered = refl
+
+-- whether two spellings begin with the same byte that stands for itself
+abbrev fronts : List (Case (List ℕ × List ℕ) Bool)
+fronts =
+    ("the same", (bytes "ab", bytes "ac"), true) ∷
+    ("another", (bytes "a", bytes "b"), false) ∷
+    ("both end", (bytes "\",", bytes "\"}"), false) ∷
+    ("an escape in both", (bytes "\\n", bytes "\\n"), false) ∷
+    ("one has none", (bytes "a", []), false) ∷
+    []
+
+fronts-answered : Answers (λ c. samePlain (c .0) (c .1)) fronts
+unfolding comparing
+fronts-answered = refl
+
 -- whether they are one word, the case of ASCII letters aside
 abbrev words : List (Case (List ℕ × List ℕ) Bool)
 words =
@@ -97,18 +153,3 @@ lengths =
 lengths-answered : Answers (λ s. length (textOf s)) lengths
 unfolding comparing times
 lengths-answered = refl
-
--- digests go by the text, and by the order of its bytes
-abbrev digests : List (Case (List ℕ) ℕ)
-digests =
-    ("empty", [], 2_166_136_261) ∷
-    ("escaped", bytes "pl\\u0061n", digest (bytes "plan")) ∷
-    []
-
-digests-answered : Answers (λ s. digest (textOf s)) digests
-unfolding comparing
-digests-answered = refl
-
-order-counts : same (digest (bytes "ab") ∷ []) (digest (bytes "ba") ∷ []) ≡ false
-unfolding comparing
-order-counts = refl

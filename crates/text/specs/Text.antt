@@ -12,6 +12,11 @@ use Rattle.lexeme.specs.Strings.{decoded}
 abbrev pub textOf : List ℕ → List ℕ
 textOf spelled = decoded paired 0 spelled
 
+-- what bytes mean: raw ones themselves, a spelling its text
+abbrev pub meant : (raw : Bool) → List ℕ → List ℕ
+meant true s = s
+meant false s = textOf s
+
 -- the same bytes
 unfoldable pub same : List ℕ → List ℕ → Bool
 same [] [] = true

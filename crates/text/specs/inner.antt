@@ -1,3 +1,3 @@
 -- Definitions that follow the code. Contracts of inner functions cite them; nobody has to believe them.
 pub mod Walk
-pub mod Digest
+pub mod Key

@@ -92,37 +92,8 @@ pub fn word_is(spelled: &[u8], plain: &[u8]) -> bool
     reads_as(spelled, plain, true)
 }
 
-// What two spellings stand for is the same, byte by byte.
-fn same_decoded(a: &[u8], b: &[u8]) -> bool
-    ensures { λ r. ⌜ r ≡ same (textOf (now (a .entry))) (textOf (now (b .entry))) ⌝ }
-{
-    let mut c = cursor_at(0);
-    let mut d = cursor_at(0);
-    loop {
-        match next_byte(a, c) {
-            Step::End => {
-                return ended(b, d);
-            }
-            Step::Byte(x, after) => {
-                c = after;
-                match next_byte(b, d) {
-                    Step::End => {
-                        return false;
-                    }
-                    Step::Byte(y, beyond) => {
-                        if x != y {
-                            return false;
-                        }
-                        d = beyond;
-                    }
-                }
-            }
-        }
-    }
-}
-
 // The bytes of two spellings are the same.
-fn same_bytes(a: &[u8], b: &[u8]) -> bool
+pub fn same_bytes(a: &[u8], b: &[u8]) -> bool
     ensures { λ r. ⌜ r ≡ same (now (a .entry)) (now (b .entry)) ⌝ }
 {
     if a.len() != b.len() {
@@ -136,14 +107,4 @@ fn same_bytes(a: &[u8], b: &[u8]) -> bool
         i += 1;
     }
     true
-}
-
-// Two texts, both spelled, are the same. The same spelling is the same text, whatever it holds.
-pub fn same_text(a: &[u8], b: &[u8]) -> bool
-    ensures { λ r. ⌜ r ≡ same (textOf (now (a .entry))) (textOf (now (b .entry))) ⌝ }
-{
-    if same_bytes(a, b) {
-        return true;
-    }
-    same_decoded(a, b)
 }

@@ -3,7 +3,7 @@ use lexeme::Char;
 
 pub mod ascii;
 pub mod compare;
-pub mod digest;
+pub mod key;
 pub mod measure;
 pub mod ordering;
 pub mod walk;

@@ -2,16 +2,17 @@
 use crate::Cursor;
 use crate::Front;
 use crate::Step;
+use crate::ascii::escaped;
 use crate::ascii::is_plain;
 use character::next_char;
 use lexeme::Char;
 use lexeme::Next;
 ghost use mathlib.Core.Path.{_≡_};
-ghost use Prim.Native.Nat.{_≤_};
+ghost use Prim.Native.Nat.{_≤_, _<_};
 ghost use lib.ListN.{drop};
 ghost use Rattle.lexeme.specs.Character.{bytesOf};
 ghost use Rattle.text.specs.Text.{textOf};
-ghost use Rattle.text.specs.inner.Walk.{cursorAt, left, told, Fronted};
+ghost use Rattle.text.specs.inner.Walk.{cursorAt, left, told, leftBy, toldBy, seen, Fronted};
 
 // The cursor at a place of the spelling where a character begins.
 pub fn cursor_at(at: usize) -> Cursor
@@ -51,7 +52,7 @@ fn tail(x: Char) -> Char
     }
 }
 
-// The first byte of what is spelled from `at` on.
+// The first byte of what is spelled from `at` on. Characters of ASCII are told before any others, for which a table of classes is laid out.
 fn first_byte(s: &[u8], at: usize) -> Step
     ensures { λ r. ⌜ told (now (s .entry)) r ≡ textOf (drop at (now (s .entry))) ⌝ }
 {
@@ -60,6 +61,13 @@ fn first_byte(s: &[u8], at: usize) -> Step
     }
     if is_plain(s[at]) {
         return Step::Byte(s[at], cursor_at(at + 1));
+    }
+    if s[at] == b'"' {
+        return Step::End;
+    }
+    let b = escaped(s, at);
+    if b < 128 {
+        return Step::Byte(b, cursor_at(at + 6));
     }
     match next_char(s, at) {
         Next::Quote => {
@@ -95,6 +103,46 @@ pub fn next_byte(s: &[u8], c: Cursor) -> Step
         );
     }
     first_byte(s, c.at)
+}
+
+// The byte at the cursor, of a spelling or of raw bytes.
+pub fn next_meant(s: &[u8], c: Cursor, raw: bool) -> Step
+    ensures { λ r. ⌜ toldBy raw (now (s .entry)) r ≡ leftBy raw (now (s .entry)) c ⌝ }
+{
+    if !raw {
+        return next_byte(s, c);
+    }
+    let at = c.at;
+    if s.len() <= at {
+        return Step::End;
+    }
+    Step::Byte(s[at], cursor_at(at + 1))
+}
+
+// A byte as a number of 32 bits.
+pub fn widened(b: u8) -> u32
+    ensures { λ r. ⌜ (r ≡ b) × (r < 256) ⌝ }
+{
+    b as u32
+}
+
+// What is seen at a place, with nothing decoded: 0 where the text ends, one more than the byte where that stands for itself, and else 257.
+pub fn peek(s: &[u8], at: usize, raw: bool) -> u32
+    ensures { λ r. ⌜ r ≡ seen raw (drop at (now (s .entry))) ⌝ }
+{
+    if s.len() <= at {
+        return 0;
+    }
+    if raw {
+        return widened(s[at]) + 1;
+    }
+    if is_plain(s[at]) {
+        return widened(s[at]) + 1;
+    }
+    if s[at] == b'"' {
+        return 0;
+    }
+    257
 }
 
 // The first `most` bytes from a cursor on; fewer where the text ends before.

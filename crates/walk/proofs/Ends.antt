@@ -40,7 +40,7 @@ below-between b h n =
     let d : eqb b 0x7d ≡ false = ne-eqb b 0x7d (λ e. omega arith) in
     record { mark = ne-eqb b 0x22 n; opens = rw (o, p); closes = rw (c, d) }
 
-no-mark : (b : ℕ) → 0x5b ≤ b → eqb b 0x22 ≡ false
+pub no-mark : (b : ℕ) → 0x5b ≤ b → eqb b 0x22 ≡ false
 no-mark b h = ne-eqb b 0x22 (λ e. omega arith)
 
 -- strings
@@ -101,18 +101,18 @@ module _ (s : List ℕ) (i n : ℕ) (h : i < length s) where
   brackets-string j e k =
       here ∙ enclosed-mark n (byte s i) (drop (i + 1) s) (eq-eqb (byte s i) 0x22 e) ∙ ap (enclosed (suc n) outside) (sym (k .rest))
 
-  module _ (high : 0x5b ≤ byte s i) where
+  module _ (unmarked : eqb (byte s i) 0x22 ≡ false) where
     pub brackets-open : either 0x5b 0x7b (byte s i) ≡ true → enclosed (suc n) outside (drop i s) ≡ enclosed (suc (n + 1)) outside (drop (i + 1) s)
     brackets-open o =
-        here ∙ enclosed-opens n (byte s i) (drop (i + 1) s) (no-mark (byte s i) high) o
+        here ∙ enclosed-opens n (byte s i) (drop (i + 1) s) unmarked o
         ∙ ap (λ (m : ℕ). enclosed (suc m) outside (drop (i + 1) s)) (sym (add-one n))
 
     module _ (o : either 0x5b 0x7b (byte s i) ≡ false) where
       pub brackets-other : either 0x5d 0x7d (byte s i) ≡ false → enclosed (suc n) outside (drop i s) ≡ enclosed (suc n) outside (drop (i + 1) s)
-      brackets-other c = brackets-on (record { mark = no-mark (byte s i) high; opens = o; closes = c })
+      brackets-other c = brackets-on (record { mark = unmarked; opens = o; closes = c })
 
       pub brackets-close : either 0x5d 0x7d (byte s i) ≡ true → enclosed (suc n) outside (drop i s) ≡ enclosed n outside (drop (i + 1) s)
-      brackets-close c = here ∙ enclosed-closes n (byte s i) (drop (i + 1) s) (no-mark (byte s i) high) o c
+      brackets-close c = here ∙ enclosed-closes n (byte s i) (drop (i + 1) s) unmarked o c
 
 pub brackets-cut : (s : List ℕ) (i n : ℕ) → length s ≤ i → enclosed n outside (drop i s) ≡ []
 brackets-cut s i n h = ap (enclosed n outside) (drop-of-length-le s h) ∙ enclosed-end n

@@ -1,8 +1,10 @@
 pub mod Quotes
+pub mod Marks
 pub mod Rests
 pub mod Cuts
 pub mod Steps
 pub mod Skips
+pub mod Runs
 pub mod Places
 pub mod Finding
 pub mod Ends

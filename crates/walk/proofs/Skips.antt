@@ -38,7 +38,7 @@ pub record Between (b : ℕ) : Type 0 where
   pub opens : either 0x5b 0x7b b ≡ false
   pub closes : either 0x5d 0x7d b ≡ false
 
-between : (test : ℕ → Bool) → test 0x22 ≡ false → test 0x5b ≡ false → test 0x7b ≡ false → test 0x5d ≡ false → test 0x7d ≡ false
+pub between : (test : ℕ → Bool) → test 0x22 ≡ false → test 0x5b ≡ false → test 0x7b ≡ false → test 0x5d ≡ false → test 0x7d ≡ false
     → (b : ℕ) → test b ≡ true → Between b
 unfolding either
 between test m o p c d b h =

@@ -15,11 +15,12 @@ use Rattle.walk.specs.declared.ValueKind.the-variants as kind
 use Rattle.walk.specs.Walk.{part, onward, memberIn, memberAt, membersFrom, membersOf, itemIn, itemAt, itemsFrom, itemsOf}
 use Rattle.walk.specs.Part.{partTree, inside}
 use Rattle.walk.specs.inner.Kind.{kindAt}
+use Rattle.walk.specs.inner.Mark.{packed, before, stringMark, bracketMark}
 use Rattle.walk.specs.inner.Skip.{quoted, enclosed, numbered, skipped}
 
 -- opens every definition of this layer
 unfoldable pub walking : Unit {0}
-unfolding reading onward memberIn memberAt membersFrom membersOf itemIn itemAt itemsFrom itemsOf partTree start kindAt quoted enclosed numbered skipped
+unfolding reading onward memberIn memberAt membersFrom membersOf itemIn itemAt itemsFrom itemsOf partTree start kindAt quoted enclosed numbered skipped packed before stringMark bracketMark
 walking = tt
 
 abbrev at : ℕ → ℕ → ℕ → ℕ → ℕ → Member
@@ -94,3 +95,33 @@ rests =
 rests-answered : Answers skipped rests
 unfolding walking
 rests-answered = refl
+
+first-byte-least : packed (bytes "AB") ≡ 0x4241
+unfolding walking
+first-byte-least = refl
+
+-- how many bytes stand before the first mark
+abbrev strings : List (Case (List ℕ) ℕ)
+strings =
+    ("a quotation mark", bytes "abc\"\\", 3) ∷
+    ("a backslash", bytes "abcdefg\\", 7) ∷
+    ("none, of brackets too", bytes "[{}]", 4) ∷
+    []
+
+strings-answered : Answers (before stringMark) strings
+unfolding walking
+strings-answered = refl
+
+abbrev brackets : List (Case (List ℕ) ℕ)
+brackets =
+    ("an array opens", bytes "-1,[", 3) ∷
+    ("an array closes", bytes "2]", 1) ∷
+    ("an object opens", bytes ": {", 2) ∷
+    ("an object closes", bytes "true}", 4) ∷
+    ("a quotation mark", bytes ",\"[", 1) ∷
+    ("none", bytes "1.5e-7, ", 8) ∷
+    []
+
+brackets-answered : Answers (before bracketMark) brackets
+unfolding walking
+brackets-answered = refl

@@ -2,5 +2,6 @@
 pub mod Along
 pub mod Front
 pub mod Kind
+pub mod Mark
 pub mod Skip
 pub mod Tail

@@ -16,6 +16,7 @@ use lexeme::front::ahead;
 use lexeme::front::first;
 use lexeme::front::place;
 
+mod mark;
 pub mod skip;
 pub mod tail;
 

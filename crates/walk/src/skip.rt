@@ -1,9 +1,12 @@
 // Where a value ends, by its quotation marks and brackets alone. Nothing is checked: of bytes that stage A passed it is where reading ends.
 ghost use mathlib.Core.Bool.{false};
 ghost use mathlib.Core.Path.{_≡_};
-ghost use Prim.Native.Nat.{_-_};
+ghost use Prim.Native.Nat.{suc, _+_, _-_, _≤_};
+ghost use lib.Dec.{ltb};
 ghost use lib.ListN.{length, drop};
 ghost use Rattle.walk.specs.inner.Skip.{quoted, outside, enclosed, numbered, skipped};
+use crate::mark::before_bracket_mark;
+use crate::mark::before_string_mark;
 use lexeme::Scan;
 use lexeme::ascii::is_digit;
 use lexeme::ascii::is_either;
@@ -12,8 +15,8 @@ use lexeme::front::first;
 use lexeme::front::place;
 use lexeme::number::read_number;
 
-// Just past the quotation mark that closes a string, whose text goes on at `at`. Most of its bytes are letters, and those are above the backslash.
-pub fn string_end(s: &[u8], at: usize) -> usize
+// Just past the quotation mark that closes a string, whose text goes on at `at`, byte by byte. Most of its bytes are letters, and those are above the backslash.
+fn string_end_bytewise(s: &[u8], at: usize) -> usize
     ensures { λ r. ⌜ r ≡ length (now (s .entry)) - length (quoted false (drop at (now (s .entry)))) ⌝ }
 {
     let mut i = at;
@@ -35,11 +38,63 @@ pub fn string_end(s: &[u8], at: usize) -> usize
     s.len()
 }
 
-// Just past the bracket that closes one which was opened before `at`. Most bytes outside strings are below the brackets.
-fn brackets_end(s: &[u8], at: usize) -> usize
-    ensures { λ r. ⌜ r ≡ length (now (s .entry)) - length (enclosed 1 outside (drop at (now (s .entry)))) ⌝ }
+// Just past the quotation mark that closes a string, whose text goes on at `at`: eight bytes at once as long as there are eight.
+fn string_end_wordwise(s: &[u8], at: usize) -> usize
+    ensures { λ r. ⌜ r ≡ length (now (s .entry)) - length (quoted false (drop at (now (s .entry)))) ⌝ }
 {
-    let mut inner: usize = 0;
+    if s.len() < 8 {
+        return string_end_bytewise(s, at);
+    }
+    let last = s.len() - 8;
+    let mut i = at;
+    while i <= last {
+        let n = before_string_mark(s, i);
+        if n == 8 {
+            i += 8;
+            continue;
+        }
+        let j = i + n;
+        if s[j] == b'"' {
+            return j + 1;
+        }
+        i = j + 2;
+    }
+    string_end_bytewise(s, i)
+}
+
+// Do fewer than n bytes stand at `at`?
+fn lacks(s: &[u8], at: usize, n: usize) -> bool
+    ensures { λ r. ⌜ r ≡ ltb (length (now (s .entry))) (at + n) ⌝ }
+{
+    if s.len() < n {
+        return true;
+    }
+    s.len() - n < at
+}
+
+// Just past the quotation mark that closes a string, whose text goes on at `at`. Most strings are short: where nine bytes hold the mark, no loop is needed.
+pub fn string_end(s: &[u8], at: usize) -> usize
+    ensures { λ r. ⌜ r ≡ length (now (s .entry)) - length (quoted false (drop at (now (s .entry)))) ⌝ }
+{
+    if lacks(s, at, 9) {
+        return string_end_wordwise(s, at);
+    }
+    if s[at] == b'"' {
+        return at + 1;
+    }
+    let j = at + before_string_mark(s, at);
+    if s[j] == b'"' {
+        return j + 1;
+    }
+    string_end_wordwise(s, j)
+}
+
+// Just past the bracket that closes one which was opened before `at`, where `more` others stand open, byte by byte. Most bytes outside strings are below the brackets.
+fn brackets_end_bytewise(s: &[u8], at: usize, more: usize) -> usize
+    requires { ⌜ more ≤ at ⌝ }
+    ensures { λ r. ⌜ r ≡ length (now (s .entry)) - length (enclosed (suc more) outside (drop at (now (s .entry)))) ⌝ }
+{
+    let mut inner = more;
     let mut i = at;
     while i < s.len() {
         let b = s[i];
@@ -67,6 +122,44 @@ fn brackets_end(s: &[u8], at: usize) -> usize
         i += 1;
     }
     s.len()
+}
+
+// Just past the bracket that closes one which was opened before `at`, eight bytes at once as long as there are eight.
+fn brackets_end(s: &[u8], at: usize) -> usize
+    ensures { λ r. ⌜ r ≡ length (now (s .entry)) - length (enclosed 1 outside (drop at (now (s .entry)))) ⌝ }
+{
+    if s.len() < 8 {
+        return brackets_end_bytewise(s, at, 0);
+    }
+    let last = s.len() - 8;
+    let mut inner: usize = 0;
+    let mut i = at;
+    while i <= last {
+        let n = before_bracket_mark(s, i);
+        if n == 8 {
+            i += 8;
+            continue;
+        }
+        let j = i + n;
+        let b = s[j];
+        if b == b'"' {
+            i = string_end(s, j + 1);
+            continue;
+        }
+        i = j + 1;
+        if is_either(b, b'[', b'{') {
+            inner += 1;
+            continue;
+        }
+        if is_either(b, b']', b'}') {
+            if inner == 0 {
+                return i;
+            }
+            inner -= 1;
+            continue;
+        }
+    }
+    brackets_end_bytewise(s, i, inner)
 }
 
 // Just past the number at `at`.

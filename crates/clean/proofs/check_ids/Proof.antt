@@ -1,4 +1,4 @@
--- `check_ids` names the first record whose id is used before, in the files whose records have ids.
+-- `check_ids` names the first record whose id is used before, in the files whose records have ids, and leaves these noted.
 use borrow.Author.Needs.{needs}
 use mathlib.Core.Path.{_≡_, sym, ap, subst, _∙_}
 use native.Mathlib.Omega.{arith}
@@ -14,21 +14,21 @@ use Rattle.clean.proofs.check_ids.Tie as tie
 returns : tie.Need-returns
 returns c =
     let f = c .before in let file = f .before .before .args .file in let e : idField file ≡ 0 = sym (f .id-field .ensures) ∙ c .if1 .taken in
-    ap (outcomeOf file) (sym (repeats-none file (λ h i. omega (arith, id-field file i, e)) _))
+    (ap (outcomeOf file) (sym (repeats-none file (λ h i. omega (arith, id-field file i, e)) _)), λ h n. absurd (n e))
 
-repeat-of-requires : tie.Need-repeat-of-requires
-repeat-of-requires c κs =
-    let f = c .before in let x = f .before .before .pre in (λ e. c .if1 .left (f .id-field .ensures ∙ e), x .0, x .1)
+note-file-requires : tie.Need-note-file-requires
+note-file-requires c κs =
+    let i = c .before in let f = i .before in let x = f .before .before .pre in (λ e. i .if1 .left (f .id-field .ensures ∙ e), x .0, x .1, x .2)
 
 outcome-of-requires : tie.Need-outcome-of-requires
 outcome-of-requires c κs =
-    let r = c .before in let file = r .before .before .before .before .args .file in
-    subst Narrow (sym (c .blame .ensures)) (blamed-narrow (idField file) (r .repeat-of .result) (omega arith))
+    let r = c .before in let file = r .before .before .before .before .before .args .file in
+    subst Narrow (sym (c .blame .ensures)) (blamed-narrow (idField file) (r .note-file .result) (omega arith))
 
 returns-2 : tie.Need-returns-2
 returns-2 c =
-    let b = c .before in let r = b .before in let file = r .before .before .before .before .args .file in
-    c .outcome-of .ensures ∙ ap (outcomeOf file) (b .blame .ensures ∙ sym (r .repeat-of .ensures))
+    let b = c .before in let r = b .before in let file = r .before .before .before .before .before .args .file in
+    (c .outcome-of .ensures ∙ ap (outcomeOf file) (b .blame .ensures ∙ sym (r .note-file .ensures .0)), r .note-file .ensures .1)
 
 pub check-ids-spec : {M : Type 1} → statement M
-check-ids-spec = tie.close (tie.spec (λ c κs. search needs) returns repeat-of-requires (λ c κs. search needs) outcome-of-requires returns-2)
+check-ids-spec = tie.close (tie.spec (λ c κs. search needs) returns note-file-requires (λ c κs. search needs) outcome-of-requires returns-2)

@@ -16,7 +16,7 @@ use Rattle.fault.specs.Fault.{least, lesser, top, faulty}
 use Rattle.fault.specs.Outcome.{fileCount, outcomeOf}
 use Rattle.fault.specs.inner.Narrow.{Narrow}
 use Rattle.document.specs.inner.Items.{pickedItems}
-use Rattle.ids.specs.inner.Ids.{idField, recordBytes, firstRepeat}
+use Rattle.ids.specs.inner.Ids.{idField, AllIdsOnce, recordBytes, firstRepeat}
 use Rattle.clean.specs.inner.Blamed.{blamed}
 use Rattle.ids.specs.References.{kindIf}
 use Rattle.ids.specs.inner.Known.{Searchable}
@@ -37,6 +37,10 @@ pub record Recorded (p : List ℕ) : Type 0 where
 -- the records of all files of a set are such arrays
 abbrev pub AllRecorded : Feeds → Type 0
 AllRecorded rs = (file : ℕ) → 1 ≤ file → file ≤ fileCount → Recorded (bytesOf rs file)
+
+-- the name of its ids stands once at most in every record
+abbrev pub AllSingle : Feeds → Type 0
+AllSingle rs = (file : ℕ) → 1 ≤ file → file ≤ 5 → AllIdsOnce file (bytesOf rs file)
 
 -- the number of the first record whose id one before it has, or 0; records of file 6 have no ids
 unfoldable pub repeatOf : ℕ → List ℕ → ℕ
@@ -80,6 +84,7 @@ module _ (rs : Feeds) where
   pub record Ready (notes : Feeds) (named : Named) : Type 0 where
     pub known : (file : ℕ) → Known file rs notes
     pub recorded : AllRecorded rs
+    pub single : AllSingle rs
     pub narrow : AllNarrow
     pub types : Found 1 (named .types)
     pub stations : Found 2 (named .stations)

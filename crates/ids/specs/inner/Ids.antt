@@ -1,17 +1,18 @@
 -- The ids of a file's own records: what a record has as its id and where, which records have a given id, and the first record whose id one before it has.
 use mathlib.Core.Bool.{Bool, true, false}
-use mathlib.Core.List.{List, [], _∷_, map, List·Memᴰ}
+use mathlib.Core.List.{List, [], _∷_, _++_, map, List·Memᴰ}
 use mathlib.Core.Path.{_≡_}
-use Prim.Native.Nat.{ℕ, zero, suc, _+_, _<_}
-use lib.ListN.{length, getD}
-use Rattle.notation.specs.Choice.{_⇒_else_}
+use Prim.Native.Nat.{ℕ, zero, suc, _+_, _≤_, _<_}
+use lib.Dec.{eqb}
+use lib.ListN.{length, drop, getD}
+use Rattle.limits.specs.Ceilings.{fileBytes}
+use Rattle.notation.specs.Ascii.{bytes}
+use Rattle.notation.specs.Choice.{_⇒_else_, _and_}
 use Rattle.json.specs.Tree as tree
 use Rattle.json.specs.Tree.{Members}
-use Rattle.text.specs.Text.{textOf, same}
+use Rattle.text.specs.Text.{textOf}
 use Rattle.walk.specs.declared.Item.{Item}
-use Rattle.walk.specs.declared.Member.{Member}
-use Rattle.walk.specs.declared.MemberStep.the-variants as members
-use Rattle.walk.specs.Walk.{part, memberAt, itemsOf}
+use Rattle.walk.specs.Walk.{itemsOf}
 use Rattle.walk.specs.Part.{Whole, partTree}
 use Rattle.walk.specs.inner.Along.{AlongMembers}
 use Rattle.walk.proofs.Folds.{Walk, memberSteps}
@@ -20,7 +21,9 @@ use Rattle.schema.specs.Records.{idKey}
 use Rattle.slots.specs.declared.Found.the-variants.{Missing, Twice}
 use Rattle.slots.specs.Found.{noted, foundIn}
 use Rattle.document.specs.Document.{Maybe, none, some}
-use Rattle.document.specs.inner.Values.{memberOf, textBy, isId}
+use Rattle.document.specs.inner.Values.{memberOf, textBy, thereBy, isId}
+use Rattle.ids.specs.declared.IdText.{IdText}
+use Rattle.ids.specs.References.{notHuman}
 
 -- the field and the name of the ids of a file's own records; 0 and no bytes where they have none
 unfoldable pub idField : ℕ → ℕ
@@ -37,19 +40,29 @@ idValue file q = memberOf q (idName file)
 abbrev pub idOf : ℕ → List ℕ → Maybe (List ℕ)
 idOf file q = textBy (idValue file q)
 
+-- no bytes where it has none
+abbrev pub textOr : Maybe (List ℕ) → List ℕ
+textOr none = []
+textOr (some id) = id
+
+unfoldable pub idText : ℕ → List ℕ → List ℕ
+idText file q = textOr (idOf file q)
+
 -- a walk over the members of the record q has come to `at`, and none that it passed has the name of the file's ids
 pub record NoIdBefore (file : ℕ) (q : List ℕ) (at : ℕ) : Type 0 where
   pub left : Walk (memberSteps q) (noted q (idName file)) Missing at (foundIn q (idName file))
   pub along : (0 < length q) → AlongMembers q at
 
--- none of the members before `at` has the name of the file's ids, and the one there, if there is one, has it
-pub record IdPlace (file : ℕ) (q : List ℕ) (at : ℕ) : Type 0 where
-  pub unmet : NoIdBefore file q at
-  pub here : (m : Member) → memberAt q at ≡ members.Found m → same (textOf (part q (m .name) (m .«name_end»))) (idName file) ≡ true
+-- a text of q, if there is one, begins at the place r, whatever follows q; there is none where r is 0
+pub record TextPlace (q : List ℕ) (text : Maybe (List ℕ)) (r : ℕ) : Type 0 where
+  pub none : r ≡ 0 → text ≡ none
+  pub some : 0 < r → (id : List ℕ) × (text ≡ some id) × ((s : List ℕ) → textOf (drop r (q ++ s)) ≡ id)
 
--- v is what an object q holds as its id, where its member is looked for at this place
-abbrev pub IdAt : (q : List ℕ) (at : ℕ) (v : List ℕ) → Type 0
-IdAt q at v = (file : ℕ) (ms : Members) → Whole q (tree.object ms) → IdPlace file q at → (foundIn q (idName file) ≡ Twice → ⊥) → v ≡ idValue file q
+-- what a walk over the members of the record q tells of its id: where its member is looked for, and where its text begins
+pub record IdTold (file : ℕ) (q : List ℕ) (r : IdText) : Type 0 where
+  pub least : r .member ≤ fileBytes
+  pub inside : r .text ≤ length q
+  pub told : (ms : Members) → Whole q (tree.object ms) → (foundIn q (idName file) ≡ Twice → ⊥) → NoIdBefore file q (r .member) × TextPlace q (idOf file q) (r .text)
 
 -- the record q is an object in which this name stands once at most
 pub record IdOnce (file : ℕ) (q : List ℕ) : Type 0 where
@@ -68,10 +81,24 @@ hasId file id q = isId id (idOf file q)
 unfoldable pub recordBytes : List ℕ → List (List ℕ)
 recordBytes p = map (itemOf p) (itemsOf p)
 
--- one more than the index of the last of the first n records that has the id; 0 where none has it
-unfoldable pub lastWith : ℕ → List ℕ → List (List ℕ) → ℕ → ℕ
-lastWith file id rs zero = 0
-lastWith file id rs (suc n) = hasId file id (getD rs n []) ⇒ suc n else lastWith file id rs n
+-- the text of the id of the record k
+abbrev pub idsOf : ℕ → List ℕ → ℕ → List ℕ
+idsOf file p k = idText file (getD (recordBytes p) k [])
+
+-- a record is of the sort that is asked about in its file
+abbrev pub passing : ℕ → List ℕ → Bool
+passing file q =
+    eqb file 1 ⇒ notHuman (textBy (memberOf q (bytes "propulsion_type"))) else
+    eqb file 2 ⇒ thereBy (memberOf q (bytes "capacity")) else true
+
+-- a record has the id, and passes where that is asked
+abbrev pub meeting : ℕ → Bool → List ℕ → List ℕ → Bool
+meeting file tested id q = hasId file id q and (tested ⇒ passing file q else true)
+
+-- one of the first n records has the id, and passes where that is asked
+unfoldable pub anyMeets : ℕ → Bool → List ℕ → List (List ℕ) → ℕ → Bool
+anyMeets file tested id rs zero = false
+anyMeets file tested id rs (suc n) = meeting file tested id (getD rs n []) ⇒ true else anyMeets file tested id rs n
 
 -- one of the records has the id
 unfoldable pub anyHas : ℕ → List ℕ → List (List ℕ) → Bool

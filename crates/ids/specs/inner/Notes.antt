@@ -1,94 +1,98 @@
--- What is noted of the records of an array, in one list of numbers: the digests of their ids, where they start and end, where the members of their ids
--- are looked for, and chains. Entries whose digests fall into one bucket make a chain: the bucket's head tells the last of them, and the link of each the
--- one before it.
-use mathlib.Core.List.{List, []}
+-- What is noted of the records of an array, in one list of numbers: three columns with a number for each record, how many records there are, and how many
+-- bytes all their ids begin with alike. While records are entered, by their numbers, the first column tells where the texts of their ids begin. Once they are
+-- in order, the columns stand in the order of the ids, and the first one has the keys of the ids. The others tell where a record starts, and, doubled, where
+-- the member of its id is looked for, with 1 more where the record passes the test that its file's references are asked about.
+use mathlib.Core.Bool.{Bool, true, false}
+use mathlib.Core.List.{List, [], List·Memᴰ}
 use mathlib.Core.Path.{_≡_}
-use Prim.Native.Nat.{ℕ, zero, suc, _+_, _*_, _%_, _≤_, _<_}
-use lib.Dec.{eqb}
+use Prim.Native.Nat.{ℕ, _+_, _*_, _/_, _%_, _≤_, _<_}
 use lib.ListN.{length, getD, set}
 use Rattle.limits.specs.Ceilings.{records, fileBytes}
-use Rattle.notation.specs.Choice.{_⇒_else_}
-use Rattle.text.specs.inner.Digest as text
-use Rattle.walk.specs.Walk.{part}
+use Rattle.sorting.specs.Sorting.{sorted, numbers}
+use Rattle.sorting.specs.Ids.{idAt, notAfter}
+use Rattle.sorting.specs.inner.Keys.{Keyed}
+use Rattle.walk.specs.declared.Item.{Item}
+use Rattle.walk.specs.Walk.{itemsOf}
+use Rattle.walk.specs.Part.{Whole, partTree}
+use Rattle.walk.proofs.Parts.{itemOf}
 use Rattle.document.specs.Document.{none, some}
-use Rattle.ids.specs.inner.Ids.{idOf, idValue, NoIdBefore, recordBytes}
+use Rattle.ids.specs.inner.Ids.{idOf, idsOf, NoIdBefore, IdOnce, recordBytes, passing, anyMeets}
 
--- how many buckets there are, and how many numbers in all
-abbrev pub buckets : ℕ
-buckets = 4_096
-
+-- how many numbers in all
 abbrev pub size : ℕ
-size = 5 * records + buckets
+size = 3 * records + 2
 
--- of the entry j: the digest of the id, where the record starts and ends, where in it the member of the id is looked for, and one more than the index of
--- the entry before it in its bucket, or 0
-abbrev pub digestAt : List ℕ → ℕ → ℕ
-digestAt notes j = getD notes j 0
-
+-- of the entry j: where the record starts, where in it the member of its id is looked for, and whether it passes
 abbrev pub startAt : List ℕ → ℕ → ℕ
 startAt notes j = getD notes (records + j) 0
 
-abbrev pub endAt : List ℕ → ℕ → ℕ
-endAt notes j = getD notes (2 * records + j) 0
-
 abbrev pub memberStart : List ℕ → ℕ → ℕ
-memberStart notes j = getD notes (3 * records + j) 0
+memberStart notes j = getD notes (2 * records + j) 0 / 2
 
-abbrev pub linkAt : List ℕ → ℕ → ℕ
-linkAt notes j = getD notes (4 * records + j) 0
+abbrev pub passAt : List ℕ → ℕ → ℕ
+passAt notes j = getD notes (2 * records + j) 0 % 2
 
--- of a bucket: one more than the index of its last entry, or 0
-abbrev pub headAt : List ℕ → ℕ → ℕ
-headAt notes bucket = getD notes (5 * records + bucket) 0
+-- of all records
+abbrev pub countIn : List ℕ → ℕ
+countIn notes = getD notes (3 * records) 0
 
--- one more than the index of the last of the first n entries that fall into the bucket; 0 where none does
-unfoldable pub lastIn : (notes : List ℕ) → (bucket n : ℕ) → ℕ
-lastIn notes bucket zero = 0
-lastIn notes bucket (suc n) = eqb (digestAt notes n % buckets) bucket ⇒ suc n else lastIn notes bucket n
+abbrev pub skipIn : List ℕ → ℕ
+skipIn notes = getD notes (3 * records + 1) 0
 
--- the notes with one entry more, at the index n, before which its bucket's head was
-unfoldable pub entered : (notes : List ℕ) → (n digest start end member : ℕ) → List ℕ
-entered notes n digest start end member =
-    set (set (set (set (set (set notes n digest) (records + n) start) (2 * records + n) end) (3 * records + n) member) (4 * records + n) (headAt notes (digest % buckets)))
-    (5 * records + digest % buckets) (n + 1)
+-- a truth as it is noted
+abbrev pub bit : Bool → ℕ
+bit true = 1
+bit false = 0
 
--- a record as it is noted: whole where it has an id, no bytes where it has none
-abbrev pub kept : ℕ → List ℕ → List ℕ
-kept file q = elim (idOf file q) [ none ↦ [] | some id ↦ q ]
+-- the notes with the record n entered
+unfoldable pub entered : (notes : List ℕ) → (n place start member pass : ℕ) → List ℕ
+entered notes n place start member pass = set (set (set notes n place) (records + n) start) (2 * records + n) (2 * member + pass)
 
--- the entry j tells where the j-th record of p is, where the member of its id is looked for, and the digest of its id
-pub record Entry (file : ℕ) (p notes : List ℕ) (j : ℕ) : Type 0 where
-  pub there : part p (startAt notes j) (endAt notes j) ≡ kept file (getD (recordBytes p) j [])
-  pub unmet : NoIdBefore file (part p (startAt notes j) (endAt notes j)) (memberStart notes j)
-  pub digested : (id : List ℕ) → idOf file (getD (recordBytes p) j []) ≡ some id → digestAt notes j ≡ text.digest id
+-- the places tell where the record q of p starts, and where the member of its id is looked for; nothing of p is there where it has none
+pub data Entry (file : ℕ) (p q : List ℕ) (start member : ℕ) : Type 0 where
+  without : idOf file q ≡ none → length p ≤ start → Entry file p q start member
+  within : {id : List ℕ} → idOf file q ≡ some id → (m : Item) → List·Memᴰ m (itemsOf p) → itemOf p m ≡ q → m .value ≡ start → NoIdBefore file q member
+      → Entry file p q start member
 
--- the record between two places of p is the one behind n others; the member of its id is looked for at `member`, and the id is this value
-pub record Next (file : ℕ) (p : List ℕ) (n from upto member : ℕ) (value : List ℕ) : Type 0 where
+-- m is the item of p behind n others: an object in which the name of the file's ids stands once at most
+pub record Next (file : ℕ) (p : List ℕ) (n : ℕ) (m : Item) : Type 0 where
   pub room : n < records
-  pub starts : from ≤ fileBytes
-  pub ends : upto ≤ fileBytes
-  pub looked : member ≤ fileBytes
-  pub unmet : NoIdBefore file (part p from upto) member
-  pub is : part p from upto ≡ getD (recordBytes p) n []
-  pub holds : value ≡ idValue file (part p from upto)
+  pub short : length p ≤ fileBytes
+  pub starts : m .value ≤ m .«value_end»
+  pub ends : m .«value_end» ≤ length p
+  pub among : List·Memᴰ m (itemsOf p)
+  pub whole : Whole (itemOf p m) (partTree (itemOf p m))
+  pub single : IdOnce file (itemOf p m)
+  pub is : itemOf p m ≡ getD (recordBytes p) n []
 
--- the first n records of p are noted, and in chains
+-- the first n records of p are entered
 pub record Noted (file : ℕ) (p : List ℕ) (n : ℕ) (notes : List ℕ) : Type 0 where
   pub long : length notes ≡ size
   pub few : n ≤ records
-  pub entries : (j : ℕ) → j < n → Entry file p notes j
-  pub heads : (bucket : ℕ) → bucket < buckets → headAt notes bucket ≡ lastIn notes bucket n
-  pub links : (j : ℕ) → j < n → linkAt notes j ≡ lastIn notes (digestAt notes j % buckets) j
+  pub entries : (j : ℕ) → j < n → Entry file p (getD (recordBytes p) j []) (startAt notes j) (memberStart notes j)
+  pub texts : (j : ℕ) → j < n → idAt p notes j ≡ idsOf file p j
+  pub tests : (j : ℕ) → j < n → passAt notes j ≡ bit (passing file (getD (recordBytes p) j []))
 
--- nothing is noted
-pub record Blank (notes : List ℕ) : Type 0 where
+-- the records of p in the order of their ids, and the one at the place i
+unfoldable pub inOrder : ℕ → List ℕ → List ℕ
+inOrder file p = sorted (notAfter (idsOf file p)) (numbers 0 (length (itemsOf p)))
+
+abbrev pub recordAt : ℕ → List ℕ → ℕ → ℕ
+recordAt file p i = getD (inOrder file p) i 0
+
+-- the text of its id
+abbrev pub idInOrder : ℕ → List ℕ → ℕ → List ℕ
+idInOrder file p i = idsOf file p (recordAt file p i)
+
+-- the mark tells whether some record with the id of the record k passes
+abbrev pub Spread : (file : ℕ) (p : List ℕ) (mark k : ℕ) → Type 0
+Spread file p mark k = 0 < length (idsOf file p k) → mark ≡ bit (anyMeets file true (idsOf file p k) (recordBytes p) (length (itemsOf p)))
+
+-- all records of p are noted, and in order
+pub record Indexed (file : ℕ) (p notes : List ℕ) : Type 0 where
   pub long : length notes ≡ size
-  pub zeros : (i : ℕ) → getD notes i 0 ≡ 0
-
--- the notes of p's records are searched for an id from `from` on, which is the last of the first `upto` records on the chain of the id's digest
-pub record Searched (file : ℕ) (p notes : List ℕ) (from : ℕ) (id : List ℕ) : Type 0 where
-  pub count : ℕ
-  pub noted : Noted file p count notes
-  pub upto : ℕ
-  pub within : upto ≤ count
-  pub last : from ≡ lastIn notes (text.digest id % buckets) upto
+  pub few : length (itemsOf p) ≤ records
+  pub count : countIn notes ≡ length (itemsOf p)
+  pub keyed : Keyed (idInOrder file p) (length (itemsOf p)) (skipIn notes) notes
+  pub entries : (i : ℕ) → i < length (itemsOf p) → Entry file p (getD (recordBytes p) (recordAt file p i) []) (startAt notes i) (memberStart notes i)
+  pub spread : (i : ℕ) → i < length (itemsOf p) → Spread file p (passAt notes i) (recordAt file p i)

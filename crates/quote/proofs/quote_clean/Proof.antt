@@ -1,14 +1,19 @@
--- `quote_clean` looks the plan up in the file's rest from its records on, and the plan at its place is the picked one.
+-- `quote_clean` looks the plan up in the notes of the file's records: a record that has the id is the plan, and its bytes end where its value does.
 use borrow.Author.Needs.{needs}
-use mathlib.Core.Path.{sym, ap, subst, _∙_}
+use mathlib.Core.Path.{_≡_, sym, ap, subst, _∙_}
+use native.Mathlib.Omega.{arith}
 use Rattle.walk.specs.Part.{partTree}
+use Rattle.walk.proofs.Parts.{itemOf}
 use Rattle.schema.specs.Pick.{pick}
 use Rattle.schema.specs.Table23.{plan}
 use Rattle.document.specs.Document.{some}
+use Rattle.ids.specs.declared.Start.the-variants as start
+use Rattle.ids.specs.inner.Known.{RecordOf}
+use Rattle.ids.proofs.Picked.{id-field}
 use Rattle.clean.proofs.Cleans.{Sound, clean-sound}
 use Rattle.quote.specs.inner.Clear.{ClearPlan}
 use Rattle.quote.specs.Quote.{planQuote}
-use Rattle.quote.proofs.Files.{quote-absent, plans-along, quote-none, quote-clear, quote-some}
+use Rattle.quote.proofs.Files.{item-ends, quote-absent, quote-none, item-clear, quote-some}
 use Rattle.quote.proofs.quote_clean.Statement.{statement}
 use Rattle.quote.proofs.quote_clean.Tie as tie
 
@@ -19,32 +24,44 @@ returns c = let a = c .before .before .before .args in quote-absent (a .s .now) 
 sound : (c : tie.Else1) → Sound 5 (c .before .before .before .args .s .now)
 sound c = let s = c .before .before .before in clean-sound 5 (s .args .s .now) (c .if1 .left) (s .pre .0)
 
-find-plan-requires : tie.Need-find-plan-requires
-find-plan-requires c κs = plans-along (sound (c .before)) (c .records-from .ensures)
+find-record-requires : tie.Need-find-record-requires
+find-record-requires c κs =
+    let s = c .before .before .before .before in
+    record {
+      least = omega arith;
+      most = omega arith;
+      noted = s .pre .1 (omega (arith, c .before .if1 .left)) (λ e. omega (arith, id-field 5 (omega arith), e)) _ (c .records-from .ensures);
+    }
 
 returns-2 : tie.Need-returns-2
 returns-2 c =
     let f = c .before .before in let r = f .before in let a = r .before .before .before .before .args in
-    quote-none (sound (r .before)) (r .records-from .ensures) (a .id .now) (a .seconds) (a .metres) (sym (f .find-plan .ensures) ∙ c .enum-told .given .1)
+    quote-none (sound (r .before)) (r .records-from .ensures) (a .id .now) (a .seconds) (a .metres)
+    (subst (RecordOf 5 _ (a .id .now)) (c .enum-told .given .1) (f .find-record .ensures))
+
+-- the record that was found
+found : (c : tie.After-skip-value) → let d = c .before .before in let f = d .before .before in let r = f .before in let a = r .before .before .before .before .args in
+    RecordOf 5 (r .records-from .result .now) (a .id .now) (start.At (d .start .given .0 .0))
+found c =
+    let d = c .before .before in let f = d .before .before in let r = f .before in let a = r .before .before .before .before .args in
+    subst (RecordOf 5 (r .records-from .result .now) (a .id .now)) (d .start .given .1) (f .find-record .ensures)
+
+-- and its bytes
+bytes : (c : tie.After-cut) → let e = c .before in let r = e .before .before .before .before .before in c .cut .result .now ≡ itemOf (r .records-from .result .now) (found e .0)
+bytes c = let e = c .before in let m = found e in c .cut .ensures ∙ item-ends _ (m .0) (m .1) (m .2) (e .skip-value .ensures)
 
 quote-plan-requires : tie.Need-quote-plan-requires
 quote-plan-requires c κs =
-    let d = c .before .before in let f = d .before .before in let r = f .before in let s = r .before .before .before .before in (
-      s .pre .1,
-      s .pre .2,
-      subst ClearPlan (sym (c .cut .ensures))
-          (quote-clear (sound (r .before)) (r .records-from .ensures) (s .args .id .now) (d .start .given .0 .0) (d .start .given .0 .1 .0)
-          (sym (f .find-plan .ensures) ∙ d .start .given .1)),
-    )
+    let e = c .before in let r = e .before .before .before .before .before in let s = r .before .before .before .before in let m = found e in
+    (s .pre .2, s .pre .3, subst ClearPlan (sym (bytes c)) (item-clear (sound (r .before)) (r .records-from .ensures) (m .0) (m .1)))
 
 returns-3 : tie.Need-returns-3
 returns-3 c =
-    let t = c .before in let d = t .before .before in let f = d .before .before in let r = f .before in let a = r .before .before .before .before .args in
-    c .quote-plan .ensures ∙ ap (λ p. planQuote (a .seconds) (a .metres) (some (pick plan (partTree p)))) (t .cut .ensures)
-    ∙ quote-some (sound (r .before)) (r .records-from .ensures) (a .id .now) (d .start .given .0 .0) (d .start .given .0 .1 .0)
-    (sym (f .find-plan .ensures) ∙ d .start .given .1) (a .seconds) (a .metres)
+    let t = c .before in let e = t .before in let r = e .before .before .before .before .before in let a = r .before .before .before .before .args in let m = found e in
+    c .quote-plan .ensures ∙ ap (λ p. planQuote (a .seconds) (a .metres) (some (pick plan (partTree p)))) (bytes t)
+    ∙ quote-some (sound (r .before)) (r .records-from .ensures) (a .id .now) (m .0) (m .1) (m .3) (a .seconds) (a .metres)
 
 pub quote-clean-spec : {M : Type 1} → statement M
 quote-clean-spec =
-    tie.close (tie.spec returns (λ c κs. search needs) find-plan-requires (λ c. search needs) (λ c. search needs)
-    returns-2 (λ c κs. search needs) quote-plan-requires returns-3)
+    tie.close (tie.spec returns (λ c κs. search needs) find-record-requires (λ c. search needs) (λ c. search needs)
+    returns-2 (λ c κs. search needs) (λ c κs. search needs) quote-plan-requires returns-3)

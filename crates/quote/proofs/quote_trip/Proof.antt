@@ -1,9 +1,10 @@
--- `quote_trip` asks for the ride's length first, then whether the file is clean; only of a clean one is there more to tell.
+-- `quote_trip` asks for the ride's length first, then whether the file is clean; only of a clean one is there more to tell, and its records are noted.
 use borrow.Author.Needs.{needs}
 use borrow.Author.Tests.{not-true, not-false}
 use mathlib.Core.Bool.{true}
 use mathlib.Core.Path.{_≡_, sym, _∙_}
 use Rattle.fault.specs.declared.outcome.Outcome.the-variants.{Unbroken, Broken}
+use Rattle.ids.proofs.Entering.{fresh}
 use Rattle.quote.specs.Quote.{short}
 use Rattle.quote.proofs.Files.{short-both, quote-long, quote-of}
 use Rattle.quote.proofs.quote_trip.Statement.{statement}
@@ -20,22 +21,22 @@ returns c =
 
 returns-2 : tie.Need-returns-2
 returns-2 c =
-    let k = c .before .before .before in let a = k .before .before .before .before .before .args in
-    quote-of (a .s .now) (a .id .now) (a .seconds) (a .metres) (is-short (k .before)) (Broken (c .before .p .given .0 .0)) (sym (c .before .p .given .1) ∙ k .check-clean .ensures)
+    let d = c .before in let k = d .before .before in let i = k .before .before in let a = i .before .before .before .before .args in
+    quote-of (a .s .now) (a .id .now) (a .seconds) (a .metres) (is-short i) (Broken (d .p .given .0 .0)) (sym (d .p .given .1) ∙ k .check-noted .ensures .0)
 
 quote-clean-requires : tie.Need-quote-clean-requires
 quote-clean-requires c κs =
-    let k = c .before .before in let a = k .before .before .before .before .before .args in
-    let b = short-both (a .seconds) (a .metres) (is-short (k .before)) in
-    (sym (k .check-clean .ensures) ∙ c .enum-told .given .1, b .0, b .1)
+    let t = c .before in let k = t .before .before in let i = k .before .before in let a = i .before .before .before .before .args in
+    let b = short-both (a .seconds) (a .metres) (is-short i) in let w = k .check-noted .ensures in
+    (sym (w .0) ∙ t .enum-told .given .1, w .1 (t .enum-told .given .1), b .0, b .1)
 
 returns-3 : tie.Need-returns-3
 returns-3 c =
-    let t = c .before in let k = t .before .before in let a = k .before .before .before .before .before .args in
+    let t = c .before .before in let k = t .before .before in let i = k .before .before in let a = i .before .before .before .before .args in
     c .quote-clean .ensures
-    ∙ quote-of (a .s .now) (a .id .now) (a .seconds) (a .metres) (is-short (k .before)) Unbroken (sym (t .enum-told .given .1) ∙ k .check-clean .ensures)
+    ∙ quote-of (a .s .now) (a .id .now) (a .seconds) (a .metres) (is-short i) Unbroken (sym (t .enum-told .given .1) ∙ k .check-noted .ensures .0)
 
 pub quote-trip-spec : {M : Type 1} → statement M
 quote-trip-spec =
-    tie.close (tie.spec (λ c κs. search needs) returns (λ c κs. search needs) (λ c. search needs) returns-2
+    tie.close (tie.spec (λ c κs. search needs) returns (λ c κs. fresh) (λ c. search needs) returns-2
     (λ c. search needs) quote-clean-requires returns-3)

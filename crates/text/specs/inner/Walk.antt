@@ -2,16 +2,17 @@
 use mathlib.Core.Bool.{Bool, true, false}
 use mathlib.Core.List.{List, [], _∷_, _++_, map}
 use mathlib.Core.Path.{_≡_}
-use Prim.Native.Nat.{ℕ}
+use Prim.Native.Nat.{ℕ, _+_, _<_}
 use lib.Dec.{eqb, ltb}
 use lib.ListN.{length, take, drop}
-use Rattle.notation.specs.Choice.{_⇒_else_}
-use Rattle.lexeme.specs.Character.{bytesOf}
+use Rattle.notation.specs.Choice.{_⇒_else_, _and_}
+use Rattle.lexeme.specs.Character.{bytesOf, paired, char1, next}
 use Rattle.text.specs.declared.Cursor.{Cursor}
 use Rattle.text.specs.declared.Front.{Front}
 use Rattle.text.specs.declared.Step.{Step}
 use Rattle.text.specs.declared.Step.the-variants.{End, Byte}
-use Rattle.text.specs.Text.{textOf, same, lower}
+use Rattle.text.specs.Text.{textOf, meant, same, lower}
+use Rattle.text.specs.Ordering.{orderOf}
 
 -- the place `at` of the spelling, no character begun
 abbrev pub cursorAt : ℕ → Cursor
@@ -26,6 +27,15 @@ unfoldable pub told : List ℕ → Step → List ℕ
 told s End = []
 told s (Byte b c) = b ∷ left s c
 
+-- the same where the bytes may be raw
+unfoldable pub leftBy : (raw : Bool) → List ℕ → Cursor → List ℕ
+leftBy true s c = drop (c .at) s
+leftBy false s c = left s c
+
+unfoldable pub toldBy : (raw : Bool) → List ℕ → Step → List ℕ
+toldBy raw s End = []
+toldBy raw s (Byte b c) = b ∷ leftBy raw s c
+
 -- the first `most` bytes from a cursor on, in an array, and the cursor behind them
 pub record Fronted (s : List ℕ) (c : Cursor) (most : ℕ) (r : Front) : Type 0 where
   pub bytes : take (r .count) (r .bytes) ≡ take most (left s c)
@@ -38,6 +48,26 @@ alone b =
     eqb b 0x22 ⇒ false else
     eqb b 0x5c ⇒ false else
     ltb b 0x20 ⇒ false else ltb b 0x80
+
+-- what is seen at the front of a text: 0 where it ends, one more than the byte where that stands for itself, and 257 where a character is to be decoded
+unfoldable pub seen : (raw : Bool) → List ℕ → ℕ
+seen raw [] = 0
+seen true (b ∷ l) = b + 1
+seen false (b ∷ l) = eqb b 0x22 ⇒ 0 else alone b ⇒ b + 1 else 257
+
+-- an escape of six bytes at the front stands for the byte b of ASCII; any other number says nothing
+abbrev pub Escapes : List ℕ → ℕ → Type 0
+Escapes l b = b < 128 → next paired l ≡ char1 b 5
+
+-- two spellings begin with the same byte, and it stands for itself
+unfoldable pub samePlain : List ℕ → List ℕ → Bool
+samePlain [] y = false
+samePlain (a ∷ x) [] = false
+samePlain (a ∷ x) (b ∷ y) = eqb a b and alone a
+
+-- what follows the first n bytes of two spellings is in order as they are, also where the second has raw bytes
+abbrev pub Ahead : (a b : List ℕ) → ℕ → Type 0
+Ahead a b n = (raw : Bool) → orderOf (textOf (drop n a)) (meant raw (drop n b)) ≡ orderOf (textOf a) (meant raw b)
 
 -- a byte as it is compared, with case folded or not
 unfoldable pub cased : Bool → ℕ → ℕ

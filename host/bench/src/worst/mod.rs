@@ -24,10 +24,15 @@ pub struct Made {
     pub place: Where,
 }
 
-pub const ALL: [Worst; 23] = [
+pub const ALL: [Worst; 26] = [
     // Ids that differ and have one digest, of 8 bytes and of 100 bytes, 92 of which they share.
     Worst { name: "digests", questions: &[Verdict, Quote], make: || referring(&digests::colliding(""), [plain; 6]) },
     Worst { name: "digests-long", questions: &[Verdict, Quote], make: || referring(&digests::colliding(PREFIX), [plain; 6]) },
+    // Ids of which all but one differ in the last two of 100 bytes, and that one in its first, so that the others have one key: plain; spelled
+    // with escapes, as all else is; and spelled with escapes where types have them, but plain where zones name these.
+    Worst { name: "keys", questions: &[Verdict, Quote], make: || referring(&one_key(), [plain; 6]) },
+    Worst { name: "keys-escaped", questions: &[Verdict, Quote], make: || referring(&one_key(), [escaped; 6]) },
+    Worst { name: "keys-spelled", questions: &[Verdict], make: || zones(&one_key(), escaped) },
     // Ids of 100 bytes that differ in the last two: plain; spelled with escapes, as all else is; and spelled with escapes where types have
     // them, but plain where zones name these.
     Worst { name: "prefixes", questions: &[Verdict, Quote, Zone], make: || referring(&alike(), [plain; 6]) },
@@ -96,6 +101,11 @@ fn short() -> Vec<String> {
 /// Ids of 100 bytes that differ in the last two.
 fn alike() -> Vec<String> {
     short().iter().map(|id| format!("{PREFIX}{id}")).collect()
+}
+
+/// The same but for the first, which begins otherwise: all ids have no front in common, and the others have one key.
+fn one_key() -> Vec<String> {
+    std::iter::once("-".into()).chain(alike().into_iter().skip(1)).collect()
 }
 
 /// A ride by a plan, and a place in the zone of `records::zone`.

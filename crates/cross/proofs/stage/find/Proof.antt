@@ -14,10 +14,13 @@ judge-last-requires c κs = let x = c .before .pre .2 in (x .recorded 6 (omega a
 left : {file : ℕ} → 1 ≤ file → file ≤ fileCount → (file ≡ 1 → ⊥) → (file ≡ 2 → ⊥) → (file ≡ 5 → ⊥) → (file ≡ 6 → ⊥) → Referring file
 left h i a b c d = record { least = h; most = omega arith; other = b }
 
+most : {file : ℕ} → file ≤ fileCount → (file ≡ 6 → ⊥) → file ≤ 5
+most h n = omega arith
+
 judge-unnamed-requires : tie.Need-judge-unnamed-requires
 judge-unnamed-requires c κs =
     let s = c .before in let x = s .pre in let r = c .match .rest in
-    (left (x .0) (x .1) (r .0 .0 .0 .1) (r .0 .0 .1) (r .0 .1) (r .1), x .2 .recorded (s .args .file) (x .0) (x .1), x .2 .known (s .args .file))
+    (left (x .0) (x .1) (r .0 .0 .0 .1) (r .0 .0 .1) (r .0 .1) (r .1), x .2 .recorded (s .args .file) (x .0) (x .1), x .2 .single (s .args .file) (x .0) (most (x .1) (r .1)), x .2 .known (s .args .file))
 
 returns : tie.Need-returns
 returns c = let m = c .before in found-at (m .match .keys1) (m .before .pre .2 .types)

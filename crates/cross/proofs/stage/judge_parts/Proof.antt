@@ -1,11 +1,11 @@
--- `judge_parts` notes the files that references name in blank arrays, so that all is known when the others are judged.
+-- `judge_parts` notes the files that references name, so that all is known when the others are judged.
 use borrow.Author.Needs.{needs}
 use mathlib.Core.List.{List, map}
 use mathlib.Core.Path.{refl, sym, subst, _∙_}
 use Prim.Native.Nat.{ℕ}
 use native.Mathlib.Omega.{arith}
 use Rattle.ids.specs.inner.Ids.{AllIdsOnce}
-use Rattle.ids.proofs.Entering.{blank}
+use Rattle.ids.proofs.Entering.{fresh}
 use Rattle.cross.specs.inner.Staged.{Recorded}
 use Rattle.cross.proofs.Numbers.{searchable-by}
 use Rattle.cross.proofs.Staging.{records-none, found-in}
@@ -18,18 +18,19 @@ rs s = map (λ p. p .now) (s .args .records)
 note-records-requires : tie.Need-note-records-requires
 note-records-requires c κs =
     let f = c .before in let x = f .before .pre in let e = sym (f .file-in .ensures) in
-    (omega arith, subst Recorded e (x .0 2 (omega arith) (omega arith)), blank, subst (AllIdsOnce 2) e (x .1))
+    (omega arith, subst Recorded e (x .0 2 (omega arith) (omega arith)), subst (AllIdsOnce 2) e (x .1 2 (omega arith) (omega arith)), fresh)
 
 note-records-requires-2 : tie.Need-note-records-requires-2
 note-records-requires-2 c κs =
     let f = c .before in let x = f .before .before .before .before .pre in let e = sym (f .file-in2 .ensures) in
-    (omega arith, subst Recorded e (x .0 5 (omega arith) (omega arith)), blank, subst (AllIdsOnce 5) e (x .2))
+    (omega arith, subst Recorded e (x .0 5 (omega arith) (omega arith)), subst (AllIdsOnce 5) e (x .1 5 (omega arith) (omega arith)), fresh)
 
 judge-types-requires : tie.Need-judge-types-requires
 judge-types-requires c κs =
     let n₂ = c .before .before .before in let f₂ = n₂ .before .before in let n₁ = f₂ .before in let f₁ = n₁ .before .before in (
       f₁ .before .pre .0 1 (omega arith) (omega arith),
-      blank,
+      f₁ .before .pre .1 1 (omega arith) (omega arith),
+      fresh,
       record {
         stations = searchable-by (sym (f₁ .file-in .ensures)) refl (record { least = omega arith; most = omega arith; noted = n₁ .note-records .ensures .2 });
         plans = searchable-by (sym (f₂ .file-in2 .ensures)) refl (record { least = omega arith; most = omega arith; noted = n₂ .note-records2 .ensures .2 });
@@ -48,7 +49,8 @@ judge-noted-requires c κs =
             plans = searchable-by (sym (f₂ .file-in2 .ensures)) refl (record { least = omega arith; most = omega arith; noted = n₂ .note-records2 .ensures .2 });
           };
       recorded = s .pre .0;
-      narrow = s .pre .3;
+      single = s .pre .1;
+      narrow = s .pre .2;
       types = j .judge-types .ensures .0;
       stations = found-in (f₁ .file-in .ensures)
           (record {

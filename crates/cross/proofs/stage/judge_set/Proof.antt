@@ -40,8 +40,7 @@ judge-parts-requires : tie.Need-judge-parts-requires
 judge-parts-requires c κs =
     let all = held c in (
       λ file h i. all file h i .recorded,
-      all 2 (omega arith) (omega arith) .singles (omega arith),
-      all 5 (omega arith) (omega arith) .singles (omega arith),
+      λ file h i. all file h (omega arith) .singles i,
       all-narrow (files c) (rests c) all,
     )
 

@@ -2,6 +2,7 @@
 use borrow.Author.Needs.{needs}
 use mathlib.Core.Path.{refl, sym, subst}
 use native.Mathlib.Omega.{arith}
+use Rattle.ids.specs.inner.Ids.{AllIdsOnce}
 use Rattle.cross.specs.inner.Staged.{Recorded}
 use Rattle.cross.proofs.Numbers.{searchable-by}
 use Rattle.cross.proofs.Staging.{found-in}
@@ -13,8 +14,9 @@ judge-records-requires c κs =
     let f = c .before in let x = f .before .pre in (
       record { least = omega arith; most = omega arith; other = λ e. omega arith },
       subst Recorded (sym (f .file-in .ensures)) (x .0),
-      x .1,
-      record { types = λ h. absurd (h refl); stations = x .2 .stations; plans = x .2 .plans },
+      subst (AllIdsOnce 1) (sym (f .file-in .ensures)) (x .1),
+      x .2,
+      record { types = λ h. absurd (h refl); stations = x .3 .stations; plans = x .3 .plans },
     )
 
 returns : tie.Need-returns

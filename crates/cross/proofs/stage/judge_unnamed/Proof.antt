@@ -1,7 +1,8 @@
--- `judge_unnamed` judges the records with notes of its own, which are blank at first.
+-- `judge_unnamed` judges the records with notes of its own, which nobody asks.
 use mathlib.Core.Path.{sym, subst}
 use native.Mathlib.Omega.{arith}
-use Rattle.ids.proofs.Entering.{blank}
+use Rattle.ids.specs.inner.Ids.{AllIdsOnce}
+use Rattle.ids.proofs.Entering.{fresh}
 use Rattle.cross.specs.inner.Staged.{Recorded}
 use Rattle.cross.proofs.Staging.{found-in}
 use Rattle.cross.proofs.stage.judge_unnamed.Statement.{statement}
@@ -12,7 +13,8 @@ file-in-requires c κs = let h = c .pre .0 in let a = h .least in let b = h .mos
 
 judge-records-requires : tie.Need-judge-records-requires
 judge-records-requires c κs =
-    let f = c .before in let x = f .before .pre in (x .0, subst Recorded (sym (f .file-in .ensures)) (x .1), blank, x .2)
+    let f = c .before in let s = f .before in let x = s .pre in let e = sym (f .file-in .ensures) in
+    (x .0, subst Recorded e (x .1), subst (AllIdsOnce (s .args .file)) e (x .2), fresh, x .3)
 
 returns : tie.Need-returns
 returns c = found-in (c .before .before .file-in .ensures) (c .judge-records .ensures .0)

@@ -1,11 +1,11 @@
--- `note_records` notes the array in blank notes.
+-- `note_records` notes the array.
 use mathlib.Core.Path.{refl, _∙_}
 use Rattle.cross.proofs.Staging.{repeat-is}
 use Rattle.cross.proofs.stage.note_records.Statement.{statement}
 use Rattle.cross.proofs.stage.note_records.Tie as tie
 
 note-requires : tie.Need-note-requires
-note-requires c κs = let x = c .before .before .pre in (x .1 .short, x .1 .few, x .2, x .1 .along, x .3)
+note-requires c κs = let x = c .before .before .pre in (x .1 .short, x .1 .few, x .1 .along, x .2, x .3)
 
 returns : tie.Need-returns
 returns c =

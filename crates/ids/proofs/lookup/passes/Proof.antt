@@ -5,7 +5,7 @@ use Prim.Native.Nat.{ℕ}
 use borrow.Author.Tests.{ne-eqb}
 use Rattle.document.specs.inner.Values.{textBy, thereBy}
 use Rattle.ids.specs.References.{notHuman}
-use Rattle.ids.specs.inner.Known.{passing}
+use Rattle.ids.specs.inner.Ids.{passing}
 use Rattle.ids.proofs.lookup.passes.Statement.{statement}
 use Rattle.ids.proofs.lookup.passes.Tie as tie
 

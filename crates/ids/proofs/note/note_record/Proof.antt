@@ -1,55 +1,57 @@
--- A record without an id repeats none; the search from the head of the chain finds whether a record before has the id of this one.
+-- A record is entered by the place of its id's text; without one it is entered where nothing is left.
 use borrow.Author.Needs.{needs}
 use mathlib.Core.List.{List}
-use mathlib.Core.Path.{_≡_, refl, sym, ap, subst, _∙_}
-use Prim.Native.Nat.{ℕ, _+_}
-use lib.Dec.{ltb}
-use Rattle.text.specs.Text.{textOf}
-use Rattle.walk.specs.Walk.{part}
-use Rattle.document.specs.Document.{none, some}
-use Rattle.document.specs.inner.Values.{textBy}
-use Rattle.document.proofs.ByKind.{text-none, text-some}
-use Rattle.ids.specs.inner.Ids.{idOf, recordBytes}
+use mathlib.Core.Path.{_≡_, sym, ap, subst, _∙_}
+use Prim.Native.Nat.{ℕ, _+_, _≤_}
+use native.Mathlib.Omega.{arith}
+use lib.ListN.{length}
+use Rattle.limits.specs.Ceilings.{fileBytes}
+use Rattle.walk.specs.Part.{Whole, partTree}
+use Rattle.walk.proofs.Cuts.{part-length}
+use Rattle.walk.proofs.Parts.{itemOf}
+use Rattle.document.proofs.Sizes.{part-short}
+use Rattle.ids.specs.inner.Ids.{idOf, passing, NoIdBefore, TextPlace, IdTold}
 use Rattle.ids.specs.inner.Notes.{Noted}
-use Rattle.ids.proofs.Chains.{from-head, head-all}
-use Rattle.ids.proofs.Entering.{noted-nameless, noted-named}
-use Rattle.ids.proofs.Passing.{any-last, repeated-none, repeated-some}
+use Rattle.ids.proofs.Entering.{enter-none, enter-some}
 use Rattle.ids.proofs.note.note_record.Statement.{statement}
 use Rattle.ids.proofs.note.note_record.Tie as tie
 
+short : (c : tie.After-item-bytes) → length (c .item-bytes .result .now) ≤ fileBytes
+short c =
+    let s = c .before .before in let a = s .args in
+    omega (arith, s .pre .0 .short, ap length (c .item-bytes .ensures), part-short (a .p .now) (a .m .value) (a .m .«value_end»))
+
+passes : (c : tie.After-passes) → let a = c .before .before .before .args in c .passes .result ≡ passing (a .file) (itemOf (a .p .now) (a .m))
+passes c = let b = c .before in c .passes .ensures ∙ ap (passing (b .before .before .args .file)) (b .item-bytes .ensures)
+
+-- where the id of the record is
+told : (c : tie.After-id-text) → let a = c .before .before .before .before .args in let q = itemOf (a .p .now) (a .m) in
+    NoIdBefore (a .file) q (c .id-text .result .member) × TextPlace q (idOf (a .file) q) (c .id-text .result .text)
+told c =
+    let b = c .before .before in let s = b .before .before in let a = s .args in let x = s .pre .0 in let o = x .single .object in
+    subst (λ (q : List ℕ). IdTold (a .file) q (c .id-text .result)) (b .item-bytes .ensures) (c .id-text .ensures) .told (o .0) (subst (Whole (itemOf (a .p .now) (a .m))) (o .1) (x .whole)) (x .single .once)
+
 returns : tie.Need-returns
 returns c =
-    let i = c .before .before in let k = i .before in let g = k .before .before .before in let a = g .args in
-    let e : idOf (a .file) (part (a .p .now) (a .from) (a .upto)) ≡ none = ap textBy (sym (g .pre .0 .holds)) ∙ text-none _ _ (k .code-of .ensures) (i .if1 .taken) in (
-      repeated-none _ _ _ e,
-      subst (λ (l : List ℕ). Noted (a .file) (a .p .now) (a .n + 1) l) (sym (c .enter .ensures)) (noted-nameless (g .pre .1) (g .pre .0 .room) _ (g .pre .0 .is) e),
-    )
+    let f = c .before .before in let t = f .before .before in let k = t .before in let s = k .before .before .before in let a = s .args in
+    subst (λ (x : List ℕ). Noted (a .file) (a .p .now) (a .n + 1) x) (sym (c .enter .ensures)) (enter-none (s .pre .1) (s .pre .0) (passes k) (told t .1 .none (f .if1 .taken)))
 
--- the text of the id
-text-is : (c : tie.After-unquoted) → let a = c .before .before .before .before .before .args in
-    idOf (a .file) (part (a .p .now) (a .from) (a .upto)) ≡ some (textOf (c .unquoted .result .now))
-text-is c =
-    let i = c .before in let k = i .before in let g = k .before .before .before in
-    ap textBy (sym (g .pre .0 .holds)) ∙ text-some _ _ (k .code-of .ensures) (i .if1 .left) ∙ ap (λ q. some (textOf q)) (sym (c .unquoted .ensures))
-
-search-requires : tie.Need-search-requires
-search-requires c κs =
-    let d = c .before .before in let g = d .before .before .before .before .before .before in
-    (d .digest-of .ensures, from-head (g .pre .1) _ _ _ (d .digest-of .ensures) (c .last .ensures))
+enter-requires-2 : tie.Need-enter-requires-2
+enter-requires-2 c κs =
+    let t = c .before .before .before .before .before in let b = t .before .before in let s = b .before .before in let a = s .args in let x = s .pre .0 in
+    let e = t .id-text .ensures in
+    (x .room, omega (arith, e .inside, ap length (b .item-bytes .ensures), part-length (a .p .now) (a .m .value) (a .m .«value_end»), x .starts, x .ends, x .short), omega (arith, x .starts, x .ends, x .short), e .least)
 
 returns-2 : tie.Need-returns-2
 returns-2 c =
-    let s = c .before .before in let l = s .before in let d = l .before .before in let u = d .before in let g = u .before .before .before .before .before in
-    let a = g .args in let id = textOf (u .unquoted .result .now) in let e = text-is u in (
-      ap (ltb 0) (s .search .ensures ∙ head-all (g .pre .1) id _ _ (d .digest-of .ensures) (l .last .ensures))
-          ∙ any-last (a .file) id (recordBytes (a .p .now)) (a .n)
-          ∙ repeated-some _ _ _ id e,
-      subst (λ (x : List ℕ). Noted (a .file) (a .p .now) (a .n + 1) x) (sym (c .enter2 .ensures))
-          (noted-named (g .pre .1) (g .pre .0 .room) _ (g .pre .0 .is) (a .from) (a .upto) (a .member) refl (g .pre .0 .unmet) id e _ (d .digest-of .ensures)),
-    )
+    let f = c .before .before .before .before in let t = f .before .before in let k = t .before in let s = k .before .before .before in let a = s .args in let h = f .if1 .left in
+    subst (λ (x : List ℕ). Noted (a .file) (a .p .now) (a .n + 1) x) (sym (c .enter2 .ensures))
+    (enter-some (s .pre .1) (s .pre .0) (passes k) (t .id-text .result .text) (t .id-text .result .member) (told t .1) (omega (arith, h)) (told t .0))
 
 pub note-record-spec : {M : Type 1} → statement M
 note-record-spec =
     tie.close
-    (tie.spec (λ c κs. search needs) (λ c κs. search needs) returns (λ c κs. search needs) (λ c κs. search needs)
-    (λ c κs. search needs) search-requires (λ c κs. search needs) returns-2)
+    (tie.spec (λ c κs. search needs) (λ c κs. subst (λ (q : List ℕ). Whole q (partTree q)) (sym (c .item-bytes .ensures)) (c .before .before .pre .0 .whole))
+    (λ c κs. short (c .before))
+    (λ c κs. let x = c .before .before .before .before .before .before .before .pre .0 in (x .room, x .short, x .short, omega arith)) returns
+    (λ c. search needs) enter-requires-2 returns-2)

@@ -1,61 +1,66 @@
 -- What is left of both texts is in order as the whole is; each turn takes a byte off both, and the first two that differ decide.
 use mathlib.Core.Path.{_≡_, sym, ap, _∙_}
-use native.Mathlib.Omega.{arith}
-use borrow.Author.Needs.{needs}
 use lib.ListN.{length, drop}
-use Rattle.text.specs.Text.{textOf}
+use Rattle.text.specs.Text.{textOf, meant}
 use Rattle.text.specs.Ordering.{orderOf}
-use Rattle.text.specs.inner.Walk.{left}
+use Rattle.text.specs.inner.Walk.{left, leftBy}
 use Rattle.text.proofs.Decoding.{left-at, no-byte, one-byte}
 use Rattle.text.proofs.Ordered.{order-ended, order-long, order-less, order-greater, order-next}
+use Rattle.text.proofs.Seeing.{left-meant, no-meant, one-meant}
+use borrow.Author.Needs.{needs}
+use native.Mathlib.Omega.{arith}
 use Rattle.text.proofs.ordering.order_from.Statement.{statement}
 use Rattle.text.proofs.ordering.order_from.Tie as tie
 
 abbrev Inv-loop : tie.InvT-loop
-Inv-loop a b at c₀ d₀ c d = orderOf (left a c) (left b d) ≡ orderOf (textOf (drop at a)) (textOf (drop at b))
+Inv-loop a b at raw c₀ d₀ c d = orderOf (left a c) (leftBy raw b d) ≡ orderOf (textOf (drop at a)) (meant raw (drop at b))
 
 abbrev μ-loop : tie.MeasureT-loop
-μ-loop a b at c₀ d₀ c d = length (left a c)
+μ-loop a b at raw c₀ d₀ c d = length (left a c)
 
 loop-holds : tie.Need-loop-holds Inv-loop μ-loop
 loop-holds c =
     let q = c .before .before .before .before .args in
-    ap (λ x. orderOf x (left (q .b .now) (c .cursor-at2 .result))) (left-at (q .a .now) (q .at) _ (c .before .cursor-at .ensures))
-    ∙ ap (orderOf (textOf (drop (q .at) (q .a .now)))) (left-at (q .b .now) (q .at) _ (c .cursor-at2 .ensures))
+    ap (λ x. orderOf x (leftBy (q .raw) (q .b .now) (c .cursor-at2 .result))) (left-at (q .a .now) (q .at) _ (c .before .cursor-at .ensures))
+    ∙ ap (orderOf (textOf (drop (q .at) (q .a .now)))) (left-meant (q .b .now) (q .raw) (q .at) _ (c .cursor-at2 .ensures))
 
 returns : tie.Need-returns Inv-loop μ-loop
 returns c =
-    let n = c .before .before .before in
-    c .order-at-end .ensures ∙ order-ended _ (no-byte _ _ (n .next-byte .ensures) (c .before .enum-told .given .1)) ∙ n .before .loop .inv
+    let t = c .before in let u = t .before .before in let v = u .before in
+    c .order-at-end .ensures ∙ order-ended _ (no-byte _ _ (u .next-byte .ensures) (t .enum-told .given .1)) ∙ v .loop .inv
 
 returns-2 : tie.Need-returns-2 Inv-loop μ-loop
 returns-2 c =
-    let x = c .before .before .before .before in let n = x .before .before in
-    sym (order-long (one-byte _ _ _ _ (n .next-byte .ensures) (x .x .given .1)) (no-byte _ _ (c .before .before .next-byte2 .ensures) (c .enum-told2 .given .1)))
-    ∙ n .before .loop .inv
+    let t = c .before .before in let u = t .before .before in let v = u .before .before in let m = v .before in
+    sym (order-long (one-byte _ _ _ _ (v .next-byte .ensures) (u .x .given .1)) (no-meant _ _ _ (t .next-meant .ensures) (c .enum-told2 .given .1)))
+    ∙ m .loop .inv
 
 returns-3 : tie.Need-returns-3 Inv-loop μ-loop
 returns-3 c =
-    let y = c .before .before in let m = y .before .before in let x = m .before .before in let n = x .before .before in
-    sym (order-less (one-byte _ _ _ _ (n .next-byte .ensures) (x .x .given .1)) (one-byte _ _ _ _ (m .next-byte2 .ensures) (y .y .given .1)) (c .if1 .taken))
-    ∙ n .before .loop .inv
+    let t = c .before .before in let u = t .before .before in let v = u .before .before in let m = v .before .before in let n = m .before in
+    sym (order-less (one-byte _ _ _ _ (m .next-byte .ensures) (v .x .given .1))
+    (one-meant _ _ _ _ _ (u .next-meant .ensures) (t .y .given .1)) (c .if1 .taken))
+    ∙ n .loop .inv
 
 returns-4 : tie.Need-returns-4 Inv-loop μ-loop
 returns-4 c =
-    let y = c .before .before .before in let m = y .before .before in let x = m .before .before in let n = x .before .before in
-    sym (order-greater (one-byte _ _ _ _ (n .next-byte .ensures) (x .x .given .1)) (one-byte _ _ _ _ (m .next-byte2 .ensures) (y .y .given .1)) (c .if2 .taken))
-    ∙ n .before .loop .inv
+    let t = c .before .before .before in let u = t .before .before in let v = u .before .before in let m = v .before .before in let n = m .before in
+    sym (order-greater (one-byte _ _ _ _ (m .next-byte .ensures) (v .x .given .1))
+    (one-meant _ _ _ _ _ (u .next-meant .ensures) (t .y .given .1)) (c .if2 .taken))
+    ∙ n .loop .inv
 
 loop-less : tie.Need-loop-less Inv-loop μ-loop
 loop-less c =
-    let x = c .before .before .before .before .before .before .before in let n = x .before .before in
-    omega (arith, ap length (one-byte _ _ _ _ (n .next-byte .ensures) (x .x .given .1)))
+    let t = c .before .before .before .before .before .before .before in let u = t .before .before in
+    omega (arith, ap length (one-byte _ _ _ _ (u .next-byte .ensures) (t .x .given .1)))
 
 loop-again : tie.Need-loop-again Inv-loop μ-loop
 loop-again c =
-    let y = c .before .before .before in let m = y .before .before in let x = m .before .before in let n = x .before .before in
-    sym (order-next (one-byte _ _ _ _ (n .next-byte .ensures) (x .x .given .1)) (one-byte _ _ _ _ (m .next-byte2 .ensures) (y .y .given .1)) (omega (arith, c .before .if1 .left, c .if2 .left)))
-    ∙ n .before .loop .inv
+    let t = c .before in let u = t .before .before in let v = u .before .before in let m = v .before .before in let n = m .before .before in
+    let o = n .before in
+    sym (order-next (one-byte _ _ _ _ (n .next-byte .ensures) (m .x .given .1))
+    (one-meant _ _ _ _ _ (v .next-meant .ensures) (u .y .given .1)) (omega (arith, t .if1 .left, c .if2 .left)))
+    ∙ o .loop .inv
 
 pub order-from-spec : {M : Type 1} → statement M
 order-from-spec =

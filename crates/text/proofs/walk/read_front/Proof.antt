@@ -1,6 +1,6 @@
 -- The bytes in the array and those that are left stay the whole text. The loop ends where as many are read as were asked for, or where none is left.
 use mathlib.Core.Path.{_≡_, refl, ap}
-use Prim.Native.Nat.{_-_, _≤_, _<_}
+use Prim.Native.Nat.{_-_, _≤_}
 use native.Mathlib.Omega.{arith}
 use borrow.Author.Needs.{needs}
 use lib.ListN.{take, drop}
