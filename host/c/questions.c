@@ -14,6 +14,8 @@
     "{\"plan_id\":\"p\",\"name\":\"n\",\"currency\":\"EUR\",\"price\":1,\"is_taxable\":false,\"description\":\"d\"," \
     "\"per_min_pricing\":[{\"start\":10,\"rate\":-0.5,\"interval\":0,\"end\":20}]}"
 
+#define REGION "{\"region_id\":\"r\",\"name\":\"n\"}"
+
 /* A text as a file: pointer and length. */
 #define FILE_OF(text) ((const uint8_t *)(text)), (sizeof(text) - 1)
 
@@ -35,6 +37,11 @@ static const char ZONES[] = HEADER
     "\"coordinates\":[[[[0,0],[0,2],[2,2],[2,0],[0,0]],[[0.5,0.5],[1,0.5],[1,1],[0.5,1],[0.5,0.5]]]]},"
     "\"properties\":{\"rules\":[{\"vehicle_type_id\":[\"t\"],"
     "\"ride_allowed\":true,\"ride_through_allowed\":false,\"maximum_speed_kph\":20,\"station_parking\":true}]}}]}}}";
+static const char SYSTEM[] = HEADER
+    "{\"system_id\":\"s\",\"language\":\"en\",\"name\":\"n\",\"timezone\":\"Etc/UTC\",\"start_date\":\"2000-02-29\"}}";
+static const char NO_SUCH_DAY[] = HEADER
+    "{\"system_id\":\"s\",\"language\":\"en\",\"name\":\"n\",\"timezone\":\"Etc/UTC\",\"start_date\":\"1900-02-29\"}}";
+static const char REGIONS[] = HEADER "{\"regions\":[" REGION "]}}";
 static const uint8_t WORD[] = {0x14, 0x62, 0x80, 0x03, 0, 0, 0, 0};
 
 static int failures = 0;
@@ -53,13 +60,20 @@ typedef uint8_t question(uint8_t *answer, size_t length);
 static uint8_t verdict_accepted(uint8_t *answer, size_t length)
 {
     return skaveldro_verdict(SKAVELDRO_ABSENT, SKAVELDRO_ABSENT, SKAVELDRO_ABSENT, FILE_OF(NO_BIKES), SKAVELDRO_ABSENT,
-                             SKAVELDRO_ABSENT, answer, length);
+                             SKAVELDRO_ABSENT, FILE_OF(SYSTEM), SKAVELDRO_ABSENT, answer, length);
 }
 
 static uint8_t verdict_not_accepted(uint8_t *answer, size_t length)
 {
     return skaveldro_verdict(SKAVELDRO_ABSENT, SKAVELDRO_ABSENT, SKAVELDRO_ABSENT, FILE_OF(BIKES), SKAVELDRO_ABSENT,
-                             SKAVELDRO_ABSENT, answer, length);
+                             SKAVELDRO_ABSENT, SKAVELDRO_ABSENT, SKAVELDRO_ABSENT, answer, length);
+}
+
+/* The system's own file is always called for. */
+static uint8_t verdict_without_system(uint8_t *answer, size_t length)
+{
+    return skaveldro_verdict(SKAVELDRO_ABSENT, SKAVELDRO_ABSENT, SKAVELDRO_ABSENT, FILE_OF(NO_BIKES), SKAVELDRO_ABSENT,
+                             SKAVELDRO_ABSENT, SKAVELDRO_ABSENT, FILE_OF(REGIONS), answer, length);
 }
 
 static uint8_t word_read(uint8_t *answer, size_t length)
@@ -178,7 +192,23 @@ static uint8_t record_past_the_last(uint8_t *answer, size_t length)
 
 static uint8_t record_of_no_file(uint8_t *answer, size_t length)
 {
-    return skaveldro_show_record(7, 1, FILE_OF("{"), answer, length);
+    return skaveldro_show_record(SKAVELDRO_FILES + 1, 1, FILE_OF("{"), answer, length);
+}
+
+static uint8_t record_of_regions(uint8_t *answer, size_t length)
+{
+    return skaveldro_show_record(8, 1, FILE_OF(REGIONS), answer, length);
+}
+
+/* The system's own file has no records. */
+static uint8_t record_of_system(uint8_t *answer, size_t length)
+{
+    return skaveldro_show_record(7, 1, FILE_OF(SYSTEM), answer, length);
+}
+
+static uint8_t record_of_unclean_system(uint8_t *answer, size_t length)
+{
+    return skaveldro_show_record(7, 1, FILE_OF(NO_SUCH_DAY), answer, length);
 }
 
 static uint8_t record_of_absent_file(uint8_t *answer, size_t length)
@@ -198,6 +228,8 @@ struct asked {
 
 #define PLAN_FROM ((int64_t)sizeof(HEADER "{\"plans\":[") - 1)
 #define PLAN_UPTO (PLAN_FROM + (int64_t)sizeof(PLAN) - 1)
+#define REGION_FROM ((int64_t)sizeof(HEADER "{\"regions\":[") - 1)
+#define REGION_UPTO (REGION_FROM + (int64_t)sizeof(REGION) - 1)
 
 static const struct asked ASKED[] = {
     {"read word", word_read, SKAVELDRO_READ_WORD_BYTES, SKAVELDRO_ANSWERED, 6, {4, 6, 40, 3, 0, 0}},
@@ -223,6 +255,9 @@ static const struct asked ASKED[] = {
     {"show record, not clean", record_not_clean, SKAVELDRO_SHOW_RECORD_BYTES, SKAVELDRO_NOT_CLEAN, 8, {4, 6, 40, 3, 0, 0, 0, 0}},
     {"show record, past the last", record_past_the_last, SKAVELDRO_SHOW_RECORD_BYTES, SKAVELDRO_NO_RECORD, 0, {0}},
     {"show record, no such file", record_of_no_file, SKAVELDRO_SHOW_RECORD_BYTES, SKAVELDRO_NO_RECORD, 0, {0}},
+    {"show record, a region", record_of_regions, SKAVELDRO_SHOW_RECORD_BYTES, SKAVELDRO_ANSWERED, 8, {0, 0, 0, 0, 0, 0, REGION_FROM, REGION_UPTO}},
+    {"show record, of the system", record_of_system, SKAVELDRO_SHOW_RECORD_BYTES, SKAVELDRO_NO_RECORD, 0, {0}},
+    {"show record, no such day", record_of_unclean_system, SKAVELDRO_SHOW_RECORD_BYTES, SKAVELDRO_NOT_CLEAN, 8, {7, 9, 94, 0, 0, 0, 0, 0}},
     {"show record, absent file", record_of_absent_file, SKAVELDRO_SHOW_RECORD_BYTES, SKAVELDRO_NO_RECORD, 0, {0}},
 };
 
@@ -270,8 +305,11 @@ static void ask_into_every(const char *what, question *ask, size_t layout, uint8
 static void verdicts(void)
 {
     static const uint8_t accepted[] = {0x10, 0, 0, 0, 0, 0, 0, 0};
+    static const uint8_t without_system[] = {0x17, 0xE0, 0, 0, 0, 0, 0, 0};
     ask_into_every("verdict", verdict_accepted, SKAVELDRO_WORD_BYTES, SKAVELDRO_ACCEPTED, accepted, sizeof accepted);
     ask_into_every("verdict, a rule broken", verdict_not_accepted, SKAVELDRO_WORD_BYTES, SKAVELDRO_NOT_ACCEPTED, WORD, sizeof WORD);
+    ask_into_every("verdict, no system", verdict_without_system, SKAVELDRO_WORD_BYTES, SKAVELDRO_NOT_ACCEPTED, without_system,
+                   sizeof without_system);
 }
 
 static void answers(void)
@@ -293,27 +331,30 @@ static void absent_files(void)
     static const struct {
         const char *text;
         size_t length;
-    } files[] = {
+    } files[SKAVELDRO_FILES] = {
         {NO_TYPES, sizeof NO_TYPES - 1},
         {NO_STATIONS, sizeof NO_STATIONS - 1},
         {NO_STATIONS, sizeof NO_STATIONS - 1},
         {NO_BIKES, sizeof NO_BIKES - 1},
         {PLANS, sizeof PLANS - 1},
         {ZONES, sizeof ZONES - 1},
+        {SYSTEM, sizeof SYSTEM - 1},
+        {REGIONS, sizeof REGIONS - 1},
     };
     static const char empty[] = "";
-    for (unsigned present = 0; present < 64; present++) {
+    for (unsigned present = 0; present < 1u << SKAVELDRO_FILES; present++) {
         uint8_t words[2][SKAVELDRO_WORD_BYTES], numbers[2];
         for (int by_null = 0; by_null < 2; by_null++) {
-            const uint8_t *bytes[6];
-            size_t lengths[6];
-            for (int file = 0; file < 6; file++) {
+            const uint8_t *bytes[SKAVELDRO_FILES];
+            size_t lengths[SKAVELDRO_FILES];
+            for (int file = 0; file < SKAVELDRO_FILES; file++) {
                 int is_there = present >> file & 1;
                 bytes[file] = (const uint8_t *)(is_there ? files[file].text : by_null ? NULL : empty);
                 lengths[file] = is_there ? files[file].length : 0;
             }
             numbers[by_null] = skaveldro_verdict(bytes[0], lengths[0], bytes[1], lengths[1], bytes[2], lengths[2], bytes[3], lengths[3],
-                                                 bytes[4], lengths[4], bytes[5], lengths[5], words[by_null], SKAVELDRO_WORD_BYTES);
+                                                 bytes[4], lengths[4], bytes[5], lengths[5], bytes[6], lengths[6], bytes[7], lengths[7],
+                                                 words[by_null], SKAVELDRO_WORD_BYTES);
         }
         expect("verdict, absent by NULL", SKAVELDRO_WORD_BYTES, numbers[1], numbers[0]);
         expect("its word", SKAVELDRO_WORD_BYTES, memcmp(words[1], words[0], SKAVELDRO_WORD_BYTES), 0);
@@ -328,7 +369,7 @@ static void absent_files(void)
 /* A file or record is its whole number: none is taken for the one that its lowest bits name. */
 static void numbers_of_64_bits(void)
 {
-    static const uint64_t wide[] = {0, 7, 256 + 5, 65536 + 5, (UINT64_C(1) << 32) + 5, UINT64_C(1) << 63, (UINT64_C(1) << 63) + 5, UINT64_MAX};
+    static const uint64_t wide[] = {0, 9, 256 + 5, 65536 + 5, (UINT64_C(1) << 32) + 5, UINT64_C(1) << 63, (UINT64_C(1) << 63) + 5, UINT64_MAX};
     static const uint64_t records[] = {0, 2, 256 + 1, 65536 + 1, (UINT64_C(1) << 32) + 1, UINT64_C(1) << 63, (UINT64_C(1) << 63) + 1, UINT64_MAX};
     uint8_t answer[SKAVELDRO_SHOW_RECORD_BYTES];
     for (size_t index = 0; index < sizeof wide / sizeof *wide; index++) {

@@ -1,8 +1,9 @@
 /*
  * Skaveldro: judges bike-share feeds of GBFS 2.3, prices rides and finds zone rules.
  *
- * A feed set is six files, by number: 1 vehicle_types, 2 station_information, 3 station_status, 4 free_bike_status,
- * 5 system_pricing_plans, 6 geofencing_zones. A file is its bytes, not NUL-terminated; one of length 0 is absent.
+ * A feed set is eight files, by number: 1 vehicle_types, 2 station_information, 3 station_status, 4 free_bike_status,
+ * 5 system_pricing_plans, 6 geofencing_zones, 7 system_information, 8 system_regions. A file is its bytes, not NUL-terminated; one of
+ * length 0 is absent.
  *
  * Each function takes any bytes and any numbers, returns, and keeps no state: calls on several threads need no lock. None allocates,
  * prints or calls back. What each answers is proved for every input; see docs/GUIDE.md.
@@ -32,6 +33,9 @@
 #ifdef __cplusplus
 extern "C" {
 #endif
+
+/* Files of a set. */
+#define SKAVELDRO_FILES 8
 
 /* The most bytes of a file. A longer one may be given, and is refused. */
 #define SKAVELDRO_MOST_BYTES 1048575
@@ -66,7 +70,7 @@ enum {
 
 /* Indices of the values that every answer but the verdict's begins with: the parts of a verdict word. All are 0 for an accepted set. */
 enum {
-    SKAVELDRO_FILE = 0,   /* the file, 1 to 6 */
+    SKAVELDRO_FILE = 0,   /* the file, 1 to 8 */
     SKAVELDRO_KIND = 1,   /* the kind of rule, 1 to 15 */
     SKAVELDRO_FIELD = 2,  /* the field of the table; 0 is the file itself, or its top value */
     SKAVELDRO_RECORD = 3, /* the record from 1; 0 is the header */
@@ -108,6 +112,8 @@ uint8_t skaveldro_verdict(const uint8_t *types, size_t types_length,
                           const uint8_t *bikes, size_t bikes_length,
                           const uint8_t *plans, size_t plans_length,
                           const uint8_t *zones, size_t zones_length,
+                          const uint8_t *system, size_t system_length,
+                          const uint8_t *regions, size_t regions_length,
                           uint8_t *buffer, size_t buffer_length);
 
 /*
@@ -147,9 +153,9 @@ uint8_t skaveldro_zone_rule(const uint8_t *zones, size_t zones_length,
 
 /*
  * Where the record of that number, from 1, stands in the bytes of that file. Returns, in this order of checking: SKAVELDRO_NO_RECORD if
- * the file is not 1 to 6; SKAVELDRO_NOT_CLEAN if it is not sound by itself, with the parts of its word; SKAVELDRO_NO_RECORD if it has
- * no such record; SKAVELDRO_ANSWERED with the place. In place of the two that write values, SKAVELDRO_NO_ROOM under 64 bytes. Eight
- * values: the parts, from, upto.
+ * the file is not 1 to 8; SKAVELDRO_NOT_CLEAN if it is not sound by itself, with the parts of its word; SKAVELDRO_NO_RECORD if it has
+ * no such record, as file 7 never has; SKAVELDRO_ANSWERED with the place. In place of the two that write values, SKAVELDRO_NO_ROOM
+ * under 64 bytes. Eight values: the parts, from, upto.
  */
 uint8_t skaveldro_show_record(uint64_t file, uint64_t record,
                               const uint8_t *bytes, size_t bytes_length,

@@ -1,3 +1,4 @@
 pub mod Days
 pub mod Forms
 pub mod Dates
+pub mod Dated

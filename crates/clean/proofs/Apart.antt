@@ -1,8 +1,9 @@
 -- No two records of a clean file have one id: the later would repeat it.
+use mathlib.Core.Bool.{true}
 use mathlib.Core.List.{List, [], _∷_, List·Memᴰ, List·Memᴰ·head, List·Memᴰ·tail, List·Memᴰ·cases-cons, List·Memᴰ·not-nil}
 use mathlib.Core.Logic.{⊎-elim}
 use mathlib.Core.Path.{_≡_, refl, sym, ap, _∙_}
-use Prim.Native.Nat.{ℕ, _+_, _≤_}
+use Prim.Native.Nat.{ℕ, _+_}
 use Rattle.notation.specs.Choice.{_⇒_else_}
 use Rattle.notation.proofs.Booleans.{by-test}
 use Rattle.notation.proofs.Lists.{cons-nil}
@@ -11,6 +12,7 @@ use Rattle.text.specs.Text.{same}
 use Rattle.text.proofs.Laws.{same-refl}
 use Rattle.schema.specs.Shape.{fileShape}
 use Rattle.schema.specs.Table23.{table23}
+use Rattle.schema.specs.Records.{hasIds}
 use Rattle.schema.specs.Pick.{Picked, pick}
 use Rattle.fault.specs.declared.Fault.{Fault}
 use Rattle.fault.specs.Fault.{fault}
@@ -69,5 +71,5 @@ apart-from f n ps (z ∷ l) e =
     let k = none-right (repeatedId f n ps z) _ e in
     oneRecord (λ x t i h j. before-after f t (n + 1) (z ∷ ps) l k x z h j (List·Memᴰ·head refl) i) (apart-from f (n + 1) (z ∷ ps) l k)
 
-pub clean-apart : (n : ℕ) → 1 ≤ n → n ≤ 5 → (s : List ℕ) → Sound n s → Apart (idField n) (recordsOf n (pick (fileShape table23 n) (treeOf s)))
-clean-apart n h i s c = apart-from (idField n) 1 [] _ (sym (repeats-some n (id-of n h i) _) ∙ c .single)
+pub clean-apart : (n : ℕ) → hasIds n ≡ true → (s : List ℕ) → Sound n s → Apart (idField n) (recordsOf n (pick (fileShape table23 n) (treeOf s)))
+clean-apart n h s c = apart-from (idField n) 1 [] _ (sym (repeats-some n (id-of n h) _) ∙ c .single)

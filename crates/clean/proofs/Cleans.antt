@@ -1,18 +1,20 @@
 -- What a clean file that is there is sure to hold: stage A passes it, stage B finds nothing in it, no id repeats, and so its records stand where
 -- the code looks for them.
+use mathlib.Core.Bool.{true}
 use mathlib.Core.List.{List, []}
 use mathlib.Core.Path.{_≡_, sym, ap, _∙_}
-use Prim.Native.Nat.{ℕ, _≤_}
+use Prim.Native.Nat.{ℕ}
 use lib.ListN.{length}
 use Rattle.json.specs.declared.Syntax.the-variants as syntax
 use Rattle.json.specs.Text.{syntaxOf}
 use Rattle.walk.proofs.Files.{passed}
 use Rattle.schema.specs.Shape.{fileShape}
 use Rattle.schema.specs.Table23.{table23}
+use Rattle.schema.specs.Records.{hasRecords}
 use Rattle.schema.specs.Pick.{pick}
 use Rattle.fault.specs.declared.outcome.Outcome.the-variants.{Unbroken}
 use Rattle.fault.specs.Fault.{least}
-use Rattle.fault.specs.Outcome.{fileCount, outcomeOf}
+use Rattle.fault.specs.Outcome.{outcomeOf}
 use Rattle.fault.proofs.Leasts.{least-none}
 use Rattle.fault.proofs.Outcomes.{next-none, outcome-none}
 use Rattle.judge.specs.Faults.{fileFaults}
@@ -32,7 +34,7 @@ clean-sound n s h e =
     record { reads = syntax-none n _ (a .0); faultless = least-none _ (outcome-none n _ (b .0)); single = least-none _ (outcome-none n _ (b .1)) }
 
 -- its records
-pub clean-held : (n : ℕ) → 1 ≤ n → n ≤ fileCount → (s : List ℕ) → Sound n s → Held n s (treeOf s)
-clean-held n h i s c =
+pub clean-held : (n : ℕ) → hasRecords n ≡ true → (s : List ℕ) → Sound n s → Held n s (treeOf s)
+clean-held n h s c =
     let t = passed s (c .reads) in
-    rw (tree-is s t) (held n h i s t (ap (fileFaults (fileShape table23 n)) (sym (tree-is s t)) ∙ c .faultless))
+    rw (tree-is s t) (held n h s t (ap (fileFaults (fileShape table23 n)) (sym (tree-is s t)) ∙ c .faultless))

@@ -25,14 +25,14 @@ use Rattle.walk.proofs.Files.{Passed, passed}
 use Rattle.schema.specs.Shape as shape
 use Rattle.schema.specs.Shape.{fileShape}
 use Rattle.schema.specs.Table23.{table23}
-use Rattle.schema.specs.Records.{recordShape}
+use Rattle.schema.specs.Records.{recordShape, hasRecords, hasIds}
 use Rattle.schema.specs.Pick.{Picked, items, pick, listOf}
+use Rattle.schema.proofs.Recorded.{no-key, ids-recorded}
 use Rattle.fault.specs.declared.Fault.{Fault}
 use Rattle.fault.specs.declared.Least.the-variants.{None}
 use Rattle.fault.specs.Fault.{fault, least, top}
 use Rattle.fault.proofs.Order.{later-record}
 use Rattle.fault.proofs.Leasts.{least-one, least-none, none-least, least-early}
-use Rattle.fault.specs.Outcome.{fileCount}
 use Rattle.rings.specs.Rings as rings
 use Rattle.fault.specs.declared.Place.{Place}
 use Rattle.judge.specs.Faults.{faults, fileFaultsBy, fileFaults}
@@ -46,7 +46,7 @@ use Rattle.document.proofs.Records.{Records, records-stand}
 use Rattle.document.specs.inner.Items.{pickedItems}
 use Rattle.ids.specs.inner.Ids.{idField, idOf, AllIdsOnce, recordBytes, anyHas, repeated, repeatFrom, firstRepeat}
 use Rattle.ids.proofs.Passing.{repeated-none, repeated-some}
-use Rattle.ids.proofs.Picked.{Identified, id-of, id-picked, no-id}
+use Rattle.ids.proofs.Picked.{Identified, id-of, id-picked}
 use Rattle.clean.specs.Clean as clean
 use Rattle.clean.specs.Clean.{recordsOf, usedBefore, repeatedId, repeatsFrom, repeatsIn, repeats}
 use Rattle.clean.specs.inner.Blamed.{blamed}
@@ -124,12 +124,12 @@ module _ (f file : ℕ) where
       (λ t. ap least (step-later a n y q e ys t) ∙ ih ∙ (rw (repeatFrom, t)))
 
 -- the records of an array: the first that repeats an id has the least fault
-least-first : (file : ℕ) → 1 ≤ file → file ≤ 5 → (p : List ℕ)
+least-first : (file : ℕ) → hasIds file ≡ true → (p : List ℕ)
     → least (repeatsFrom (idField file) 1 [] (pickedItems (recordShape file) p)) ≡ blamed (idField file) (firstRepeat file (recordBytes p))
 unfolding firstRepeat recordBytes
-least-first file h i p =
+least-first file h p =
     least-repeat (idField file) file noName
-    (named-each (idField file) file (λ m. pick (recordShape file) (partTree (itemOf p m))) (itemOf p) (itemsOf p) (λ m j. id-picked file h i (items-whole p m j)))
+    (named-each (idField file) file (λ m. pick (recordShape file) (partTree (itemOf p m))) (itemOf p) (itemsOf p) (λ m j. id-picked file h (items-whole p m j)))
     1 (omega arith)
 
 -- Files.
@@ -151,10 +151,10 @@ pub record Repeats (n : ℕ) (s p : List ℕ) : Type 0 where
   pub singles : AllIdsOnce n p
   pub names : least (repeats n (pick (fileShape table23 n) (clean.treeOf s))) ≡ blamed (idField n) (firstRepeat n (recordBytes p))
 
-pub held : (n : ℕ) → 1 ≤ n → n ≤ fileCount → (s : List ℕ) (t : Passed s) → fileFaults (fileShape table23 n) (t .tree) ≡ [] → Held n s (t .tree)
+pub held : (n : ℕ) → hasRecords n ≡ true → (s : List ℕ) (t : Passed s) → fileFaults (fileShape table23 n) (t .tree) ≡ [] → Held n s (t .tree)
 unfolding fileFaultsBy recordsOf rings.count
-held n h i s t e =
-    let r = records-of n h i in
+held n h s t e =
+    let r = records-of n h in
     let d = demands-there (r .leads) top 0 (t .tree) e in
     let a = array-there top (d .1) shape.records (λ b c. refl) ceiling.records (recordShape n) (d .0) (d .3) in
     let way : along (map (λ k. k .field) (r .way .keys)) (pick (fileShape table23 n) (t .tree)) ≡ some (items (a .0)) = d .2 ∙ ap some (a .1) in
@@ -168,9 +168,9 @@ held n h i s t e =
     }
 
 -- Files whose records have no ids of their own, and numbers of no file.
-pub repeats-none : (n : ℕ) → (1 ≤ n → n ≤ 5 → ⊥) → (x : Picked) → least (repeats n x) ≡ None
+pub repeats-none : (n : ℕ) → hasIds n ≡ false → (x : Picked) → least (repeats n x) ≡ None
 unfolding repeats
-repeats-none n h x = let none = no-id n h in rw (repeats, repeatsIn, none) (none-least [] refl)
+repeats-none n h x = let none = no-key n h in rw (repeats, repeatsIn, none) (none-least [] refl)
 
 -- and the others
 pub repeats-some : (n : ℕ) → Identified n → (x : Picked) → repeats n x ≡ repeatsFrom (idField n) 1 [] (recordsOf n x)
@@ -186,16 +186,16 @@ module _ (n : ℕ) (s : List ℕ) (reads : syntaxOf s ≡ Sound) (faultless : le
   none-found : (t : Passed s) → fileFaults (fileShape table23 n) (t .tree) ≡ []
   none-found t = ap (fileFaults (fileShape table23 n)) (sym (tree-is s t)) ∙ least-none _ faultless
 
-  module _ (h : 1 ≤ n) (i : n ≤ 5) where
+  module _ (h : hasIds n ≡ true) where
     -- its rest from its records on is one
     pub records-same : {p q : List ℕ} → RecordsFrom n s p → RecordsFrom n s q → p ≡ q
     records-same f g =
-        let t = passed s reads in let r = held n h (omega arith) s t (none-found t) in rest-is f reads (r .there) ∙ sym (rest-is g reads (r .there))
+        let t = passed s reads in let r = held n (ids-recorded n h) s t (none-found t) in rest-is f reads (r .there) ∙ sym (rest-is g reads (r .there))
 
     -- of ids, by the array p of its records
     pub repeats-are : {p : List ℕ} → RecordsFrom n s p → Repeats n s p
     repeats-are {p} f =
-        let t = passed s reads in let r = held n h (omega arith) s t (none-found t) in
+        let t = passed s reads in let r = held n (ids-recorded n h) s t (none-found t) in
         let l : r .list ≡ pickedItems (recordShape n) p = rest-picked f reads (r .there) in
         record {
           short = omega (arith, t .short, f .inside);
@@ -204,10 +204,10 @@ module _ (n : ℕ) (s : List ℕ) (reads : syntaxOf s ≡ Sound) (faultless : le
           singles = λ m j.
               let g : Item → Picked = λ k. pick (recordShape n) (partTree (itemOf p k)) in
               let y = r .sound (g m) (subst (List·Memᴰ (g m)) (sym l) (Memᴰ·map g j)) in
-              single-id n h i (items-whole p m j) (y .0) (r .field) (y .1);
+              single-id n h (items-whole p m j) (y .0) (r .field) (y .1);
           names =
               let x = pick (fileShape table23 n) (clean.treeOf s) in
               let are : recordsOf n x ≡ pickedItems (recordShape n) p =
               ap (λ (y : Json). recordsOf n (pick (fileShape table23 n) y)) (tree-is s t) ∙ r .are ∙ l in
-              ap least (repeats-some n (id-of n h i) x ∙ ap (repeatsFrom (idField n) 1 []) are) ∙ least-first n h i p;
+              ap least (repeats-some n (id-of n h) x ∙ ap (repeatsFrom (idField n) 1 []) are) ∙ least-first n h p;
         }

@@ -1,5 +1,5 @@
 -- The question "show record" on files, computed: the order of checking, and where records stand.
-use mathlib.Core.List.{List, [], _∷_}
+use mathlib.Core.List.{List, [], _∷_, _++_}
 use mathlib.Core.Path.{refl}
 use Prim.Native.Nat.{ℕ}
 use Rattle.notation.specs.Case.{Case, Answers, json}
@@ -29,6 +29,16 @@ abbrev types : List ℕ
 types =
     inData (json "{'vehicle_types':[ {'vehicle_type_id':'a','form_factor':'bicycle','propulsion_type':'human'} , {'vehicle_type_id':'b','form_factor':'car','propulsion_type':'human','}':[{}]} ]}")
 
+-- a file without records, and one of regions
+abbrev system : List ℕ
+system = inData (json "{'system_id':'s','language':'en','name':'n','timezone':'Europe/Paris'}")
+
+abbrev regions : List ℕ → List ℕ
+regions more = inData (json "{'regions':[{'region_id':'r','name':'n'}" ++ more ++ json "]}")
+
+abbrev noted : (file kind field rec : ℕ) → Answer
+noted file kind field rec = refused 5 (record { file = file; kind = kind; field = field; «record» = rec; sub = 0; offset = 0 })
+
 -- a file's number, a record's number and the file
 abbrev questions : List (Case (ℕ × ℕ × List ℕ) Answer)
 questions =
@@ -38,9 +48,13 @@ questions =
     ("none past the last", (1, 3, types), refused 10 noParts) ∷
     ("none of an absent file", (1, 1, []), refused 10 noParts) ∷
     ("no file 0, whatever it is", (0, 1, json "7"), refused 10 noParts) ∷
-    ("no file 7", (7, 1, json "7"), refused 10 noParts) ∷
+    ("no file 9", (9, 1, json "7"), refused 10 noParts) ∷
     ("no file 257", (257, 1, json "7"), refused 10 noParts) ∷
-    ("a file that is not clean, whatever the record", (1, 0, json "7"), refused 5 (record { file = 1; kind = 7; field = 0; «record» = 0; sub = 0; offset = 0 })) ∷
+    ("a file that is not clean, whatever the record", (1, 0, json "7"), noted 1 7 0 0) ∷
+    ("file 7 has no records", (7, 1, system), refused 10 noParts) ∷
+    ("and may not be clean", (7, 1, json "7"), noted 7 7 0 0) ∷
+    ("a region", (8, 1, regions []), shown 61 89) ∷
+    ("an id that two regions have", (8, 1, regions (json ",{'name':'m','region_id':'r'}")), noted 8 12 100 2) ∷
     []
 
 questions-answered : Answers (λ c. shownOf (c .0) (c .1) (c .2)) questions

@@ -126,7 +126,7 @@ fn judge_passed(file: u8, s: &[u8], notes: &mut [u32; Notes::SIZE]) -> Outcome
     }
 }
 
-// Whether a file is clean, by its number, from 1 to 6, and its bytes; where nothing is there it is. Under any other number stage A alone counts. Where it is
+// Whether a file is clean, by its number, from 1 to 8, and its bytes; where nothing is there it is. Under any other number stage A alone counts. Where it is
 // clean, its records are left noted.
 // Shut out: a repeated id named where stage B finds a fault; an absent file refused as no JSON text; notes trusted of a file that is not clean.
 pub fn check_noted(file: u8, s: &[u8], notes: &mut [u32; Notes::SIZE]) -> Outcome

@@ -6,12 +6,14 @@ use ids::Notes;
 use ids::id::id_field;
 use ids::note::note;
 use word::kind::Kind;
+ghost use mathlib.Core.Bool.{true};
 ghost use mathlib.Core.Path.{_≡_};
 ghost use lib.ListN.{length};
 ghost use Rattle.json.specs.declared.Syntax.the-variants.{Sound};
 ghost use Rattle.json.specs.Text.{syntaxOf};
 ghost use Rattle.schema.specs.Shape.{fileShape};
 ghost use Rattle.schema.specs.Table23.{table23};
+ghost use Rattle.schema.specs.Records.{hasIds};
 ghost use Rattle.schema.specs.Pick.{pick};
 ghost use Rattle.fault.specs.declared.Least.the-variants.{None};
 ghost use Rattle.fault.specs.Fault.{least};
@@ -24,7 +26,7 @@ ghost use Rattle.clean.specs.inner.Noted.{RecordsNoted};
 
 // Notes the records of a file that stages A and B pass and whose records have ids; the number of the first whose id one before it has, or 0.
 pub fn note_file(file: u8, s: &[u8], notes: &mut [u32; Notes::SIZE]) -> u16
-    requires { ⌜ (idField file ≡ 0 → ⊥) × (syntaxOf (now s) ≡ Sound) × (least (fileFaults (fileShape table23 file) (treeOf (now s))) ≡ None) × (length (now notes) ≡ size) ⌝ }
+    requires { ⌜ (hasIds file ≡ true) × (syntaxOf (now s) ≡ Sound) × (least (fileFaults (fileShape table23 file) (treeOf (now s))) ≡ None) × (length (now notes) ≡ size) ⌝ }
     ensures { λ r. ⌜ (least (repeats file (pick (fileShape table23 file) (treeOf (now (s .entry))))) ≡ blamed (idField file) r) × RecordsNoted file (now (s .entry)) (now (notes .exit)) ⌝ }
 {
     note(file, records_from(file, s), notes)

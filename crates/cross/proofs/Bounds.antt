@@ -3,11 +3,10 @@ use mathlib.Core.Bool.{Bool, true, false, not}
 use mathlib.Core.List.{List, [], _∷_, map, List·Memᴰ, List·Memᴰ·head, List·Memᴰ·tail}
 use mathlib.Core.Logic.{_⊎_, inl, inr, ⊎-elim}
 use mathlib.Core.Path.{_≡_, refl}
-use Prim.Native.Nat.{ℕ, _+_, _*_, _≤_}
+use Prim.Native.Nat.{ℕ, _+_, _≤_}
 use native.Mathlib.Omega.{arith}
-use lib.Dec.{eqb, ltb}
+use lib.Dec.{eqb}
 use lib.ListN.{length, length-map}
-use borrow.Author.Tests.{ltb-false}
 use Rattle.notation.specs.Choice.{_and_}
 use Rattle.notation.proofs.Booleans.{by-test}
 use Rattle.word.specs.Kinds.{idTwice, dangling, condition, sumDiffers}
@@ -17,11 +16,11 @@ use Rattle.walk.specs.Walk.{itemsOf}
 use Rattle.walk.specs.Part.{partTree}
 use Rattle.walk.proofs.Parts.{itemOf}
 use Rattle.schema.specs.Table23.{status, zone}
-use Rattle.schema.specs.Records.{recordShape, located}
+use Rattle.schema.specs.Records.{recordShape, hasRecords, hasIds, located, identified}
 use Rattle.schema.specs.Pick.{Picked, pick}
 use Rattle.fault.specs.declared.Fault.{Fault}
 use Rattle.fault.specs.declared.Least.the-variants.{Is}
-use Rattle.fault.specs.Fault.{fault, least, faulty}
+use Rattle.fault.specs.Fault.{fault, top, least, faulty}
 use Rattle.fault.specs.Outcome.{fileCount}
 use Rattle.fault.specs.declared.Place.{Place}
 use Rattle.judge.specs.Faults.{faults}
@@ -31,15 +30,15 @@ use Rattle.document.specs.Document as document
 use Rattle.document.specs.Document.{Maybe, field, fieldItems, text, textIn, spelling, given}
 use Rattle.document.specs.Values.{integerIn}
 use Rattle.document.proofs.FieldBytes.{rowOf, listed}
-use Rattle.ids.specs.inner.Ids.{recordBytes, repeated, repeatFrom, firstRepeat}
-use Rattle.ids.proofs.Picked.{id-field}
+use Rattle.ids.specs.inner.Ids.{idField, recordBytes, repeated, repeatFrom, firstRepeat}
 use Rattle.clean.specs.inner.Blamed.{blamed}
 use Rattle.clean.proofs.Faultless.{field-sound, items-few}
 use Rattle.ids.specs.References.{kindIf, anyWith, any, hasCapacity, motorized, named, refers, demanded}
-use Rattle.cross.specs.Cross.{Files, recordPlace, missingFile, sumOf, availableFaults, idFaults, ruleFaults, typeFaults, statusFaults, bikeFaults, zoneFaults, eachRecord, faultsOf, crossFaults}
+use Rattle.cross.specs.Cross.{Files, recordPlace, missingFile, sumOf, availableFaults, idFaults, ruleFaults, typeFaults, stationFaults, statusFaults, bikeFaults, zoneFaults, eachRecord, faultsOf, crossFaults}
 use Rattle.cross.specs.Stage.{fileOf}
 use Rattle.cross.specs.inner.Staged.{repeatOf, idsLeast}
-use Rattle.cross.proofs.Numbers.{by-number, Each}
+use Rattle.cross.proofs.Numbers.{by-number, Each, recordless}
+use Rattle.cross.proofs.Staging.{bare-faults}
 use Rattle.cross.proofs.Files.{InBytes}
 
 -- the kinds of stage C
@@ -99,6 +98,10 @@ module _ (n : ℕ) (h : n ≤ greatest) where
       all-append (own-fits 13 (omega arith) (demanded-kinds (motorized x) (given (field 13 x))))
       (own-fits 14 (omega arith) (all-append (demanded-kinds (s 5 .here) (given (field 14 x))) (refers-kinds (text 14 x) 50 (s 5 .records))))
 
+  station-fits : (s : Files) (x : Picked) → All Fitting (stationFaults s n x)
+  unfolding stationFaults
+  station-fits s x = own-fits 25 (omega arith) (refers-kinds (text 25 x) 100 (s 8 .records))
+
   status-fits : (s : Files) (x : Picked) → length (fieldItems 37 x) ≤ greatest → All Fitting (statusFaults s n x)
   unfolding statusFaults
   status-fits s x i =
@@ -148,10 +151,10 @@ module _ (n : ℕ) (h : n ≤ greatest) where
         by-number (λ file. faults (recordShape file) q φ (pick (recordShape file) x) ≡ [] → All Fitting (faultsOf s file n (pick (recordShape file) x))) (
           λ e. type-fits s _,
           (
-            λ e. none,
+            λ e. station-fits s _,
             (
               λ e. status-fits s _ (omega (arith, items-few q φ x e (listed {f = 37} refl) (λ a b. refl))),
-              (λ e. bike-fits s _, (λ e. none, (zone-fits, tt))),
+              (λ e. bike-fits s _, (λ e. none, (zone-fits, (λ e. none, (λ e. none, tt))))),
             ),
           ),
         )
@@ -176,27 +179,39 @@ blamed-fits φ number h i =
     by-test (eqb number 0) (λ t. rw t nothing)
     (λ t. rw t (holding {f = fault number φ 0 idTwice} (record { rec = i; field = h; sub = omega arith; kind = record { least = omega arith; most = omega arith } })))
 
-ids-least-fits : (n : ℕ) (p : List ℕ) → length (itemsOf p) ≤ greatest → Holds Fitting (idsLeast n p)
-unfolding idsLeast repeatOf firstRepeat recordBytes
-ids-least-fits n p h =
-    by-test (ltb 5 n) (λ t. rw (idsLeast, repeatOf, t) nothing)
-    (λ t.
-    let i = ltb-false 5 n t in
-    rw (idsLeast, repeatOf, t, ← id-field n i)
-    (blamed-fits (n * 10) (firstRepeat n (recordBytes p)) (omega arith) (omega (arith, repeat-few n 0 [] (recordBytes p), length-map (itemsOf p) (itemOf p)))))
+-- the field of a file's ids is one of the word's
+id-most : (file : ℕ) → 1 ≤ file → file ≤ fileCount → idField file ≤ fields
+unfolding Each identified idField
+id-most =
+    by-number (λ file. idField file ≤ fields)
+    (omega arith, (omega arith, (omega arith, (omega arith, (omega arith, (omega arith, (omega arith, (omega arith, tt))))))))
 
--- One file.
-module _ (files : Files) (file : ℕ) (h : 1 ≤ file) (i : file ≤ fileCount) {s p : List ℕ} (e : files file ≡ fileOf file s) (b : InBytes file s p) where
-  file-holds : Holds Fitting (least (crossFaults files file))
+ids-least-fits : (n : ℕ) → 1 ≤ n → n ≤ fileCount → (p : List ℕ) → length (itemsOf p) ≤ greatest → Holds Fitting (idsLeast n p)
+unfolding idsLeast repeatOf firstRepeat recordBytes
+ids-least-fits n i j p h =
+    by-test (hasIds n)
+    (λ t.
+    rw (idsLeast, repeatOf, t)
+    (blamed-fits (idField n) (firstRepeat n (recordBytes p)) (id-most n i j)
+    (omega (arith, repeat-few n 0 [] (recordBytes p), length-map (itemsOf p) (itemOf p)))))
+    (λ t. rw (idsLeast, repeatOf, t) nothing)
+
+-- One file, of which the records are those of p where it has any.
+module _ (files : Files) (file : ℕ) (h : 1 ≤ file) (i : file ≤ fileCount) {s p : List ℕ} (e : files file ≡ fileOf file s) (b : hasRecords file ≡ true → InBytes file s p) where
+  presence : (n : ℕ) → All Fitting (faulty top 0 (kindIf (missingFile files n) condition))
+  presence n = own-fits 0 (omega arith) 0 (omega arith) (when-kinds (missingFile files n) condition (record { least = omega arith; most = omega arith }))
+
+  recorded-holds : InBytes file s p → Holds Fitting (least (crossFaults files file))
   unfolding crossFaults
-  file-holds =
-      let kinds = when-kinds (missingFile files file) condition (record { least = omega arith; most = omega arith }) in
-      let presence = own-fits 0 (omega arith) 0 (omega arith) kinds in
-      let few = b .recorded .few in
-      rw (crossFaults, e, b .is)
-      (holds-append _ _ (holds-append _ _ (holds-least presence) (rw (b .repeated) (ids-least-fits file p few)))
+  recorded-holds c =
+      let few = c .recorded .few in
+      rw (crossFaults, e, c .is)
+      (holds-append _ _ (holds-append _ _ (holds-least (presence file)) (rw (c .repeated) (ids-least-fits file h i p few)))
       (holds-least (each-fits _ (λ m. pick (recordShape file) (partTree (itemOf p m))) 1 (itemsOf p) (omega arith) (λ m j k l.
-      let y = b .sound m j in record-fits k l files _ (y .0) (y .1) file h i (y .2)))))
+      let y = c .sound m j in record-fits k l files _ (y .0) (y .1) file h i (y .2)))))
+
+  bare-holds : file ≡ 7 → Holds Fitting (least (crossFaults files file))
+  bare-holds k = rw (k, bare-faults files) (holds-least (presence 7))
 
   pub cross-fits : (f : Fault) → least (crossFaults files file) ≡ Is f → Fitting f
-  cross-fits f k = holds-is file-holds k
+  cross-fits f k = holds-is (by-test (hasRecords file) (λ t. recorded-holds (b t)) (λ t. bare-holds (recordless file h i t))) k

@@ -147,7 +147,15 @@ module _ (types : List Picked) (n : ℕ) where
       sym (zone-rules w)
       ∙ ap (ruleFaults types n 1) (ap (λ q. pickedItems rule (arrayBy (memberOf q (bytes "rules")))) e ∙ nothing-in rule (bytes "rules"))
 
--- records of other files than 1, 3, 4 and 6 break nothing
-pub breaks-nothing : (s : Files) (file n : ℕ) → (file ≡ 1 → ⊥) → (file ≡ 3 → ⊥) → (file ≡ 4 → ⊥) → (file ≡ 6 → ⊥) → (x : Picked) → faultsOf s file n x ≡ []
+-- records of files past 4, but for those of file 6, break nothing
+pub breaks-nothing : (s : Files) (file n : ℕ) → 4 < file → (file ≡ 6 → ⊥) → (x : Picked) → faultsOf s file n x ≡ []
 unfolding faultsOf
-breaks-nothing s file n a b c d x = rw (faultsOf, ne-eqb file 1 a, ne-eqb file 3 b, ne-eqb file 4 c, ne-eqb file 6 d)
+breaks-nothing s file n a b x =
+    rw (
+      faultsOf,
+      ne-eqb file 1 (λ e. omega arith),
+      ne-eqb file 2 (λ e. omega arith),
+      ne-eqb file 3 (λ e. omega arith),
+      ne-eqb file 4 (λ e. omega arith),
+      ne-eqb file 6 b,
+    )

@@ -1,12 +1,13 @@
--- A file of the set that is through stages A and B: in the rest of its bytes from its records on stand the records that are picked of it, each of them an object, and the first
--- id that repeats there is the least of its repeats. An absent file has no records either way.
+-- A file of the set that has records and is through stages A and B: in the rest of its bytes from its records on stand the records that are picked of it, each of them an object,
+-- and the first id that repeats there is the least of its repeats. An absent file has no records either way.
+use mathlib.Core.Bool.{true}
 use mathlib.Core.List.{List, [], _∷_, List·Memᴰ, List·Memᴰ·not-nil, Memᴰ·map}
 use mathlib.Core.Path.{_≡_, refl, sym, ap, subst, _∙_}
-use Prim.Native.Nat.{ℕ, _-_, _≤_, _<_}
+use Prim.Native.Nat.{ℕ, _-_, _<_}
 use native.Mathlib.Omega.{arith}
 use lib.Dec.{ltb}
 use lib.ListN.{length, drop, length-map, length-take}
-use borrow.Author.Tests.{ltb-true, ltb-false, lt-ltb}
+use borrow.Author.Tests.{lt-ltb}
 use Rattle.notation.specs.Maybe.{Maybe, none, some}
 use Rattle.notation.proofs.Booleans.{by-test}
 use Rattle.json.specs.declared.Syntax.the-variants.{Sound}
@@ -21,12 +22,11 @@ use Rattle.walk.proofs.Wholes.{whole-some}
 use Rattle.walk.proofs.Files.{passed}
 use Rattle.schema.specs.Shape.{Shape, fileShape}
 use Rattle.schema.specs.Table23.{table23}
-use Rattle.schema.specs.Records.{Key, recordShape, idKey}
+use Rattle.schema.specs.Records.{Key, recordShape, hasRecords, idKey, hasIds}
 use Rattle.schema.specs.Pick.{Picked, pick}
 use Rattle.fault.specs.declared.Least.the-variants.{None}
 use Rattle.fault.specs.Fault.{least}
 use Rattle.fault.proofs.Leasts.{none-least}
-use Rattle.fault.specs.Outcome.{fileCount}
 use Rattle.fault.specs.declared.Place.{Place}
 use Rattle.judge.specs.Faults.{faults, fileFaults}
 use Rattle.document.specs.inner.Spans.{RecordsFrom}
@@ -43,12 +43,17 @@ use Rattle.cross.specs.inner.Judged.{fileBy}
 use Rattle.cross.specs.inner.Stage.{PassesAB}
 use Rattle.cross.specs.inner.Staged.{Recorded, repeatOf, idsLeast}
 
+-- a file is there where it has bytes
+pub here-is : (n : ℕ) (s : List ℕ) → ltb 0 (length s) ≡ fileOf n s .here
+here-is n [] = refl
+here-is n (b ∷ s) = lt-ltb 0 (length (b ∷ s)) (omega arith)
+
 -- what is picked of the file s of number n, by the rest p from its records on
 pub record InBytes (n : ℕ) (s p : List ℕ) : Type 0 where
   pub recorded : Recorded p
   pub is : fileOf n s ≡ fileBy n p
   pub repeated : least (repeatsIn n (pickedItems (recordShape n) p)) ≡ idsLeast n p
-  pub singles : n ≤ 5 → AllIdsOnce n p
+  pub singles : hasIds n ≡ true → AllIdsOnce n p
   pub sound : (m : Item) → List·Memᴰ m (itemsOf p)
       → (q : Place) × (φ : ℕ) × (faults (recordShape n) q φ (pick (recordShape n) (partTree (itemOf p m))) ≡ [])
 
@@ -66,13 +71,13 @@ absent-bytes n =
     record {
       recorded = record { short = omega arith; objects = λ m i. absurd (List·Memᴰ·not-nil i); few = omega arith; along = λ h. absurd (omega arith) };
       is = refl;
-      repeated = no-repeats n ∙ by-test (ltb 5 n) (λ t. rw (idsLeast, repeatOf, t)) (λ t. rw (idsLeast, repeatOf, t));
+      repeated = no-repeats n ∙ by-test (hasIds n) (λ t. rw (idsLeast, repeatOf, t)) (λ t. rw (idsLeast, repeatOf, t));
       singles = λ h m i. absurd (List·Memᴰ·not-nil i);
       sound = λ m i. absurd (List·Memᴰ·not-nil i);
     }
 
 -- A file that is there, with the rest p from its records on.
-module _ (n : ℕ) (h : 1 ≤ n) (i : n ≤ fileCount) (b : ℕ) (r : List ℕ) (t : PassesAB n (b ∷ r)) {p : List ℕ} (f : RecordsFrom n (b ∷ r) p) where
+module _ (n : ℕ) (h : hasRecords n ≡ true) (b : ℕ) (r : List ℕ) (t : PassesAB n (b ∷ r)) {p : List ℕ} (f : RecordsFrom n (b ∷ r) p) where
   abbrev s : List ℕ
   s = b ∷ r
 
@@ -82,7 +87,7 @@ module _ (n : ℕ) (h : 1 ≤ n) (i : n ≤ fileCount) (b : ℕ) (r : List ℕ) 
   through : Held n s (clean.treeOf s)
   through =
       let v = passed s reads in
-      rw (tree-is s v) (held n h i s v (ap (fileFaults (fileShape table23 n)) (sym (tree-is s v)) ∙ t .faultless (λ e. omega arith)))
+      rw (tree-is s v) (held n h s v (ap (fileFaults (fileShape table23 n)) (sym (tree-is s v)) ∙ t .faultless (λ e. omega arith)))
 
   are-picked : through .list ≡ pickedItems (recordShape n) p
   are-picked = rest-picked f reads (through .there)
@@ -91,16 +96,12 @@ module _ (n : ℕ) (h : 1 ≤ n) (i : n ≤ fileCount) (b : ℕ) (r : List ℕ) 
   unfolding idsLeast repeatOf
   repeated-is =
       let none = none-least _ (t .faultless (λ e. omega arith)) in
-      by-test (ltb 5 n)
-      (λ u. rw (idsLeast, repeatOf, u) (repeats-none n (λ j k. let w = ltb-true 5 n u in omega arith) _))
-      (λ u.
-      let j : n ≤ 5 = ltb-false 5 n u in
-      rw (idsLeast, repeatOf, u) (repeats-are n s reads none h j f .names))
+      by-test (hasIds n) (λ u. rw (idsLeast, repeatOf, u) (repeats-are n s reads none u f .names)) (λ u. rw (idsLeast, repeatOf, u) (repeats-none n u _))
 
   -- records are objects
   record-object : (q : Place) (φ : ℕ) (x : Json) → faults (recordShape n) q φ (pick (recordShape n) x) ≡ [] → (ms : Members) × (x ≡ tree.object ms)
   record-object q φ x =
-      let d = records-of n h i in
+      let d = records-of n h in
       subst (λ (σ : Shape). faults σ q φ (pick σ x) ≡ [] → (ms : Members) × (x ≡ tree.object ms)) (sym (d .object))
       (λ e. let o = object-there q φ (d .rows) x e in (o .0, o .1))
 
@@ -134,10 +135,10 @@ module _ (n : ℕ) (h : 1 ≤ n) (i : n ≤ fileCount) (b : ℕ) (r : List ℕ) 
             };
         is = λ j. record { here = sym (lt-ltb 0 (length p) rest-some) j; records = records-are j };
         repeated = ap (λ (l : List Picked). least (repeatsIn n l)) (sym records-are) ∙ repeated-is;
-        singles = λ j. repeats-are n s reads (none-least _ (t .faultless (λ e. omega arith))) h j f .singles;
+        singles = λ j. repeats-are n s reads (none-least _ (t .faultless (λ e. omega arith))) j f .singles;
         sound = sound-item;
       }
 
-pub file-bytes : (n : ℕ) → 1 ≤ n → n ≤ fileCount → (s : List ℕ) → PassesAB n s → {p : List ℕ} → RecordsFrom n s p → InBytes n s p
-file-bytes n h i [] t f = subst (InBytes n []) (sym (none-from f refl)) (absent-bytes n)
-file-bytes n h i (b ∷ r) t f = there-bytes n h i b r t f
+pub file-bytes : (n : ℕ) → hasRecords n ≡ true → (s : List ℕ) → PassesAB n s → {p : List ℕ} → RecordsFrom n s p → InBytes n s p
+file-bytes n h [] t f = subst (InBytes n []) (sym (none-from f refl)) (absent-bytes n)
+file-bytes n h (b ∷ r) t f = there-bytes n h b r t f

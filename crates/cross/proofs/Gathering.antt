@@ -15,7 +15,7 @@ use Rattle.json.specs.Tree.{Members}
 use Rattle.walk.specs.Part.{Whole}
 use Rattle.walk.specs.inner.Along.{AlongItems}
 use Rattle.schema.specs.Shape as shape
-use Rattle.schema.specs.Table23.{vehicleType, available, status, bike}
+use Rattle.schema.specs.Table23.{vehicleType, station, available, status, bike}
 use Rattle.schema.specs.Later.{rowsOf}
 use Rattle.schema.specs.Pick.{Picked, pick}
 use Rattle.slots.specs.declared.Slots.{Slots}
@@ -30,9 +30,9 @@ use Rattle.document.proofs.Arrays.{member-along}
 use Rattle.document.proofs.Values.{member-holds, holds-there}
 use Rattle.document.proofs.FieldBytes.{field-text, field-given, field-spelled, field-items, rowOf, listed}
 use Rattle.ids.specs.References.{kindIf, hasCapacity, motorized, notHuman, named, refers, demanded}
-use Rattle.cross.specs.Cross.{Files, recordPlace, sumOf, availableFaults, typeFaults, statusFaults, bikeFaults}
+use Rattle.cross.specs.Cross.{Files, recordPlace, sumOf, availableFaults, typeFaults, stationFaults, statusFaults, bikeFaults}
 use Rattle.cross.specs.inner.Judged.{Reads, Slotted}
-use Rattle.cross.proofs.Layouts.{slot-member, type-layout, status-layout, bike-layout}
+use Rattle.cross.proofs.Layouts.{slot-member, type-layout, station-layout, status-layout, bike-layout}
 
 -- a vehicle type
 module _ (f : Files) (n : ℕ) where
@@ -54,6 +54,13 @@ module _ (f : Files) (n : ℕ) where
       same-type (ap textBy (slot-member g type-layout 2 (omega arith) a w) ∙ field-text (listed refl) w)
       (ap thereBy (slot-member g type-layout 3 (omega arith) b w) ∙ field-given (listed refl) w)
       (ap textBy plan ∙ field-text (listed refl) w) (ap thereBy plan ∙ field-given (listed refl) w)
+
+-- a station
+pub station-is : (f : Files) (n : ℕ) {p : List ℕ} {s : Slots} → Slotted 2 p s → {region : List ℕ} → Reads p s 5 region → {ms : Members} → Whole p (tree.object ms)
+    → faulty (recordPlace n 0) 25 (refers (textBy region) 100 (f 8 .records)) ≡ stationFaults f n (pick station (tree.object ms))
+unfolding stationFaults station rowsOf rowOf namesIn
+station-is f n g a w =
+    ap (λ z. faulty (recordPlace n 0) 25 (refers z 100 (f 8 .records))) (ap textBy (slot-member g station-layout 5 (omega arith) a w) ∙ field-text (listed refl) w)
 
 -- a status
 module _ (f : Files) (n : ℕ) where

@@ -14,7 +14,7 @@ use Rattle.schema.specs.Shape.{Rows}
 use Rattle.schema.specs.Later.{rowsOf, listedIn}
 use Rattle.schema.specs.inner.Line.{entries, entriesOf, laidOut}
 use Rattle.schema.specs.inner.Sound.{distinctRows}
-use Rattle.schema.specs.Table23.{table23, written23, vehicleType, status, bike}
+use Rattle.schema.specs.Table23.{table23, written23, vehicleType, station, status, bike}
 use Rattle.schema.specs.Records.{identified}
 use Rattle.schema.proofs.Walk.{Laid, linesIn}
 use Rattle.slots.specs.declared.Slots.{Slots}
@@ -41,6 +41,10 @@ pub type-layout : Layout 1 (rowsOf vehicleType)
 unfolding recordFirst recordCount identified laidOut written23 distinctRows listedIn same namesIn
 type-layout = computed refl (omega arith) refl refl (omega arith)
 
+pub station-layout : Layout 2 (rowsOf station)
+unfolding recordFirst recordCount identified laidOut written23 distinctRows listedIn same namesIn
+station-layout = computed refl (omega arith) refl refl (omega arith)
+
 pub status-layout : Layout 3 (rowsOf status)
 unfolding recordFirst recordCount identified laidOut written23 distinctRows listedIn same namesIn
 status-layout = computed refl (omega arith) refl refl (omega arith)
@@ -57,6 +61,6 @@ module _ {p : List ℕ} {file : ℕ} {s : Slots} (g : Slotted file p s) {rows : 
       let name = getD (namesIn rows) j [] in let e = g .slot w rows (l .laid) (l .lines) (l .distinct) (l .few) j h in
       r (found-standing p name (slotAt s j) e) ∙ member-found p name 5 (sym (ap kindCode (whole-kind w))) refl (slotAt s j) e
 
--- past files 1 and 3 it is file 4
-pub last-referring : {file : ℕ} → Referring file → (file ≡ 1 → ⊥) → (file ≡ 3 → ⊥) → file ≡ 4
-last-referring h i j = let a = h .least in let b = h .most in let c = h .other in omega arith
+-- past files 1 to 3 it is file 4
+pub last-referring : {file : ℕ} → Referring file → (file ≡ 1 → ⊥) → (file ≡ 2 → ⊥) → (file ≡ 3 → ⊥) → file ≡ 4
+last-referring h i j k = let a = h .least in let b = h .most in omega arith

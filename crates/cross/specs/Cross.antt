@@ -20,7 +20,7 @@ pub record File : Type 0 where
   pub here : Bool
   pub records : List Picked
 
--- the files of a set by their numbers: 1 vehicle types, 2 stations, 3 statuses, 4 bikes, 5 plans, 6 zones
+-- the files of a set by their numbers: 1 vehicle types, 2 stations, 3 statuses, 4 bikes, 5 plans, 6 zones, 7 the system, 8 regions
 abbrev pub Files : Type 0
 Files = ℕ → File
 
@@ -54,12 +54,14 @@ typeFaults s n x =
     faulty (recordPlace n 0) 13 (demanded (motorized x) (given (field 13 x))) ++
     faulty (recordPlace n 0) 14 (demanded (s 5 .here) (given (field 14 x)) ++ refers (text 14 x) 50 (s 5 .records))
 
+unfoldable pub stationFaults : Files → ℕ → Picked → List Fault
+stationFaults s n x = faulty (recordPlace n 0) 25 (refers (text 25 x) 100 (s 8 .records))
+
 unfoldable pub statusFaults : Files → ℕ → Picked → List Fault
 statusFaults s n x =
     faulty (recordPlace n 0) 30 (refers (text 30 x) 20 (s 2 .records)) ++
     faulty (recordPlace n 0) 32 (demanded (named hasCapacity 20 (s 2 .records) (text 30 x)) (given (field 32 x))) ++
-    faulty (recordPlace n 0) 37
-    (demanded (s 1 .here) (given (field 37 x)) ++
+    faulty (recordPlace n 0) 37 (demanded (s 1 .here) (given (field 37 x)) ++
     kindIf (given (field 37 x) and not (eqb (sumOf (fieldItems 37 x)) (integerIn (spelling 31 x)))) sumDiffers) ++
     availableFaults (s 1 .records) n 1 (fieldItems 37 x)
 
@@ -84,16 +86,18 @@ eachRecord faults n (x ∷ l) = faults n x ++ eachRecord faults (n + 1) l
 unfoldable pub faultsOf : Files → (file n : ℕ) → Picked → List Fault
 faultsOf s file n x =
     eqb file 1 ⇒ typeFaults s n x else
+    eqb file 2 ⇒ stationFaults s n x else
     eqb file 3 ⇒ statusFaults s n x else
     eqb file 4 ⇒ bikeFaults s n x else
     eqb file 6 ⇒ zoneFaults (s 1 .records) n x else []
 
--- a file that another one calls for: stations and statuses go together, and there are stations or bikes
+-- a file that is called for and not there: stations and statuses go together, there are stations or bikes, and the system's own file is always there
 unfoldable pub missingFile : Files → ℕ → Bool
 missingFile s file =
     eqb file 2 ⇒ s 3 .here and not (s 2 .here) else
     eqb file 3 ⇒ s 2 .here and not (s 3 .here) else
-    eqb file 4 ⇒ not (s 2 .here) and not (s 4 .here) else false
+    eqb file 4 ⇒ not (s 2 .here) and not (s 4 .here) else
+    eqb file 7 ⇒ not (s 7 .here) else false
 
 -- all of one file
 unfoldable pub crossFaults : Files → ℕ → List Fault

@@ -1,6 +1,6 @@
 // A record of file 4: a position of its own unless it stands at a station, and what it refers to.
 use crate::set::FILES;
-use crate::set::NAMED;
+use crate::set::LENT;
 use crate::set::file_in;
 use crate::set::notes_in;
 use crate::slotted::value_in;
@@ -55,7 +55,7 @@ pub fn judge_bike<'a, 'n, 's>(
     upto: &'s [usize; Slots::ROWS],
     n: u32,
     records: [&'a [u8]; FILES],
-    notes: [&'n [u32; Notes::SIZE]; NAMED],
+    notes: [&'n [u32; Notes::SIZE]; LENT],
 ) -> Least
     requires { ⌜ Slotted 4 (now p) (slotsOf (now state) (now from) (now upto)) × Known 4 (map now records) (map now notes) ⌝ }
     ensures { λ r. ⌜ Judges 4 (bikeFaults (filesBy (map now (records .entry))) n) (now (p .entry)) r ⌝ }

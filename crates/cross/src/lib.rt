@@ -4,6 +4,7 @@ mod records;
 pub mod set;
 mod slotted;
 pub mod stage;
+mod stations;
 mod statuses;
 mod types;
 mod zones;

@@ -1,7 +1,8 @@
-// The records of files 1, 3 and 4, which have ids and refer to other records: noted and judged in one walk.
+// The records of files 1 to 4, which have ids and refer to other records: noted and judged in one walk.
 use crate::bikes::judge_bike;
 use crate::set::FILES;
-use crate::set::NAMED;
+use crate::set::LENT;
+use crate::stations::judge_station;
 use crate::statuses::judge_status;
 use crate::types::judge_type;
 use fault::Least;
@@ -14,17 +15,14 @@ use slots::gather;
 use walk::ItemStep;
 use walk::pass_item;
 ghost use mathlib.Core.List.{map};
-ghost use mathlib.Core.Path.{_≡_};
 ghost use Prim.Native.Nat.{_≤_};
 ghost use lib.ListN.{length};
 ghost use Rattle.limits.specs.Ceilings.{fileBytes};
 ghost use Rattle.slots.specs.inner.Slots.{slotsOf};
-ghost use Rattle.ids.specs.inner.Ids.{AllIdsOnce};
-ghost use Rattle.ids.specs.inner.Notes.{size};
 ghost use Rattle.ids.specs.inner.Known.{Searchable};
 ghost use Rattle.cross.specs.Cross.{faultsOf};
 ghost use Rattle.cross.specs.inner.Judged.{Object, filesBy, Known, Referring, Slotted, Judges};
-ghost use Rattle.cross.specs.inner.Staged.{Recorded, Finds};
+ghost use Rattle.cross.specs.inner.Staged.{Notable, Finds};
 
 // What is found of a file's records: the number of the first whose id one before it has, or 0, and the first rule that one breaks otherwise.
 pub struct Findings {
@@ -39,8 +37,9 @@ fn gather_record(file: u8, p: &[u8]) -> Slots
 {
     match file {
         1 => gather(p, 5, 5),
-        3 => gather(p, 25, 10),
-        _ => gather(p, 40, 10),
+        2 => gather(p, 15, 6),
+        3 => gather(p, 26, 10),
+        _ => gather(p, 41, 10),
     }
 }
 
@@ -53,13 +52,14 @@ fn judge_record<'a, 'n, 's>(
     upto: &'s [usize; Slots::ROWS],
     n: u32,
     records: [&'a [u8]; FILES],
-    notes: [&'n [u32; Notes::SIZE]; NAMED],
+    notes: [&'n [u32; Notes::SIZE]; LENT],
 ) -> Least
     requires { ⌜ Referring file × Slotted file (now p) (slotsOf (now state) (now from) (now upto)) × Known file (map now records) (map now notes) × (length (now p) ≤ fileBytes) × Object (now p) ⌝ }
     ensures { λ r. ⌜ Judges file (faultsOf (filesBy (map now (records .entry))) file n) (now (p .entry)) r ⌝ }
 {
     match file {
         1 => judge_type(p, state, from, upto, n, records, notes),
+        2 => judge_station(p, state, from, upto, n, records, notes),
         3 => judge_status(p, state, from, upto, n, records, notes),
         _ => judge_bike(p, state, from, upto, n, records, notes),
     }
@@ -73,9 +73,9 @@ pub fn judge_records<'a, 'n>(
     p: &[u8],
     noted: &mut [u32; Notes::SIZE],
     records: [&'a [u8]; FILES],
-    notes: [&'n [u32; Notes::SIZE]; NAMED],
+    notes: [&'n [u32; Notes::SIZE]; LENT],
 ) -> Findings
-    requires { ⌜ Referring file × Recorded (now p) × AllIdsOnce file (now p) × (length (now noted) ≡ size) × Known file (map now records) (map now notes) ⌝ }
+    requires { ⌜ Referring file × Notable file (now p) (now noted) × Known file (map now records) (map now notes) ⌝ }
     ensures { λ r. ⌜ Finds (map now (records .entry)) file (now (p .entry)) r × Searchable file (now (p .entry)) (now (noted .exit)) ⌝ }
 {
     let mut least = Least::None;

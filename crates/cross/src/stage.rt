@@ -2,7 +2,7 @@
 use crate::records::Findings;
 use crate::records::judge_records;
 use crate::set::FILES;
-use crate::set::NAMED;
+use crate::set::LENT;
 use crate::set::file_in;
 use crate::set::is_here;
 use crate::set::notes_in;
@@ -18,33 +18,34 @@ use ids::Notes;
 use ids::note::note;
 use word::Word;
 use word::kind::Kind;
-ghost use mathlib.Core.Bool.{not};
+ghost use mathlib.Core.Bool.{true, not};
 ghost use mathlib.Core.List.{map};
 ghost use mathlib.Core.Path.{_≡_};
 ghost use Prim.Native.Nat.{_≤_};
-ghost use lib.ListN.{length};
 ghost use Rattle.notation.specs.Choice.{_and_};
 ghost use Rattle.word.specs.Kinds.{condition};
+ghost use Rattle.schema.specs.Records.{hasIds};
 ghost use Rattle.fault.specs.declared.Least.the-variants.{None};
 ghost use Rattle.fault.specs.Fault.{least, top, faulty};
 ghost use Rattle.fault.specs.inner.Narrow.{Narrow};
 ghost use Rattle.fault.specs.Outcome.{fileCount};
 ghost use Rattle.document.specs.inner.Spans.{RecordsFrom};
 ghost use Rattle.ids.specs.inner.Ids.{AllIdsOnce};
-ghost use Rattle.ids.specs.inner.Notes.{size, Indexed};
+ghost use Rattle.ids.specs.inner.Notes.{Indexed};
 ghost use Rattle.ids.specs.References.{kindIf};
 ghost use Rattle.ids.specs.inner.Known.{Searchable};
 ghost use Rattle.cross.specs.Cross.{missingFile};
 ghost use Rattle.cross.specs.Stage.{bytesOf, picked};
-ghost use Rattle.cross.specs.inner.Judged.{filesBy, Known, Referring};
+ghost use Rattle.cross.specs.inner.Judged.{alone, filesBy, Known, Referring};
 ghost use Rattle.cross.specs.inner.Stage.{AllPassAB, firstC};
-ghost use Rattle.cross.specs.inner.Staged.{Recorded, AllRecorded, AllSingle, Others, Found, Ready, repeatOf, fileLeast, AllNarrow, fileOutcome, setOutcome};
+ghost use Rattle.cross.specs.inner.Staged.{Recorded, AllRecorded, AllSingle, Notable, Found, Ready, repeatOf, fileLeast, AllNarrow, fileOutcome, setOutcome};
 
 // What is found of the records of each file that references name.
 pub struct Named {
     pub types: Findings,
     pub stations: Findings,
     pub plans: Findings,
+    pub regions: Findings,
 }
 
 // Whether a file that is needed is lacking.
@@ -57,7 +58,8 @@ fn is_lacking(needed: bool, here: bool) -> bool
     false
 }
 
-// Another file calls for this one, and it is not there.
+// The file is called for, and it is not there.
+// Shut out: a set accepted without the system's own file.
 fn is_missing<'a>(file: u8, records: [&'a [u8]; FILES]) -> bool
     ensures { λ r. ⌜ r ≡ missingFile (filesBy (map now (records .entry))) file ⌝ }
 {
@@ -65,6 +67,7 @@ fn is_missing<'a>(file: u8, records: [&'a [u8]; FILES]) -> bool
         2 => is_lacking(is_here(records, 3), is_here(records, 2)),
         3 => is_lacking(is_here(records, 2), is_here(records, 3)),
         4 => is_lacking(!is_here(records, 2), is_here(records, 4)),
+        7 => !is_here(records, 7),
         _ => false,
     }
 }
@@ -91,9 +94,9 @@ fn judge_file<'a>(file: u8, found: Findings, records: [&'a [u8]; FILES]) -> Outc
     outcome_of(file, lesser(a, lesser(b, c)))
 }
 
-// The records of file 2 or 5, which break no rule but by their ids.
+// The records of file 5 or 8, which break no rule but by their ids.
 fn note_records(file: u8, p: &[u8], notes: &mut [u32; Notes::SIZE]) -> Findings
-    requires { ⌜ (file ≤ 5) × Recorded (now p) × AllIdsOnce file (now p) × (length (now notes) ≡ size) ⌝ }
+    requires { ⌜ (hasIds file ≡ true) × Notable file (now p) (now notes) ⌝ }
     ensures { λ r. ⌜ (r .repeat ≡ repeatOf file (now (p .entry))) × (r .least ≡ None) × Indexed file (now (p .entry)) (now (notes .exit)) ⌝ }
 {
     Findings {
@@ -102,26 +105,31 @@ fn note_records(file: u8, p: &[u8], notes: &mut [u32; Notes::SIZE]) -> Findings
     }
 }
 
-// The records of file 1. A type may name a plan and nothing else, so types are judged as they are noted; the notes of types, which nobody asks for, are
-// those of the plans until then.
-fn judge_types<'a, 'n>(
+// The records of file 1 or 2, which may name those of one other file: types name plans, and stations regions. So they are judged as they are noted, with the
+// notes of that file alone.
+fn judge_early<'a, 'n>(
+    file: u8,
     records: [&'a [u8]; FILES],
     noted: &mut [u32; Notes::SIZE],
-    station_notes: &'n [u32; Notes::SIZE],
-    plan_notes: &'n [u32; Notes::SIZE],
+    notes: &'n [u32; Notes::SIZE],
 ) -> Findings
-    requires { ⌜ Recorded (bytesOf (map now records) 1) × AllIdsOnce 1 (bytesOf (map now records) 1) × (length (now noted) ≡ size) × Others (map now records) (now «station_notes») (now «plan_notes») ⌝ }
-    ensures { λ r. ⌜ Found (map now (records .entry)) 1 r × Searchable 1 (bytesOf (map now (records .entry)) 1) (now (noted .exit)) ⌝ }
+    requires { ⌜ Referring file × Notable file (bytesOf (map now records) file) (now noted) × Known file (map now records) (alone (now notes)) ⌝ }
+    ensures { λ r. ⌜ Found (map now (records .entry)) file r × Searchable file (bytesOf (map now (records .entry)) file) (now (noted .exit)) ⌝ }
 {
-    let notes = [plan_notes, station_notes, plan_notes];
-    judge_records(1, file_in(records, 1), noted, records, notes)
+    judge_records(
+        file,
+        file_in(records, file),
+        noted,
+        records,
+        [notes, notes, notes],
+    )
 }
 
 // The records of file 3 or 4, which no reference names: they are noted for their repeats alone.
 fn judge_unnamed<'a, 'n>(
     file: u8,
     records: [&'a [u8]; FILES],
-    notes: [&'n [u32; Notes::SIZE]; NAMED],
+    notes: [&'n [u32; Notes::SIZE]; LENT],
 ) -> Findings
     requires { ⌜ Referring file × Recorded (bytesOf (map now records) file) × AllIdsOnce file (bytesOf (map now records) file) × Known file (map now records) (map now notes) ⌝ }
     ensures { λ r. ⌜ Found (map now (records .entry)) file r ⌝ }
@@ -131,10 +139,7 @@ fn judge_unnamed<'a, 'n>(
 }
 
 // The records of file 6, which have no ids.
-fn judge_last<'a, 'n>(
-    records: [&'a [u8]; FILES],
-    notes: [&'n [u32; Notes::SIZE]; NAMED],
-) -> Findings
+fn judge_last<'a, 'n>(records: [&'a [u8]; FILES], notes: [&'n [u32; Notes::SIZE]; LENT]) -> Findings
     requires { ⌜ Recorded (bytesOf (map now records) 6) × Known 6 (map now records) (map now notes) ⌝ }
     ensures { λ r. ⌜ Found (map now (records .entry)) 6 r ⌝ }
 {
@@ -149,7 +154,7 @@ fn find<'a, 'n>(
     file: u8,
     named: Named,
     records: [&'a [u8]; FILES],
-    notes: [&'n [u32; Notes::SIZE]; NAMED],
+    notes: [&'n [u32; Notes::SIZE]; LENT],
 ) -> Findings
     requires { ⌜ (1 ≤ file) × (file ≤ fileCount) × Ready (map now records) (map now notes) named ⌝ }
     ensures { λ r. ⌜ Found (map now (records .entry)) file r ⌝ }
@@ -159,6 +164,11 @@ fn find<'a, 'n>(
         2 => named.stations,
         5 => named.plans,
         6 => judge_last(records, notes),
+        7 => Findings {
+            repeat: 0,
+            least: Least::None,
+        },
+        8 => named.regions,
         _ => judge_unnamed(file, records, notes),
     }
 }
@@ -167,7 +177,7 @@ fn find<'a, 'n>(
 fn judge_noted<'a, 'n>(
     named: Named,
     records: [&'a [u8]; FILES],
-    notes: [&'n [u32; Notes::SIZE]; NAMED],
+    notes: [&'n [u32; Notes::SIZE]; LENT],
 ) -> Outcome
     requires { ⌜ Ready (map now records) (map now notes) named ⌝ }
     ensures { λ r. ⌜ r ≡ setOutcome (map now (records .entry)) ⌝ }
@@ -187,7 +197,7 @@ fn judge_noted<'a, 'n>(
     Outcome::Unbroken
 }
 
-// The first file with a broken rule, where nothing is noted yet.
+// The first file with a broken rule, where nothing is noted yet. Regions, which stations alone name, are noted where types are noted afterwards.
 fn judge_parts<'a>(records: [&'a [u8]; FILES]) -> Outcome
     requires { ⌜ AllRecorded (map now records) × AllSingle (map now records) × AllNarrow (map now records) ⌝ }
     ensures { λ r. ⌜ r ≡ setOutcome (map now (records .entry)) ⌝ }
@@ -195,14 +205,16 @@ fn judge_parts<'a>(records: [&'a [u8]; FILES]) -> Outcome
     let mut type_notes: [u32; Notes::SIZE] = [0; Notes::SIZE];
     let mut station_notes: [u32; Notes::SIZE] = [0; Notes::SIZE];
     let mut plan_notes: [u32; Notes::SIZE] = [0; Notes::SIZE];
-    let stations = note_records(2, file_in(records, 2), &mut station_notes);
+    let regions = note_records(8, file_in(records, 8), &mut type_notes);
+    let stations = judge_early(2, records, &mut station_notes, &type_notes);
     let plans = note_records(5, file_in(records, 5), &mut plan_notes);
-    let types = judge_types(records, &mut type_notes, &station_notes, &plan_notes);
+    let types = judge_early(1, records, &mut type_notes, &plan_notes);
     judge_noted(
         Named {
             types: types,
             stations: stations,
             plans: plans,
+            regions: regions,
         },
         records,
         [&type_notes, &station_notes, &plan_notes],
@@ -230,6 +242,8 @@ pub fn judge_set<'a>(files: [&'a [u8]; FILES]) -> Outcome
         records_in(files, 4),
         records_in(files, 5),
         records_in(files, 6),
+        file_in(files, 7),
+        records_in(files, 8),
     ];
     judge_parts(records)
 }

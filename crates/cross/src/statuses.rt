@@ -1,6 +1,6 @@
 // A record of file 3: its station, and the types that are available there.
 use crate::set::FILES;
-use crate::set::NAMED;
+use crate::set::LENT;
 use crate::set::file_in;
 use crate::set::notes_in;
 use crate::slotted::value_in;
@@ -39,7 +39,7 @@ ghost use Rattle.document.specs.inner.Values.{thereBy, arrayBy, spelledBy};
 ghost use Rattle.ids.specs.References.{kindIf};
 ghost use Rattle.cross.specs.Cross.{statusFaults};
 ghost use Rattle.ids.specs.inner.Known.{Searchable};
-ghost use Rattle.cross.specs.inner.Judged.{Object, fileBy, filesBy, Known, stationBy, countsBy, Judges, Slotted};
+ghost use Rattle.cross.specs.inner.Judged.{Object, fileBy, filesBy, Known, docksBy, countsBy, Judges, Slotted};
 ghost use Rattle.cross.specs.inner.Tallied.{Tallies};
 
 // What the types tell that are available: the sum of their counts, and the first rule that one breaks.
@@ -93,7 +93,7 @@ fn sum_kind(available: &[u8], sum: u64, bikes: &[u8]) -> u8
 }
 
 // Fields 30 and 32, by their values.
-fn judge_station(
+fn judge_docks(
     reference: &[u8],
     docks: &[u8],
     place: Place,
@@ -101,7 +101,7 @@ fn judge_station(
     station_notes: &[u32; Notes::SIZE],
 ) -> Least
     requires { ⌜ Searchable 2 (now stations) (now «station_notes») ⌝ }
-    ensures { λ r. ⌜ r ≡ least (stationBy place (fileBy 2 (now (stations .entry))) (now (reference .entry)) (now (docks .entry))) ⌝ }
+    ensures { λ r. ⌜ r ≡ least (docksBy place (fileBy 2 (now (stations .entry))) (now (reference .entry)) (now (docks .entry))) ⌝ }
 {
     let a = place.broken(30, refers(reference, 2, stations, station_notes));
     let b = place.broken(
@@ -138,13 +138,13 @@ pub fn judge_status<'a, 'n, 's>(
     upto: &'s [usize; Slots::ROWS],
     n: u32,
     records: [&'a [u8]; FILES],
-    notes: [&'n [u32; Notes::SIZE]; NAMED],
+    notes: [&'n [u32; Notes::SIZE]; LENT],
 ) -> Least
     requires { ⌜ Slotted 3 (now p) (slotsOf (now state) (now from) (now upto)) × Known 3 (map now records) (map now notes) × (length (now p) ≤ fileBytes) × Object (now p) ⌝ }
     ensures { λ r. ⌜ Judges 3 (statusFaults (filesBy (map now (records .entry))) n) (now (p .entry)) r ⌝ }
 {
     let place = Place { record: n, sub: 0 };
-    let a = judge_station(
+    let a = judge_docks(
         value_in(p, state, from, upto, 0),
         value_in(p, state, from, upto, 2),
         place,

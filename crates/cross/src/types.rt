@@ -1,6 +1,6 @@
 // A record of file 1: a range unless a human drives, and a plan.
 use crate::set::FILES;
-use crate::set::NAMED;
+use crate::set::LENT;
 use crate::set::file_in;
 use crate::set::notes_in;
 use crate::slotted::value_in;
@@ -25,7 +25,7 @@ pub fn judge_type<'a, 'n, 's>(
     upto: &'s [usize; Slots::ROWS],
     n: u32,
     records: [&'a [u8]; FILES],
-    notes: [&'n [u32; Notes::SIZE]; NAMED],
+    notes: [&'n [u32; Notes::SIZE]; LENT],
 ) -> Least
     requires { ⌜ Slotted 1 (now p) (slotsOf (now state) (now from) (now upto)) × Known 1 (map now records) (map now notes) ⌝ }
     ensures { λ r. ⌜ Judges 1 (typeFaults (filesBy (map now (records .entry))) n) (now (p .entry)) r ⌝ }

@@ -1,10 +1,11 @@
 -- The code's steps along the names that lead to a file's records: the top value, a member in a span, an item by its number.
+use mathlib.Core.Bool.{false}
 use mathlib.Core.List.{List, [], _∷_, map}
 use mathlib.Core.Path.{_≡_, refl, sym, ap, _∙_}
 use Prim.Native.Nat.{ℕ, zero, suc, _+_, _-_, _≤_, _<_}
 use native.Mathlib.Omega.{arith}
 use lib.ListN.{length, drop}
-use Rattle.notation.specs.Maybe.{none, some}
+use Rattle.notation.specs.Maybe.{some}
 use Rattle.limits.specs.Ceilings.{depth}
 use Rattle.lexeme.specs.declared.Scan.the-variants as scan
 use Rattle.lexeme.specs.Read.{Read, placed}
@@ -19,9 +20,8 @@ use Rattle.walk.specs.Walk.{offsetOf}
 use Rattle.walk.proofs.Rests.{rest-drop, rest-blanks, rest-there}
 use Rattle.walk.proofs.Finding.{valued-at}
 use Rattle.walk.proofs.Files.{passed}
-use Rattle.schema.specs.Table23.{table23}
-use Rattle.schema.specs.Records.{Way, wayIn, wayTo}
-use Rattle.schema.proofs.Computed.{no-file}
+use Rattle.schema.specs.Records.{Way, wayTo, hasRecords}
+use Rattle.schema.proofs.Recorded.{no-way}
 use Rattle.document.specs.declared.Span.the-variants.{None, Is}
 use Rattle.document.specs.Spans.{memberSpan, membersAlong, topSpan, recordsSpan, nth}
 use Rattle.document.specs.inner.Spans.{Readable}
@@ -56,7 +56,7 @@ module _ (s : List ℕ) (from : ℕ) (e : from ≡ offsetOf s (blanks s)) where
       v (l .what) (drop (t .end) s) (ap (λ (n : ℕ). value paired depth (drop n s)) e ∙ l .reads) (t .after) ∙ sym (place-at s (t .end) (l .upto)) in
       rw (e, u) (sym (top-found s (t .end) (t .found)))
 
--- two names, or three; no number of a file has none
+-- two names, or three; none in a file without records
 module _ (file : ℕ) (s a b : List ℕ) {w : Way} (e : wayTo file ≡ some w) where
   pub along-two : map (λ k. k .name) (w .keys) ≡ a ∷ b ∷ [] → memberSpan s b (memberSpan s a (topSpan s)) ≡ recordsSpan file s
   unfolding recordsSpan membersAlong
@@ -66,9 +66,9 @@ module _ (file : ℕ) (s a b : List ℕ) {w : Way} (e : wayTo file ≡ some w) w
   unfolding recordsSpan membersAlong
   along-three d i = rw (recordsSpan, e, i)
 
-pub along-none : (file : ℕ) (s : List ℕ) → (1 ≤ file → file ≤ 6 → ⊥) → recordsSpan file s ≡ None
-unfolding recordsSpan wayTo wayIn table23
-along-none file s h = let e : wayTo file ≡ none = ap wayIn (no-file table23 file h) in rw (recordsSpan, e)
+pub along-none : (file : ℕ) (s : List ℕ) → hasRecords file ≡ false → recordsSpan file s ≡ None
+unfolding recordsSpan
+along-none file s h = rw (recordsSpan, no-way file h)
 
 -- items by number, counted down
 module _ (from : ℕ) (m : Item) (l : List Item) where

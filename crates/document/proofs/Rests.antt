@@ -1,4 +1,5 @@
 -- The rest of a file from its records on, name by name: where the span of a value is one, the rest that the code has come to begins with that value.
+use mathlib.Core.Bool.{true, false}
 use mathlib.Core.List.{List, [], _∷_, map}
 use mathlib.Core.Path.{_≡_, refl, sym, ap, subst, _∙_}
 use Prim.Native.Nat.{ℕ, _+_, _-_, _≤_}
@@ -7,6 +8,7 @@ use lib.ListN.{length, take, drop, length-take, length-drop}
 use lib.Seq.{drop-drop}
 use Rattle.limits.specs.Ceilings.{depth}
 use Rattle.notation.specs.Maybe.{Maybe, none, some}
+use Rattle.notation.proofs.Booleans.{true-false}
 use Rattle.json.specs.declared.Syntax.the-variants.{Sound}
 use Rattle.json.specs.Tree.{Json}
 use Rattle.json.specs.Text.{syntaxOf}
@@ -19,7 +21,7 @@ use Rattle.walk.proofs.Files.{passed}
 use Rattle.walk.proofs.Wholes.{whole-some}
 use Rattle.walk.proofs.Open.{front-items}
 use Rattle.schema.specs.Shape.{Shape}
-use Rattle.schema.specs.Records.{Way, wayTo}
+use Rattle.schema.specs.Records.{Way, wayTo, hasRecords}
 use Rattle.schema.specs.Pick.{Picked}
 use Rattle.slots.specs.declared.Found.{Found}
 use Rattle.slots.specs.declared.Found.the-variants.{Missing, Once, Twice}
@@ -29,6 +31,7 @@ use Rattle.document.specs.declared.Span.the-variants.{None, Is}
 use Rattle.document.specs.Spans.{moved, memberSpan, membersAlong, topSpan, recordsSpan, nth, nthIn, recordSpan}
 use Rattle.document.specs.inner.Spans.{Listed, ValueFrom, RecordsFrom}
 use Rattle.walk.proofs.Cuts.{part-rest}
+use Rattle.document.proofs.Along.{along-none}
 use Rattle.document.proofs.Rows.{Stands, stands-found}
 use Rattle.document.proofs.Records.{top-is, top-stands, open-items, Records}
 use Rattle.document.specs.inner.Items.{pickedItems}
@@ -77,12 +80,17 @@ begins-member s name span p r b v =
         )
 
 -- a number without records has none to begin
-pub no-records : (file : ℕ) (s r : List ℕ) → recordsSpan file s ≡ None → length r ≤ length s → RecordsFrom file s r
-no-records file s r e h =
-    record { inside = h; starts = λ i from upto j. let k : None ≡ Is from upto = sym e ∙ j in let z : _≡_ {A = ℕ} 0 1 = cc in absurd (omega arith) }
+pub no-records : (file : ℕ) (s r : List ℕ) → hasRecords file ≡ false → r ≡ [] → RecordsFrom file s r
+no-records file s r h e =
+    record {
+      inside = omega (arith, ap length e);
+      none = λ i. e;
+      starts = λ i from upto j. let k : None ≡ Is from upto = sym (along-none file s h) ∙ j in let z : _≡_ {A = ℕ} 0 1 = cc in absurd (omega arith);
+    }
 
-pub records-begin : (file : ℕ) (s : List ℕ) (span : Span) (r : List ℕ) → span ≡ recordsSpan file s → Begins s span r → RecordsFrom file s r
-records-begin file s span r e b = record { inside = b .inside; starts = λ h from upto i. b .starts h from upto (e ∙ i) .2 }
+pub records-begin : (file : ℕ) (s : List ℕ) (span : Span) (r : List ℕ) → hasRecords file ≡ true → span ≡ recordsSpan file s → Begins s span r → RecordsFrom file s r
+records-begin file s span r h e b =
+    record { inside = b .inside; none = λ i. true-false h i; starts = λ i from upto j. b .starts i from upto (e ∙ j) .2 }
 
 -- Of no file there is none.
 pub none-from : {file : ℕ} {s r : List ℕ} → RecordsFrom file s r → s ≡ [] → r ≡ []
@@ -128,13 +136,16 @@ no-record file n = go (wayTo file)
 -- the n-th record, in the rest p
 module _ (file : ℕ) (s p : List ℕ) (n : ℕ) (f : RecordsFrom file s p) where
   pub record-absent : length p ≡ 0 → Listed file s → None ≡ recordSpan file s n
+  unfolding recordSpan
   record-absent h (Listed.absent e) = sym (ap (λ (l : List ℕ). recordSpan file l n) e ∙ no-record file n)
+  record-absent h (Listed.recordless e) = sym (ap (λ (z : Span). nthIn s z n) (along-none file s e))
   record-absent h (Listed.listed from upto sound is w) =
       absurd (omega (arith, ap length (f .starts sound from upto is), whole-some w, length-take (upto - from) (drop from s)))
 
   pub record-there : (length p ≡ 0 → ⊥) → Listed file s → AlongItems p 1 × (nth (length s - length p) (itemsOf p) n ≡ recordSpan file s n)
   unfolding recordSpan
   record-there h (Listed.absent e) = absurd (h (ap length (none-from f e)))
+  record-there h (Listed.recordless e) = absurd (h (ap length (f .none e)))
   record-there h (Listed.listed from upto sound is w) =
       let e = f .starts sound from upto is in
       let a : length s - length p ≡ from = omega (arith, ap length e, length-drop from s) in (

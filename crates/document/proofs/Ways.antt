@@ -1,19 +1,19 @@
 -- The way to a file's records goes through rows each of which is required and the first of its number, so that its fields are the members of its names; the
 -- array at its end has the ceiling of records, and records are objects.
-use mathlib.Core.Bool.{false}
+use mathlib.Core.Bool.{true, false}
 use mathlib.Core.List.{List, [], _∷_}
 use mathlib.Core.Path.{_≡_, refl}
-use Prim.Native.Nat.{ℕ, zero, suc, _≤_}
+use Prim.Native.Nat.{ℕ, zero, suc}
 use Prim.Native.String.{String}
-use native.Mathlib.Omega.{arith}
 use lib.Dec.{eqb}
 use Rattle.limits.specs.Ceilings as ceiling
 use Rattle.notation.specs.Ascii.{bytes}
 use Rattle.notation.specs.Maybe.{some}
+use Rattle.notation.proofs.Booleans.{true-false}
 use Rattle.schema.specs.Shape as shape
 use Rattle.schema.specs.Shape.{Shape, Rows, Need, fileShape}
-use Rattle.schema.specs.Table23.{table23, listing, file, vehicleType, station, status, bike, plan, zone}
-use Rattle.schema.specs.Records.{Key, Way, wayTo, recordShape, located}
+use Rattle.schema.specs.Table23.{table23, listing, file, vehicleType, station, status, bike, plan, zone, region}
+use Rattle.schema.specs.Records.{Key, Way, wayTo, recordShape, hasRecords, located}
 use Rattle.document.proofs.Rows as fields
 use Rattle.document.proofs.Rows.{Lists}
 
@@ -50,13 +50,15 @@ in-listing : (name : String) (σ : Shape)
 unfolding listing
 in-listing name σ = in-data (into here arrived)
 
-pub records-of : (n : ℕ) → 1 ≤ n → n ≤ 6 → Recorded n
-unfolding located vehicleType station status bike plan zone
-records-of zero h i = absurd (omega arith)
-records-of (suc zero) h i = record { way = _; is = refl; leads = in-listing "vehicle_types" vehicleType; rows = _; object = refl }
-records-of (suc (suc zero)) h i = record { way = _; is = refl; leads = in-listing "stations" station; rows = _; object = refl }
-records-of (suc (suc (suc zero))) h i = record { way = _; is = refl; leads = in-listing "stations" status; rows = _; object = refl }
-records-of (suc (suc (suc (suc zero)))) h i = record { way = _; is = refl; leads = in-listing "bikes" bike; rows = _; object = refl }
-records-of (suc (suc (suc (suc (suc zero))))) h i = record { way = _; is = refl; leads = in-listing "plans" plan; rows = _; object = refl }
-records-of (suc (suc (suc (suc (suc (suc zero)))))) h i = record { way = _; is = refl; leads = in-data (into here (into (below refl here) arrived)); rows = _; object = refl }
-records-of (suc (suc (suc (suc (suc (suc (suc n))))))) h i = absurd (omega arith)
+pub records-of : (n : ℕ) → hasRecords n ≡ true → Recorded n
+unfolding located vehicleType station status bike plan zone region
+records-of zero h = true-false h refl
+records-of (suc zero) h = record { way = _; is = refl; leads = in-listing "vehicle_types" vehicleType; rows = _; object = refl }
+records-of (suc (suc zero)) h = record { way = _; is = refl; leads = in-listing "stations" station; rows = _; object = refl }
+records-of (suc (suc (suc zero))) h = record { way = _; is = refl; leads = in-listing "stations" status; rows = _; object = refl }
+records-of (suc (suc (suc (suc zero)))) h = record { way = _; is = refl; leads = in-listing "bikes" bike; rows = _; object = refl }
+records-of (suc (suc (suc (suc (suc zero))))) h = record { way = _; is = refl; leads = in-listing "plans" plan; rows = _; object = refl }
+records-of (suc (suc (suc (suc (suc (suc zero)))))) h = record { way = _; is = refl; leads = in-data (into here (into (below refl here) arrived)); rows = _; object = refl }
+records-of (suc (suc (suc (suc (suc (suc (suc zero))))))) h = true-false h refl
+records-of (suc (suc (suc (suc (suc (suc (suc (suc zero)))))))) h = record { way = _; is = refl; leads = in-listing "regions" region; rows = _; object = refl }
+records-of (suc (suc (suc (suc (suc (suc (suc (suc (suc n))))))))) h = true-false h refl

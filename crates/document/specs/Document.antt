@@ -1,9 +1,9 @@
 -- What a picked file holds, by field numbers: its records, and the values of a record's fields. A field that is missing, or twice there, or of
 -- another kind than asked for, gives nothing; in a file without faults it is never of another kind.
-use mathlib.Core.Bool.{Bool, true, false}
+use mathlib.Core.Bool.{Bool}
 use mathlib.Core.List.{List, [], _∷_}
 use Prim.Native.Nat.{ℕ}
-pub use Rattle.notation.specs.Maybe.{Maybe, none, some}
+pub use Rattle.notation.specs.Maybe.{Maybe, none, some, given}
 use Rattle.schema.specs.Pick.{Picked, Slot, bare, items, slots, missing, once, twice, slotOf, elements, byValue}
 
 abbrev pub onceOnly : {A : Type 0} → Slot A → Maybe A
@@ -52,7 +52,3 @@ spelling f x = then (field f x) spellingIn
 
 unfoldable pub truth : ℕ → Picked → Maybe Bool
 truth f x = then (field f x) truthIn
-
-abbrev pub given : {A : Type 0} → Maybe A → Bool
-given none = false
-given (some x) = true

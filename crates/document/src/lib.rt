@@ -123,7 +123,8 @@ fn value_from<'a>(p: &'a [u8], name: &[u8]) -> &'a [u8]
     }
 }
 
-// The rest of a file from its records on; no bytes where the number is no file's. Nothing is passed over but what stands before them.
+// The rest of a file from its records on; no bytes where the number is no file's, or that of a file without records. Nothing is passed over but what
+// stands before them.
 // Shut out: an object's member of a name on the way that stands deeper down.
 pub fn records_from(file: u8, s: &[u8]) -> &[u8]
     ensures { λ r. ⌜ RecordsFrom file (now (s .entry)) (now r) ⌝ }
@@ -148,6 +149,9 @@ pub fn records_from(file: u8, s: &[u8]) -> &[u8]
         }
         6 => {
             return value_from(value_from(data, b"geofencing_zones"), b"features");
+        }
+        8 => {
+            return value_from(data, b"regions");
         }
         _ => {
             return cut(s, 0, 0);

@@ -7,6 +7,7 @@ use lib.ListN.{length, getD, set, take}
 use lib.Seq.{getD-set-same, getD-set-other, length-take-le, take-at, take-take}
 use borrow.Author.Count.{below-more}
 use borrow.Rule.Slice.PartMut.{midOf, mid-len}
+use Rattle.fault.specs.Outcome.{fileCount}
 use Rattle.folder.specs.declared.reading.Taken.{Taken}
 use Rattle.folder.specs.declared.reading.Taken.the-variants.{To}
 use Rattle.folder.specs.declared.reading.Turn.{Turn}
@@ -29,7 +30,7 @@ kept-before from to before bytes anew h i e =
     ∙ e
 
 -- files that were all taken stand in order within any buffer of that size
-pub placed-within : (size room : ℕ) (places : List ℕ) (k : Taken) (end : ℕ) → size ≤ room → k ≡ To end → Placed size places k → InOrder 6 room places
+pub placed-within : (size room : ℕ) (places : List ℕ) (k : Taken) (end : ℕ) → size ≤ room → k ≡ To end → Placed size places k → InOrder fileCount room places
 placed-within size room places k end h e p i l =
     let q = subst (Placed size places) e p i l in (q .0, omega (arith, q .1))
 

@@ -15,6 +15,6 @@ parts-said s before after room h e =
     ap (λ a. a .parts) (ap readWord (sym (take-all wordSize after h)) ∙ ap (λ l. readWord (take wordSize l)) e ∙ verdict-read s before room)
 
 -- the same files make the same set
-pub same-set : {t s u b p z t′ s′ u′ b′ p′ z′ : List ℕ} → t ≡ t′ → s ≡ s′ → u ≡ u′ → b ≡ b′ → p ≡ p′ → z ≡ z′
-    → (t ∷ s ∷ u ∷ b ∷ p ∷ z ∷ []) ≡ (t′ ∷ s′ ∷ u′ ∷ b′ ∷ p′ ∷ z′ ∷ [])
-same-set e f g h i j = cc
+pub same-set : {t s u b p z y r t′ s′ u′ b′ p′ z′ y′ r′ : List ℕ} → t ≡ t′ → s ≡ s′ → u ≡ u′ → b ≡ b′ → p ≡ p′ → z ≡ z′ → y ≡ y′ → r ≡ r′
+    → (t ∷ s ∷ u ∷ b ∷ p ∷ z ∷ y ∷ r ∷ []) ≡ (t′ ∷ s′ ∷ u′ ∷ b′ ∷ p′ ∷ z′ ∷ y′ ∷ r′ ∷ [])
+same-set e f g h i j k l = cc

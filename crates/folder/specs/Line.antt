@@ -52,6 +52,8 @@ names =
     ∷ bytes "free_bike_status.json"
     ∷ bytes "system_pricing_plans.json"
     ∷ bytes "geofencing_zones.json"
+    ∷ bytes "system_information.json"
+    ∷ bytes "system_regions.json"
     ∷ []
 
 -- the name of a file by its place in the set, counted from 0

@@ -4,6 +4,7 @@ use mathlib.Core.Path.{_≡_}
 use Prim.Native.Nat.{ℕ, _+_, _≤_, _<_}
 use lib.ListN.{length, getD, take}
 use Rattle.walk.specs.Walk.{part}
+use Rattle.fault.specs.Outcome.{fileCount}
 use Rattle.folder.specs.declared.reading.Taken.{Taken}
 use Rattle.folder.specs.declared.reading.Taken.the-variants as taken
 use Rattle.folder.specs.declared.reading.Turn.{Turn}
@@ -33,11 +34,11 @@ InOrder files size places = (i : ℕ) → i < files → (getD places i 0 ≤ get
 abbrev pub Placed : (size : ℕ) (places : List ℕ) → Taken → Type 0
 Placed size places taken.Unread = Unit
 Placed size places taken.Full = Unit
-Placed size places (taken.To end) = InOrder 6 size places
+Placed size places (taken.To end) = InOrder fileCount size places
 
 -- a file by its place in the set, counted from 0
 abbrev pub fileIn : (bytes places : List ℕ) (i : ℕ) → List ℕ
 fileIn bytes places i = part bytes (getD places i 0) (getD places (i + 1) 0)
 
 abbrev pub setIn : (bytes places : List ℕ) → List (List ℕ)
-setIn bytes places = map (fileIn bytes places) (0 ∷ 1 ∷ 2 ∷ 3 ∷ 4 ∷ 5 ∷ [])
+setIn bytes places = map (fileIn bytes places) (0 ∷ 1 ∷ 2 ∷ 3 ∷ 4 ∷ 5 ∷ 6 ∷ 7 ∷ [])

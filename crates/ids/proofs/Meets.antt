@@ -3,7 +3,7 @@
 use mathlib.Core.Bool.{Bool, true, false}
 use mathlib.Core.List.{List, [], _∷_, map, List·Memᴰ, List·Memᴰ·head, List·Memᴰ·tail}
 use mathlib.Core.Path.{_≡_, refl, sym, ap, ap₂, _∙_}
-use Prim.Native.Nat.{ℕ, zero, suc, _≤_}
+use Prim.Native.Nat.{ℕ, zero, suc}
 use native.Mathlib.Omega.{arith}
 use lib.ListN.{length, getD}
 use borrow.Author.Tests.{ne-eqb}
@@ -15,7 +15,7 @@ use Rattle.walk.specs.Walk.{itemsOf}
 use Rattle.walk.specs.Part.{Whole, partTree}
 use Rattle.walk.proofs.Parts.{itemOf, items-whole}
 use Rattle.schema.specs.Table23.{vehicleType, station}
-use Rattle.schema.specs.Records.{recordShape, located}
+use Rattle.schema.specs.Records.{recordShape, hasIds, located}
 use Rattle.schema.specs.Pick.{Picked, pick}
 use Rattle.document.specs.Document.{Maybe, none, some, text}
 use Rattle.document.specs.inner.Items.{pickedItems}
@@ -31,15 +31,15 @@ record Alike (file : ℕ) (q : List ℕ) (x : Picked) : Type 0 where
   id : idOf file q ≡ text (idField file) x
   passed : passing file q ≡ testOf file x
 
-passed-picked : (file : ℕ) → 1 ≤ file → {q : List ℕ} {x : Json} → Whole q x → passing file q ≡ testOf file (pick (recordShape file) x)
+passed-picked : (file : ℕ) {q : List ℕ} {x : Json} → Whole q x → passing file q ≡ testOf file (pick (recordShape file) x)
 unfolding located vehicleType station rowOf
-passed-picked zero h w = absurd (omega arith)
-passed-picked (suc zero) h w = ap notHuman (field-text (listed refl) w)
-passed-picked (suc (suc zero)) h w = field-given (listed refl) w
-passed-picked (suc (suc (suc n))) h w = rw (ne-eqb (suc (suc (suc n))) 1 (λ e. omega arith), ne-eqb (suc (suc (suc n))) 2 (λ e. omega arith))
+passed-picked zero w = refl
+passed-picked (suc zero) w = ap notHuman (field-text (listed refl) w)
+passed-picked (suc (suc zero)) w = field-given (listed refl) w
+passed-picked (suc (suc (suc n))) w = rw (ne-eqb (suc (suc (suc n))) 1 (λ e. omega arith), ne-eqb (suc (suc (suc n))) 2 (λ e. omega arith))
 
-alike : (file : ℕ) → 1 ≤ file → file ≤ 5 → {q : List ℕ} {x : Json} → Whole q x → Alike file q (pick (recordShape file) x)
-alike file h i w = record { id = id-picked file h i w; passed = passed-picked file h w }
+alike : (file : ℕ) → hasIds file ≡ true → {q : List ℕ} {x : Json} → Whole q x → Alike file q (pick (recordShape file) x)
+alike file h w = record { id = id-picked file h w; passed = passed-picked file w }
 
 module _ (file : ℕ) (tested : Bool) (id : List ℕ) where
   asked : (t : Bool) {q : List ℕ} {x : Picked} → Alike file q x → (t ⇒ passing file q else true) ≡ testedOf file t x
@@ -82,8 +82,8 @@ module _ (file : ℕ) (tested : Bool) (id : List ℕ) where
       ∙ sym (any-step (testedOf file tested) (idField file) (g m) (map g ms))
 
 -- all records of an array
-pub meets-picked : (file : ℕ) → 1 ≤ file → file ≤ 5 → (tested : Bool) (id p : List ℕ)
+pub meets-picked : (file : ℕ) → hasIds file ≡ true → (tested : Bool) (id p : List ℕ)
     → anyMeets file tested id (recordBytes p) (length (itemsOf p)) ≡ anyWith (testedOf file tested) (idField file) (pickedItems (recordShape file) p) id
 unfolding recordBytes
-meets-picked file h i tested id p =
-    alike-all file tested id (itemOf p) (λ m. pick (recordShape file) (partTree (itemOf p m))) (itemsOf p) (λ m j. alike file h i (items-whole p m j))
+meets-picked file h tested id p =
+    alike-all file tested id (itemOf p) (λ m. pick (recordShape file) (partTree (itemOf p m))) (itemsOf p) (λ m j. alike file h (items-whole p m j))

@@ -39,6 +39,7 @@ repeats =
     ("no id, an empty one, a number", (4, "[{},{},{'bike_id':''},{'bike_id':''},{'bike_id':1},{'bike_id':1}]"), 0) ∷
     ("two ids are none", (4, "[{'bike_id':'a','bike_id':'a'},{'bike_id':'a'}]"), 0) ∷
     ("a file's own name for ids, and not deeper down", (5, "[{'bike_id':'a'},{'bike_id':'a'},{'x':{'plan_id':'a'},'plan_id':'b'},{'plan_id':'a'},{'plan_id':'b'}]"), 5) ∷
+    ("regions", (8, "[{'region_id':'a'},{'name':'n','region_id':'a'}]"), 2) ∷
     []
 
 repeats-answered : Answers (λ c. repeatIn (c .0) (c .1)) repeats

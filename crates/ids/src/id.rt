@@ -18,10 +18,13 @@ ghost use Rattle.document.specs.inner.Values.{foundBytes, FoundWhole, textBy};
 ghost use Rattle.ids.specs.inner.Ids.{idField, idName, TextPlace, IdTold};
 
 // The field of a file's own ids; 0 where its records have none.
-// Shut out: plans whose ids are not looked at.
+// Shut out: plans whose ids are not looked at; a region that repeats an id blamed on another field.
 pub fn id_field(file: u8) -> u8
     ensures { λ r. ⌜ r ≡ idField file ⌝ }
 {
+    if file == 8 {
+        return 100;
+    }
     if 5 < file {
         return 0;
     }
@@ -38,6 +41,7 @@ pub fn names_id(file: u8, spelled: &[u8]) -> bool
         3 => text_is(spelled, b"station_id"),
         4 => text_is(spelled, b"bike_id"),
         5 => text_is(spelled, b"plan_id"),
+        8 => text_is(spelled, b"region_id"),
         _ => text_is(spelled, b""),
     }
 }

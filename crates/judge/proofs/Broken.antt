@@ -16,6 +16,7 @@ use Rattle.decimal.specs.declared.Price.{Price}
 use Rattle.decimal.specs.declared.Price.the-variants as price
 use Rattle.decimal.specs.Decimals.{numberOf, hasPoint, priceOf}
 use Rattle.decimal.specs.Exact.{natural, portion, inRange}
+use Rattle.calendar.specs.Written.{isDate}
 use Rattle.text.specs.Text.{same}
 use Rattle.schema.specs.Shape as sort
 use Rattle.schema.specs.Shape.{Sort}
@@ -61,6 +62,7 @@ number-kinds sort.boolean s = only (omega arith)
 number-kinds sort.text s = only (omega arith)
 number-kinds sort.id s = only (omega arith)
 number-kinds sort.currency s = only (omega arith)
+number-kinds sort.date s = only (omega arith)
 number-kinds (sort.exactly t) s = only (omega arith)
 number-kinds (sort.word ws) s = only (omega arith)
 
@@ -79,6 +81,7 @@ text-kinds sort.boolean s = only (omega arith)
 text-kinds sort.text s = none
 text-kinds sort.id s = unless-kinds (not (ltb idBytes (length s))) _ (omega arith)
 text-kinds sort.currency s = unless-kinds (currency s) _ (omega arith)
+text-kinds sort.date s = unless-kinds (isDate s) _ (omega arith)
 text-kinds (sort.exactly t) s = unless-kinds (same s t) _ (omega arith)
 text-kinds (sort.word ws) s = unless-kinds (anyWord ws s) _ (omega arith)
 
@@ -97,6 +100,7 @@ boolean-kinds sort.boolean = none
 boolean-kinds sort.text = only (omega arith)
 boolean-kinds sort.id = only (omega arith)
 boolean-kinds sort.currency = only (omega arith)
+boolean-kinds sort.date = only (omega arith)
 boolean-kinds (sort.exactly t) = only (omega arith)
 boolean-kinds (sort.word ws) = only (omega arith)
 

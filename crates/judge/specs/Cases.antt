@@ -6,6 +6,7 @@ use Prim.Native.String.{String}
 use Rattle.notation.specs.Case.{Case, Answers, json}
 use Rattle.walk.specs.Part.{partTree}
 use Rattle.text.specs.Cases.{comparing}
+use Rattle.calendar.specs.Cases.{dating}
 use Rattle.schema.specs.Shape.{fileShape}
 use Rattle.schema.specs.Table23.{table23}
 use Rattle.schema.specs.Pick.{find}
@@ -18,7 +19,7 @@ use Rattle.judge.specs.Faults.{eachItem, faultsBy, fileFaultsBy, fileFau
 
 -- opens every definition of stage B
 unfoldable pub judging : Unit {0}
-unfolding ringing comparing fileShape find before lesser least anyMoney priceMoney pricing anyWord capitals currency faulty eachItem faultsBy fileFaultsBy
+unfolding ringing comparing dating fileShape find before lesser least anyMoney priceMoney pricing anyWord capitals currency faulty eachItem faultsBy fileFaultsBy
 judging = tt
 
 unfoldable times : ℕ → List ℕ → List ℕ
@@ -47,6 +48,10 @@ zone polygons properties =
     properties ++
     json "}}]}}")
 
+-- a file 7 with this behind the required members
+abbrev system : List ℕ → List ℕ
+system more = inData (json "{'system_id':'s','language':'en','name':'n','timezone':'Europe/Paris'" ++ more ++ json "}")
+
 -- one with a sound rule and another; one with these polygons
 abbrev secondRule : List ℕ → List ℕ
 secondRule rule = zone [] (json "'rules':[{'ride_allowed':true,'ride_through_allowed':true}," ++ rule ++ json "]")
@@ -74,6 +79,16 @@ files =
     ("a zone that is no object", (6, inData (json "{'geofencing_zones':{'type':'FeatureCollection','features':[null]}}")), broken 1 7 0 7) ∷
     ("a blank id", (4, inData (json "{'bikes':[{'bike_id':'','is_reserved':false,'is_disabled':false}]}")), broken 1 40 0 6) ∷
     ("null for an optional member", (2, inData (json "{'stations':[{'station_id':'s','name':'n','lat':90,'lon':180,'capacity':null}]}")), broken 1 24 0 7) ∷
+    ("a region that is no string", (2, inData (json "{'stations':[{'station_id':'s','name':'n','lat':0,'lon':0,'region_id':7}]}")), broken 1 25 0 7) ∷
+    ("a region without a name", (8, inData (json "{'regions':[{'region_id':'r','name':'n'},{'region_id':'q'}]}")), broken 2 101 0 6) ∷
+    ("an id of 101 bytes", (8, inData (json "{'regions':[{'name':'n','region_id':'" ++ times 101 (json "r") ++ json "'}]}")), broken 1 100 0 9) ∷
+    -- the system
+    ("a system", (7, system []), None) ∷
+    ("with a start date", (7, system (json ",'start_date':'2000-02-29'")), None) ∷
+    ("no real date", (7, system (json ",'start_date':'1900-02-29'")), broken 0 94 0 9) ∷
+    ("no string", (7, system (json ",'start_date':20000229")), broken 0 94 0 7) ∷
+    ("no time zone", (7, inData (json "{'system_id':'s','language':'en','name':'n'}")), broken 0 93 0 6) ∷
+    ("a system_id of 101 bytes, which is no id", (7, inData (json "{'system_id':'" ++ times 101 (json "s") ++ json "','language':7}")), broken 0 91 0 7) ∷
     -- arrays in records
     ("a segment without a rate", (5, plan (json "{'start':1,'rate':1,'interval':1},{'start':1,'interval':1}")), broken 1 63 2 6) ∷
     ("one that is no object", (5, plan (json "{},[]")), broken 1 61 2 7) ∷

@@ -9,7 +9,7 @@ use lib.Dec.{eqb, leb}
 use lib.ListN.{length, drop, length-drop}
 use borrow.Author.Tests.{le-leb, lt-leb, leb-true, eqb-true, eqb-false}
 use Rattle.limits.specs.Ceilings.{depth}
-use Rattle.notation.proofs.Booleans.{by-test, and-left, and-right}
+use Rattle.notation.proofs.Booleans.{by-test, true-false, and-left, and-right}
 use Rattle.lexeme.specs.Read as read
 use Rattle.lexeme.specs.Tokens.{blanks}
 use Rattle.json.specs.Text.{text, value, valueBy}
@@ -24,7 +24,7 @@ use Rattle.walk.proofs.Skips.{skip-value}
 use Rattle.walk.proofs.Parts.{itemOf, items-whole}
 use Rattle.schema.specs.Shape.{fileShape}
 use Rattle.schema.specs.Table23.{table23, plan}
-use Rattle.schema.specs.Records.{located, identified}
+use Rattle.schema.specs.Records.{hasRecords, hasIds, located, identified}
 use Rattle.schema.specs.Pick.{Picked, pick}
 use Rattle.document.specs.Document as document
 use Rattle.document.specs.Document.{none, some, field, along}
@@ -86,19 +86,28 @@ pub quote-absent : (s id : List ℕ) (seconds metres : ℕ) → length s ≡ 0 �
 unfolding cleanQuote
 quote-absent s id seconds metres e = ap (planQuote seconds metres) (sym (plans-absent s id e))
 
+recorded : hasRecords 5 ≡ true
+unfolding located
+recorded = refl
+
+pub identifies : hasIds 5 ≡ true
+unfolding identified
+identifies = refl
+
 -- the rest of a sound file from its plans on
-plans-from : {s : List ℕ} (k : Sound 5 s) → RecordsFrom 5 s (drop (clean-held 5 (omega arith) (omega arith) s k .there .start) s)
+plans-from : {s : List ℕ} (k : Sound 5 s) → RecordsFrom 5 s (drop (clean-held 5 recorded s k .there .start) s)
 plans-from {s} k =
-    let there = clean-held 5 (omega arith) (omega arith) s k .there in
+    let there = clean-held 5 recorded s k .there in
     record {
       inside = omega (arith, length-drop (there .start) s);
+      none = λ e. true-false recorded e;
       starts = λ reads from upto e. let i = there .is in let n : there .start ≡ from = cc in ap (λ (m : ℕ). drop m s) n;
     }
 
 -- the file, and its rest p from the plans on
 module _ {s p : List ℕ} (k : Sound 5 s) (f : RecordsFrom 5 s p) where
   abbrev held : Held 5 s (clean.treeOf s)
-  held = clean-held 5 (omega arith) (omega arith) s k
+  held = clean-held 5 recorded s k
 
   records-are : held .list ≡ pickedItems plan p
   unfolding located
@@ -111,7 +120,7 @@ module _ {s p : List ℕ} (k : Sound 5 s) (f : RecordsFrom 5 s p) where
   -- no two plans have one id
   apart : Apart 50 (pickedItems plan p)
   unfolding identified idField plans
-  apart = subst (Apart 50) plans-are (clean-apart 5 (omega arith) (omega arith) s k)
+  apart = subst (Apart 50) plans-are (clean-apart 5 identifies s k)
 
   -- each is clear
   pub item-clear : (m : Item) → List·Memᴰ m (itemsOf p) → ClearPlan (itemOf p m)
@@ -124,7 +133,7 @@ module _ {s p : List ℕ} (k : Sound 5 s) (f : RecordsFrom 5 s p) where
     -- the id of a record is its field 50
     has-plan : (m : Item) → List·Memᴰ m (itemsOf p) → hasId 5 id (itemOf p m) ≡ isId id (document.text 50 (picked plan p m))
     unfolding located identified idField
-    has-plan m i = ap (isId id) (id-picked 5 (omega arith) (omega arith) (items-whole p m i))
+    has-plan m i = ap (isId id) (id-picked 5 identifies (items-whole p m i))
 
     pub quote-none : (seconds metres : ℕ) → ((m : Item) → List·Memᴰ m (itemsOf p) → hasId 5 id (itemOf p m) ≡ false)
         → refused 6 ≡ cleanQuote (pick (fileShape table23 5) (clean.treeOf s)) id seconds metres

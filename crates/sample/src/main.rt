@@ -1,4 +1,4 @@
-// The desk program over a sound set of all six files.
+// The desk program over a sound set of all eight files.
 fn main() {
     folder::judge();
 }

@@ -52,27 +52,29 @@ module _ {letter : ℕ} where
   no-number s t n f o y x z m p sort.text e = refl
   no-number s t n f o y x z m p sort.id e = refl
   no-number s t n f o y x z m p sort.currency e = refl
+  no-number s t n f o y x z m p sort.date e = refl
   no-number s t n f o y x z m p (sort.exactly w) e = refl
   no-number s t n f o y x z m p (sort.word ws) e = refl
 
   pub no-text : (s : List ℕ) → (letter ≡ code "p" → ⊥) → (letter ≡ code "S" → ⊥) → (letter ≡ code "i" → ⊥) → (letter ≡ code "c" → ⊥) →
-      (letter ≡ code "=" → ⊥) → (letter ≡ code "w" → ⊥) → (σ : Sort) → sortLetter σ ≡ letter → textKinds σ s ≡ wrongType ∷ []
+      (letter ≡ code "d" → ⊥) → (letter ≡ code "=" → ⊥) → (letter ≡ code "w" → ⊥) → (σ : Sort) → sortLetter σ ≡ letter → textKinds σ s ≡ wrongType ∷ []
   unfolding sortKinds
-  no-text s p t i c x w sort.timestamp e = refl
-  no-text s p t i c x w sort.integer e = refl
-  no-text s p t i c x w sort.amount e = refl
-  no-text s p t i c x w sort.portion e = refl
-  no-text s p t i c x w sort.latitude e = refl
-  no-text s p t i c x w sort.longitude e = refl
-  no-text s p t i c x w sort.anyNumber e = refl
-  no-text s p t i c x w sort.money e = refl
-  no-text s p t i c x w sort.price e = absurd (p (sym e))
-  no-text s p t i c x w sort.boolean e = refl
-  no-text s p t i c x w sort.text e = absurd (t (sym e))
-  no-text s p t i c x w sort.id e = absurd (i (sym e))
-  no-text s p t i c x w sort.currency e = absurd (c (sym e))
-  no-text s p t i c x w (sort.exactly y) e = absurd (x (sym e))
-  no-text s p t i c x w (sort.word ws) e = absurd (w (sym e))
+  no-text s p t i c d x w sort.timestamp e = refl
+  no-text s p t i c d x w sort.integer e = refl
+  no-text s p t i c d x w sort.amount e = refl
+  no-text s p t i c d x w sort.portion e = refl
+  no-text s p t i c d x w sort.latitude e = refl
+  no-text s p t i c d x w sort.longitude e = refl
+  no-text s p t i c d x w sort.anyNumber e = refl
+  no-text s p t i c d x w sort.money e = refl
+  no-text s p t i c d x w sort.price e = absurd (p (sym e))
+  no-text s p t i c d x w sort.boolean e = refl
+  no-text s p t i c d x w sort.text e = absurd (t (sym e))
+  no-text s p t i c d x w sort.id e = absurd (i (sym e))
+  no-text s p t i c d x w sort.currency e = absurd (c (sym e))
+  no-text s p t i c d x w sort.date e = absurd (d (sym e))
+  no-text s p t i c d x w (sort.exactly y) e = absurd (x (sym e))
+  no-text s p t i c d x w (sort.word ws) e = absurd (w (sym e))
 
   pub no-boolean : (letter ≡ code "B" → ⊥) → (σ : Sort) → sortLetter σ ≡ letter → booleanKinds σ ≡ wrongType ∷ []
   unfolding sortKinds
@@ -89,5 +91,6 @@ module _ {letter : ℕ} where
   no-boolean b sort.text e = refl
   no-boolean b sort.id e = refl
   no-boolean b sort.currency e = refl
+  no-boolean b sort.date e = refl
   no-boolean b (sort.exactly w) e = refl
   no-boolean b (sort.word ws) e = refl

@@ -12,6 +12,7 @@ use Rattle.json.specs.Tree.{Json}
 use Rattle.text.specs.Text.{textOf}
 use Rattle.text.specs.Cases.{comparing}
 use Rattle.decimal.specs.Cases.{deciding}
+use Rattle.calendar.specs.Cases.{dating}
 use Rattle.schema.specs.Shape as sort
 use Rattle.schema.specs.Shape.{Sort}
 use Rattle.schema.specs.Words.{formFactors}
@@ -19,7 +20,7 @@ use Rattle.scalar.specs.Scalars.{formedKinds, anyMoney, priceMoney, pric
 
 -- opens every definition of this layer
 unfoldable pub judging : Unit {0}
-unfolding comparing deciding formedKinds anyMoney priceMoney pricing anyWord capitals currency sortKinds kindsOf
+unfolding comparing deciding dating formedKinds anyMoney priceMoney pricing anyWord capitals currency sortKinds kindsOf
 judging = tt
 
 -- what a value says against a sort: nothing is wrong, or one of three kinds
@@ -123,6 +124,11 @@ strings =
     ("four letters", (sort.currency, "EURO"), astray) ∷
     ("two", (sort.currency, "EU"), astray) ∷
     ("none", (sort.currency, ""), astray) ∷
+    ("a real date", (sort.date, "2024-02-29"), sound) ∷
+    ("with an escape", (sort.date, "2024\\u002d02-29"), sound) ∷
+    ("no real date", (sort.date, "2023-02-29"), astray) ∷
+    ("and more", (sort.date, "2024-02-29T"), astray) ∷
+    ("none", (sort.date, ""), astray) ∷
     ("just one text", (feature, "Feature"), sound) ∷
     ("with an escape", (feature, "F\\u0065ature"), sound) ∷
     ("in another case", (feature, "feature"), astray) ∷
@@ -181,6 +187,7 @@ types =
     ("text", sort.text, textual sound) ∷
     ("id", sort.id, textual sound) ∷
     ("currency", sort.currency, textual astray) ∷
+    ("date", sort.date, textual astray) ∷
     ("one text", sort.exactly (bytes "2.3"), textual astray) ∷
     ("words", sort.word (bytes "human" ∷ []), textual astray) ∷
     ("boolean", sort.boolean, mistyped ∷ mistyped ∷ sound ∷ mistyped ∷ mistyped ∷ mistyped ∷ []) ∷

@@ -1,4 +1,4 @@
--- A single value against its sort: document 01, "Numbers", "Field table" and the paragraph on strings. The kinds that it breaks.
+-- A single value against its sort: document 01, "Numbers", "Field table" and the paragraph on strings; of dates document 02, W1. The kinds that it breaks.
 use mathlib.Core.Bool.{Bool, true, false, not}
 use mathlib.Core.List.{List, [], _∷_}
 use Prim.Native.Nat.{ℕ}
@@ -18,6 +18,7 @@ use Rattle.decimal.specs.declared.Price.the-variants as price
 use Rattle.decimal.specs.declared.Money.the-variants as money
 use Rattle.decimal.specs.Decimals.{numberOf, hasPoint, priceOf}
 use Rattle.decimal.specs.Exact.{natural, portion, inRange, moneyOf}
+use Rattle.calendar.specs.Written.{isDate}
 use Rattle.text.specs.Text.{same, sameWord}
 use Rattle.schema.specs.Shape as sort
 use Rattle.schema.specs.Shape.{Sort}
@@ -90,6 +91,7 @@ sortKinds sort.boolean = record { ofNumber = λ s. wrongType ∷ []; ofText = λ
 sortKinds sort.text = strings (λ s. [])
 sortKinds sort.id = strings (λ s. unless (not (ltb idBytes (length s))) outOfRange)
 sortKinds sort.currency = strings (λ s. unless (currency s) outOfRange)
+sortKinds sort.date = strings (λ s. unless (isDate s) outOfRange)
 sortKinds (sort.exactly t) = strings (λ s. unless (same s t) outOfRange)
 sortKinds (sort.word ws) = strings (λ s. unless (anyWord ws s) outOfRange)
 

@@ -3,6 +3,7 @@ use crate::currency::is_currency;
 use crate::numbers::Bounds;
 use crate::numbers::keeps;
 use crate::numbers::range_kind;
+use calendar::written::is_date;
 use decimal::Price;
 use decimal::quoted::read_price;
 use limits::Limits;
@@ -66,6 +67,7 @@ pub fn text_kind(spelled: &[u8], letter: u8, line: usize) -> u8
         Line::TEXT => 0,
         Line::ID => range_kind(!longer_than(spelled, Limits::ID_BYTES)),
         Line::CURRENCY => range_kind(is_currency(spelled)),
+        Line::DATE => range_kind(is_date(spelled)),
         Line::EXACTLY => range_kind(is_the_word(spelled, line)),
         Line::WORD => range_kind(is_a_word(spelled, line)),
         _ => Kind::WRONG_TYPE,

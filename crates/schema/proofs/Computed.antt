@@ -80,14 +80,14 @@ pub fields-rise : (file i j : ℕ) → i < j → j < length (fieldsOf (fileShape
 fields-rise file i j h k = rising-apart (fieldsOf (fileShape table23 file)) (rising-file file) i j h k
 
 -- how many lines there are, and how many bytes; and those of all words
-pub line-count : length (linesOf table23) ≡ 92
+pub line-count : length (linesOf table23) ≡ 109
 unfolding laidOut written23
 line-count = refl
 
-pub table-length : length (bytesOf table23) ≡ 1852
+pub table-length : length (bytesOf table23) ≡ 2159
 unfolding laidOut written23
 table-length = refl
 
-pub words-length : length (flatten (wordsOf table23)) ≡ 217
+pub words-length : length (flatten (wordsOf table23)) ≡ 223
 unfolding laidOut written23
 words-length = refl

@@ -33,6 +33,7 @@ sortFrom letter words =
     eqb letter (code "S") ⇒ shape.text else
     eqb letter (code "i") ⇒ shape.id else
     eqb letter (code "c") ⇒ shape.currency else
+    eqb letter (code "d") ⇒ shape.date else
     eqb letter (code "=") ⇒ shape.exactly (firstOf words) else shape.word words
 
 pub sort-from : (sort : Sort) → sortFrom (sortLetter sort) (sortWords sort) ≡ sort
@@ -50,6 +51,7 @@ sort-from shape.boolean = refl
 sort-from shape.text = refl
 sort-from shape.id = refl
 sort-from shape.currency = refl
+sort-from shape.date = refl
 sort-from (shape.exactly s) = refl
 sort-from (shape.word words) = refl
 
@@ -75,6 +77,7 @@ sort-sortal shape.boolean = refl
 sort-sortal shape.text = refl
 sort-sortal shape.id = refl
 sort-sortal shape.currency = refl
+sort-sortal shape.date = refl
 sort-sortal (shape.exactly s) = refl
 sort-sortal (shape.word words) = refl
 

@@ -1,5 +1,6 @@
 -- Where each file's records stand and what their ids are, computed.
-use mathlib.Core.List.{List, [], _∷_}
+use mathlib.Core.Bool.{true, false}
+use mathlib.Core.List.{List, [], _∷_, map}
 use mathlib.Core.Path.{_≡_, refl}
 use Prim.Native.Nat.{ℕ}
 use Prim.Native.String.{String}
@@ -9,8 +10,8 @@ use Rattle.notation.specs.Maybe.{Maybe, none, some}
 use Rattle.schema.specs.Shape.{Shape, unlisted, scalar, array, object, noRow, records, subs, _·_·_∶_▸_, _·_·_holds_▸_}
 use Rattle.schema.specs.Shape.Need.{required as R, optional as O}
 use Rattle.schema.specs.Shape.Sort.{text as S, id}
-use Rattle.schema.specs.Table23.{vehicleType, station, status, bike, plan, zone}
-use Rattle.schema.specs.Records.{Key, Way, wayIn, wayTo, idIn, idKey, located, identified}
+use Rattle.schema.specs.Table23.{vehicleType, station, status, bike, plan, zone, region}
+use Rattle.schema.specs.Records.{Key, Way, wayIn, wayTo, idIn, idKey, hasRecords, hasIds, located, identified}
 
 abbrev key : ℕ → String → Key
 key field name = record { field = field; name = bytes name }
@@ -26,8 +27,10 @@ ways =
     ("bikes", 4, way (key 4 "data" ∷ key 5 "bikes" ∷ []) bike) ∷
     ("plans", 5, way (key 4 "data" ∷ key 5 "plans" ∷ []) plan) ∷
     ("zones", 6, way (key 4 "data" ∷ key 5 "geofencing_zones" ∷ key 7 "features" ∷ []) zone) ∷
+    ("the system has none", 7, none) ∷
+    ("regions", 8, way (key 4 "data" ∷ key 5 "regions" ∷ []) region) ∷
     ("before the first file", 0, none) ∷
-    ("past the last", 7, none) ∷
+    ("past the last", 9, none) ∷
     []
 
 ways-answered : Answers wayTo ways
@@ -42,12 +45,26 @@ ids =
     ("bikes", 4, some (key 40 "bike_id")) ∷
     ("plans", 5, some (key 50 "plan_id")) ∷
     ("zones have none", 6, none) ∷
-    ("no file", 7, none) ∷
+    ("the system has no records", 7, none) ∷
+    ("regions", 8, some (key 100 "region_id")) ∷
+    ("no file", 9, none) ∷
     []
 
 ids-answered : Answers idKey ids
 unfolding identified
 ids-answered = refl
+
+-- by the numbers of all files, and of none before and behind them
+abbrev numbers : List ℕ
+numbers = 0 ∷ 1 ∷ 2 ∷ 3 ∷ 4 ∷ 5 ∷ 6 ∷ 7 ∷ 8 ∷ 9 ∷ []
+
+recorded : map hasRecords numbers ≡ false ∷ true ∷ true ∷ true ∷ true ∷ true ∷ true ∷ false ∷ true ∷ false ∷ []
+unfolding located
+recorded = refl
+
+named : map hasIds numbers ≡ false ∷ true ∷ true ∷ true ∷ true ∷ true ∷ false ∷ false ∷ true ∷ false ∷ []
+unfolding identified
+named = refl
 
 -- shapes that no file has
 abbrev other : List (Case Shape (Maybe Way))

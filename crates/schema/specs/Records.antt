@@ -1,10 +1,11 @@
 -- Where the records of a file stand, and which field is their own id: both are read off the file's shape.
+use mathlib.Core.Bool.{Bool}
 use mathlib.Core.List.{List, [], _∷_, List-discrete}
 use Prim.Native.Nat.{ℕ}
 use native.Mathlib.Decide.{ℕ-discrete}
-use Rattle.notation.specs.Maybe.{Maybe, none, some}
+use Rattle.notation.specs.Maybe.{Maybe, none, some, given}
 use Rattle.schema.specs.Shape.{Shape, Rows, Sort-discrete, id, unlisted, scalar, array, object, noRow, row, records, subs, outer, positions, fileShape}
-use Rattle.schema.specs.Table23.{table23, file, listing, vehicleType, station, status, bike, plan, zone, zones}
+use Rattle.schema.specs.Table23.{table23, file, listing, vehicleType, station, status, bike, plan, zone, zones, system, region}
 use Rattle.schema.specs.Later.{rowsOf}
 
 -- a listed member: the number of its field, and its name
@@ -36,7 +37,7 @@ unfoldable mutual
         | some w ↦ some (record { keys = record { field = field; name = name } ∷ w .keys; item = w .item })
       ]
 
--- the id of a record, for "No id twice in 10, 20, 30, 40, 50": its first field, where that is of the sort `id`; `Cases` computes the five
+-- the id of a record, for "No id twice in 10, 20, 30, 40, 50" and W1's region_id: its first field, where that is of the sort `id`; `Cases` computes the six
 unfoldable pub idIn : Rows → Maybe Key
 idIn noRow = none
 idIn (row field need name unlisted rows) = none
@@ -55,11 +56,18 @@ recordShape file = elim (wayTo file) [ none ↦ unlisted | some w ↦ w .item ]
 unfoldable pub idKey : ℕ → Maybe Key
 idKey file = idIn (rowsOf (recordShape file))
 
+-- whether the file of a number has records, and whether they have ids
+unfoldable pub hasRecords : ℕ → Bool
+hasRecords file = given (wayTo file)
+
+unfoldable pub hasIds : ℕ → Bool
+hasIds file = given (idKey file)
+
 -- opens all that finds a file's records; and all that finds their ids
 unfoldable pub located : Unit {0}
-unfolding wayIn wayTo recordShape fileShape table23 listing file zones
+unfolding wayIn wayTo recordShape hasRecords fileShape table23 listing file zones system
 located = tt
 
 unfoldable pub identified : Unit {0}
-unfolding located idIn idKey rowsOf vehicleType station status bike plan zone
+unfolding located idIn idKey hasIds rowsOf vehicleType station status bike plan zone region
 identified = tt

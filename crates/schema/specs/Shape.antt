@@ -14,8 +14,8 @@ pub data Sort : Type 0 where
   amount portion latitude longitude anyNumber : Sort
   -- money; and a price: money that is at least 0, as a number or a string
   money price : Sort
-  -- B, S, ids, currencies
-  boolean text id currency : Sort
+  -- B, S, ids, currencies, dates
+  boolean text id currency date : Sort
   -- just this text; one of these words, whatever the case of their letters
   exactly : List ℕ → Sort
   word : List (List ℕ) → Sort

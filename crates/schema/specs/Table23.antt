@@ -1,4 +1,4 @@
--- The field table of version 2.3: document 01, "Field table", line by line, with its letters for needs and sorts (see the imports).
+-- The field table of version 2.3: document 01, "Field table", line by line, and document 02, W1, for files 7 and 8 and field 25, with its letters for needs and sorts (see the imports).
 use mathlib.Core.List.{[], _∷_}
 use Prim.Native.Nat.{ℕ, _+_}
 use Prim.Native.String.{String}
@@ -6,7 +6,7 @@ use Rattle.limits.specs.Ceilings as ceiling
 use Rattle.notation.specs.Ascii.{bytes}
 use Rattle.schema.specs.Shape.{Shape, Table, noRow, scalar, array, object, records, subs, outer, positions, _·_·_∶_▸_, _·_·_holds_▸_}
 use Rattle.schema.specs.Shape.Need.{required as R, optional as O, conditional as C}
-use Rattle.schema.specs.Shape.Sort.{timestamp as T, integer as N, amount as F, boolean as B, text as S, id, latitude as lat, longitude as lon, anyNumber, money, price, portion, currency, exactly, word}
+use Rattle.schema.specs.Shape.Sort.{timestamp as T, integer as N, amount as F, boolean as B, text as S, id, latitude as lat, longitude as lon, anyNumber, money, price, portion, currency, date, exactly, word}
 use Rattle.schema.specs.Words.{formFactors, propulsionTypes}
 
 -- every file: the header, with what `data` holds
@@ -17,7 +17,7 @@ file contents = object (
     3 · R · "ttl" ∶ N ▸
     4 · R · "data" holds contents ▸ noRow)
 
--- files 1 to 5: `data` holds one array of records
+-- files 1 to 5 and 8: `data` holds one array of records
 unfoldable pub listing : String → Shape → Shape
 listing name record′ = file (object (5 · R · name holds array records ceiling.records record′ ▸ noRow))
 
@@ -35,7 +35,8 @@ station = object (
     21 · R · "name" ∶ S ▸
     22 · R · "lat" ∶ lat ▸
     23 · R · "lon" ∶ lon ▸
-    24 · O · "capacity" ∶ N ▸ noRow)
+    24 · O · "capacity" ∶ N ▸
+    25 · O · "region_id" ∶ id ▸ noRow)
 
 unfoldable pub available : Shape
 available = object (
@@ -116,7 +117,21 @@ zones = file (object (
     6 · R · "type" ∶ exactly (bytes "FeatureCollection") ▸
     7 · R · "features" holds array records ceiling.records zone ▸ noRow) ▸ noRow))
 
--- the six files, in their order
+-- file 7 has no records: what it says of the system stands in `data` itself
+unfoldable pub system : Shape
+system = file (object (
+    90 · R · "system_id" ∶ S ▸
+    91 · R · "language" ∶ S ▸
+    92 · R · "name" ∶ S ▸
+    93 · R · "timezone" ∶ S ▸
+    94 · O · "start_date" ∶ date ▸ noRow))
+
+unfoldable pub region : Shape
+region = object (
+    100 · R · "region_id" ∶ id ▸
+    101 · R · "name" ∶ S ▸ noRow)
+
+-- the eight files, in their order
 unfoldable pub table23 : Table
 table23 =
     listing "vehicle_types" vehicleType ∷
@@ -125,9 +140,11 @@ table23 =
     listing "bikes" bike ∷
     listing "plans" plan ∷
     zones ∷
+    system ∷
+    listing "regions" region ∷
     []
 
 -- names all that the table is written with
 unfoldable pub written23 : Unit {0}
-unfolding table23 listing file vehicleType station available status bike segment plan rule coordinates zone zones formFactors propulsionTypes
+unfolding table23 listing file vehicleType station available status bike segment plan rule coordinates zone zones system region formFactors propulsionTypes
 written23 = tt

@@ -60,6 +60,8 @@ impl Line {
 
     pub const CURRENCY: u8 = b'c';
 
+    pub const DATE: u8 = b'd';
+
     pub const EXACTLY: u8 = b'=';
 
     pub const WORD: u8 = b'w';

@@ -14,7 +14,7 @@ mod quote_trip;
 mod show_record;
 mod zone_rule;
 
-// The verdict on a set of six files, of which one without bytes is absent. The word stands in the first eight bytes of the buffer.
+// The verdict on a set of eight files, of which one without bytes is absent. The word stands in the first eight bytes of the buffer.
 // Shut out: one file judged in another's place.
 #[no_mangle]
 pub extern "C" fn skaveldro_verdict<'a>(
@@ -24,16 +24,32 @@ pub extern "C" fn skaveldro_verdict<'a>(
     bikes: &'a [u8],
     plans: &'a [u8],
     zones: &'a [u8],
+    system: &'a [u8],
+    regions: &'a [u8],
     buffer: &mut [u8],
 ) -> u8
     ensures { λ r. ⌜ r ≡ verdictNumber
-        (now (types .entry) ∷ now (stations .entry) ∷ now (statuses .entry) ∷ now (bikes .entry) ∷ now (plans .entry) ∷ now (zones .entry) ∷ [])
+        (now (types .entry) ∷ now (stations .entry) ∷ now (statuses .entry) ∷ now (bikes .entry)
+        ∷ now (plans .entry) ∷ now (zones .entry) ∷ now (system .entry) ∷ now (regions .entry) ∷ [])
         (now (buffer .entry)) ⌝ }
     ensures { λ _. ⌜ now (buffer .exit) ≡ bufferOf
-        (now (types .entry) ∷ now (stations .entry) ∷ now (statuses .entry) ∷ now (bikes .entry) ∷ now (plans .entry) ∷ now (zones .entry) ∷ [])
+        (now (types .entry) ∷ now (stations .entry) ∷ now (statuses .entry) ∷ now (bikes .entry)
+        ∷ now (plans .entry) ∷ now (zones .entry) ∷ now (system .entry) ∷ now (regions .entry) ∷ [])
         (now (buffer .entry)) ⌝ }
 {
-    verdict::verdict(types, stations, statuses, bikes, plans, zones, buffer).number()
+    verdict::verdict(
+        [
+            types,
+            stations,
+            statuses,
+            bikes,
+            plans,
+            zones,
+            system,
+            regions,
+        ],
+        buffer,
+    ).number()
 }
 
 // The question "read a word". Six values: file, kind, field, record, sub, offset.

@@ -16,6 +16,7 @@ use Rattle.document.specs.declared.Span.{Span}
 use Rattle.document.specs.declared.Span.the-variants as span
 use Rattle.document.specs.Spans.{recordsSpan}
 use Rattle.document.specs.inner.Spans.{RecordsFrom}
+use Rattle.document.proofs.Along.{along-none}
 use Rattle.clean.specs.Clean.{treeOf}
 use Rattle.cross.specs.Cross.{crossFaults}
 use Rattle.cross.specs.inner.Stage.{AllPassAB}
@@ -47,13 +48,20 @@ records-rest : (file : ℕ) (s : List ℕ) → (p : List ℕ) × RecordsFrom fil
 records-rest file s = go (recordsSpan file s) refl
   where
     go : (o : Span) → recordsSpan file s ≡ o → (p : List ℕ) × RecordsFrom file s p
-    go span.None e = ([], record { inside = omega arith; starts = λ h from upto i. let z : _≡_ {A = ℕ} 0 1 = cc in absurd (omega arith) })
-    go (span.Is at end) e =
-        (drop at s, record { inside = omega (arith, length-drop at s); starts = λ h from upto i. let z : at ≡ from = cc in ap (λ (k : ℕ). drop k s) z })
+    go span.None e = ([], record { inside = omega arith; starts = λ h from upto i. let z : _≡_ {A = ℕ} 0 1 = cc in absurd (omega arith); none = λ k. refl })
+    go (span.Is at end) e = (
+      drop at s,
+      record {
+        inside = omega (arith, length-drop at s);
+        starts = λ h from upto i. let z : at ≡ from = cc in ap (λ (k : ℕ). drop k s) z;
+        none = λ k. let n = along-none file s k in let z : _≡_ {A = ℕ} 0 1 = cc in absurd (omega arith);
+      },
+    )
 
 pub cross-fits : (s : Feeds) → AllPassAB s
     → (file : ℕ) → 1 ≤ file → file ≤ fileCount → (f : Fault) → least (crossFaults (picked s) file) ≡ Is f → InWord f
 cross-fits s through file h i f e =
-    let b = file-bytes file h i (bytesOf s file) (through file h i) (records-rest file (bytesOf s file) .1) in
-    let t = cross.cross-fits (picked s) file h i refl b f e in let k = t .kind in
+    let t =
+    cross.cross-fits (picked s) file h i refl (λ r. file-bytes file r (bytesOf s file) (through file h i) (records-rest file (bytesOf s file) .1)) f e in
+    let k = t .kind in
     record { rec = t .rec; field = t .field; sub = t .sub; low = omega arith; high = k .most }

@@ -19,3 +19,4 @@ pub mod Opening
 pub mod Version
 pub mod Demand3
 pub mod OneRing
+pub mod SixFiles

@@ -63,7 +63,7 @@ is-headed = record { rows = _; is = refl }
 
 file-headed : (file : ℕ) → 1 ≤ file → file ≤ fileCount → Headed (fileShape table23 file)
 unfolding Each fileShape written23
-file-headed = by-number (λ file. Headed (fileShape table23 file)) (is-headed, (is-headed, (is-headed, (is-headed, (is-headed, (is-headed, tt))))))
+file-headed = by-number (λ file. Headed (fileShape table23 file)) (is-headed, (is-headed, (is-headed, (is-headed, (is-headed, (is-headed, (is-headed, (is-headed, tt))))))))
 
 -- a list of faults that begins at field 1 of the header
 pub record Opening (l : List Fault) : Type 0 where

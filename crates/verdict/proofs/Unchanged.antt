@@ -81,7 +81,7 @@ module _ (s t : Feeds) (later : LaterSet s t) where
   rules-same =
       ap₂ orElse (every-same _ _ (λ file h i. at file h i .reads))
       (ap₂ orElse (every-same _ _ (λ file h i. ap (map (faultParts file)) (at file h i .faults)))
-      (every-same _ _ (λ file h i. ap (map (faultParts file)) (cross-same (picked s) (picked t) (λ k a b. at k a b .files) file h i))))
+      (every-same _ _ (λ file h i. ap (map (faultParts file)) (cross-same (picked s) (picked t) (λ k a b c. at k a b .files) (λ j. at 7 (omega arith) (omega arith) .files j .here) file h i))))
 
   verdict-same : verdictOf s ≡ verdictOf t
   unfolding verdictOf

@@ -13,20 +13,28 @@ use Rattle.fault.specs.declared.outcome.Outcome.the-variants.{Unbroken, Broken}
 use Rattle.clean.specs.Clean as clean
 use Rattle.ids.specs.References as references
 use Rattle.cross.specs.Cross as cross
+use Rattle.cross.specs.Stage.{Feeds}
 use Rattle.verdict.specs.Verdict.{eachFrom, stageA, stageBBy, stageC, brokenRulesBy, before, first, verdictOf}
 
 -- opens every definition of a verdict
 unfoldable pub judgingSets : Unit {0}
-unfolding judging identified pick.slotOf document.field document.fieldItems document.along document.text document.spelling clean.treeOf clean.recordsOf clean.usedBefore clean.repeatedId clean.repeatsFrom clean.repeats references.anyWith cross.sumOf cross.availableFaults cross.idFaults cross.ruleFaults cross.typeFaults cross.statusFaults cross.bikeFaults cross.zoneFaults cross.eachRecord cross.faultsOf cross.missingFile cross.crossFaults eachFrom stageA stageBBy stageC brokenRulesBy before first verdictOf
+unfolding judging identified pick.slotOf document.field document.fieldItems document.along document.text document.spelling clean.treeOf clean.recordsOf clean.usedBefore clean.repeatedId clean.repeatsFrom clean.repeats references.anyWith cross.sumOf cross.availableFaults cross.idFaults cross.ruleFaults cross.typeFaults cross.stationFaults cross.statusFaults cross.bikeFaults cross.zoneFaults cross.eachRecord cross.faultsOf cross.missingFile cross.crossFaults eachFrom stageA stageBBy stageC brokenRulesBy before first verdictOf
 judgingSets = tt
 
 -- a file that lists these records under this name
 abbrev pub listing : (name records : String) → List ℕ
 listing name records = inData (json "{'" ++ json name ++ json "':[" ++ json records ++ json "]}")
 
--- the verdict on vehicle types, stations and bikes
-abbrev pub verdict : (types stations bikes : List ℕ) → Outcome
-verdict types stations bikes = verdictOf (types ∷ stations ∷ [] ∷ bikes ∷ [])
+-- the system's own file
+abbrev pub system : List ℕ
+system = inData (json "{'system_id':'s','language':'en','name':'S','timezone':'UTC'}")
+
+-- a set of bikes alone, and one with the system's own file, which every accepted set has
+abbrev pub bikesAlone : List ℕ → Feeds
+bikesAlone bikes = [] ∷ [] ∷ [] ∷ bikes ∷ []
+
+abbrev pub withSystem : (types stations bikes : List ℕ) → Feeds
+withSystem types stations bikes = types ∷ stations ∷ [] ∷ bikes ∷ [] ∷ [] ∷ system ∷ []
 
 abbrev pub broken : (file kind field rec sub offset : ℕ) → Outcome
 broken file kind field rec sub offset =
@@ -42,7 +50,7 @@ abbrev laterBikes : List ℕ
 laterBikes =
     json "{'data':{'x':[1],'bikes':[{'is_reserved':false,'bike_id':'a','is_disabled':false},{'is_disabled':false,'bike_id':'b','is_reserved':false},{'y':0}]},'ttl': 0,'versi\\u006fn':'2.3','last_updated':0}"
 
--- vehicle types, stations and bikes
+-- vehicle types, stations and bikes, with the system's own file
 abbrev sets : List (Case (List ℕ × List ℕ × List ℕ) Outcome)
 sets =
     ("no bike, but a list of them", ([], [], listing "bikes" ""), Unbroken) ∷
@@ -59,6 +67,34 @@ sets =
     ("neither a place nor a station", ([], [], listing "bikes" "{'bike_id':'a','is_reserved':false,'is_disabled':false}"), broken 4 14 41 1 0 0) ∷
     []
 
-sets-answered : Answers (λ c. verdict (c .0) (c .1) (c .2)) sets
+sets-answered : Answers (λ c. verdictOf (withSystem (c .0) (c .1) (c .2))) sets
 unfolding judgingSets
 sets-answered = refl
+
+-- stations of which one has this region, and the regions of these names
+abbrev stationIn : String → List ℕ
+stationIn region = inData (json "{'stations':[{'station_id':'s','name':'S','lat':1,'lon':1,'region_id':'" ++ json region ++ json "'}]}")
+
+abbrev withRegions : (stations regions : List ℕ) → Feeds
+withRegions stations regions = [] ∷ stations ∷ listing "stations" "" ∷ [] ∷ [] ∷ [] ∷ system ∷ regions ∷ []
+
+abbrev oneRegion : List ℕ
+oneRegion = listing "regions" "{'region_id':'r','name':'R'}"
+
+abbrev twoAlike : List ℕ
+twoAlike = listing "regions" "{'region_id':'r','name':'R'},{'region_id':'r','name':'Q'}"
+
+abbrev regions : List (Case Feeds Outcome)
+regions =
+    ("the system's own file is missing", bikesAlone (listing "bikes" ""), broken 7 14 0 0 0 0) ∷
+    ("stage B of file 4 ahead of that", bikesAlone threeBikes, broken 4 6 40 3 0 0) ∷
+    ("that ahead of file 8", [] ∷ [] ∷ [] ∷ listing "bikes" "" ∷ [] ∷ [] ∷ [] ∷ twoAlike ∷ [], broken 7 14 0 0 0 0) ∷
+    ("a station in a region", withRegions (stationIn "r") oneRegion, Unbroken) ∷
+    ("a region that is not there, though a station has its id", withRegions (stationIn "s") oneRegion, broken 2 13 25 1 0 0) ∷
+    ("a region without a file of regions", withRegions (stationIn "r") [], broken 2 13 25 1 0 0) ∷
+    ("a region twice", withRegions (stationIn "r") twoAlike, broken 8 12 100 2 0 0) ∷
+    []
+
+regions-answered : Answers verdictOf regions
+unfolding judgingSets
+regions-answered = refl

@@ -1,4 +1,5 @@
--- Document 01's worked readings (a) to (l) as one table, (g) with document 02's W2: what is asked, and the paper's answer. One test runs over all of it.
+-- Document 01's worked readings (a) to (l) as one table, (g) with document 02's W2 and (l) with W1's file 7: what is asked, and the paper's answer. One test
+-- runs over all of it.
 use mathlib.Core.Bool.{true, false}
 use mathlib.Core.List.{List, [], _∷_}
 use mathlib.Core.Path.{refl}
@@ -18,13 +19,15 @@ use Rattle.quote.specs.Quote as quote
 use Rattle.quote.specs.Cases.{quoting, quoteBy, fare, endedFare}
 use Rattle.zone.specs.Answer as zone
 use Rattle.zone.specs.Cases.{ruled, ruling, bare, none, square}
-use Rattle.verdict.specs.Verdict.{said}
-use Rattle.verdict.specs.Cases.{judgingSets, listing, verdict, broken, threeBikes}
+use Rattle.cross.specs.Stage.{Feeds}
+use Rattle.verdict.specs.Verdict.{verdictOf, said}
+use Rattle.verdict.specs.Cases.{judgingSets, listing, bikesAlone, withSystem, broken, threeBikes}
 
--- what is asked: the verdict on a set of bikes alone, its word, what bytes say as a word, what a plan asks for a ride of so many seconds, and the rule of a zone of
--- these polygons at a point
+-- what is asked: the verdict on a set, its word, what bytes say as a word, what a plan asks for a ride of so many seconds, and the rule of a zone of these
+-- polygons at a point
 data Question : Type 0 where
-  judge wordFor readWord : List ℕ → Question
+  judge wordFor : Feeds → Question
+  readWord : List ℕ → Question
   ride : String → ℕ → Question
   ruleAt : String → Point → Question
 
@@ -36,8 +39,8 @@ data Answer : Type 0 where
   rules : zone.Answer → Answer
 
 unfoldable answered : Question → Answer
-answered (judge s) = judged (verdict [] [] s)
-answered (wordFor s) = bytes (reading.wordOf writtenForm (said (verdict [] [] s)))
+answered (judge s) = judged (verdictOf s)
+answered (wordFor s) = bytes (reading.wordOf writtenForm (said (verdictOf s)))
 answered (readWord s) = says (reading.readWord s)
 answered (ride plan seconds) = asks (quoteBy plan seconds 0)
 answered (ruleAt polygons q) = rules (ruling polygons q)
@@ -46,7 +49,7 @@ answered (ruleAt polygons q) = rules (ruling polygons q)
 abbrev refused : (kind offset : ℕ) → Answer
 refused kind offset = judged (broken 4 kind 0 0 0 offset)
 
--- the plans of (f) to (i), by price and segments; (j)'s ring the other way round; the bytes of (k) and (l), and (l)'s bike
+-- the plans of (f) to (i), by price and segments; (j)'s ring the other way round; the bytes of (k) and (l), and (l)'s set
 abbrev f : String
 f = "2,'per_min_pricing':[{'start':1,'rate':1,'interval':1},{'start':2,'rate':2,'interval':1}]"
 
@@ -68,16 +71,16 @@ k = 0x14 ∷ 0x62 ∷ 0x80 ∷ 0x03 ∷ 0 ∷ 0 ∷ 0 ∷ 0 ∷ []
 abbrev l : List ℕ
 l = 0x10 ∷ 0 ∷ 0 ∷ 0 ∷ 0 ∷ 0 ∷ 0 ∷ 0 ∷ []
 
-abbrev oneBike : List ℕ
-oneBike = listing "bikes" "{'bike_id':'a','lat':1,'lon':1,'is_reserved':false,'is_disabled':false}"
+abbrev oneBike : Feeds
+oneBike = withSystem [] [] (listing "bikes" "{'bike_id':'a','lat':1,'lon':1,'is_reserved':false,'is_disabled':false}")
 
 abbrev table : List (Case Question Answer)
 table =
-    ("(a) a comma before the bracket", judge (json "[1,]"), refused 2 3) ∷
-    ("(b) a digit behind a zero", judge (json "[01]"), refused 2 2) ∷
-    ("(c) a surrogate alone", judge (json "'\\ud800'"), refused 3 1) ∷
-    ("(d) a blank alone", judge (json " "), refused 2 1) ∷
-    ("(e) seventeen brackets", judge (replicate 17 0x5b), refused 4 16) ∷
+    ("(a) a comma before the bracket", judge (bikesAlone (json "[1,]")), refused 2 3) ∷
+    ("(b) a digit behind a zero", judge (bikesAlone (json "[01]")), refused 2 2) ∷
+    ("(c) a surrogate alone", judge (bikesAlone (json "'\\ud800'")), refused 3 1) ∷
+    ("(d) a blank alone", judge (bikesAlone (json " ")), refused 2 1) ∷
+    ("(e) seventeen brackets", judge (bikesAlone (replicate 17 0x5b)), refused 4 16) ∷
     ("(f) 59 s", ride f 59, asks (fare 20_000)) ∷
     ("(f) 60 s", ride f 60, asks (fare 30_000)) ∷
     ("(f) 105 s", ride f 105, asks (fare 30_000)) ∷
@@ -98,8 +101,8 @@ table =
     ("(j) reversed, outside", ruleAt reversed (degrees 3 1), rules (bare true false)) ∷
     ("(j) reversed, an edge", ruleAt reversed (degrees 2 1), rules (bare true false)) ∷
     ("(j) reversed, inside", ruleAt reversed (degrees 1 1), rules none) ∷
-    ("(k) the third bike has no id", judge threeBikes, judged (broken 4 6 40 3 0 0)) ∷
-    ("(k) as a word", wordFor threeBikes, bytes k) ∷
+    ("(k) the third bike has no id", judge (bikesAlone threeBikes), judged (broken 4 6 40 3 0 0)) ∷
+    ("(k) as a word", wordFor (bikesAlone threeBikes), bytes k) ∷
     ("(k) read back", readWord k, says (record { number = 0; parts = said (broken 4 6 40 3 0 0) })) ∷
     ("(l) a sound set", judge oneBike, judged Unbroken) ∷
     ("(l) as a word", wordFor oneBike, bytes l) ∷

@@ -98,8 +98,7 @@ abbrev pub accepts : Outcome → Bool
 accepts Unbroken = true
 accepts (Broken p) = false
 
--- The first row of the table of questions: the number in its order of checking, and the buffer after the call. Without room for a word nothing is
--- written; otherwise the word stands in the first eight bytes, and the rest stays.
+-- The number in its order of checking, and the buffer after the call: as it was without room for a word, else the word in front of the rest as it was.
 unfoldable pub verdictNumber : Feeds → (buffer : List ℕ) → ℕ
 verdictNumber s buffer = ltb (length buffer) wordSize ⇒ 2 else accepts (verdictOf s) ⇒ 0 else 1
 

@@ -1,9 +1,10 @@
 // The verdict on a feed set: whether it is accepted, and the word that says why not.
 use crate::stages::judge;
+use cross::set::FILES;
 use fault::outcome::Outcome;
 use word::Parts;
 use word::Word;
-ghost use mathlib.Core.List.{[], _∷_, _++_};
+ghost use mathlib.Core.List.{_++_, map};
 ghost use mathlib.Core.Path.{_≡_};
 ghost use Prim.Native.Nat.{_≤_};
 ghost use lib.ListN.{length, drop};
@@ -57,29 +58,16 @@ fn put(parts: Parts, buffer: &mut [u8])
     }
 }
 
-// The verdict on a set of six files, of which one without bytes is absent. The word stands in the first eight bytes of the buffer, and the rest stays; in a buffer of
+// The verdict on a set of eight files, of which one without bytes is absent. The word stands in the first eight bytes of the buffer, and the rest stays; in a buffer of
 // fewer bytes nothing is written.
 // Shut out: a set refused that breaks no rule, or for another rule than its first; a word written anywhere else in the buffer.
-pub fn verdict<'a>(
-    types: &'a [u8],
-    stations: &'a [u8],
-    statuses: &'a [u8],
-    bikes: &'a [u8],
-    plans: &'a [u8],
-    zones: &'a [u8],
-    buffer: &mut [u8],
-) -> Acceptance
-    ensures { λ r. ⌜ (number r ≡ verdictNumber
-        (now (types .entry) ∷ now (stations .entry) ∷ now (statuses .entry) ∷ now (bikes .entry) ∷ now (plans .entry) ∷ now (zones .entry) ∷ [])
-        (now (buffer .entry)))
-        × (now (buffer .exit) ≡ bufferOf
-        (now (types .entry) ∷ now (stations .entry) ∷ now (statuses .entry) ∷ now (bikes .entry) ∷ now (plans .entry) ∷ now (zones .entry) ∷ [])
-        (now (buffer .entry))) ⌝ }
+pub fn verdict<'a>(files: [&'a [u8]; FILES], buffer: &mut [u8]) -> Acceptance
+    ensures { λ r. ⌜ (number r ≡ verdictNumber (map now (files .entry)) (now (buffer .entry))) × (now (buffer .exit) ≡ bufferOf (map now (files .entry)) (now (buffer .entry))) ⌝ }
 {
     if buffer.len() < Word::SIZE {
         return Acceptance::NoRoom;
     }
-    let c = judge([types, stations, statuses, bikes, plans, zones]);
+    let c = judge(files);
     put(parts_in(c), buffer);
     match c {
         Outcome::Unbroken => Acceptance::Accepted,

@@ -25,8 +25,8 @@ word what p s = (what, p, (s, answer (Word p)))
 
 abbrev words : List (Case Parts Written)
 words =
-    word "every part at its greatest, but for the offset" (parts 6 15 82 4095 4095 0) (0x16 ∷ 0xf5 ∷ 0x2f ∷ 0xff ∷ 0xff ∷ 0xf0 ∷ 0 ∷ 0 ∷ []) ∷
-    word "the greatest offset" (parts 6 4 0 0 0 1048575) (0x16 ∷ 0x40 ∷ 0 ∷ 0 ∷ 0 ∷ 0x0f ∷ 0xff ∷ 0xff ∷ []) ∷
+    word "every part at its greatest, but for the offset" (parts 8 15 110 4095 4095 0) (0x18 ∷ 0xf6 ∷ 0xef ∷ 0xff ∷ 0xff ∷ 0xf0 ∷ 0 ∷ 0 ∷ []) ∷
+    word "the greatest offset" (parts 8 4 0 0 0 1048575) (0x18 ∷ 0x40 ∷ 0 ∷ 0 ∷ 0 ∷ 0x0f ∷ 0xff ∷ 0xff ∷ []) ∷
     []
 
 words-answered : Answers (λ p. (wordOf form1 p, read form1 (wordOf form1 p))) words
@@ -44,8 +44,8 @@ others =
     noWord "form 2" (0x20 ∷ 0 ∷ 0 ∷ 0 ∷ 0 ∷ 0 ∷ 0 ∷ 0 ∷ []) ∷
     noWord "kind 0 with an offset" (0x10 ∷ 0 ∷ 0 ∷ 0 ∷ 0 ∷ 0 ∷ 0 ∷ 1 ∷ []) ∷
     noWord "no file" (0x10 ∷ 0x62 ∷ 0x80 ∷ 0x03 ∷ 0 ∷ 0 ∷ 0 ∷ 0 ∷ []) ∷
-    noWord "file 7" (0x17 ∷ 0x62 ∷ 0x80 ∷ 0x03 ∷ 0 ∷ 0 ∷ 0 ∷ 0 ∷ []) ∷
-    noWord "field 83" (0x14 ∷ 0x65 ∷ 0x30 ∷ 0x03 ∷ 0 ∷ 0 ∷ 0 ∷ 0 ∷ []) ∷
+    noWord "file 9" (0x19 ∷ 0x62 ∷ 0x80 ∷ 0x03 ∷ 0 ∷ 0 ∷ 0 ∷ 0 ∷ []) ∷
+    noWord "field 111" (0x14 ∷ 0x66 ∷ 0xf0 ∷ 0x03 ∷ 0 ∷ 0 ∷ 0 ∷ 0 ∷ []) ∷
     noWord "kind 4 with a record" (0x14 ∷ 0x40 ∷ 0 ∷ 0x03 ∷ 0 ∷ 0 ∷ 0 ∷ 0 ∷ []) ∷
     noWord "kind 5 with an offset" (0x14 ∷ 0x52 ∷ 0x80 ∷ 0x03 ∷ 0 ∷ 0 ∷ 0 ∷ 1 ∷ []) ∷
     []

@@ -49,9 +49,9 @@ impl Word {
     pub const OFFSET_BITS: u32 = 20;
 
     // The greatest numbers of a file and of a field.
-    pub const FILES: u8 = 6;
+    pub const FILES: u8 = 8;
 
-    pub const FIELDS: u8 = 82;
+    pub const FIELDS: u8 = 110;
 
     // The word of parts that are within their widths; whoever packs shows that from the ceilings.
     // Shut out: a width other than the layout's, so that fields run into each other; a part left out, or one written in another's place.

@@ -1,5 +1,6 @@
 -- Of a clean file of zones: its zones are the items at the front of the rest, nothing is found in any of them, and so what their rules give is what the
 -- file's give. An absent file has none.
+use mathlib.Core.Bool.{true}
 use mathlib.Core.List.{List, [], _∷_, List·Memᴰ}
 use mathlib.Core.Path.{_≡_, refl, sym, ap, subst, _∙_}
 use Prim.Native.Nat.{ℕ}
@@ -8,7 +9,7 @@ use lib.ListN.{length}
 use Rattle.json.specs.Cases.{reading}
 use Rattle.walk.proofs.Files.{passed}
 use Rattle.schema.specs.Table23.{zone}
-use Rattle.schema.specs.Records.{located}
+use Rattle.schema.specs.Records.{hasRecords, located}
 use Rattle.schema.specs.Pick.{pick}
 use Rattle.geometry.specs.Ring.{Point}
 use Rattle.document.specs.inner.Items.{pickedItems}
@@ -31,10 +32,14 @@ module _ (q : Point) (type : List ℕ) (moment : ℕ) where
   none-absent [] e = refl
   none-absent (b ∷ s) e = absurd (omega arith)
 
+recorded : hasRecords 6 ≡ true
+unfolding located
+recorded = refl
+
 -- the file, and its rest p from the zones on
 module _ {s p : List ℕ} (k : Sound 6 s) (f : RecordsFrom 6 s p) where
   abbrev held : Held 6 s (treeOf s)
-  held = clean-held 6 (omega arith) (omega arith) s k
+  held = clean-held 6 recorded s k
 
   zones-are : held .list ≡ pickedItems zone p
   unfolding located

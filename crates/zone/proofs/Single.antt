@@ -129,7 +129,9 @@ faults-one (suc (suc (suc zero))) s one = others-same 3 s refl
 faults-one (suc (suc (suc (suc zero)))) s one = others-same 4 s refl
 faults-one (suc (suc (suc (suc (suc zero))))) s one = others-same 5 s refl
 faults-one (suc (suc (suc (suc (suc (suc zero)))))) s one = zones-file-same s (one refl)
-faults-one (suc (suc (suc (suc (suc (suc (suc file))))))) s one = others-same (suc (suc (suc (suc (suc (suc (suc file))))))) s refl
+faults-one (suc (suc (suc (suc (suc (suc (suc zero))))))) s one = others-same 7 s refl
+faults-one (suc (suc (suc (suc (suc (suc (suc (suc zero)))))))) s one = others-same 8 s refl
+faults-one (suc (suc (suc (suc (suc (suc (suc (suc (suc file))))))))) s one = others-same (suc (suc (suc (suc (suc (suc (suc (suc (suc file))))))))) s refl
 
 clean-one : (file : ℕ) (s : List ℕ) → (file ≡ 6 → WithoutHoles s) → cleanOf file s ≡ cleanOfOne file s
 clean-one file s one = clean-alike _ _ file s (faults-one file s one)

@@ -64,7 +64,7 @@ fn list() -> Option<()> {
 fn compare(questions: &[Question]) -> Option<()> {
     for name in ["many", "full"] {
         let set = Bench::named(name)?;
-        println!("{name}: {} bytes in six files: {:?}", set.bytes(), set.files.each_ref().map(Vec::len));
+        println!("{name}: {} bytes, by file: {:?}", set.bytes(), set.files.each_ref().map(Vec::len));
         println!(
             "{:11}{:>7}{:>12}{:>9}  {:11}{:>10}{:>9}{:>8}",
             "question", "MB", "library ms", "MB/s", "beside", "ms", "MB/s", "ratio"

@@ -8,9 +8,9 @@ use std::hint::black_box;
 /// A question, asked so that all of its work is done.
 #[derive(Clone, Copy, PartialEq, Eq)]
 pub enum Question {
-    /// Stage A: the verdict on the set with its last file cut off at the end.
+    /// Stage A: the verdict on the set with file 6, the last of the large ones, cut off at its end.
     StageA,
-    /// Stages A and B: the verdict on the set with a value of another type at the end of its last file.
+    /// Stages A and B: the verdict on the set with a value of another type at the end of file 6.
     StagesAB,
     Verdict,
     /// A quote, which judges file 5 and reads the plan.
@@ -137,7 +137,7 @@ fn asked_reference(question: Question, set: &Bench) -> u8 {
     }
 }
 
-/// RapidJSON asked for stage A: 1 where it reads every text to its end, the last one being cut off there.
+/// RapidJSON asked for stage A: 1 where it reads every text to its end, that of file 6 being cut off there.
 #[inline(never)]
 #[no_mangle]
 #[allow(unsafe_code)]

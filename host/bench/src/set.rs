@@ -3,7 +3,8 @@
 use crate::questions::Question;
 use crate::worst::Made;
 use feeds::questions::{Questions, Ride, Where};
-use feeds::{sound, Set, Size};
+use feeds::{sound, Set, Size, FILES};
+use reference::Files;
 use std::ffi::CString;
 use std::{fs, io};
 
@@ -12,7 +13,7 @@ pub struct Bench {
     pub files: Set,
     pub ride: Ride,
     pub place: Where,
-    /// File 6 up to its last bracket: a verdict ends with stage A, which reads it all.
+    /// File 6 up to its last bracket: a verdict ends with stage A, which reads it all, and no more than it.
     cut_off: Vec<u8>,
     /// File 6 with one of its last values of another type: a verdict ends with stage B, which reads it all.
     mistyped: Vec<u8>,
@@ -22,9 +23,10 @@ pub struct Bench {
 
 impl Bench {
     pub fn named(name: &str) -> Option<Bench> {
+        // Regions are left to the worst set of that name: what is counted on these two can be held beside what was counted without them.
         let size = match name {
-            "many" => Size::MANY,
-            "full" => Size::FULL,
+            "many" => Size { regions: 0, ..Size::MANY },
+            "full" => Size { regions: 0, ..Size::FULL },
             _ => {
                 let Made { files, ride, place } = Made::named(name)?;
                 return Bench::of(files, ride, place);
@@ -58,7 +60,7 @@ impl Bench {
     }
 
     /// The files that a verdict is asked on, by how far it is to go.
-    pub fn files(&self, question: Question) -> [&[u8]; 6] {
+    pub fn files(&self, question: Question) -> Files<'_> {
         let mut files = feeds::files(&self.files);
         match question {
             Question::StageA => files[5] = &self.cut_off,
@@ -97,7 +99,7 @@ impl Bench {
             Some(part.to_vec())
         };
         let files =
-            [const { Vec::new() }; 6].map(|_: Vec<u8>| next()).into_iter().collect::<Option<Vec<_>>>()?.try_into().ok()?;
+            [const { Vec::new() }; FILES].map(|_: Vec<u8>| next()).into_iter().collect::<Option<Vec<_>>>()?.try_into().ok()?;
         let (plan, vehicle_type) = (next()?, next()?);
         let mut number = || Some(u64::from_le_bytes(next()?.try_into().ok()?));
         let ride = Ride { plan, seconds: number()?, metres: number()? };

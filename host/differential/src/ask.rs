@@ -6,6 +6,7 @@ use crate::question::{Question, Side};
 use crate::tally::Tally;
 use feeds::questions::{Questions, Ride, Where, Which};
 use feeds::{files, Rng, Set};
+use reference::FILES;
 
 /// A question on which the two differ.
 #[derive(Debug)]
@@ -74,7 +75,7 @@ impl Asked {
     fn file_for(&mut self, which: Which) -> usize {
         match self.rng.chance(95) {
             true => (which.file as usize).wrapping_sub(1),
-            false => self.rng.below(6),
+            false => self.rng.below(FILES),
         }
     }
 

@@ -4,17 +4,18 @@
 //!
 //! | question | answer |
 //! |---|---|
-//! | `verdict LENGTH F1 F2 F3 F4 F5 F6` | `2`, `0 WORD` or `1 WORD` |
+//! | `verdict LENGTH F1 .. F8` | `2`, `0 WORD` or `1 WORD` |
 //! | `word BYTES` | `3` or `0 PARTS` |
 //! | `quote F5 ID SECONDS METRES` | `4`, `5 PARTS`, `6` or `0 AMOUNT PAST_MINUTES PAST_KILOMETRES` |
 //! | `zone F6 LAT LON TYPE MOMENT` | `8`, `5 PARTS`, `9` or `0 RIDE THROUGH SPEED PARKING` |
-//! | `show F1 F2 F3 F4 F5 F6 FILE RECORD` | `10`, `5 PARTS` or `0 START END` |
+//! | `show F1 .. F8 FILE RECORD` | `10`, `5 PARTS` or `0 START END` |
 //!
 //! `LENGTH` is that of the lent buffer; `PARTS` are file, kind, field, record, sub and offset in decimal; yes and no are 1 and 0; a value
 //! that is not given is `-`. A number past 64 bits is read as the greatest, or least, of them.
 
 use crate::answer::Answer;
 use crate::question::{Question, Side};
+use reference::{Files, FILES};
 
 /// The answer to a line.
 pub fn answer(side: Side, line: &str) -> String {
@@ -26,7 +27,7 @@ fn read_and_answer(side: Side, line: &str) -> Option<String> {
     let (&question, given) = words.split_first()?;
     match (question, given) {
         ("verdict", [length, files @ ..]) => {
-            let (length, files) = (number(length)?, six(files)?);
+            let (length, files) = (number(length)?, set(files)?);
             Some(spell_verdict(side, length, files.each_ref().map(Vec::as_slice)))
         }
         ("word", [bytes]) => Some(spell(side, Question::Word { bytes: &unhex(bytes)? })),
@@ -40,7 +41,7 @@ fn read_and_answer(side: Side, line: &str) -> Option<String> {
             Some(spell(side, Question::Zone { zones, lon, lat, type_id, moment }))
         }
         ("show", [files @ .., file, record]) => {
-            let (files, file, record) = (six(files)?, number(file)?, number(record)?);
+            let (files, file, record) = (set(files)?, number(file)?, number(record)?);
             let index = usize::try_from(file).ok()?.wrapping_sub(1);
             let bytes = files.get(index).map_or(&[][..], Vec::as_slice);
             Some(spell(side, Question::Show { file, record, bytes }))
@@ -52,7 +53,7 @@ fn read_and_answer(side: Side, line: &str) -> Option<String> {
 /// A buffer that is longer than a word makes no difference, so that none longer than this is made.
 const LONGEST: u64 = 64;
 
-fn spell_verdict(side: Side, length: u64, files: [&[u8]; 6]) -> String {
+fn spell_verdict(side: Side, length: u64, files: Files) -> String {
     let mut buffer = vec![0; length.min(LONGEST) as usize];
     match side.tell(Question::Verdict { files }, &mut buffer) {
         2 => "2".into(),
@@ -90,7 +91,8 @@ fn signed(word: &str) -> Option<i64> {
     Some(word.parse().unwrap_or(bound))
 }
 
-fn six(files: &[&str]) -> Option<[Vec<u8>; 6]> {
+/// The files of a set, where there are as many words as it has files.
+fn set(files: &[&str]) -> Option<[Vec<u8>; FILES]> {
     let files: Option<Vec<Vec<u8>>> = files.iter().map(|file| unhex(file)).collect();
     files?.try_into().ok()
 }

@@ -1,13 +1,14 @@
 //! The questions, and the two that can be asked.
 
 use crate::answer::{of_library, of_reference, Answer};
+use reference::Files;
 use skaveldro::{raw, Point, Reading};
 use std::fmt;
 
 /// A question with the bytes that it is about.
 #[derive(Clone, Copy)]
 pub enum Question<'a> {
-    Verdict { files: [&'a [u8]; 6] },
+    Verdict { files: Files<'a> },
     Word { bytes: &'a [u8] },
     Quote { plans: &'a [u8], id: &'a [u8], seconds: u64, metres: u64 },
     Zone { zones: &'a [u8], lon: i64, lat: i64, type_id: &'a [u8], moment: u64 },

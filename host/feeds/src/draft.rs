@@ -10,13 +10,20 @@ use reference::ceiling;
 use reference::coordinates::Point;
 use reference::table::{FORM_FACTORS, PROPULSIONS};
 
-/// A set that keeps every rule.
+/// A set that keeps every rule. What is said of the system and its regions is drawn apart, so that all else is what a seed would give
+/// without it.
 pub fn draft(rng: &mut Rng, size: &Size) -> Draft {
+    let mut apart = rng.apart();
+    let mut maker = Maker::new(&mut apart, size, false, false);
+    let system = maker.system();
+    let has_regions = size.regions > 0 && (size.full || maker.rng.chance(70));
+    let regions = has_regions.then(|| maker.file("regions", size.regions, Maker::region));
+    let region_ids = maker.regions;
+
     let mut there = |percent: usize| size.full || rng.chance(percent);
     let (has_plans, has_types, has_stations, has_zones) = (there(80), there(80), there(80), there(80));
     let has_bikes = there(80) || !has_stations;
-    let mut maker =
-        Maker { rng, size, has_plans, has_types, plans: Vec::new(), types: Vec::new(), stations: Vec::new(), areas: Vec::new() };
+    let mut maker = Maker { apart, regions: region_ids, ..Maker::new(rng, size, has_plans, has_types) };
 
     let plans = has_plans.then(|| maker.file("plans", size.plans, Maker::plan));
     // A type needs a plan if the file of plans is there, a bike a type likewise.
@@ -28,7 +35,7 @@ pub fn draft(rng: &mut Rng, size: &Size) -> Draft {
     let bikes_most = if has_types && maker.types.is_empty() { 0 } else { size.bikes };
     let bikes = has_bikes.then(|| maker.file("bikes", bikes_most, Maker::bike));
     let zones = has_zones.then(|| maker.zones());
-    [types, stations, status, bikes, plans, zones]
+    [types, stations, status, bikes, plans, zones, Some(system), regions]
 }
 
 /// Makes records, and remembers what later ones refer to.
@@ -44,12 +51,22 @@ struct Maker<'r> {
     stations: Vec<(String, bool)>,
     /// Coordinates of zones that others may lie over.
     areas: Vec<Tree>,
+    regions: Vec<String>,
+    /// Draws the region of a station.
+    apart: Rng,
 }
 
 /// Left of a file's bytes for its header.
 const HEADER: usize = 1_000;
 
-impl Maker<'_> {
+impl<'r> Maker<'r> {
+    /// Nothing is made yet.
+    fn new(rng: &'r mut Rng, size: &'r Size, has_plans: bool, has_types: bool) -> Maker<'r> {
+        let apart = rng.apart();
+        let (plans, types, stations, areas, regions) = Default::default();
+        Maker { rng, size, has_plans, has_types, plans, types, stations, areas, regions, apart }
+    }
+
     /// How many of something there are.
     fn count(&mut self, most: usize) -> usize {
         if self.size.full {
@@ -64,13 +81,14 @@ impl Maker<'_> {
         let mut room = self.size.bytes.saturating_sub(HEADER);
         let mut records = Vec::new();
         for number in 0..self.count(most) {
-            let known = (self.plans.len(), self.types.len(), self.stations.len());
+            let known = (self.plans.len(), self.types.len(), self.stations.len(), self.regions.len());
             let record = make(self, number);
             let length = shortest(&record).len() + 1;
             if length > room {
                 self.plans.truncate(known.0);
                 self.types.truncate(known.1);
                 self.stations.truncate(known.2);
+                self.regions.truncate(known.3);
                 break;
             }
             room -= length;
@@ -99,6 +117,31 @@ impl Maker<'_> {
         ])
     }
 
+    fn system(&mut self) -> Tree {
+        let mut system = Members::default();
+        for name in ["system_id", "language", "name", "timezone"] {
+            system.push(name, values::prose(self.rng));
+        }
+        let start = (self.size.full || self.rng.chance(80)).then(|| values::date(self.rng));
+        self.add(&mut system, "start_date", start);
+        self.header(Tree::Object(system))
+    }
+
+    fn region(&mut self, number: usize) -> Tree {
+        let id = values::id(self.rng, 'r', number, self.size.id);
+        self.regions.push(id.clone());
+        Tree::object([("region_id", Tree::Text(id)), ("name", values::prose(self.rng))])
+    }
+
+    /// The region that a station gives: one that there is, none, or "".
+    fn some_region(&mut self) -> Option<Tree> {
+        match self.apart.below(10) {
+            0..=5 if !self.regions.is_empty() => Some(Tree::Text(self.apart.pick(&self.regions).clone())),
+            6 if self.size.regions > 0 => Some(Tree::text("")),
+            _ => None,
+        }
+    }
+
     fn vehicle_type(&mut self, number: usize) -> Tree {
         let id = values::id(self.rng, 't', number, self.size.id);
         let human = self.rng.chance(30);
@@ -125,6 +168,9 @@ impl Maker<'_> {
         record.push("lat", values::degrees(self.rng, 90));
         record.push("lon", values::degrees(self.rng, 180));
         self.add(&mut record, "capacity", capacity);
+        if let Some(region) = self.some_region() {
+            record.push("region_id", region);
+        }
         Tree::Object(record)
     }
 

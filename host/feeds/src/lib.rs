@@ -19,18 +19,18 @@ pub mod spelling;
 pub mod tree;
 mod values;
 
-pub use reference::Parts;
+pub use reference::{Parts, FILES};
 pub use respell::respell;
 pub use rng::Rng;
 pub use size::Size;
 
 use tree::Tree;
 
-/// The six files of a set as bytes, an absent one being empty.
-pub type Set = [Vec<u8>; 6];
+/// The files of a set as bytes, an absent one being empty.
+pub type Set = [Vec<u8>; FILES];
 
-/// The six files of a set as trees, `None` being absent.
-pub type Draft = [Option<Tree>; 6];
+/// The files of a set as trees, `None` being absent.
+pub type Draft = [Option<Tree>; FILES];
 
 /// A set that keeps every rule.
 pub fn sound(seed: u64, size: &Size) -> Set {
@@ -54,7 +54,7 @@ pub fn damaged(seed: u64, size: &Size) -> Set {
     let draft = draft::draft(&mut rng, size);
     let mut set = respell::write(draft, &mut rng);
     for _ in 0..rng.between(1, 3) {
-        let present: Vec<usize> = (0..6).filter(|&index| !set[index].is_empty()).collect();
+        let present: Vec<usize> = (0..FILES).filter(|&index| !set[index].is_empty()).collect();
         if !present.is_empty() {
             damage::damage(&mut set[rng.one_of(&present)], &mut rng);
         }
@@ -63,6 +63,6 @@ pub fn damaged(seed: u64, size: &Size) -> Set {
 }
 
 /// The set's files as the questions take them.
-pub fn files(set: &Set) -> [&[u8]; 6] {
+pub fn files(set: &Set) -> reference::Files<'_> {
     set.each_ref().map(Vec::as_slice)
 }

@@ -2,7 +2,7 @@
 
 use crate::tree::{Members, Tree};
 use reference::fault::Place;
-use reference::table::{name_of, top_of, Field, Form};
+use reference::table::{name_of, top_of, way_to_records, Field, Form};
 
 /// What is done at an object: its place, the rows that the table has for it, its members.
 pub type Act<'a> = dyn FnMut(Place, &'static [Field], &mut Members) + 'a;
@@ -36,21 +36,14 @@ fn visit_value(form: Form, tree: &mut Tree, place: Place, act: &mut Act) {
     }
 }
 
-/// The array of a file's records.
+/// The array of a file's records; nothing for a file that has none.
 pub fn records_mut(file: u8, tree: &mut Tree) -> Option<&mut Vec<Tree>> {
-    way(file).iter().try_fold(tree, |tree, &field| tree.members_mut()?.get_mut(name_of(file, field)))?.items_mut()
+    way_to_records(file)?.iter().try_fold(tree, |tree, &field| tree.members_mut()?.get_mut(name_of(file, field)))?.items_mut()
 }
 
 /// The records of a file.
 pub fn records(file: u8, tree: &Tree) -> &[Tree] {
-    let array = way(file).iter().try_fold(tree, |tree, &field| tree.members()?.get(name_of(file, field)));
+    let array =
+        way_to_records(file).and_then(|way| way.iter().try_fold(tree, |tree, &field| tree.members()?.get(name_of(file, field))));
     array.map(Tree::items).unwrap_or_default()
-}
-
-fn way(file: u8) -> &'static [u8] {
-    if file == 6 {
-        &[4, 5, 7]
-    } else {
-        &[4, 5]
-    }
 }

@@ -3,7 +3,7 @@
 use crate::listed::records;
 use crate::rng::Rng;
 use crate::tree::{Members, Tree};
-use crate::Set;
+use crate::{Set, FILES};
 use reference::coordinates::{rounded, Point};
 use reference::decimal::decimal;
 use reference::json::parse;
@@ -44,7 +44,7 @@ pub struct Questions {
     /// The corners of each further ring of a polygon.
     holes: Vec<Vec<Point>>,
     moments: Vec<u64>,
-    records: [usize; 6],
+    records: [usize; FILES],
 }
 
 impl Questions {
@@ -71,7 +71,7 @@ impl Questions {
             corners: polygons.iter().flat_map(Tree::items).flat_map(corners).collect(),
             holes: holes.map(corners).filter(|hole| !hole.is_empty()).collect(),
             moments: rows(6).flat_map(|row| integers(Some(&inner(row, 74)), &["start", "end"])).collect(),
-            records: [1, 2, 3, 4, 5, 6].map(|file| records(file, &trees[usize::from(file) - 1]).len()),
+            records: std::array::from_fn(|index| records(index as u8 + 1, &trees[index]).len()),
         }
     }
 
@@ -158,9 +158,9 @@ impl Questions {
     pub fn record(&mut self) -> Which {
         let rng = &mut self.rng;
         if rng.chance(5) {
-            return Which { file: rng.one_of(&[0, 7, 256 + 1, (1 << 32) + 1, 1 << 63, u64::MAX]), number: 1 };
+            return Which { file: rng.one_of(&[0, 9, 256 + 1, 256 + 8, (1 << 32) + 1, 1 << 63, u64::MAX]), number: 1 };
         }
-        let file = rng.below(6);
+        let file = rng.below(FILES);
         let count = self.records[file] as u64;
         let number = match rng.below(8) {
             0 => rng.one_of(&[0, count, count + 1, (1 << 32) + 1, u64::MAX]),

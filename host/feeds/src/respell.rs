@@ -3,10 +3,10 @@
 use crate::rng::Rng;
 use crate::spelling::{shortest, varied};
 use crate::tree::{Members, Tree};
-use crate::{Draft, Set};
-use reference::ceiling;
+use crate::{Draft, Set, FILES};
 use reference::json::parse;
 use reference::table::{name_of, top_of, Field, Form};
+use reference::{ceiling, LAST_FIELD};
 
 /// A set that says the same in other bytes, so that verdict, quotes and zone rules stay what they are. Files that are not through stage A
 /// stay as they are.
@@ -15,7 +15,7 @@ pub fn respell(set: &Set, seed: u64) -> Set {
     let mut other = set.clone();
     for (bytes, file) in other.iter_mut().zip(1..) {
         if let Ok(tree) = parse(bytes) {
-            *bytes = write_file(file, Tree::from(&tree), &mut rng);
+            *bytes = write_file(file, Tree::from(&tree), Names::ALL, &mut rng);
         }
     }
     other
@@ -26,19 +26,34 @@ pub fn write(draft: Draft, rng: &mut Rng) -> Set {
     let mut file = 0;
     draft.map(|tree| {
         file += 1;
-        tree.map_or(Vec::new(), |tree| write_file(file, tree, rng))
+        tree.map_or(Vec::new(), |tree| write_file(file, tree, Names::OLDER, rng))
     })
 }
 
-fn write_file(file: u8, mut tree: Tree, rng: &mut Rng) -> Vec<u8> {
+/// The listed names that are drawn for members of objects whose table has them not: those of the first files, by field numbers up to one.
+#[derive(Clone, Copy)]
+struct Names {
+    files: i64,
+    last: u8,
+}
+
+impl Names {
+    const ALL: Names = Names { files: FILES as i64, last: LAST_FIELD };
+    /// A set is first written with names of files 1 to 6, so that these files stay the same for a seed and what is measured on them can
+    /// be compared.
+    const OLDER: Names = Names { files: 6, last: 82 };
+}
+
+fn write_file(file: u8, mut tree: Tree, names: Names, rng: &mut Rng) -> Vec<u8> {
     let often = rng.one_of(&[0, 1, 10]);
     let spare = ceiling::BYTES.saturating_sub(shortest(&tree).len());
-    Vary { file, rng, often, spare }.vary(Some(top_of(file).form), &mut tree, 1);
+    Vary { file, names, rng, often, spare }.vary(Some(top_of(file).form), &mut tree, 1);
     varied(&tree, ceiling::BYTES, rng)
 }
 
 struct Vary<'r> {
     file: u8,
+    names: Names,
     rng: &'r mut Rng,
     /// How often a member is added, in a hundred.
     often: usize,
@@ -94,8 +109,8 @@ impl Vary<'_> {
 
     /// A name that some other object's table lists, one close to it, or any other.
     fn name(&mut self) -> String {
-        let file = if self.rng.flip() { self.file } else { self.rng.between(1, 6) as u8 };
-        let listed = name_of(file, self.rng.below(83) as u8);
+        let file = if self.rng.flip() { self.file } else { self.rng.between(1, self.names.files) as u8 };
+        let listed = name_of(file, self.rng.below(usize::from(self.names.last) + 1) as u8);
         match self.rng.below(6) {
             0..=2 => listed.into(),
             3 => listed.to_uppercase(),

@@ -11,6 +11,11 @@ impl Rng {
         Rng { state: seed }
     }
 
+    /// Another source, made from this one, which goes on as if nothing had been taken.
+    pub fn apart(&self) -> Rng {
+        Rng::new(self.clone().word())
+    }
+
     pub fn word(&mut self) -> u64 {
         self.state = self.state.wrapping_add(0x9E37_79B9_7F4A_7C15);
         let mut word = self.state;

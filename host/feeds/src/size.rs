@@ -10,6 +10,8 @@ pub struct Size {
     pub bikes: usize,
     pub plans: usize,
     pub zones: usize,
+    /// Where there are none, the file of regions is absent.
+    pub regions: usize,
     /// Segments of each sort in a plan.
     pub segments: usize,
     /// Polygons in a zone.
@@ -24,7 +26,7 @@ pub struct Size {
     pub items: usize,
     /// Bytes in an id, at least 8.
     pub id: usize,
-    /// Are all these numbers reached, and all six files there?
+    /// Are all these numbers reached, and all the files there?
     pub full: bool,
     /// The most bytes of a file.
     pub bytes: usize,
@@ -38,6 +40,7 @@ impl Size {
         bikes: 4,
         plans: 3,
         zones: 3,
+        regions: 3,
         segments: 3,
         polygons: 3,
         holes: ceiling::RINGS - 1,
@@ -56,6 +59,7 @@ impl Size {
         bikes: 60,
         plans: 30,
         zones: 8,
+        regions: 40,
         segments: ceiling::SEGMENTS,
         polygons: ceiling::POLYGONS,
         holes: ceiling::RINGS - 1,
@@ -74,6 +78,7 @@ impl Size {
         bikes: ceiling::RECORDS,
         plans: 500,
         zones: 200,
+        regions: ceiling::RECORDS,
         segments: 4,
         polygons: 3,
         holes: 0,
@@ -92,6 +97,7 @@ impl Size {
         bikes: ceiling::RECORDS,
         plans: ceiling::RECORDS,
         zones: ceiling::RECORDS,
+        regions: ceiling::RECORDS,
         holes: 0,
         full: true,
         ..Size::SOME

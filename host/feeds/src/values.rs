@@ -2,6 +2,7 @@
 
 use crate::rng::Rng;
 use crate::tree::Tree;
+use reference::date::days_of;
 
 const MILLION: i64 = 1_000_000;
 
@@ -119,6 +120,22 @@ pub fn fixed(value: i64, places: usize) -> String {
         true => format!("{sign}{whole}"),
         false => format!("{sign}{whole}.{rest}"),
     }
+}
+
+/// A date: mostly of a year that is leap or only looks so, and often the first or the last day of a month.
+pub fn date(rng: &mut Rng) -> Tree {
+    let year = match rng.below(3) {
+        0 => rng.below(10_000) as u32,
+        _ => rng.one_of(&[0, 4, 100, 400, 1900, 1999, 2000, 2023, 2024, 2100, 9600, 9999]),
+    };
+    let month = if rng.flip() { 2 } else { 1 + rng.below(12) as u32 };
+    let last = days_of(year, month);
+    let day = match rng.below(3) {
+        0 => 1 + rng.below(last as usize) as u32,
+        1 => 1,
+        _ => last,
+    };
+    Tree::Text(format!("{year:04}-{month:02}-{day:02}"))
 }
 
 /// One of the words in letters of either case.

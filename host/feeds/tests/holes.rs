@@ -1,5 +1,8 @@
 //! Generated zones have holes of every sort and counts of rings at and past their ceilings, and questions fall on and into the holes.
 
+mod counts;
+
+use counts::Counts;
 use feeds::listed::{records, records_mut};
 use feeds::questions::Questions;
 use feeds::spelling::shortest;
@@ -10,21 +13,6 @@ use reference::json::parse;
 use reference::table::name_of;
 use reference::zone::{side, Side};
 use reference::{ceiling, clean, zone_rule, Ruling};
-use std::collections::HashMap;
-
-/// How often each of these things came up.
-#[derive(Debug, Default)]
-struct Counts(HashMap<&'static str, usize>);
-
-impl Counts {
-    fn count(&mut self, what: &'static str, is_so: bool) {
-        *self.0.entry(what).or_default() += usize::from(is_so);
-    }
-
-    fn all_over(&self, least: usize) {
-        assert!(self.0.values().all(|&count| count > least), "{self:?}");
-    }
-}
 
 /// The polygons of a sound set, those of all its zones.
 fn polygons_of(set: &Set) -> Vec<Polygon> {

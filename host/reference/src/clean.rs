@@ -3,7 +3,7 @@
 use crate::fault::Fault;
 use crate::json::{parse, Object, Refusal, Value};
 use crate::stage_b::stage_b;
-use crate::table::{id_field, name_of};
+use crate::table::{id_field, name_of, way_to_records};
 use crate::{decimal, kind, Parts};
 use std::collections::HashSet;
 
@@ -56,9 +56,8 @@ pub fn repeated_id(clean: &Clean) -> Option<Fault> {
 impl<'a> Clean<'a> {
     /// The file's records in order.
     pub fn rows<'t>(&'t self) -> impl Iterator<Item = Row<'t, 'a>> {
-        let way: &[u8] = if self.file == 6 { &[4, 5, 7] } else { &[4, 5] };
         let step = |value: &'t Value<'a>, &field| value.as_object()?.given(name_of(self.file, field));
-        let array = self.tree.as_ref().and_then(|tree| way.iter().try_fold(tree, step));
+        let array = way_to_records(self.file).and_then(|way| way.iter().try_fold(self.tree.as_ref()?, step));
         objects(self.file, array)
     }
 }

@@ -11,6 +11,7 @@
 
 pub mod clean;
 pub mod coordinates;
+pub mod date;
 pub mod decimal;
 pub mod fault;
 pub mod json;
@@ -31,8 +32,14 @@ pub use verdict::{verdict, write_verdict};
 pub use word::{read_word, Parts, Verdict};
 pub use zone::{zone_rule, Rule, Ruling};
 
-/// The six files of a set in the fixed order; an empty one is absent.
-pub type Files<'a> = [&'a [u8]; 6];
+/// How many files a set has.
+pub const FILES: usize = 8;
+
+/// The greatest field number that a word may have; no field has a greater one.
+pub const LAST_FIELD: u8 = 110;
+
+/// The files of a set in the fixed order; an empty one is absent.
+pub type Files<'a> = [&'a [u8]; FILES];
 
 /// The kinds of fault by their numbers.
 pub mod kind {

@@ -1,5 +1,6 @@
 //! What may be wrong with a single value by itself.
 
+use crate::date::is_real_date;
 use crate::decimal::{decimal, is_plain_unsigned, ONE, TEN_THOUSANDTH};
 use crate::json::Value;
 use crate::table::Form;
@@ -19,6 +20,7 @@ fn judge(form: Form, value: &Value) -> Result<(), u8> {
         (Form::Exact(word), Value::String(text)) => within(text.as_ref() == word.as_bytes()),
         (Form::Word(words), Value::String(text)) => within(words.iter().any(|word| text.eq_ignore_ascii_case(word.as_bytes()))),
         (Form::Currency, Value::String(text)) => within(text.len() == 3 && text.iter().all(u8::is_ascii_uppercase)),
+        (Form::Date, Value::String(text)) => within(is_real_date(text)),
         (Form::Boolean, Value::Bool(_)) => Ok(()),
         (Form::Integer, Value::Number(spelling)) if !spelling.contains(&b'.') => within(exact(spelling)? >= 0),
         (Form::Number(least, most), Value::Number(spelling)) => {
@@ -142,6 +144,17 @@ mod tests {
         assert_eq!(of(Form::Exact("2.3"), "2.3"), 7);
         for (text, kind) in [("\"EUR\"", 0), ("\"eur\"", 9), ("\"EURO\"", 9), ("\"EÉ\"", 9), ("3", 7)] {
             assert_eq!(of(Form::Currency, text), kind, "{text}");
+        }
+        for (text, kind) in [
+            ("\"2024-02-29\"", 0),
+            ("\"202\\u0034-\\u00302-29\"", 0),
+            ("\"2023-02-29\"", 9),
+            ("\"2024-2-29\"", 9),
+            ("\"2024-02-29\\u0000\"", 9),
+            ("20240229", 7),
+            ("null", 7),
+        ] {
+            assert_eq!(of(Form::Date, text), kind, "{text}");
         }
     }
 }

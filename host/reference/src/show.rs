@@ -1,12 +1,12 @@
 //! The bytes of one record.
 
 use crate::clean::clean;
-use crate::Parts;
+use crate::{Parts, FILES};
 
 /// The answer to a question for a record.
 #[derive(Clone, Copy, Debug, PartialEq, Eq, Hash)]
 pub enum Shown {
-    /// 10: there are six files.
+    /// 10: a set has no file of that number.
     NoFile,
     /// 5: the file is not clean.
     NotClean(Parts),
@@ -16,12 +16,12 @@ pub enum Shown {
     Record(usize, usize),
 }
 
-/// Where the record of that number, from 1, stands in the bytes of that file, from 1 to 6.
+/// Where the record of that number, from 1, stands in the bytes of that file, from 1 to [`FILES`].
 pub fn show_record(file: u64, number: u64, bytes: &[u8]) -> Shown {
-    let file = match file {
-        1..=6 => file as u8,
-        _ => return Shown::NoFile,
-    };
+    if !(1..=FILES as u64).contains(&file) {
+        return Shown::NoFile;
+    }
+    let file = file as u8;
     let clean = match clean(file, bytes) {
         Ok(clean) => clean,
         Err(parts) => return Shown::NotClean(parts),
@@ -48,8 +48,25 @@ mod tests {
         assert_eq!(show_record(5, 3, file), Shown::NoRecord);
         assert_eq!(show_record(5, u64::MAX, file), Shown::NoRecord);
         assert_eq!(show_record(0, 1, file), Shown::NoFile);
-        assert_eq!(show_record(7, 1, file), Shown::NoFile);
+        assert_eq!(show_record(9, 1, file), Shown::NoFile);
         assert_eq!(show_record(1, 1, b""), Shown::NoRecord);
         assert!(matches!(show_record(1, 0, file), Shown::NotClean(_)));
+    }
+
+    #[test]
+    fn the_system_has_no_records() {
+        let system = |data: &str| format!(r#"{{"version":"2.3","last_updated":0,"ttl":0,"data":{{{data}}}}}"#).into_bytes();
+        let sound = r#""system_id":"s","language":"en","name":"n","timezone":"Etc/UTC""#;
+        for file in [system(sound), system(&format!(r#"{sound},"":[{{}}],"regions":[{{}}]"#)), Vec::new()] {
+            assert_eq!([0, 1, 2].map(|number| show_record(7, number, &file)), [Shown::NoRecord; 3]);
+        }
+        let missing = Parts { file: 7, kind: 6, field: 90, ..Parts::default() };
+        assert_eq!(show_record(7, 1, &system("")), Shown::NotClean(missing));
+    }
+
+    #[test]
+    fn regions_are_shown() {
+        let file = br#"{"version":"2.3","last_updated":0,"ttl":0,"data":{"regions":[{"region_id":"r","name":"n"}]}}"#;
+        assert_eq!(show_record(8, 1, file), Shown::Record(61, 89));
     }
 }

@@ -3,11 +3,11 @@
 use crate::clean::{repeated_id, Clean, Row};
 use crate::fault::{Fault, Least, Place};
 use crate::json::Value;
-use crate::{kind, Parts};
+use crate::{kind, Parts, FILES};
 use std::collections::HashMap;
 
 /// The least fault of a set whose files are through stage B, in the order of file, record, field, sub, kind.
-pub fn stage_c(set: &[Clean; 6]) -> Option<Parts> {
+pub fn stage_c(set: &[Clean; FILES]) -> Option<Parts> {
     let index = Index::of(set);
     set.iter().find_map(|file| index.least(file).map(|fault| fault.parts(file.file)))
 }
@@ -17,23 +17,26 @@ type Ids<'t> = HashMap<&'t [u8], bool>;
 
 /// What records of other files are asked about.
 struct Index<'t> {
-    present: [bool; 6],
+    present: [bool; FILES],
     /// Marked where a vehicle type is not human.
     types: Ids<'t>,
     /// Marked where a station has a capacity.
     stations: Ids<'t>,
     /// Never marked.
     plans: Ids<'t>,
+    /// Never marked.
+    regions: Ids<'t>,
 }
 
 impl<'t> Index<'t> {
-    fn of(set: &'t [Clean; 6]) -> Index<'t> {
-        let [types, stations, _, _, plans, _] = set;
+    fn of(set: &'t [Clean; FILES]) -> Index<'t> {
+        let [types, stations, _, _, plans, _, _, regions] = set;
         Index {
             present: set.each_ref().map(|file| file.tree.is_some()),
             types: ids(types, 10, |row| !is_human(row)),
             stations: ids(stations, 20, |row| row.has(24)),
             plans: ids(plans, 50, |_| false),
+            regions: ids(regions, 100, |_| false),
         }
     }
 
@@ -55,6 +58,7 @@ impl<'t> Index<'t> {
             };
             match file.file {
                 1 => self.vehicle_type(row, &mut blame_if),
+                2 => self.station(row, &mut blame_if),
                 3 => self.status(row, &mut blame_if),
                 4 => self.bike(row, &mut blame_if),
                 6 => self.zone(row, &mut blame_if),
@@ -64,12 +68,13 @@ impl<'t> Index<'t> {
         least.0
     }
 
-    /// Stations and their status come together; a set without stations has bikes.
+    /// Stations and their status come together; a set without stations has bikes; and every set says what system it is of.
     fn is_absent_wrongly(&self, file: u8) -> bool {
         let wanted = match file {
             2 => self.has_file(3),
             3 => self.has_file(2),
             4 => !self.has_file(2),
+            7 => true,
             _ => false,
         };
         wanted && !self.has_file(file)
@@ -79,6 +84,10 @@ impl<'t> Index<'t> {
         blame_if(!is_human(row) && !row.has(13), 0, 13, kind::CONDITION);
         blame_if(self.has_file(5) && !row.has(14), 0, 14, kind::CONDITION);
         blame_if(is_unknown(row.text(14), &self.plans), 0, 14, kind::REFERENCE);
+    }
+
+    fn station(&self, row: Row, blame_if: &mut impl FnMut(bool, usize, u8, u8)) {
+        blame_if(is_unknown(row.text(25), &self.regions), 0, 25, kind::REFERENCE);
     }
 
     fn status(&self, row: Row, blame_if: &mut impl FnMut(bool, usize, u8, u8)) {

@@ -1,6 +1,6 @@
 //! The field table as data: for each field its number, whether it must be given, its JSON name and what it may hold.
 
-use crate::ceiling;
+use crate::{ceiling, FILES, LAST_FIELD};
 use std::sync::LazyLock;
 
 /// Must a field be given?
@@ -25,6 +25,8 @@ pub enum Form {
     Word(&'static [&'static str]),
     /// Three capital letters.
     Currency,
+    /// A date of the Gregorian calendar, spelled YYYY-MM-DD.
+    Date,
     Boolean,
     /// A whole number, 0 or more.
     Integer,
@@ -95,6 +97,7 @@ const STATION: &[Field] = &[
     field(22, R, "lat", LATITUDE),
     field(23, R, "lon", LONGITUDE),
     field(24, O, "capacity", Integer),
+    field(25, O, "region_id", Id),
 ];
 
 const AVAILABLE: &[Field] = &[field(38, R, "vehicle_type_id", Id), field(39, R, "count", Integer)];
@@ -163,14 +166,27 @@ const ZONE: &[Field] = &[
 ];
 const ZONES: &[Field] = &[field(6, R, "type", Exact("FeatureCollection")), field(7, R, "features", Records(ZONE))];
 
+/// What file 7 says of the system as a whole: it has no records.
+const SYSTEM: &[Field] = &[
+    field(90, R, "system_id", Text),
+    field(91, R, "language", Text),
+    field(92, R, "name", Text),
+    field(93, R, "timezone", Text),
+    field(94, O, "start_date", Date),
+];
+
+const REGION: &[Field] = &[field(100, R, "region_id", Id), field(101, R, "name", Text)];
+
 /// The top value of each file.
-const TOP: [&Field; 6] = [
+const TOP: [&Field; FILES] = [
     &top(&[VERSION, LAST_UPDATED, TTL, data(&[field(5, R, "vehicle_types", Records(VEHICLE_TYPE))])]),
     &top(&[VERSION, LAST_UPDATED, TTL, data(&[field(5, R, "stations", Records(STATION))])]),
     &top(&[VERSION, LAST_UPDATED, TTL, data(&[field(5, R, "stations", Records(STATUS))])]),
     &top(&[VERSION, LAST_UPDATED, TTL, data(&[field(5, R, "bikes", Records(BIKE))])]),
     &top(&[VERSION, LAST_UPDATED, TTL, data(&[field(5, R, "plans", Records(PLAN))])]),
     &top(&[VERSION, LAST_UPDATED, TTL, data(&[field(5, R, "geofencing_zones", Object(ZONES))])]),
+    &top(&[VERSION, LAST_UPDATED, TTL, data(SYSTEM)]),
+    &top(&[VERSION, LAST_UPDATED, TTL, data(&[field(5, R, "regions", Records(REGION))])]),
 ];
 const VERSION: Field = field(1, R, "version", Exact("2.3"));
 const LAST_UPDATED: Field = field(2, R, "last_updated", Integer);
@@ -184,8 +200,8 @@ const fn data(members: &'static [Field]) -> Field {
     field(4, R, "data", Object(members))
 }
 
-/// The number of fields, the last one being 82.
-const FIELDS: usize = 83;
+/// How many numbers a field may have, 0 being one of them.
+const NUMBERS: usize = LAST_FIELD as usize + 1;
 
 /// The table of a file, as the row of its top value; files count from 1.
 pub fn top_of(file: u8) -> &'static Field {
@@ -194,9 +210,9 @@ pub fn top_of(file: u8) -> &'static Field {
 
 /// The JSON name of a file's field: empty for the top value and for numbers that the file's table does not have.
 pub fn name_of(file: u8, number: u8) -> &'static str {
-    static NAMES: LazyLock<[[&str; FIELDS]; 6]> = LazyLock::new(|| {
+    static NAMES: LazyLock<[[&str; NUMBERS]; FILES]> = LazyLock::new(|| {
         TOP.map(|top| {
-            let mut names = [""; FIELDS];
+            let mut names = [""; NUMBERS];
             note_names(top, &mut names);
             names
         })
@@ -204,7 +220,7 @@ pub fn name_of(file: u8, number: u8) -> &'static str {
     NAMES[usize::from(file) - 1].get(usize::from(number)).copied().unwrap_or("")
 }
 
-fn note_names(field: &Field, names: &mut [&str; FIELDS]) {
+fn note_names(field: &Field, names: &mut [&str; NUMBERS]) {
     names[usize::from(field.number)] = field.name;
     for member in field.form.members() {
         note_names(member, names);
@@ -223,7 +239,20 @@ impl Form {
 
 /// The field of a record's own id, which no later record of the file may use again.
 pub fn id_field(file: u8) -> Option<u8> {
-    (file < 6).then_some(file * 10)
+    match file {
+        1..=5 => Some(file * 10),
+        8 => Some(100),
+        _ => None,
+    }
+}
+
+/// The fields that lead from a file's top value to its records; nothing for a file that has none.
+pub fn way_to_records(file: u8) -> Option<&'static [u8]> {
+    match file {
+        6 => Some(&[4, 5, 7]),
+        7 => None,
+        _ => Some(&[4, 5]),
+    }
 }
 
 #[cfg(test)]
@@ -232,7 +261,7 @@ mod tests {
 
     #[test]
     fn every_number_has_one_row() {
-        let mut seen = vec![0; FIELDS];
+        let mut seen = vec![0; NUMBERS];
         for top in TOP {
             fn visit(field: &Field, seen: &mut [u32]) {
                 seen[usize::from(field.number)] += 1;
@@ -241,8 +270,9 @@ mod tests {
             visit(top, &mut seen);
         }
         let expected = |number: usize| match number {
-            0..=5 => 6,
-            6 | 7 | 10..=14 | 20..=24 | 30..=66 | 70..=82 => 1,
+            0..=4 => 8,
+            5 => 7,
+            6 | 7 | 10..=14 | 20..=25 | 30..=66 | 70..=82 | 90..=94 | 100 | 101 => 1,
             _ => 0,
         };
         for (number, &rows) in seen.iter().enumerate() {
@@ -255,7 +285,26 @@ mod tests {
         assert_eq!(name_of(4, 5), "bikes");
         assert_eq!(name_of(6, 7), "features");
         assert_eq!(name_of(5, 65), "end");
+        assert_eq!(name_of(8, 5), "regions");
+        assert_eq!(name_of(8, 101), "name");
+        assert_eq!(name_of(7, 5), "");
         assert_eq!(name_of(1, 65), "");
         assert_eq!(name_of(1, 200), "");
+    }
+
+    #[test]
+    fn ids_and_records_by_file() {
+        let files = 1..=FILES as u8;
+        let ids: Vec<_> = files.clone().filter_map(id_field).collect();
+        assert_eq!(ids, [10, 20, 30, 40, 50, 100]);
+        // The last field on the way holds the records, and a file without a way has none.
+        for file in files {
+            let step = |fields: &'static [Field], number| fields.iter().find(|field| field.number == number);
+            let mut last = top_of(file);
+            for &number in way_to_records(file).unwrap_or_default() {
+                last = step(last.form.members(), number).expect("each field lies in the one before");
+            }
+            assert_eq!(matches!(last.form, Records(_)), file != 7, "file {file}");
+        }
     }
 }

@@ -3,7 +3,7 @@
 use crate::clean::{read, Clean};
 use crate::stage_b::stage_b;
 use crate::stage_c::stage_c;
-use crate::{Files, Parts, Verdict};
+use crate::{Files, Parts, Verdict, FILES};
 
 /// Judges a set: stage A of every file, then stage B of every file, then stage C.
 pub fn verdict(files: Files) -> Verdict {
@@ -23,7 +23,7 @@ pub fn write_verdict(buffer: &mut [u8], files: Files) -> u8 {
 }
 
 fn first_fault(files: Files) -> Option<Parts> {
-    let mut set = [1, 2, 3, 4, 5, 6].map(|file| Clean { file, tree: None });
+    let mut set: [Clean; FILES] = std::array::from_fn(|index| Clean { file: index as u8 + 1, tree: None });
     for (slot, bytes) in set.iter_mut().zip(files) {
         match read(slot.file, bytes) {
             Ok(tree) => slot.tree = tree,
@@ -41,12 +41,13 @@ mod tests {
     #[test]
     fn the_word_stands_in_the_first_8_bytes() {
         let mut buffer = [0xAA; 9];
-        assert_eq!(write_verdict(&mut buffer[..7], [b""; 6]), 2);
+        assert_eq!(write_verdict(&mut buffer[..7], [b""; FILES]), 2);
         assert_eq!(buffer, [0xAA; 9]);
-        assert_eq!(write_verdict(&mut buffer, [b""; 6]), 1);
+        assert_eq!(write_verdict(&mut buffer, [b""; FILES]), 1);
         assert_eq!(buffer, [0x14, 0xE0, 0, 0, 0, 0, 0, 0, 0xAA]);
         let bikes = br#"{"version":"2.3","last_updated":0,"ttl":0,"data":{"bikes":[]}}"#;
-        assert_eq!(write_verdict(&mut buffer, [b"", b"", b"", bikes, b"", b""]), 0);
+        let system = br#"{"version":"2.3","last_updated":0,"ttl":0,"data":{"system_id":"s","language":"en","name":"n","timezone":"Etc/UTC"}}"#;
+        assert_eq!(write_verdict(&mut buffer, [b"", b"", b"", bikes, b"", b"", system, b""]), 0);
         assert_eq!(buffer, [0x10, 0, 0, 0, 0, 0, 0, 0, 0xAA]);
     }
 }

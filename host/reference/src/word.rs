@@ -1,5 +1,7 @@
 //! The verdict and its word of 64 bits.
 
+use crate::{FILES, LAST_FIELD};
+
 /// What a verdict names: all zero when the set is accepted.
 #[derive(Clone, Copy, Debug, Default, PartialEq, Eq, PartialOrd, Ord, Hash)]
 pub struct Parts {
@@ -19,7 +21,6 @@ pub enum Verdict {
 }
 
 const FORM: u64 = 1;
-const LAST_FIELD: u8 = 82;
 
 impl Verdict {
     /// The parts of the verdict's word.
@@ -64,7 +65,7 @@ impl Parts {
     }
 
     fn has_file(self) -> bool {
-        (1..=6).contains(&self.file)
+        (1..=FILES).contains(&usize::from(self.file))
     }
 }
 
@@ -99,7 +100,7 @@ mod tests {
     #[test]
     fn each_part_at_its_width_comes_back() {
         for parts in [
-            Parts { file: 6, kind: 15, field: 82, record: 4095, sub: 4095, offset: 0 },
+            Parts { file: 8, kind: 15, field: 110, record: 4095, sub: 4095, offset: 0 },
             Parts { file: 1, kind: 2, offset: 0xF_FFFF, ..Parts::default() },
             Parts { file: 1, kind: 1, offset: 7, ..Parts::default() },
         ] {
@@ -113,8 +114,8 @@ mod tests {
         none(Parts { file: 1, ..Parts::default() });
         none(Parts { offset: 1, ..Parts::default() });
         none(Parts { kind: 6, ..Parts::default() });
-        none(Parts { file: 7, kind: 6, ..Parts::default() });
-        none(Parts { file: 1, kind: 6, field: 83, ..Parts::default() });
+        none(Parts { file: 9, kind: 6, ..Parts::default() });
+        none(Parts { file: 1, kind: 6, field: 111, ..Parts::default() });
         none(Parts { file: 1, kind: 6, offset: 1, ..Parts::default() });
         none(Parts { file: 1, kind: 4, field: 1, ..Parts::default() });
         none(Parts { file: 1, kind: 4, record: 1, ..Parts::default() });

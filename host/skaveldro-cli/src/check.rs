@@ -10,6 +10,7 @@ use crate::shown::shown;
 use crate::source::{existing, STANDARD_INPUT};
 use crate::standard::{looks_like, misnamed, name_of, named, required_role, role};
 use crate::{alone, standard};
+use skaveldro::FILES;
 use std::ffi::{OsStr, OsString};
 use std::os::unix::ffi::OsStrExt;
 use std::path::Path;
@@ -43,7 +44,7 @@ fn of_files(assigned: &[(u8, &OsStr)]) -> Result<Set, Failure> {
     if assigned.iter().filter(|(_, path)| *path == STANDARD_INPUT).count() > 1 {
         return Err(misuse("standard input can be one file only"));
     }
-    let mut files: Contents = [const { Ok(None) }; 6];
+    let mut files: Contents = [const { Ok(None) }; FILES];
     let mut warnings = Vec::new();
     for &(file, path) in assigned {
         let slot = &mut files[usize::from(file) - 1];
@@ -98,7 +99,7 @@ fn role_by_name(path: &Path) -> Result<u8, Failure> {
     let name = path.file_name().unwrap_or_default();
     named(name).ok_or_else(|| {
         let meant = looks_like(name).map_or("ROLE", standard::stem_of);
-        misuse(&format!("{} is not one of the six standard names: say which file it is with --as {meant}", shown(path)))
+        misuse(&format!("{} is not one of the standard names: say which file it is with --as {meant}", shown(path)))
     })
 }
 

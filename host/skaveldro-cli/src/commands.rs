@@ -5,7 +5,8 @@ use crate::report::{Failure, Report};
 use crate::source;
 use crate::standard::name_of;
 use crate::tell;
-use skaveldro::{quote as quote_ride, show_record, zone_rule, Point, Quote, Ruling, Shown};
+use skaveldro::names::{records_field, TOP};
+use skaveldro::{quote as quote_ride, show_record, zone_rule, Point, Quote, Ruling, Shown, FILES};
 use std::ffi::OsStr;
 use std::os::unix::ffi::OsStrExt;
 
@@ -43,15 +44,17 @@ pub fn zone(path: &OsStr, lat: &OsStr, lon: &OsStr, vehicle_type: &OsStr, moment
 /// The bytes of a record.
 pub fn show(path: &OsStr, file: &OsStr, record: &OsStr) -> Result<Report, Failure> {
     let (number, record) = (file_number(file)?, whole("RECORD", record)?);
-    let Some(file) = u8::try_from(number).ok().filter(|file| (1..=6).contains(file)) else {
+    let Some(file) = u8::try_from(number).ok().filter(|file| (1..=FILES as u8).contains(file)) else {
         let answer = show_record(number, record, &[]);
-        return Ok(
-            tell::refused(answer.number(), "there is no such file: the files are numbered 1 to 6".into()).warning(Vec::new())
-        );
+        let why = format!("there is no such file: the files are numbered 1 to {FILES}");
+        return Ok(tell::refused(answer.number(), why).warning(Vec::new()));
     };
     let (bytes, warnings) = source::one(path, file)?;
     let answer = show_record(number, record, &bytes);
     let report = match answer {
+        Shown::NoRecord if records_field(file) == TOP => {
+            tell::refused(answer.number(), format!("{} has no records: it is about the system as a whole", name_of(file)))
+        }
         Shown::NoRecord => tell::refused(answer.number(), format!("{} has no such record", name_of(file))),
         Shown::NotClean(parts) => tell::unclean(answer.number(), parts, &bytes),
         Shown::Record { from, upto } => tell::record(&bytes, from, upto),

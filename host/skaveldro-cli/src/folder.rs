@@ -1,8 +1,9 @@
-//! A folder of feeds: the six files by their standard names, and what else is in it.
+//! A folder of feeds: the files by their standard names, and what else is in it.
 
 use crate::read::{self, unreadable, Content, Unreadable};
 use crate::shown::shown;
 use crate::standard::{looks_like, name_of, named};
+use skaveldro::FILES;
 use std::ffi::{OsStr, OsString};
 use std::fs;
 use std::path::Path;
@@ -11,7 +12,7 @@ use std::path::Path;
 pub type Found = Result<Option<Content>, Unreadable>;
 
 /// The files of a set by number.
-pub type Contents = [Found; 6];
+pub type Contents = [Found; FILES];
 
 /// What a file of a set holds, if it is there and can be read.
 pub fn content(found: &Found) -> Option<&Content> {
@@ -35,7 +36,7 @@ pub struct Other {
 
 /// Reads a folder.
 pub fn read(path: &Path) -> Result<Folder, Unreadable> {
-    Ok(Folder { files: [1, 2, 3, 4, 5, 6].map(|file| one(path, file)), others: others(path)? })
+    Ok(Folder { files: std::array::from_fn(|index| one(path, index as u8 + 1)), others: others(path)? })
 }
 
 /// Why the files of a set cannot all be read, a message for each that cannot.
@@ -43,7 +44,7 @@ pub fn unread(files: &Contents) -> Vec<String> {
     files.iter().filter_map(|found| found.as_ref().err()).map(Unreadable::message).collect()
 }
 
-/// One of the six files of a folder.
+/// One of the files of a folder, by its number.
 pub fn one(folder: &Path, file: u8) -> Found {
     let path = folder.join(name_of(file));
     if read::is_absent(&path)? {
@@ -52,7 +53,7 @@ pub fn one(folder: &Path, file: u8) -> Found {
     read::file(&path).map(Some)
 }
 
-/// What a folder holds besides the six names, sorted. Sub-folders, but for links, are looked into for names that are meant to be one.
+/// What a folder holds besides the standard names, sorted. Sub-folders, but for links, are looked into for names that are meant to be one.
 pub fn others(path: &Path) -> Result<Vec<Other>, Unreadable> {
     let mut others = Vec::new();
     for (name, is_folder) in entries(path)? {
@@ -72,7 +73,7 @@ pub fn others(path: &Path) -> Result<Vec<Other>, Unreadable> {
     Ok(others)
 }
 
-/// The names in a folder, and whether each is a folder and no link to one. The six names are never taken for sub-folders.
+/// The names in a folder, and whether each is a folder and no link to one. The standard names are never taken for sub-folders.
 fn entries(path: &Path) -> Result<Vec<(OsString, bool)>, Unreadable> {
     let mut entries = Vec::new();
     for entry in fs::read_dir(path).map_err(|error| unreadable(path, &error))? {

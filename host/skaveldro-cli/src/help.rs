@@ -17,9 +17,9 @@ const COMMANDS: [Command; 6] = [
         name: "check",
         usages: &["check FOLDER...", "check FILE...", "check --as ROLE FILE", "check ROLE=FILE..."],
         short: "are the feeds accepted, and if not, which rule do they break?",
-        about: "FOLDER is judged as a set: the six files by their standard names, those that are not there being absent. The first line is the
+        about: "FOLDER is judged as a set: eight files by their standard names, those that are not there being absent. The first line is the
 verdict with its word, the next one names the first rule that the set breaks. Then come warnings, the size and state of each of
-the six files, and the names of what else is in the folder, which is not read. A file is clean if it passes stages A and B and
+the eight files, and the names of what else is in the folder, which is not read. A file is clean if it passes stages A and B and
 repeats no id: then it may still break a rule of the set. Where a file cannot be read there is no verdict, which the first line
 says; the rest is told all the same.
 
@@ -28,7 +28,8 @@ FILE, under its standard name, is judged alone: is it clean? Conditions, referen
 
 ROLE=FILE names the files of one set one by one; those that are not named are absent.
 
-ROLE is one of vehicle_types, station_information, station_status, free_bike_status, system_pricing_plans, geofencing_zones.
+ROLE is one of vehicle_types, station_information, station_status, free_bike_status, system_pricing_plans, geofencing_zones,
+system_information, system_regions.
 Of several folders or files each has its report, and a last line counts them. Nothing is fetched: download a feed first.",
         examples: &[
             (
@@ -40,7 +41,9 @@ files:
   station_status.json        1122 bytes, clean
   free_bike_status.json      997 bytes, clean
   system_pricing_plans.json  1436 bytes, clean
-  geofencing_zones.json      1132 bytes, clean",
+  geofencing_zones.json      1132 bytes, clean
+  system_information.json    377 bytes, clean
+  system_regions.json        216 bytes, clean",
             ),
             (
                 "skaveldro check crates/sample/data/free_bike_status.json",
@@ -58,7 +61,9 @@ files:
   station_status.json        absent
   free_bike_status.json      997 bytes, clean alone, at fault in the set: see above
   system_pricing_plans.json  absent
-  geofencing_zones.json      absent",
+  geofencing_zones.json      absent
+  system_information.json    absent
+  system_regions.json        absent",
             ),
         ],
     },
@@ -91,7 +96,8 @@ the folder that has it, or - for standard input; LAT and LON are degrees with at
         usages: &["show PATH FILE RECORD"],
         short: "the bytes of a record",
         about: "Prints a record as it stands in a file. PATH is the file, the folder that has it, or - for standard input; FILE is its number, 1 to
-6, or its standard name; RECORD counts from 1. The file must be clean: it must pass stages A and B and repeat no id.",
+8, or its standard name; RECORD counts from 1. The file must be clean: it must pass stages A and B and repeat no id.
+system_information.json (7) has no records.",
         examples: &[(
             "skaveldro show crates/sample/data vehicle_types 3",
             r#"{

@@ -7,11 +7,8 @@ use crate::report::{Report, NO, NO_ANSWER, YES};
 use crate::shown::shown;
 use crate::standard::name_of;
 use skaveldro::names::FILE_NAMES;
-use skaveldro::{verdict, Files, Verdict};
+use skaveldro::{verdict, Files, Verdict, FILES};
 use words::tell_of_set;
-
-/// The files by number.
-const NUMBERS: [u8; 6] = [1, 2, 3, 4, 5, 6];
 
 /// The most names that are listed of what was not read.
 const MOST_LISTED: usize = 20;
@@ -53,7 +50,7 @@ struct Judged<'a> {
     answer: Option<Verdict>,
     fault: Option<Fault>,
     /// What each file breaks by itself.
-    own: [Option<Fault>; 6],
+    own: [Option<Fault>; FILES],
 }
 
 impl Judged<'_> {
@@ -62,7 +59,7 @@ impl Judged<'_> {
         let answer = set.files.iter().all(Result::is_ok).then(|| verdict(files));
         let parts = answer.map(Verdict::parts);
         let fault = parts.and_then(|parts| Some(Fault { parts, told: tell_of_set(parts, files)? }));
-        let own = NUMBERS.map(|file| fault::of_file(file, files[usize::from(file) - 1]));
+        let own = std::array::from_fn(|index| fault::of_file(index as u8 + 1, files[index]));
         Judged { set, answer, fault, own }
     }
 
@@ -99,8 +96,8 @@ impl Judged<'_> {
     }
 
     fn members(self, status: u8) -> Vec<(&'static str, Json)> {
-        let files = NUMBERS.iter().zip(&self.set.files).zip(&self.own);
-        let files = files.map(|((&file, found), own)| file_json(file, found, own.as_ref())).collect();
+        let files = (1..).zip(&self.set.files).zip(&self.own);
+        let files = files.map(|((file, found), own)| file_json(file, found, own.as_ref())).collect();
         vec![
             ("status", Json::Number(status.into())),
             ("what", Json::Text(self.set.what.into())),

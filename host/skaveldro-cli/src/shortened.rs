@@ -3,8 +3,8 @@
 use crate::standard::{stem, LATER_NAMES};
 use skaveldro::names::FILE_NAMES;
 
-/// Other files of GBFS that share words with the six.
-const OTHER_NAMES: [&str; 5] = ["system_information", "system_hours", "system_calendar", "system_regions", "system_alerts"];
+/// Other files of GBFS that share words with these.
+const OTHER_NAMES: [&str; 3] = ["system_hours", "system_calendar", "system_alerts"];
 
 /// The file whose name a name with the ending `.json` is short for, if there is just one.
 pub fn shortened(name: &str) -> Option<u8> {
@@ -52,6 +52,9 @@ mod tests {
             ("plan.json", 5),
             ("geofencing.json", 6),
             ("zones.json", 6),
+            ("system_info.json", 7),
+            ("regions.json", 8),
+            ("system_region.json", 8),
         ] {
             assert_eq!(shortened(name), Some(file), "{name}");
         }
@@ -66,7 +69,7 @@ mod tests {
             "vehicles.json",
             "system.json",
             "info.json",
-            "system_information.json",
+            "information.json",
             "plans_pricing.json",
             "my_plans.json",
             "plans.txt",

@@ -5,13 +5,14 @@ use crate::read::{self, Content};
 use crate::report::Failure;
 use crate::shown::shown;
 use crate::standard::{misnamed, name_of};
+use skaveldro::FILES;
 use std::ffi::OsStr;
 use std::path::Path;
 
 /// The word for standard input.
 pub const STANDARD_INPUT: &str = "-";
 
-/// File 1 to 6 of a folder, or the file itself, and warnings where it is absent, has no bytes or has the name of another. A file that
+/// A file of a folder by its number, or the file itself, and warnings where it is absent, has no bytes or has the name of another. A file that
 /// its folder does not have has no bytes.
 pub fn one(path: &OsStr, file: u8) -> Result<(Vec<u8>, Vec<String>), Failure> {
     sought(path, file).map_err(|failure| failure.about(path))
@@ -31,7 +32,7 @@ fn sought(path: &OsStr, file: u8) -> Result<(Vec<u8>, Vec<String>), Failure> {
     let Some(content) = folder::one(given, file)? else {
         let mut warnings = vec![format!("there is no {name} in {}, so it counts as absent", shown(path))];
         let meant = folder::others(given)?.into_iter().filter(|other| other.looks_like == Some(file)).collect::<Vec<_>>();
-        warnings.extend(folder::warnings(&[const { Ok(None) }; 6], &meant));
+        warnings.extend(folder::warnings(&[const { Ok(None) }; FILES], &meant));
         return Ok((Vec::new(), warnings));
     };
     Ok(noted(content, name))

@@ -1,4 +1,4 @@
-//! The six standard file names, and names that were meant to be one of them.
+//! The standard file names, and names that were meant to be one of them.
 
 use crate::help::misuse;
 use crate::nearest::{distance, nearest};
@@ -9,7 +9,7 @@ use skaveldro::names::FILE_NAMES;
 use std::ffi::OsStr;
 use std::path::Path;
 
-/// The standard name of a file, 1 to 6.
+/// The standard name of a file by its number.
 pub fn name_of(file: u8) -> &'static str {
     FILE_NAMES[usize::from(file) - 1]
 }
@@ -118,6 +118,10 @@ mod tests {
         assert_eq!(looks_like(OsStr::new("geofencing_zone.json")), Some(6));
         assert_eq!(looks_like(OsStr::new("vehicle_type.json")), Some(1));
         assert_eq!(looks_like(OsStr::new("pricing_plans.json")), Some(5));
+        for name in ["system_info.json", "system_informations.json", "SystemInformation.json"] {
+            assert_eq!(looks_like(OsStr::new(name)), Some(7), "{name}");
+        }
+        assert_eq!(looks_like(OsStr::new("regions.json")), Some(8));
         assert_eq!(looks_like(OsStr::from_bytes(b"free_bike_stat\xFFus.json")), Some(4));
     }
 
@@ -128,10 +132,8 @@ mod tests {
             "gbfs.json",
             "gbfs_versions.json",
             "manifest.json",
-            "system_information.json",
             "system_hours.json",
             "system_calendar.json",
-            "system_regions.json",
             "system_alerts.json",
             "README.md",
             "",

@@ -5,7 +5,7 @@
 //!
 //! ```
 //! let bikes = br#"{"version":"2.3","last_updated":0,"ttl":0,"data":{"bikes":[{}]}}"#;
-//! let files: skaveldro::Files = [b"", b"", b"", bikes, b"", b""];
+//! let files: skaveldro::Files = [b"", b"", b"", bikes, b"", b"", b"", b""];
 //! let skaveldro::Verdict::Refused { word, parts } = skaveldro::verdict(files) else { panic!() };
 //! assert_eq!(word.to_string(), "1462800100000000");
 //! assert_eq!((parts.file_name(), parts.field_name(), parts.record), (Some("free_bike_status.json"), Some("bike_id"), 1));
@@ -37,9 +37,12 @@ pub use verdict::{verdict, Verdict};
 pub use word::{read_word, Reading, Word};
 pub use zone::{zone_rule, Point, Rule, Ruling};
 
-/// The files of a set by number, 1 to 6: vehicle_types, station_information, station_status, free_bike_status, system_pricing_plans,
-/// geofencing_zones. One without bytes is absent.
-pub type Files<'a> = [&'a [u8]; 6];
+/// How many files a set has.
+pub const FILES: usize = 8;
+
+/// The files of a set by number, 1 to 8: vehicle_types, station_information, station_status, free_bike_status, system_pricing_plans,
+/// geofencing_zones, system_information, system_regions. One without bytes is absent.
+pub type Files<'a> = [&'a [u8]; FILES];
 
 /// The most bytes that a file may have.
 pub const MOST_BYTES: usize = 1_048_575;

@@ -2,18 +2,21 @@
 
 pub use crate::table::Kind;
 use crate::table::FIELDS;
+use crate::FILES;
 
-/// The standard names of the six files, in order.
-pub const FILE_NAMES: [&str; 6] = [
+/// The standard names of the files, in order.
+pub const FILE_NAMES: [&str; FILES] = [
     "vehicle_types.json",
     "station_information.json",
     "station_status.json",
     "free_bike_status.json",
     "system_pricing_plans.json",
     "geofencing_zones.json",
+    "system_information.json",
+    "system_regions.json",
 ];
 
-/// The standard name of a file, 1 to 6.
+/// The standard name of a file, 1 to 8.
 pub fn file_name(file: u8) -> Option<&'static str> {
     FILE_NAMES.get(usize::from(file).wrapping_sub(1)).copied()
 }
@@ -61,6 +64,8 @@ pub enum Sort {
     /// One of these words.
     Listed(&'static [&'static str]),
     Currency,
+    /// A day, as YYYY-MM-DD.
+    Date,
     Boolean,
     /// A whole number of 0 or more.
     Whole,
@@ -75,9 +80,15 @@ pub enum Sort {
 /// The number of a file's top value, which has no name.
 pub const TOP: u8 = 0;
 
-/// The field of a file that holds its records; the top value for numbers that no file has.
+/// The field of a file that holds its records; the top value for a file that has none, and for numbers that no file has.
 pub fn records_field(file: u8) -> u8 {
     fields(file).iter().find(|field| matches!(field.sort, Sort::Records(_))).map_or(TOP, |field| field.number)
+}
+
+/// The field of a record's own id, which is a record's first; nothing where records have no id, or where there are none.
+pub fn id_field(file: u8) -> Option<Field> {
+    let records = records_field(file);
+    fields(file).iter().find(|field| field.within == records).filter(|field| field.sort == Sort::Id).copied()
 }
 
 /// The fields of a file, in the table's order; none for numbers that no file has.
@@ -111,7 +122,7 @@ mod tests {
 
     #[test]
     fn every_number_has_one_line() {
-        for file in 1..=6 {
+        for file in 1..=FILES as u8 {
             assert!(fields(file).windows(2).all(|pair| pair[0].number < pair[1].number), "file {file}");
             for field in fields(file) {
                 assert_eq!(way(file, field.number).first().map(|field| field.within), Some(TOP), "file {file}, {field:?}");
@@ -121,7 +132,13 @@ mod tests {
 
     #[test]
     fn records() {
-        assert_eq!([0, 1, 5, 6, 7].map(records_field), [TOP, 5, 5, 7, TOP]);
+        assert_eq!([0, 1, 5, 6, 7, 8, 9].map(records_field), [TOP, 5, 5, 7, TOP, 5, TOP]);
+    }
+
+    #[test]
+    fn ids() {
+        let numbers: Vec<_> = (0..=u8::MAX).filter_map(id_field).map(|field| field.number).collect();
+        assert_eq!(numbers, [10, 20, 30, 40, 50, 100]);
     }
 
     #[test]
@@ -131,7 +148,9 @@ mod tests {
         assert_eq!(names(6, 79), "data.geofencing_zones.features.properties.rules.ride_allowed");
         assert_eq!(names(4, 0), "");
         assert_eq!(names(4, 83), "");
-        assert_eq!(names(7, 1), "");
+        assert_eq!(names(7, 94), "data.start_date");
+        assert_eq!(names(8, 100), "data.regions.region_id");
+        assert_eq!(names(9, 1), "");
         assert_eq!(names(0, 1), "");
     }
 

@@ -5,7 +5,7 @@ use crate::names::{self, Kind};
 /// The parts of a verdict word: all zero for an accepted set, else the first broken rule of it.
 #[derive(Clone, Copy, Debug, Default, PartialEq, Eq, PartialOrd, Ord, Hash)]
 pub struct Parts {
-    /// The file, 1 to 6.
+    /// The file, 1 to 8.
     pub file: u8,
     /// The kind of rule, 1 to 15.
     pub kind: u8,

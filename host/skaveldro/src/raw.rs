@@ -19,6 +19,10 @@ extern "C" {
         plans_length: usize,
         zones: *const u8,
         zones_length: usize,
+        system: *const u8,
+        system_length: usize,
+        regions: *const u8,
+        regions_length: usize,
         buffer: *mut u8,
         buffer_length: usize,
     ) -> u8;
@@ -60,7 +64,7 @@ extern "C" {
 
 /// The verdict on a set, its word in the first 8 bytes of the buffer: 2, 0 or 1.
 pub fn verdict(files: crate::Files, buffer: &mut [u8]) -> u8 {
-    let [types, stations, statuses, bikes, plans, zones] = files;
+    let [types, stations, statuses, bikes, plans, zones, system, regions] = files;
     // SAFETY: each pointer is a slice's, with the slice's length, and the buffer is borrowed alone.
     unsafe {
         skaveldro_verdict(
@@ -76,6 +80,10 @@ pub fn verdict(files: crate::Files, buffer: &mut [u8]) -> u8 {
             plans.len(),
             zones.as_ptr(),
             zones.len(),
+            system.as_ptr(),
+            system.len(),
+            regions.as_ptr(),
+            regions.len(),
             buffer.as_mut_ptr(),
             buffer.len(),
         )

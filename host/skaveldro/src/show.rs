@@ -15,7 +15,7 @@ pub enum Shown {
     Record { from: usize, upto: usize },
 }
 
-/// Where the record of that number, from 1, stands in the bytes of that file, 1 to 6.
+/// Where the record of that number, from 1, stands in the bytes of that file, 1 to 8. File 7 has no records.
 pub fn show_record(file: u64, record: u64, bytes: &[u8]) -> Shown {
     let answer = Answer::<{ room(8) }>::to(|buffer| raw::show_record(file, record, bytes, buffer));
     match answer.number {

@@ -85,7 +85,7 @@ const fn field(number: u8, within: u8, name: &'static str, sort: Sort) -> Field 
 }
 
 /// The fields of each file, in the table's order.
-pub(crate) const FIELDS: [&[Field]; 6] = [
+pub(crate) const FIELDS: [&[Field]; 8] = [
     &[
         field(1, 0, "version", Exact("2.3")),
         field(2, 0, "last_updated", Whole),
@@ -109,6 +109,7 @@ pub(crate) const FIELDS: [&[Field]; 6] = [
         field(22, 5, "lat", Between(-90, 90)),
         field(23, 5, "lon", Between(-180, 180)),
         field(24, 5, "capacity", Whole),
+        field(25, 5, "region_id", Id),
     ],
     &[
         field(1, 0, "version", Exact("2.3")),
@@ -189,5 +190,25 @@ pub(crate) const FIELDS: [&[Field]; 6] = [
         field(80, 77, "ride_through_allowed", Boolean),
         field(81, 77, "maximum_speed_kph", Whole),
         field(82, 77, "station_parking", Boolean),
+    ],
+    &[
+        field(1, 0, "version", Exact("2.3")),
+        field(2, 0, "last_updated", Whole),
+        field(3, 0, "ttl", Whole),
+        field(4, 0, "data", Object),
+        field(90, 4, "system_id", Text),
+        field(91, 4, "language", Text),
+        field(92, 4, "name", Text),
+        field(93, 4, "timezone", Text),
+        field(94, 4, "start_date", Date),
+    ],
+    &[
+        field(1, 0, "version", Exact("2.3")),
+        field(2, 0, "last_updated", Whole),
+        field(3, 0, "ttl", Whole),
+        field(4, 0, "data", Object),
+        field(5, 4, "regions", Records(4095)),
+        field(100, 5, "region_id", Id),
+        field(101, 5, "name", Text),
     ],
 ];

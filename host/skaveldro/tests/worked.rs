@@ -4,11 +4,16 @@
 
 use skaveldro::{
     quote, raw, read_word, show_record, verdict, zone_rule, Fare, Parts, Point, Quote, Reading, Ruling, Shown, Verdict, Word,
+    FILES,
 };
 
 /// The verdict on a set that has only bikes.
 fn on_bikes(bytes: &[u8]) -> Verdict {
-    verdict([b"", b"", b"", bytes, b"", b""])
+    verdict([b"", b"", b"", bytes, b"", b"", b"", b""])
+}
+
+fn system(more: &str) -> Vec<u8> {
+    file(&format!(r#""system_id":"s","language":"en","name":"n","timezone":"Etc/UTC"{more}"#))
 }
 
 fn file(data: &str) -> Vec<u8> {
@@ -164,7 +169,7 @@ fn words_k_and_l() {
     assert_eq!(on_bikes(&bikes), Verdict::Refused { word, parts });
     assert_eq!(word.read(), Reading::Parts(parts));
     let mut buffer = [0xAA; 9];
-    assert_eq!(raw::verdict([b"", b"", b"", &file(r#""bikes":[]"#), b"", b""], &mut buffer), 0);
+    assert_eq!(raw::verdict([b"", b"", b"", &file(r#""bikes":[]"#), b"", b"", &system(""), b""], &mut buffer), 0);
     assert_eq!(buffer, [0x10, 0, 0, 0, 0, 0, 0, 0, 0xAA]);
     assert_eq!(Word::ACCEPTED.read(), Reading::Parts(Parts::default()));
 }
@@ -177,9 +182,70 @@ fn refusals_by_number() {
     assert_eq!(quote(b"", b"p", 0, 0).number(), 6);
     assert_eq!(zone_rule(b"", degrees(181, 0), b"", 0).number(), 8);
     assert_eq!(zone_rule(b"", degrees(-180, 90), b"", 0).number(), 9);
-    assert_eq!(show_record(7, 1, b"").number(), 10);
+    assert_eq!(show_record(9, 1, b"").number(), 10);
     assert_eq!(show_record(1, 1, b"").number(), 10);
     assert_eq!(show_record(1, 1, b"[").number(), 5);
+    assert_eq!([b"".as_slice(), &system("")].map(|bytes| show_record(7, 1, bytes).number()), [10, 10]);
+    assert_eq!(show_record(7, 1, b"{}").number(), 5);
+}
+
+/// The system's own file is always called for, behind all faults of the older files and ahead of those of the regions.
+#[test]
+fn a_set_without_its_system() {
+    let (bikes, no_id) =
+        (file(r#""bikes":[]"#), file(r#""regions":[{"region_id":"r","name":"n"},{"region_id":"r","name":"n"}]"#));
+    let judged = |bikes: &[u8], system: &[u8]| verdict([b"", b"", b"", bikes, b"", b"", system, &no_id]).parts();
+    assert_eq!(judged(&bikes, b""), Parts { file: 7, kind: 14, ..Parts::default() });
+    assert_eq!(judged(&bikes, &system("")), Parts { file: 8, kind: 12, field: 100, record: 2, ..Parts::default() });
+    assert_eq!(judged(b"", b""), Parts { file: 4, kind: 14, ..Parts::default() });
+}
+
+/// A day that the Gregorian calendar has, in ten bytes once escapes are decoded.
+#[test]
+fn the_day_a_system_started() {
+    let judged = |date: &str| match show_record(7, 1, &system(&format!(r#","start_date":{date}"#))) {
+        Shown::NotClean(Parts { file: 7, kind, field: 94, record: 0, sub: 0, offset: 0 }) => kind,
+        Shown::NoRecord => 0,
+        other => panic!("{other:?}"),
+    };
+    for (date, kind) in [
+        (r#""2024-02-29""#, 0),
+        (r#""2000-02-29""#, 0),
+        (r#""0000-02-29""#, 0),
+        (r#""9999-12-31""#, 0),
+        (r#""20\u00324-02-29""#, 0),
+        (r#""""#, 0),
+        (r#""1900-02-29""#, 9),
+        (r#""2023-02-29""#, 9),
+        (r#""2024-13-01""#, 9),
+        (r#""2024-00-01""#, 9),
+        (r#""2024-01-00""#, 9),
+        (r#""2024-04-31""#, 9),
+        (r#""2024-02-290""#, 9),
+        (r#""2024-2-29""#, 9),
+        ("20240229", 7),
+        ("null", 7),
+    ] {
+        assert_eq!(judged(date), kind, "{date}");
+    }
+}
+
+/// A station's region is one of file 8.
+#[test]
+fn the_region_of_a_station() {
+    let stations =
+        |region: &str| file(&format!(r#""stations":[{{"station_id":"s","name":"n","lat":0,"lon":0,"region_id":{region}}}]"#));
+    let status = file(
+        r#""stations":[{"station_id":"s","num_bikes_available":0,"is_installed":true,"is_renting":true,"is_returning":true,"last_reported":0}]"#,
+    );
+    let regions = file(r#""regions":[{"region_id":"north","name":"n"}]"#);
+    let judged = |region, regions: &[u8]| verdict([b"", &stations(region), &status, b"", b"", b"", &system(""), regions]).parts();
+    let dangling = Parts { file: 2, kind: 13, field: 25, record: 1, ..Parts::default() };
+    assert_eq!(judged(r#""north""#, &regions), Parts::default());
+    assert_eq!(judged(r#""""#, b""), Parts::default());
+    assert_eq!(judged(r#""North""#, &regions), dangling);
+    assert_eq!(judged(r#""north""#, b""), dangling);
+    assert_eq!(judged("7", &regions), Parts { kind: 7, ..dangling });
 }
 
 #[test]
@@ -196,8 +262,8 @@ fn buffers_of_every_length() {
     type Ask<'a> = (&'a str, u8, usize, &'a dyn Fn(&mut [u8]) -> u8);
     let (plans, zones) = (&plans("0", ""), &zones(CLOCKWISE, RULE));
     let asks: [Ask; 18] = [
-        ("verdict", 0, 8, &|buffer| raw::verdict([b"", b"", b"", &file(r#""bikes":[]"#), b"", b""], buffer)),
-        ("verdict", 1, 8, &|buffer| raw::verdict([b""; 6], buffer)),
+        ("verdict", 0, 8, &|buffer| raw::verdict([b"", b"", b"", &file(r#""bikes":[]"#), b"", b"", &system(""), b""], buffer)),
+        ("verdict", 1, 8, &|buffer| raw::verdict([b""; FILES], buffer)),
         ("word", 0, 48, &|buffer| raw::read_word(&[0x10, 0, 0, 0, 0, 0, 0, 0], buffer)),
         ("word", 3, 0, &|buffer| raw::read_word(b"", buffer)),
         ("quote", 0, 72, &|buffer| raw::quote(plans, b"p", 0, 0, buffer)),
@@ -210,7 +276,7 @@ fn buffers_of_every_length() {
         ("zone", 9, 0, &|buffer| raw::zone_rule(zones, -1, 0, b"", 0, buffer)),
         ("show", 0, 64, &|buffer| raw::show_record(5, 1, plans, buffer)),
         ("show", 5, 64, &|buffer| raw::show_record(1, 1, b"[", buffer)),
-        ("show", 10, 0, &|buffer| raw::show_record(7, 1, b"[", buffer)),
+        ("show", 10, 0, &|buffer| raw::show_record(9, 1, b"[", buffer)),
         ("show", 10, 0, &|buffer| raw::show_record(256 + 5, 1, plans, buffer)),
         ("show", 10, 0, &|buffer| raw::show_record((1 << 32) + 5, 1, plans, buffer)),
         ("show", 10, 0, &|buffer| raw::show_record(5, 2, plans, buffer)),
@@ -235,7 +301,7 @@ fn buffers_of_every_length() {
 #[test]
 fn files_of_64_bits() {
     let bytes = plans("0", "");
-    for file in [0, 7, 256 + 5, (1 << 32) + 5, 1 << 63, (1 << 63) + 5, u64::MAX] {
+    for file in [0, 9, 256 + 5, (1 << 32) + 5, 1 << 63, (1 << 63) + 5, u64::MAX] {
         assert_eq!(show_record(file, 1, &bytes), Shown::NoRecord, "{file}");
     }
 }

@@ -117,6 +117,8 @@ impl fmt::Display for Told {
 #[cfg(test)]
 mod tests {
     use super::*;
+    use reference::LAST_FIELD;
+    use skaveldro::FILES;
 
     fn line(parts: Parts, bytes: Option<&[u8]>) -> String {
         tell(parts, bytes).expect("the parts name a rule").to_string()
@@ -203,6 +205,36 @@ mod tests {
     }
 
     #[test]
+    fn faults_of_the_system_and_its_regions() {
+        let absent = "absent, but required in every set: deliver it, with system_id, language, name and timezone";
+        assert_eq!(said(7, 14, 0, 0, 0), format!("system_information.json: {absent}"));
+        assert_eq!(said(7, 6, 90, 0, 0), "system_information.json, data.system_id: required, but missing");
+        assert_eq!(said(7, 7, 94, 0, 0), "system_information.json, data.start_date: must be a string");
+        let day = "must be a day that the calendar has, written YYYY-MM-DD";
+        assert_eq!(said(7, 9, 94, 0, 0), format!("system_information.json, data.start_date: {day}"));
+        let system = br#"{"data":{"start_date":"1900-02-29"}}"#;
+        assert_eq!(
+            line(Parts { file: 7, kind: 9, field: 94, ..Parts::default() }, Some(system)),
+            format!(r#"system_information.json, data.start_date, line 1, column 23: {day}; found "1900-02-29""#)
+        );
+        assert_eq!(said(8, 6, 101, 2, 0), "system_regions.json, record 2, name: required, but missing");
+        let regions = br#"{"data":{"regions":[{"region_id":"r"},{"region_id":"\u0072"}]}}"#;
+        assert_eq!(
+            line(Parts { file: 8, kind: 12, field: 100, record: 2, ..Parts::default() }, Some(regions)),
+            r#"system_regions.json, record 2 (id "r"), region_id, line 1, column 52: record 1 has the same id"#
+        );
+        let stations = br#"{"data":{"stations":[{"station_id":"s","region_id":"x"}]}}"#;
+        let told = |regions| {
+            let dangling = Parts { file: 2, kind: 13, field: 25, record: 1, ..Parts::default() };
+            tell_of_set(dangling, [b"", stations, b"", b"", b"", b"", b"", regions]).map(|told| told.to_string())
+        };
+        let at = r#"station_information.json, record 1 (id "s"), region_id, line 1, column 52"#;
+        let rule = "must be the id of a record of system_regions.json";
+        assert_eq!(told(b"{}"), Some(format!(r#"{at}: {rule}; found "x""#)));
+        assert_eq!(told(b""), Some(format!(r#"{at}: {rule}, which is absent; found "x""#)));
+    }
+
+    #[test]
     fn the_record_is_named_by_its_id() {
         let bikes = b"{\"data\":{\"bikes\":[\n  {\"bike_id\":\"a\\u0022b\"}, {}]}}";
         let at = |record| line(Parts { file: 4, kind: 6, field: 43, record, ..Parts::default() }, Some(bikes));
@@ -224,8 +256,8 @@ mod tests {
         let told = |files| tell_of_set(parts(13, 48, 1), files).map(|told| (told.rule, told.found));
         let rule = "must be the id of a record of system_pricing_plans.json";
         let missing = Some("\"p\"".to_string());
-        assert_eq!(told([b"", b"", b"", bikes, b"{}", b""]), Some((rule.into(), missing.clone())));
-        assert_eq!(told([b"", b"", b"", bikes, b"", b""]), Some((format!("{rule}, which is absent"), missing)));
+        assert_eq!(told([b"", b"", b"", bikes, b"{}", b"", b"", b""]), Some((rule.into(), missing.clone())));
+        assert_eq!(told([b"", b"", b"", bikes, b"", b"", b"", b""]), Some((format!("{rule}, which is absent"), missing)));
     }
 
     /// Where the file is at hand, the one rule that a ring breaks.
@@ -243,9 +275,9 @@ mod tests {
     /// Every word that a verdict can give has words, also those that only a made-up word names.
     #[test]
     fn every_word_can_be_said() {
-        for file in 1..=6 {
+        for file in 1..=FILES as u8 {
             for kind in 1..=15 {
-                for field in 0..=82 {
+                for field in 0..=LAST_FIELD {
                     for (record, sub) in [(0, 0), (1, 0), (0, 1), (4095, 4095)] {
                         let parts = Parts { file, kind, field, record, sub, offset: 0 };
                         let line = line(parts, None);

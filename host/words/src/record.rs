@@ -1,7 +1,7 @@
 //! A record of a file that is JSON but may break other rules, found to be named.
 
 use crate::scan::{items, member, string};
-use skaveldro::names::{field, records_field, way};
+use skaveldro::names::{id_field, records_field, way, TOP};
 
 /// Where a record begins, and its id.
 #[derive(Clone, Debug, PartialEq, Eq)]
@@ -14,9 +14,10 @@ pub struct Record {
 
 /// The record of that number, from 1, of a file that passed stage A.
 pub fn record(file: u8, number: u16, bytes: &[u8]) -> Option<Record> {
-    let array = way(file, records_field(file)).iter().try_fold(0, |at, field| member(bytes, at, field.name))?;
+    let records = Some(records_field(file)).filter(|&field| field != TOP)?;
+    let array = way(file, records).iter().try_fold(0, |at, field| member(bytes, at, field.name))?;
     let start = items(bytes, array).nth(usize::from(number).checked_sub(1)?)?;
-    let id = field(file, 10 * file).and_then(|field| member(bytes, start, field.name));
+    let id = id_field(file).and_then(|field| member(bytes, start, field.name));
     let id = id.and_then(|at| string(bytes, at)).map(|(id, _)| id).filter(|id| !id.is_empty());
     Some(Record { start, id })
 }
@@ -47,6 +48,11 @@ mod tests {
         }
         assert_eq!(found(4, 1, r#"{"data":{"bikes":[1]}}"#), Some((18, None)));
         assert_eq!(found(6, 1, r#"{"data":{"geofencing_zones":{"features":[{}]}}}"#), Some((41, None)));
+        for text in ["[{}]", r#"{"data":[{}]}"#, r#"{"data":{"":[{}],"regions":[{}]}}"#] {
+            assert_eq!(found(7, 1, text), None, "{text}");
+        }
+        let regions = r#"{"data":{"regions":[{"name":"n","region_id":"r"}]}}"#;
+        assert_eq!(found(8, 1, regions), Some((20, Some("r".into()))));
     }
 
     /// Bytes that are no JSON have no records to name, but do no harm.

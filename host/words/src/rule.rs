@@ -62,7 +62,7 @@ fn type_of(sort: Sort, parts: Parts) -> &'static str {
         Sort::Records(_) | Sort::Items(_) => "an array",
         Sort::Ids(_) => "an array of strings",
         Sort::Coordinates => "arrays of polygons, rings and positions, with numbers in them",
-        Sort::Id | Sort::Text | Sort::Exact(_) | Sort::Listed(_) | Sort::Currency => "a string",
+        Sort::Id | Sort::Text | Sort::Exact(_) | Sort::Listed(_) | Sort::Currency | Sort::Date => "a string",
         Sort::Boolean => "true or false",
         Sort::Whole => "an integer",
         Sort::Positive | Sort::Between(..) | Sort::Money => "a number",
@@ -76,6 +76,7 @@ fn range_of(sort: Sort) -> String {
         Sort::Exact(word) => format!("{word:?}"),
         Sort::Listed(words) => format!("one of {}", words.join(", ")),
         Sort::Currency => "three capital letters".into(),
+        Sort::Date => "a day that the calendar has, written YYYY-MM-DD".into(),
         Sort::Id => "at most 100 bytes long".into(),
         Sort::Ids(_) => "ids of at most 100 bytes each".into(),
         Sort::Whole | Sort::Positive => "a number of 0 or more".into(),
@@ -105,16 +106,18 @@ pub fn target(parts: Parts) -> Option<u8> {
         38 | 45 | 78 => Some(1),
         30 | 47 => Some(2),
         14 | 48 => Some(5),
+        25 => Some(8),
         _ => None,
     }
 }
 
 fn condition(parts: Parts) -> String {
-    let [types, stations, statuses, _, plans, _] = FILE_NAMES;
+    let [types, stations, statuses, _, plans, ..] = FILE_NAMES;
     match (parts.file, parts.field) {
         (2, 0) => format!("absent, but required since {statuses} is given"),
         (3, 0) => format!("absent, but required since {stations} is given"),
         (4, 0) => format!("absent, but required since {stations} is absent too"),
+        (7, 0) => "absent, but required in every set: deliver it, with system_id, language, name and timezone".into(),
         (1, 13) => "required unless propulsion_type is human, but missing".into(),
         (1, 14) => format!("required since {plans} is given, but missing"),
         (3, 32) => "required since the station has a capacity, but missing".into(),

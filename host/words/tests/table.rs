@@ -2,6 +2,7 @@
 
 use reference::table::{top_of, Field, Form};
 use skaveldro::names::{field, sort_of, Sort};
+use skaveldro::FILES;
 
 /// The names and sorts are those of the table that the reference was written from.
 #[test]
@@ -16,7 +17,10 @@ fn the_reference_has_the_same_table() {
             (Form::Records(_), Sort::Records(other)) => other == reference::ceiling::RECORDS,
             (Form::Object(_), Sort::Object) => true,
             (Form::Coordinates, Sort::Coordinates) | (Form::Id, Sort::Id) | (Form::Text, Sort::Text) => true,
-            (Form::Currency, Sort::Currency) | (Form::Boolean, Sort::Boolean) | (Form::Integer, Sort::Whole) => true,
+            (Form::Currency, Sort::Currency)
+            | (Form::Date, Sort::Date)
+            | (Form::Boolean, Sort::Boolean)
+            | (Form::Integer, Sort::Whole) => true,
             (Form::Money, Sort::Money) | (Form::Price, Sort::Price) => true,
             _ => false,
         }
@@ -31,7 +35,7 @@ fn the_reference_has_the_same_table() {
             compare(file, member, seen);
         }
     }
-    for file in 1..=6 {
+    for file in 1..=FILES as u8 {
         let mut seen = Vec::new();
         compare(file, top_of(file), &mut seen);
         for number in 1..=u8::MAX {

@@ -2,10 +2,11 @@
 use borrow.Author.Needs.{needs}
 use mathlib.Core.Path.{_≡_, sym, ap, subst, _∙_}
 use native.Mathlib.Omega.{arith}
+use Rattle.notation.proofs.Booleans.{true-false}
 use Rattle.fault.specs.Outcome.{outcomeOf}
 use Rattle.fault.specs.inner.Narrow.{Narrow}
 use Rattle.ids.specs.inner.Ids.{idField}
-use Rattle.ids.proofs.Picked.{id-field}
+use Rattle.ids.proofs.Picked.{has-ids, no-ids}
 use Rattle.clean.proofs.Repeated.{repeats-none}
 use Rattle.clean.proofs.Judged.{blamed-narrow}
 use Rattle.clean.proofs.check_ids.Statement.{statement}
@@ -14,11 +15,12 @@ use Rattle.clean.proofs.check_ids.Tie as tie
 returns : tie.Need-returns
 returns c =
     let f = c .before in let file = f .before .before .args .file in let e : idField file ≡ 0 = sym (f .id-field .ensures) ∙ c .if1 .taken in
-    (ap (outcomeOf file) (sym (repeats-none file (λ h i. omega (arith, id-field file i, e)) _)), λ h n. absurd (n e))
+    let none = no-ids file e in (ap (outcomeOf file) (sym (repeats-none file none _)), λ h i. true-false i none)
 
 note-file-requires : tie.Need-note-file-requires
 note-file-requires c κs =
-    let i = c .before in let f = i .before in let x = f .before .before .pre in (λ e. i .if1 .left (f .id-field .ensures ∙ e), x .0, x .1, x .2)
+    let i = c .before in let f = i .before in let s = f .before .before in let x = s .pre in
+    (has-ids (s .args .file) (λ e. i .if1 .left (f .id-field .ensures ∙ e)), x .0, x .1, x .2)
 
 outcome-of-requires : tie.Need-outcome-of-requires
 outcome-of-requires c κs =

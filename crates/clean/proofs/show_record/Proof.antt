@@ -26,7 +26,7 @@ cleanly : (c : tie.After-record-span) → let k = c .before .before .before in l
 cleanly c =
     let t = c .before in let k = t .before .before in let a = k .before .before .before .before .args in
     let e = sym (t .enum-told .given .1) ∙ k .check-clean .ensures in
-    ap ofSpan (c .record-span .ensures (listed (a .file) (a .s .now) (omega arith) (omega arith) (sym e)))
+    ap ofSpan (c .record-span .ensures (listed (a .file) (a .s .now) (sym e)))
     ∙ shown-of (a .file) (a .«record») (a .s .now) (omega arith) (omega arith) Unbroken e
 
 returns-4 : tie.Need-returns-4

@@ -1,8 +1,8 @@
 -- What the code answers of one record: the least of its broken rules, where the records that it may refer to are known.
 use mathlib.Core.Bool.{not}
-use mathlib.Core.List.{List, [], _++_, List·Memᴰ}
+use mathlib.Core.List.{List, [], _∷_, _++_, List·Memᴰ}
 use mathlib.Core.Path.{_≡_}
-use Prim.Native.Nat.{ℕ, _≤_, _+_, _-_}
+use Prim.Native.Nat.{ℕ, _≤_, _<_, _+_, _-_}
 use lib.Dec.{eqb, ltb}
 use lib.ListN.{length, getD}
 use Rattle.notation.specs.Choice.{_and_}
@@ -48,22 +48,26 @@ fileBy file p = record { here = ltb 0 (length p); records = pickedItems (recordS
 abbrev pub filesBy : Feeds → Files
 filesBy rs file = fileBy file (bytesOf rs file)
 
--- how many files references name: types, stations and plans
-abbrev pub namedCount : ℕ
-namedCount = 3
+-- how many files' notes are lent to those who judge records
+abbrev pub lentCount : ℕ
+lentCount = 3
 
--- What is known when the records of a file are judged: the records of types, stations and plans are noted, in this order; those of types not yet for
--- types themselves, which name none.
+-- What is known when the records of a file are judged: those that they may name are noted. The notes of types, stations and plans stand in this order;
+-- types name plans alone, and stations regions alone, whose notes stand first.
 pub record Known (file : ℕ) (rs notes : Feeds) : Type 0 where
-  pub types : (file ≡ 1 → ⊥) → Searchable 1 (bytesOf rs 1) (getD notes 0 [])
-  pub stations : Searchable 2 (bytesOf rs 2) (getD notes 1 [])
-  pub plans : Searchable 5 (bytesOf rs 5) (getD notes 2 [])
+  pub types : 2 < file → Searchable 1 (bytesOf rs 1) (getD notes 0 [])
+  pub stations : 2 < file → Searchable 2 (bytesOf rs 2) (getD notes 1 [])
+  pub plans : (file ≡ 2 → ⊥) → Searchable 5 (bytesOf rs 5) (getD notes 2 [])
+  pub regions : file ≡ 2 → Searchable 8 (bytesOf rs 8) (getD notes 0 [])
+
+-- the notes of one file at every place
+abbrev pub alone : List ℕ → Feeds
+alone notes = notes ∷ notes ∷ notes ∷ []
 
 -- a file whose records have ids and refer to other records
 pub record Referring (file : ℕ) : Type 0 where
   pub least : 1 ≤ file
   pub most : file ≤ 4
-  pub other : file ≡ 2 → ⊥
 
 -- the rows of its records
 abbrev pub recordRows : ℕ → Rows
@@ -84,7 +88,7 @@ Slotted file p s = Gathered p (recordFirst file) (recordCount file) s
 abbrev pub Reads : (p : List ℕ) (s : Slots) (row : ℕ) (q : List ℕ) → Type 0
 Reads p s row q = FoundWhole p (slotAt s row) → q ≡ foundBytes p (slotAt s row)
 
--- What fields of a record break, by the bytes of their values: the position of a bike, its type, the station of a status, and its counts.
+-- What fields of a record break, by the bytes of their values: the position of a bike, its type, the docks of a status, and its counts.
 abbrev pub positionBy : Place → (station lat lon : List ℕ) → List Fault
 positionBy place station lat lon =
     faulty place 41 (demanded (not (thereBy station)) (thereBy lat)) ++ faulty place 42 (demanded (not (thereBy station)) (thereBy lon))
@@ -94,8 +98,8 @@ vehicleBy place types type range =
     faulty place 45 (demanded (types .here) (thereBy type) ++ refers (textBy type) 10 (types .records)) ++
     faulty place 46 (demanded (named motorized 10 (types .records) (textBy type)) (thereBy range))
 
-abbrev pub stationBy : Place → (stations : File) (station docks : List ℕ) → List Fault
-stationBy place stations station docks =
+abbrev pub docksBy : Place → (stations : File) (station docks : List ℕ) → List Fault
+docksBy place stations station docks =
     faulty place 30 (refers (textBy station) 20 (stations .records)) ++
     faulty place 32 (demanded (named hasCapacity 20 (stations .records) (textBy station)) (thereBy docks))
 

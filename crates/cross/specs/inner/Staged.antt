@@ -1,15 +1,15 @@
 -- What the code answers of one file and of all, from the arrays of their records: presence, repeated ids and what the records demand.
+use mathlib.Core.Bool.{true}
 use mathlib.Core.List.{List}
 use mathlib.Core.Path.{_≡_}
 use Prim.Native.Nat.{ℕ, _≤_, _<_}
-use lib.Dec.{ltb}
 use lib.ListN.{length}
 use Rattle.limits.specs.Ceilings.{fileBytes, records}
 use Rattle.notation.specs.Choice.{_⇒_else_}
 use Rattle.word.specs.Kinds.{condition}
 use Rattle.walk.specs.Walk.{itemsOf}
 use Rattle.walk.specs.inner.Along.{AlongItems}
-use Rattle.schema.specs.Records.{recordShape}
+use Rattle.schema.specs.Records.{recordShape, hasRecords, hasIds}
 use Rattle.fault.specs.declared.Least.{Least}
 use Rattle.fault.specs.declared.outcome.Outcome.{Outcome}
 use Rattle.fault.specs.Fault.{least, lesser, top, faulty}
@@ -17,9 +17,9 @@ use Rattle.fault.specs.Outcome.{fileCount, outcomeOf}
 use Rattle.fault.specs.inner.Narrow.{Narrow}
 use Rattle.document.specs.inner.Items.{pickedItems}
 use Rattle.ids.specs.inner.Ids.{idField, AllIdsOnce, recordBytes, firstRepeat}
+use Rattle.ids.specs.inner.Notes.{size}
 use Rattle.clean.specs.inner.Blamed.{blamed}
 use Rattle.ids.specs.References.{kindIf}
-use Rattle.ids.specs.inner.Known.{Searchable}
 use Rattle.cross.specs.declared.records.Findings.{Findings}
 use Rattle.cross.specs.declared.stage.Named.{Named}
 use Rattle.cross.specs.Cross.{eachRecord, faultsOf, missingFile}
@@ -34,17 +34,23 @@ pub record Recorded (p : List ℕ) : Type 0 where
   pub few : length (itemsOf p) ≤ records
   pub along : (0 < length p) → AlongItems p 1
 
--- the records of all files of a set are such arrays
+-- the records of all files of a set that have any are such arrays
 abbrev pub AllRecorded : Feeds → Type 0
-AllRecorded rs = (file : ℕ) → 1 ≤ file → file ≤ fileCount → Recorded (bytesOf rs file)
+AllRecorded rs = (file : ℕ) → 1 ≤ file → file ≤ fileCount → hasRecords file ≡ true → Recorded (bytesOf rs file)
 
 -- the name of its ids stands once at most in every record
 abbrev pub AllSingle : Feeds → Type 0
-AllSingle rs = (file : ℕ) → 1 ≤ file → file ≤ 5 → AllIdsOnce file (bytesOf rs file)
+AllSingle rs = (file : ℕ) → 1 ≤ file → file ≤ fileCount → hasIds file ≡ true → AllIdsOnce file (bytesOf rs file)
 
--- the number of the first record whose id one before it has, or 0; records of file 6 have no ids
+-- the records p of a file can be noted in these numbers
+pub record Notable (file : ℕ) (p notes : List ℕ) : Type 0 where
+  pub recorded : Recorded p
+  pub single : AllIdsOnce file p
+  pub room : length notes ≡ size
+
+-- the number of the first record whose id one before it has, or 0, also where records have no ids
 unfoldable pub repeatOf : ℕ → List ℕ → ℕ
-repeatOf file p = ltb 5 file ⇒ 0 else firstRepeat file (recordBytes p)
+repeatOf file p = hasIds file ⇒ firstRepeat file (recordBytes p) else 0
 
 unfoldable pub idsLeast : ℕ → List ℕ → Least
 idsLeast file p = blamed (idField file) (repeatOf file p)
@@ -75,17 +81,13 @@ module _ (rs : Feeds) where
   abbrev pub AllNarrow : Type 0
   AllNarrow = (file : ℕ) → 1 ≤ file → file ≤ fileCount → Narrow (fileLeast file)
 
-  -- what is known when types are judged
-  pub record Others (stationNotes planNotes : List ℕ) : Type 0 where
-    pub stations : Searchable 2 (bytesOf rs 2) stationNotes
-    pub plans : Searchable 5 (bytesOf rs 5) planNotes
-
   -- what is known when the files are judged one after another
   pub record Ready (notes : Feeds) (named : Named) : Type 0 where
-    pub known : (file : ℕ) → Known file rs notes
+    pub known : (file : ℕ) → 2 < file → Known file rs notes
     pub recorded : AllRecorded rs
     pub single : AllSingle rs
     pub narrow : AllNarrow
     pub types : Found 1 (named .types)
     pub stations : Found 2 (named .stations)
     pub plans : Found 5 (named .plans)
+    pub regions : Found 8 (named .regions)

@@ -4,14 +4,13 @@ use mathlib.Core.List.{List, [], _∷_, map}
 use mathlib.Core.Path.{_≡_, refl, ap}
 use Prim.Native.Nat.{ℕ, _≤_}
 use native.Mathlib.Omega.{arith}
-use lib.ListN.{length}
 use Rattle.notation.specs.Ascii.{bytes}
-use Rattle.notation.specs.Maybe.{some}
-use Rattle.schema.specs.Records.{Way, wayTo, located}
+use Rattle.notation.specs.Maybe.{some, given}
+use Rattle.schema.specs.Records.{Way, wayTo, hasRecords, located}
+use Rattle.schema.proofs.Recorded.{other-records}
 use Rattle.document.specs.Spans.{memberSpan, topSpan}
 use Rattle.document.specs.inner.Spans.{ValueFrom, RecordsFrom}
-use Rattle.walk.proofs.Cuts.{part-length}
-use Rattle.document.proofs.Along.{along-two, along-three, along-none}
+use Rattle.document.proofs.Along.{along-two, along-three}
 use Rattle.document.proofs.Rests.{Begins, begins-top, begins-member, records-begin, no-records}
 use Rattle.document.proofs.records_from.Statement.{statement}
 use Rattle.document.proofs.records_from.Tie as tie
@@ -26,22 +25,24 @@ in-data c =
 -- the records of a file under one name in it
 named : {file : ℕ} {s name p r : List ℕ} {w : Way} → wayTo file ≡ some w → map (λ k. k .name) (w .keys) ≡ bytes "data" ∷ name ∷ []
     → Begins s (memberSpan s (bytes "data") (topSpan s)) p → ValueFrom p name r → RecordsFrom file s r
-named e names b v = records-begin _ _ _ _ (along-two _ _ _ _ e names) (begins-member _ _ _ _ _ b v)
+unfolding hasRecords
+named e names b v = records-begin _ _ _ _ (ap given e) (along-two _ _ _ _ e names) (begins-member _ _ _ _ _ b v)
 
 returns-6 : tie.Need-returns-6
 unfolding located
 returns-6 c =
     let z = c .before .before in let m = z .before .before in
-    records-begin _ _ _ _ (along-three _ _ _ _ (ap wayTo (m .match .keys6)) _ refl)
+    records-begin _ _ _ _ (ap hasRecords (m .match .keys6)) (along-three _ _ _ _ (ap wayTo (m .match .keys6)) _ refl)
     (begins-member _ (bytes "features") _ _ _ (begins-member _ (bytes "geofencing_zones") _ _ _ (in-data (m .before)) (z .value-from7 .ensures)) (c .value-from8 .ensures))
 
-no-file : (n : ℕ) → (n ≡ 1 → ⊥) → (n ≡ 2 → ⊥) → (n ≡ 3 → ⊥) → (n ≡ 4 → ⊥) → (n ≡ 5 → ⊥) → (n ≡ 6 → ⊥) → 1 ≤ n → n ≤ 6 → ⊥
-no-file n a b c d e f h i = omega arith
+none-to-six : (n : ℕ) → (n ≡ 1 → ⊥) → (n ≡ 2 → ⊥) → (n ≡ 3 → ⊥) → (n ≡ 4 → ⊥) → (n ≡ 5 → ⊥) → (n ≡ 6 → ⊥) → 1 ≤ n → n ≤ 6 → ⊥
+none-to-six n a b c d e f h i = omega arith
 
-returns-7 : tie.Need-returns-7
-returns-7 c =
-    let m = c .before in let r = m .match .rest in let s = m .before .before .before .before .before .before .args .s .now in
-    no-records _ _ _ (along-none _ _ (no-file _ (r .0 .0 .0 .0 .0 .1) (r .0 .0 .0 .0 .1) (r .0 .0 .0 .1) (r .0 .0 .1) (r .0 .1) (r .1))) (omega (arith, ap length (c .cut .ensures), part-length s 0 0))
+returns-8 : tie.Need-returns-8
+returns-8 c =
+    let r = c .before .match .rest in
+    no-records _ _ _
+    (other-records _ (none-to-six _ (r .0 .0 .0 .0 .0 .0 .1) (r .0 .0 .0 .0 .0 .1) (r .0 .0 .0 .0 .1) (r .0 .0 .0 .1) (r .0 .0 .1) (r .0 .1)) (r .1)) (c .cut .ensures)
 
 pub records-from-spec : {M : Type 1} → statement M
 unfolding located
@@ -57,4 +58,7 @@ records-from-spec =
     (λ c. let m = c .before .before in named (ap wayTo (m .match .keys4)) refl (in-data (m .before)) (c .value-from5 .ensures))
     (λ c. search needs) (λ c κs. search needs)
     (λ c. let m = c .before .before in named (ap wayTo (m .match .keys5)) refl (in-data (m .before)) (c .value-from6 .ensures))
-    (λ c. search needs) (λ c κs. search needs) (λ c. search needs) (λ c κs. search needs) returns-6 (λ c κs. search needs) returns-7)
+    (λ c. search needs) (λ c κs. search needs) (λ c. search needs) (λ c κs. search needs) returns-6
+    (λ c. search needs) (λ c κs. search needs)
+    (λ c. let m = c .before .before in named (ap wayTo (m .match .keys7)) refl (in-data (m .before)) (c .value-from9 .ensures))
+    (λ c κs. search needs) returns-8)

@@ -1,9 +1,9 @@
--- What is searched in bytes for the record that a reference names, or of an id. References name records of files 1, 2 and 5; the search is the same in any
+-- What is searched in bytes for the record that a reference names, or of an id. References name records of files 1, 2, 5 and 8; the search is the same in any
 -- file whose records have ids.
 use mathlib.Core.Bool.{Bool, true, false}
 use mathlib.Core.List.{List, List·Memᴰ}
 use mathlib.Core.Path.{_≡_}
-use Prim.Native.Nat.{ℕ, _≤_}
+use Prim.Native.Nat.{ℕ}
 use lib.Dec.{eqb}
 use lib.ListN.{drop}
 use Rattle.notation.specs.Choice.{_⇒_else_}
@@ -13,6 +13,7 @@ use Rattle.sorting.specs.inner.Keys.{byKeys}
 use Rattle.walk.specs.declared.Item.{Item}
 use Rattle.walk.specs.Walk.{itemsOf}
 use Rattle.walk.proofs.Parts.{itemOf}
+use Rattle.schema.specs.Records.{hasIds}
 use Rattle.schema.specs.Pick.{Picked}
 use Rattle.ids.specs.declared.Start.{Start}
 use Rattle.ids.specs.declared.Start.the-variants.{At, Nowhere}
@@ -29,8 +30,7 @@ testedOf file tested = tested ⇒ testOf file else any
 
 -- the records p of a file, which have ids, are noted
 pub record Searchable (file : ℕ) (p notes : List ℕ) : Type 0 where
-  pub least : 1 ≤ file
-  pub most : file ≤ 5
+  pub ids : hasIds file ≡ true
   pub noted : Indexed file p notes
 
 -- how the record at a place of the order stands to an id, by what is noted

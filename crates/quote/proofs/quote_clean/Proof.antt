@@ -9,11 +9,10 @@ use Rattle.schema.specs.Table23.{plan}
 use Rattle.document.specs.Document.{some}
 use Rattle.ids.specs.declared.Start.the-variants as start
 use Rattle.ids.specs.inner.Known.{RecordOf}
-use Rattle.ids.proofs.Picked.{id-field}
 use Rattle.clean.proofs.Cleans.{Sound, clean-sound}
 use Rattle.quote.specs.inner.Clear.{ClearPlan}
 use Rattle.quote.specs.Quote.{planQuote}
-use Rattle.quote.proofs.Files.{item-ends, quote-absent, quote-none, item-clear, quote-some}
+use Rattle.quote.proofs.Files.{identifies, item-ends, quote-absent, quote-none, item-clear, quote-some}
 use Rattle.quote.proofs.quote_clean.Statement.{statement}
 use Rattle.quote.proofs.quote_clean.Tie as tie
 
@@ -28,9 +27,8 @@ find-record-requires : tie.Need-find-record-requires
 find-record-requires c κs =
     let s = c .before .before .before .before in
     record {
-      least = omega arith;
-      most = omega arith;
-      noted = s .pre .1 (omega (arith, c .before .if1 .left)) (λ e. omega (arith, id-field 5 (omega arith), e)) _ (c .records-from .ensures);
+      ids = identifies;
+      noted = s .pre .1 (omega (arith, c .before .if1 .left)) identifies _ (c .records-from .ensures);
     }
 
 returns-2 : tie.Need-returns-2

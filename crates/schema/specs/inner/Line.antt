@@ -57,6 +57,7 @@ sortLetter shape.boolean = code "B"
 sortLetter shape.text = code "S"
 sortLetter shape.id = code "i"
 sortLetter shape.currency = code "c"
+sortLetter shape.date = code "d"
 sortLetter (shape.exactly s) = code "="
 sortLetter (shape.word words) = code "w"
 
@@ -167,6 +168,7 @@ sortWords shape.boolean = []
 sortWords shape.text = []
 sortWords shape.id = []
 sortWords shape.currency = []
+sortWords shape.date = []
 sortWords (shape.exactly s) = s ∷ []
 sortWords (shape.word words) = words
 

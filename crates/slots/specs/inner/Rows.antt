@@ -15,7 +15,7 @@ use Rattle.slots.specs.declared.Row.{Row}
 
 -- how many lines the 2.3 table has
 abbrev pub lineCount : ℕ
-lineCount = 92
+lineCount = 109
 
 -- so many rows have slots
 abbrev pub mostRows : ℕ

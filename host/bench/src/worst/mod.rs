@@ -24,24 +24,26 @@ pub struct Made {
     pub place: Where,
 }
 
-pub const ALL: [Worst; 26] = [
+pub const ALL: [Worst; 27] = [
     // Ids that differ and have one digest, of 8 bytes and of 100 bytes, 92 of which they share.
-    Worst { name: "digests", questions: &[Verdict, Quote], make: || referring(&digests::colliding(""), [plain; 6]) },
-    Worst { name: "digests-long", questions: &[Verdict, Quote], make: || referring(&digests::colliding(PREFIX), [plain; 6]) },
+    Worst { name: "digests", questions: &[Verdict, Quote], make: || referring(&digests::colliding(""), plain) },
+    Worst { name: "digests-long", questions: &[Verdict, Quote], make: || referring(&digests::colliding(PREFIX), plain) },
     // Ids of which all but one differ in the last two of 100 bytes, and that one in its first, so that the others have one key: plain; spelled
     // with escapes, as all else is; and spelled with escapes where types have them, but plain where zones name these.
-    Worst { name: "keys", questions: &[Verdict, Quote], make: || referring(&one_key(), [plain; 6]) },
-    Worst { name: "keys-escaped", questions: &[Verdict, Quote], make: || referring(&one_key(), [escaped; 6]) },
+    Worst { name: "keys", questions: &[Verdict, Quote], make: || referring(&one_key(), plain) },
+    Worst { name: "keys-escaped", questions: &[Verdict, Quote], make: || referring(&one_key(), escaped) },
     Worst { name: "keys-spelled", questions: &[Verdict], make: || zones(&one_key(), escaped) },
     // Ids of 100 bytes that differ in the last two: plain; spelled with escapes, as all else is; and spelled with escapes where types have
     // them, but plain where zones name these.
-    Worst { name: "prefixes", questions: &[Verdict, Quote, Zone], make: || referring(&alike(), [plain; 6]) },
-    Worst { name: "escapes", questions: &[Verdict, Quote, Zone], make: || referring(&alike(), [escaped; 6]) },
+    Worst { name: "prefixes", questions: &[Verdict, Quote, Zone], make: || referring(&alike(), plain) },
+    Worst { name: "escapes", questions: &[Verdict, Quote, Zone], make: || referring(&alike(), escaped) },
     Worst { name: "spellings", questions: &[Verdict], make: || zones(&alike()[..257], escaped) },
     // The shortest ids, in files that are spelled with escapes throughout: names and words more than anything.
-    Worst { name: "names", questions: &[Verdict, Quote, Zone], make: || referring(&short(), [escaped; 6]) },
+    Worst { name: "names", questions: &[Verdict, Quote, Zone], make: || referring(&short(), escaped) },
     // References from zone rules to types, as many as fit.
     Worst { name: "zones", questions: &[Verdict, Zone], make: || zones(&short(), plain) },
+    // References from stations to regions, as many as fit, by ids of 100 bytes that differ in the last two.
+    Worst { name: "regions", questions: &[Verdict], make: regions },
     // A type, a station and a plan as long as their files can be, named by all others.
     Worst { name: "huge", questions: &[Verdict, Quote], make: huge },
     // A station as long as its file can be, named by all statuses: refused, since only one may name it.
@@ -108,30 +110,31 @@ fn one_key() -> Vec<String> {
     std::iter::once("-".into()).chain(alike().into_iter().skip(1)).collect()
 }
 
-/// A ride by a plan, and a place in the zone of `records::zone`.
-fn asked(files: Set, plan: &str, vehicle_type: &str) -> Made {
+/// A set of files 1 to 6 and the file of the system, without regions; a ride by a plan, and a place in the zone of `records::zone`.
+fn asked(files: [File; 6], plan: &str, vehicle_type: &str) -> Made {
+    let [types, stations, statuses, bikes, plans, zones] = files;
     Made {
-        files,
+        files: [types, stations, statuses, bikes, plans, zones, records::system(), File::ABSENT].map(File::bytes),
         ride: Ride { plan: plan.into(), seconds: 2_678_400, metres: 1_000_000 },
         place: Where { lon: 300_000, lat: 600_000, vehicle_type: vehicle_type.into(), moment: 1 },
     }
 }
 
 /// As many records with these ids as fit, which refer to one another in turns. The last id is nobody's: it is the type that is asked for.
-fn referring(ids: &[String], spelled: [Spelling; 6]) -> Made {
-    let plans = file(5, spelled[4], ids.iter().map(|id| records::plan(id, "")));
-    let types = file(1, spelled[0], ids.iter().enumerate().map(|(n, id)| records::vehicle_type(id, &ids[n % plans.records])));
-    let stations = file(2, spelled[1], ids.iter().map(|id| records::station(id, "")));
+fn referring(ids: &[String], spelled: Spelling) -> Made {
+    let plans = file(5, spelled, ids.iter().map(|id| records::plan(id, "")));
+    let types = file(1, spelled, ids.iter().enumerate().map(|(n, id)| records::vehicle_type(id, &ids[n % plans.records])));
+    let stations = file(2, spelled, ids.iter().map(|id| records::station(id, "")));
     let status = |(n, id): (usize, &String)| records::status(id, &records::item(&ids[n % types.records]), "");
-    let statuses = file(3, spelled[2], ids.iter().take(stations.records).enumerate().map(status));
+    let statuses = file(3, spelled, ids.iter().take(stations.records).enumerate().map(status));
     let bike = |(n, id): (usize, &String)| {
         let [vehicle_type, station, plan] = [&types, &stations, &plans].map(|named| ids[n % named.records].as_str());
         records::bike(id, vehicle_type, station, plan)
     };
-    let bikes = file(4, spelled[3], ids.iter().enumerate().map(bike));
-    let zones = naming(&ids[..types.records], spelled[5]);
+    let bikes = file(4, spelled, ids.iter().enumerate().map(bike));
+    let zones = naming(&ids[..types.records], spelled);
     let plan = ids[plans.records - 1].clone();
-    asked([types, stations, statuses, bikes, plans, zones].map(File::bytes), &plan, &ids[IDS - 1])
+    asked([types, stations, statuses, bikes, plans, zones], &plan, &ids[IDS - 1])
 }
 
 /// Zones with eight rules each, of which each names as many types as it may, in turns.
@@ -151,7 +154,18 @@ fn zones(ids: &[String], spelled: Spelling) -> Made {
     let (nobody, ids) = ids.split_last().expect("one id is nobody's");
     let types = file(1, spelled, ids.iter().map(|id| records::vehicle_type(id, "")));
     let zones = naming(&ids[..types.records], plain);
-    asked([types, File::ABSENT, File::ABSENT, file(4, plain, []), File::ABSENT, zones].map(File::bytes), "", nobody)
+    asked([types, File::ABSENT, File::ABSENT, file(4, plain, []), File::ABSENT, zones], "", nobody)
+}
+
+fn regions() -> Made {
+    let ids = alike();
+    let regions = file(8, plain, ids.iter().map(|id| records::region(id)));
+    let station = |(n, id): (usize, &String)| records::station(id, &format!(r#""region_id":"{}","#, ids[n % regions.records]));
+    let stations = file(2, plain, ids.iter().enumerate().map(station));
+    let absent = || File::ABSENT;
+    let mut made = asked([absent(), stations, file(3, plain, []), absent(), absent(), one_rule()], "", "");
+    made.files[7] = regions.bytes();
+    made
 }
 
 fn huge() -> Made {
@@ -161,13 +175,13 @@ fn huge() -> Made {
     let statuses = file(3, plain, [records::status("s", &records::item("t"), "")]);
     let bikes = file(4, plain, short().iter().map(|id| records::bike(id, "t", "s", "p")));
     let zones = naming(&["t".into()], plain);
-    asked([types, stations, statuses, bikes, plans, zones].map(File::bytes), "p", "t")
+    asked([types, stations, statuses, bikes, plans, zones], "p", "t")
 }
 
 fn statuses() -> Made {
     let stations = stuffed(2, UNLISTED, |more| records::station("s", more));
     let statuses = file(3, plain, (0..ceiling::RECORDS).map(|_| records::status("s", "", "")));
-    asked([File::ABSENT, stations, statuses, File::ABSENT, File::ABSENT, one_rule()].map(File::bytes), "", "")
+    asked([File::ABSENT, stations, statuses, File::ABSENT, File::ABSENT, one_rule()], "", "")
 }
 
 /// A file of zones with a rule for everybody.
@@ -183,7 +197,7 @@ fn single(piece: &str, members: fn(&str) -> String) -> Made {
     let bikes = stuffed(4, piece, |pieces| records::bike_with("b", "t", "s", "p", &members(pieces)));
     let plans = stuffed(5, piece, |pieces| records::plan("p", &members(pieces)));
     let zones = stuffed(6, piece, |pieces| records::zone(&records::rule_with("", &members(pieces))));
-    asked([types, stations, statuses, bikes, plans, zones].map(File::bytes), "p", "t")
+    asked([types, stations, statuses, bikes, plans, zones], "p", "t")
 }
 
 /// An unlisted member that holds an array of items, of which each ends with a comma.
@@ -196,7 +210,7 @@ fn two(piece: &str) -> Made {
     let stations = file(2, plain, [records::station("s", "")]);
     let statuses = stuffed(3, piece, |more| records::status("s", "", more));
     let bikes = stuffed(4, piece, |more| records::bike_with("b", "", "s", "", more));
-    asked([File::ABSENT, stations, statuses, bikes, File::ABSENT, one_rule()].map(File::bytes), "", "")
+    asked([File::ABSENT, stations, statuses, bikes, File::ABSENT, one_rule()], "", "")
 }
 
 fn items() -> Made {
@@ -206,7 +220,7 @@ fn items() -> Made {
     let mut turns = ids[..types.records].iter().cycle();
     let mut items = || turns.by_ref().take(ceiling::ITEMS).map(|id| records::item(id)).collect::<Vec<_>>().join(",");
     let statuses = file(3, plain, ids.iter().take(stations.records).map(|id| records::status(id, &items(), "")));
-    asked([types, stations, statuses, File::ABSENT, File::ABSENT, one_rule()].map(File::bytes), "", "")
+    asked([types, stations, statuses, File::ABSENT, File::ABSENT, one_rule()], "", "")
 }
 
 fn segments() -> Made {
@@ -215,13 +229,13 @@ fn segments() -> Made {
     let ids = alike();
     let plans = file(5, plain, ids.iter().map(|id| records::plan(id, &pricing)));
     let plan = ids[plans.records - 1].clone();
-    asked([File::ABSENT, File::ABSENT, File::ABSENT, file(4, plain, []), plans, one_rule()].map(File::bytes), &plan, "")
+    asked([File::ABSENT, File::ABSENT, File::ABSENT, file(4, plain, []), plans, one_rule()], &plan, "")
 }
 
 fn rules() -> Made {
     let rules = vec![records::rule(""); ceiling::RULES].join(",");
     let zones = file(6, plain, (0..ceiling::RECORDS).map(|_| records::zone(&rules)));
-    asked([File::ABSENT, File::ABSENT, File::ABSENT, file(4, plain, []), File::ABSENT, zones].map(File::bytes), "", "")
+    asked([File::ABSENT, File::ABSENT, File::ABSENT, file(4, plain, []), File::ABSENT, zones], "", "")
 }
 
 /// Zones of so many polygons of one sort. The first zone has a rule.
@@ -229,7 +243,7 @@ fn rings(polygon: &str, polygons: usize) -> Made {
     let area = vec![polygon; polygons].join(",");
     let zones = (0..ceiling::RECORDS).map(|_| records::zone_of(&area, "{}"));
     let zones = file(6, plain, std::iter::once(records::zone(&records::rule(""))).chain(zones));
-    asked([File::ABSENT, File::ABSENT, File::ABSENT, file(4, plain, []), File::ABSENT, zones].map(File::bytes), "", "")
+    asked([File::ABSENT, File::ABSENT, File::ABSENT, file(4, plain, []), File::ABSENT, zones], "", "")
 }
 
 /// Records with no members, more than a file may have.
@@ -238,17 +252,17 @@ fn empty(number: usize) -> File {
 }
 
 fn empty_bikes() -> Made {
-    asked([File::ABSENT, File::ABSENT, File::ABSENT, empty(4), File::ABSENT, one_rule()].map(File::bytes), "", "")
+    asked([File::ABSENT, File::ABSENT, File::ABSENT, empty(4), File::ABSENT, one_rule()], "", "")
 }
 
 fn empty_plans() -> Made {
-    asked([File::ABSENT, File::ABSENT, File::ABSENT, file(4, plain, []), empty(5), one_rule()].map(File::bytes), "", "")
+    asked([File::ABSENT, File::ABSENT, File::ABSENT, file(4, plain, []), empty(5), one_rule()], "", "")
 }
 
 fn empty_rings() -> Made {
     let area = |pieces: &str| format!("[{pieces}[]]");
     let zones = stuffed(6, "[],", |pieces| [records::zone(&records::rule("")), records::zone_of(&area(pieces), "{}")].join(","));
-    asked([File::ABSENT, File::ABSENT, File::ABSENT, file(4, plain, []), File::ABSENT, zones].map(File::bytes), "", "")
+    asked([File::ABSENT, File::ABSENT, File::ABSENT, file(4, plain, []), File::ABSENT, zones], "", "")
 }
 
 /// A polygon along a parabola, of as many positions as a ring may have, with numbers of 18 decimals.

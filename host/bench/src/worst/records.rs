@@ -38,7 +38,7 @@ impl File {
 
 /// A file with as many of the records, from the first one on, as the ceilings let in.
 pub fn file(number: usize, spelled: Spelling, records: impl IntoIterator<Item = String>) -> File {
-    let array = ["vehicle_types", "stations", "stations", "bikes", "plans", "features"][number - 1];
+    let array = ["vehicle_types", "stations", "stations", "bikes", "plans", "features", "", "regions"][number - 1];
     let (outer, closing) = match number {
         6 => (r#""geofencing_zones":{"type":"FeatureCollection","#, "]}}}"),
         _ => ("", "]}}"),
@@ -56,6 +56,12 @@ pub fn file(number: usize, spelled: Spelling, records: impl IntoIterator<Item = 
         count += 1;
     }
     File { bytes: (text + closing).into_bytes(), records: count }
+}
+
+/// The file of the system, which has no records.
+pub fn system() -> File {
+    let data = r#"{"system_id":"s","language":"en","name":"n","timezone":"Etc/UTC"}"#;
+    File { bytes: format!(r#"{{"version":"2.3","last_updated":0,"ttl":0,"data":{data}}}"#).into_bytes(), records: 0 }
 }
 
 /// A file of one record, which is filled up with a piece.
@@ -106,6 +112,10 @@ pub fn bike_with(id: &str, vehicle_type: &str, station: &str, plan: &str, more: 
 
 pub fn plan(id: &str, more: &str) -> String {
     format!(r#"{{{more}"plan_id":"{id}","name":"n","currency":"EUR","price":0,"is_taxable":true,"description":"d"}}"#)
+}
+
+pub fn region(id: &str) -> String {
+    format!(r#"{{"region_id":"{id}","name":"n"}}"#)
 }
 
 /// A rule with one member more; with none it is for everybody. It gives no speed, so that a later one is asked for.

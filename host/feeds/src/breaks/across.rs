@@ -4,7 +4,7 @@ use crate::listed::{records, records_mut};
 use crate::rng::Rng;
 use crate::tree::{Members, Tree};
 use crate::Draft;
-use reference::table::name_of;
+use reference::table::{id_field, name_of};
 use reference::{ceiling, kind, Parts};
 
 /// Breaks some rule that stage C judges, if the set can break the one that is drawn.
@@ -20,11 +20,12 @@ pub fn break_some_rule(draft: &mut Draft, rng: &mut Rng) -> Option<Parts> {
 
 /// Kind 14 of a whole file.
 fn break_presence(draft: &mut Draft, rng: &mut Rng) -> Option<Parts> {
-    let file = rng.between(2, 4) as u8;
+    let file = rng.one_of(&[2, 3, 4, 7]);
     let wanted = match file {
         2 => draft[2].is_some(),
         3 => draft[1].is_some(),
-        _ => draft[1].is_none(),
+        4 => draft[1].is_none(),
+        _ => true,
     };
     let present = draft[usize::from(file) - 1].is_some();
     (wanted && present).then(|| {
@@ -35,13 +36,14 @@ fn break_presence(draft: &mut Draft, rng: &mut Rng) -> Option<Parts> {
 
 /// Kind 12: an earlier record once more at the end.
 fn break_id(draft: &mut Draft, rng: &mut Rng) -> Option<Parts> {
-    let file = rng.between(1, 5) as u8;
+    let file = rng.one_of(&[1, 2, 3, 4, 5, 8]);
+    let field = id_field(file)?;
     let records = records_mut(file, draft[usize::from(file) - 1].as_mut()?)?;
     if records.is_empty() || records.len() == ceiling::RECORDS {
         return None;
     }
     records.push(rng.pick(records).clone());
-    Some(Parts { file, kind: kind::ID_USED, field: file * 10, record: records.len() as u16, ..Parts::default() })
+    Some(Parts { file, kind: kind::ID_USED, field, record: records.len() as u16, ..Parts::default() })
 }
 
 /// The number of some record of a file.
@@ -56,7 +58,7 @@ fn record_mut(draft: &mut Draft, file: u8, number: u16) -> Option<&mut Members> 
 
 /// Kind 13: an id that no record has.
 fn break_reference(draft: &mut Draft, rng: &mut Rng) -> Option<Parts> {
-    let (file, field) = rng.one_of(&[(1, 14), (3, 30), (3, 38), (4, 45), (4, 47), (4, 48), (6, 78)]);
+    let (file, field) = rng.one_of(&[(1, 14), (2, 25), (3, 30), (3, 38), (4, 45), (4, 47), (4, 48), (6, 78)]);
     let nobody = Tree::text(rng.one_of(&["nobody", "T0", "\u{0}"]));
     let record = pick_record(draft, file, rng)?;
     let members = record_mut(draft, file, record)?;

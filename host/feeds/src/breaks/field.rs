@@ -8,11 +8,15 @@ use crate::Draft;
 use reference::table::{top_of, Field, Form, Need};
 use reference::{ceiling, kind, Parts};
 
-/// All rows of a file's table but the top value's. Coordinates come up more often, since they have more rules than the others.
+/// All rows of a file's table but the top value's. Coordinates and dates come up more often, since they have more rules than the others.
 fn rows(file: u8) -> Vec<&'static Field> {
     fn collect(fields: &'static [Field], rows: &mut Vec<&'static Field>) {
         for field in fields {
-            let weight = if matches!(field.form, Form::Coordinates) { 20 } else { 1 };
+            let weight = match field.form {
+                Form::Coordinates => 20,
+                Form::Date => 6,
+                _ => 1,
+            };
             rows.extend(std::iter::repeat_n(field, weight));
             collect(field.form.members(), rows);
         }
@@ -24,7 +28,8 @@ fn rows(file: u8) -> Vec<&'static Field> {
 
 /// Breaks some field in some object that lists it, if the set has one.
 pub fn break_some_field(draft: &mut Draft, rng: &mut Rng) -> Option<Parts> {
-    let file = rng.between(1, 6) as u8;
+    // Zones have the most rules.
+    let file = rng.one_of(&[1, 2, 3, 4, 5, 6, 6, 7, 8]);
     let tree = draft[usize::from(file) - 1].as_mut()?;
     if rng.chance(2) {
         *tree = wrong_type(top_of(file).form, rng);
@@ -127,7 +132,8 @@ pub fn wrong_type(form: Form, rng: &mut Rng) -> Tree {
             wrong.extend_from_slice(values);
         }
     };
-    let is_text = matches!(form, Form::Id | Form::Text | Form::Exact(_) | Form::Word(_) | Form::Currency | Form::Price);
+    let is_text =
+        matches!(form, Form::Id | Form::Text | Form::Exact(_) | Form::Word(_) | Form::Currency | Form::Date | Form::Price);
     let is_number = matches!(form, Form::Integer | Form::Number(..) | Form::Money | Form::Price);
     allow(&[Tree::text("x"), Tree::text("2.3"), Tree::text("0")], is_text);
     allow(&[Tree::number("0"), Tree::number("2.3"), Tree::number("1e999")], is_number);
@@ -159,6 +165,7 @@ pub fn wrong_values(form: Form) -> Option<Vec<(Tree, u8)>> {
         }
         Form::Word(words) => wrong.extend([text("tricycle"), text(&format!(" {}", words[0])), text(&words[0][1..])]),
         Form::Currency => wrong.extend([text("EURO"), text("eur"), text("EU"), text("EÉ"), text("E R")]),
+        Form::Date => wrong.extend(WRONG_DATES.map(text)),
         Form::Integer => {
             wrong.extend(forms());
             wrong.extend([number("-1", kind::RANGE), number("-999999999999", kind::RANGE)]);
@@ -196,6 +203,47 @@ pub fn wrong_values(form: Form) -> Option<Vec<(Tree, u8)>> {
     }
     Some(wrong)
 }
+
+/// Strings that are no dates: days that the calendar does not have, at the ends of its months and in years that only look leap, and other
+/// spellings of days that it has.
+const WRONG_DATES: [&str; 36] = [
+    "0001-02-29",
+    "0100-02-29",
+    "1900-02-29",
+    "2023-02-29",
+    "2100-02-29",
+    "9999-02-29",
+    "0000-02-30",
+    "2000-02-30",
+    "2024-02-30",
+    "2024-01-32",
+    "2024-04-31",
+    "2024-06-31",
+    "2024-09-31",
+    "2024-11-31",
+    "2024-12-32",
+    "2024-00-10",
+    "2024-13-10",
+    "2024-20-10",
+    "2024-05-00",
+    "0000-00-00",
+    "2024-05-99",
+    "2024-05-1",
+    "2024-5-10",
+    "24-05-10",
+    "2024-05-100",
+    "02024-05-10",
+    "2024-05-10 ",
+    " 2024-05-10",
+    "2024-05-10\u{0}",
+    "2024/05/10",
+    "2024-05/10",
+    "20240510",
+    "2024-05-1o",
+    "+024-05-10",
+    "２024-05-10",
+    "10-05-2024",
+];
 
 /// A value that is no object and no array.
 pub fn no_object(rng: &mut Rng) -> Tree {

@@ -1,14 +1,14 @@
 //! What `check` takes, and what it says of the files.
 
-use crate::feeds::{bikes, fed, feed, rename, run, sample, text, told, BIKE, SAMPLE};
+use crate::feeds::{bikes, fed, feed, rename, run, sample, text, told, BIKE, FILES, SAMPLE, SYSTEM};
 use std::fs;
 use std::path::Path;
 
 const ACCEPTED: &str = "accepted, word 1000000000000000";
 
-/// The state of each of the six files as the report gives it.
+/// The state of each of the files as the report gives it.
 fn states(report: &str) -> Vec<&str> {
-    let lines = report.lines().skip_while(|line| *line != "files:").skip(1).take(6);
+    let lines = report.lines().skip_while(|line| *line != "files:").skip(1).take(FILES);
     lines.map(|line| line.split_once(".json").expect("a file is named").1.trim_start()).collect()
 }
 
@@ -16,22 +16,53 @@ fn states(report: &str) -> Vec<&str> {
 fn what_was_read() {
     let (status, report) = told(&["check", SAMPLE]);
     assert_eq!((status, report.lines().next()), (0, Some(ACCEPTED)));
-    let sizes = [1072, 927, 1122, 997, 1436, 1132].map(|size| format!("{size} bytes, clean"));
+    let sizes = [1072, 927, 1122, 997, 1436, 1132, 377, 216].map(|size| format!("{size} bytes, clean"));
     assert_eq!(states(&report), sizes);
-    assert_eq!(report.lines().count(), 8);
+    assert_eq!(report.lines().count(), 2 + FILES);
 
     let (status, report) = told(&["check", &feed("check-nothing", &[])]);
-    assert_eq!((status, states(&report)), (1, vec!["absent"; 6]));
+    assert_eq!((status, states(&report)), (1, vec!["absent"; FILES]));
     assert!(
         report.contains("free_bike_status.json: absent, but required since station_information.json is absent too\n"),
         "{report}"
     );
 
-    let empty = feed("check-empty", &[("free_bike_status.json", &bikes(BIKE)), ("geofencing_zones.json", b"")]);
+    let empty = feed("check-empty", &[("free_bike_status.json", &bikes(BIKE)), ("geofencing_zones.json", b""), SYSTEM]);
     let (status, report) = told(&["check", &empty]);
     assert_eq!((status, states(&report)[5]), (0, "empty, counts as absent"));
     assert!(report
         .starts_with(&format!("{ACCEPTED}, with a warning\nwarning: geofencing_zones.json is empty, and counts as absent\n")));
+}
+
+/// Every set says what system it is of, and the report says what to do where it does not.
+#[test]
+fn a_set_without_its_system() {
+    let folder = feed("check-system", &[("free_bike_status.json", &bikes(BIKE)), ("system_info.json", SYSTEM.1)]);
+    let (status, report) = told(&["check", &folder]);
+    let fault = "absent, but required in every set: deliver it, with system_id, language, name and timezone";
+    let warning = "warning: system_info.json looks like system_information.json, and was not read";
+    let lines =
+        format!("not accepted, word 17e0000000000000, with a warning\nsystem_information.json: {fault}\n{warning}\nfiles:\n");
+    assert!(status == 1 && report.starts_with(&lines), "{report}");
+    assert_eq!(states(&report)[6..], ["absent", "absent"]);
+    rename(&folder, "system_info.json", SYSTEM.0);
+    assert_eq!(told(&["check", &folder]).0, 0);
+}
+
+/// A station's region, and the day that a system started.
+#[test]
+fn faults_of_the_system_and_its_regions() {
+    let folder = sample("check-regions", &[]);
+    rename(&folder, "system_regions.json", "areas.json");
+    let (status, report) = told(&["check", &folder]);
+    let fault = "station_information.json, record 1 (id \"101\"), region_id, line 13, column 22: \
+        must be the id of a record of system_regions.json, which is absent; found \"north\"";
+    assert_eq!((status, report.lines().nth(1)), (1, Some(fault)));
+    let system = String::from_utf8_lossy(SYSTEM.1).replace("}}", r#","start_date":"2023-02-29"}}"#);
+    let (status, report) = fed(&["check", "--as", "system_information", "-"], system.as_bytes());
+    let fault = "system_information.json, data.start_date, line 1, column 128: \
+        must be a day that the calendar has, written YYYY-MM-DD; found \"2023-02-29\"";
+    assert_eq!((status, report.lines().nth(1)), (1, Some(fault)));
 }
 
 /// A file under another name, or in another place, is told, not taken for absent without a word.
@@ -170,17 +201,26 @@ fn standard_input() {
 
 #[test]
 fn a_set_of_named_files() {
-    let folder = feed("check-named", &[("today.json", &bikes(BIKE))]);
-    let (status, report) = told(&["check", &format!("free_bike_status={folder}/today.json")]);
+    let folder = feed("check-named", &[("today.json", &bikes(BIKE)), SYSTEM]);
+    let system = format!("system_information={folder}/{}", SYSTEM.0);
+    let (status, report) = told(&["check", &format!("free_bike_status={folder}/today.json"), &system]);
     assert_eq!((status, report.lines().next(), states(&report)[0]), (0, Some(ACCEPTED), "absent"));
-    let names = ["vehicle_types", "station_information", "station_status", "free_bike_status.json", "system_pricing_plans"];
+    let names = [
+        "vehicle_types",
+        "station_information",
+        "station_status",
+        "free_bike_status.json",
+        "system_pricing_plans",
+        "system_information",
+        "system_regions",
+    ];
     let words = names.map(|name| format!("{name}={SAMPLE}/{}.json", name.trim_end_matches(".json")));
     let (status, report) = told(&[&["check".to_string()], &words[..]].concat());
     assert_eq!((status, states(&report)[5]), (0, "absent"));
     let (status, report) = told(&["check", &words[3]]);
     let reference = "must be the id of a record of vehicle_types.json, which is absent; found \"e_bike\"";
     assert!(status == 1 && report.contains(reference), "{report}");
-    assert_eq!(fed(&["check", "free_bike_status=-"], &bikes(BIKE)).0, 0);
+    assert_eq!(fed(&["check", "free_bike_status=-", &system], &bikes(BIKE)).0, 0);
     let (status, report) = told(&["check", &format!("free_bike_status={SAMPLE}/vehicle_types.json")]);
     assert!(status == 1 && report.lines().next().is_some_and(|line| line.ends_with(", with a warning")), "{report}");
     let warning =

@@ -108,5 +108,14 @@ pub fn bikes(records: &str) -> Vec<u8> {
     format!(r#"{{"version":"2.3","last_updated":0,"ttl":0,"data":{{"bikes":[{records}]}}}}"#).into_bytes()
 }
 
+/// A file that every set needs, by its name, with what it has to say and no more.
+pub const SYSTEM: (&str, &[u8]) = (
+    "system_information.json",
+    br#"{"version":"2.3","last_updated":0,"ttl":0,"data":{"system_id":"s","language":"en","name":"n","timezone":"Etc/UTC"}}"#,
+);
+
+/// How many files a set has.
+pub const FILES: usize = 8;
+
 /// A bike that keeps every rule.
 pub const BIKE: &str = r#"{"bike_id":"a","lat":1,"lon":2,"is_reserved":false,"is_disabled":false}"#;

@@ -1,6 +1,6 @@
 //! Files that are none, numbers of any length, and names of any bytes: each run ends, with the answer that the table has for it.
 
-use crate::feeds::{bikes, blamed, feed, root, run, sample, text, told, BIKE, SAMPLE};
+use crate::feeds::{bikes, blamed, feed, root, run, sample, text, told, BIKE, SAMPLE, SYSTEM};
 use std::ffi::{OsStr, OsString};
 use std::fs;
 use std::os::unix::ffi::OsStrExt;
@@ -102,6 +102,8 @@ files:
   free_bike_status.json      4 bytes, not clean: line 1, column 4: not valid JSON: unexpected \"]\"
   system_pricing_plans.json  absent
   geofencing_zones.json      empty, counts as absent
+  system_information.json    absent
+  system_regions.json        absent
 not read: gbfs.json, vehicle-types.json
 ";
     let errors = ["vehicle_types", "station_status"]
@@ -123,7 +125,7 @@ fn a_named_file_that_cannot_be_read() {
     assert_eq!(output.status.code(), Some(2));
     assert_eq!(text(output.stderr), format!("skaveldro: cannot read {folder}: not a regular file, but a folder\n"));
     assert!(report.starts_with("no verdict, since vehicle_types.json cannot be read\nfiles:\n"), "{report}");
-    assert!(report.ends_with("\n  geofencing_zones.json      1132 bytes, clean\n"), "{report}");
+    assert!(report.contains("\n  geofencing_zones.json      1132 bytes, clean\n"), "{report}");
 }
 
 #[test]
@@ -161,6 +163,7 @@ fn numbers_of_any_length() {
     answered(&["show", SAMPLE, HUGE, "1"], 10);
     answered(&["show", SAMPLE, "0", "1"], 10);
     answered(&["show", SAMPLE, "7", "1"], 10);
+    answered(&["show", SAMPLE, "9", "1"], 10);
     answered(&["zone", SAMPLE, HUGE, "0", "", "0"], 8);
     answered(&["zone", SAMPLE, "0", &minus, "", "0"], 8);
     // the zones of the sample that have no end still count then
@@ -175,6 +178,7 @@ fn names_of_any_bytes() {
     let _ = fs::remove_dir_all(&folder);
     fs::create_dir_all(&folder).expect("there is room for a test");
     fs::write(folder.join("free_bike_status.json"), bikes(BIKE)).expect("there is room for a test");
+    fs::write(folder.join(SYSTEM.0), SYSTEM.1).expect("there is room for a test");
     fs::write(folder.join(OsStr::from_bytes(b"free_bike_status\xFF\n.json")), b"").expect("there is room for a test");
     let (status, text_of) = told(&["check".as_ref(), folder.as_os_str()]);
     assert!(status == 0 && text_of.ends_with("not read: \"free_bike_status\\xFF\\n.json\"\n"), "{text_of}");

@@ -93,6 +93,9 @@ fn questions_without_an_answer() {
     asked(&["zone", SAMPLE, "0", "180.000001", "scooter", "0"], "coordinates out of range");
     asked(&["zone", SAMPLE, "47.37", "8.543", "city_bike", "1704067199"], "no rule applies");
     asked(&["show", SAMPLE, "1", "4"], "vehicle_types.json has no such record");
+    asked(&["show", SAMPLE, "system_regions", "3"], "system_regions.json has no such record");
+    asked(&["show", SAMPLE, "7", "1"], "system_information.json has no records: it is about the system as a whole");
+    asked(&["show", SAMPLE, "9", "1"], "there is no such file: the files are numbered 1 to 8");
     asked(&["zone", SAMPLE, "47.37", "-8.543", "city_bike", "1704067200", "--json"], "{\"answer\":9,");
 }
 

@@ -1,6 +1,6 @@
 //! Every kind of line that `--json` writes is held against the schema, by a validator of the keywords that it uses.
 
-use crate::feeds::{bikes, fed, feed, rename, run, sample, text, BIKE, SAMPLE};
+use crate::feeds::{bikes, fed, feed, rename, run, sample, text, BIKE, SAMPLE, SYSTEM};
 use crate::json::{read, Json};
 use std::fs;
 use std::path::Path;
@@ -133,7 +133,8 @@ fn every_kind_of_line() {
     let (status, line) = fed(&["check", "-", "--as=free_bike_status", "--json"], &bikes(BIKE));
     assert_eq!(kind(&held(status, &line)[0]), (0, "file"));
     assert_eq!(kinds(&[&format!("geofencing_zones={zones}")]), r#"(1, "files")"#);
-    let (status, line) = fed(&["check", "free_bike_status=-", "--json"], &bikes(BIKE));
+    let system = format!("{}={}/{0}.json", "system_information", feed("schema-system", &[SYSTEM]));
+    let (status, line) = fed(&["check", "free_bike_status=-", &system, "--json"], &bikes(BIKE));
     assert_eq!(kind(&held(status, &line)[0]), (0, "files"));
 
     assert_eq!(kinds(&[]), r#"(2, "error")"#);

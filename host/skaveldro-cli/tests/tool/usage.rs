@@ -37,7 +37,7 @@ fn bad_use_of_check() {
     said(&["check", "vehicle_types=Cargo.toml", "vehicle_types=-"], "there is no file or folder Cargo.toml");
     said(&["check", "vehicle_types=README.md", "vehicle_types.json=-"], "vehicle_types.json is named twice");
     said(&["check", "vehicle_type=README.md"], "ROLE must be one of vehicle_types, ");
-    said(&["check", "README.md"], "README.md is not one of the six standard names: say which file it is with --as ROLE");
+    said(&["check", "README.md"], "README.md is not one of the standard names: say which file it is with --as ROLE");
 }
 
 #[test]

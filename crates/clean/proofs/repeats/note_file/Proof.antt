@@ -5,7 +5,6 @@ use mathlib.Core.Path.{_≡_, sym, ap, subst, _∙_}
 use Prim.Native.Nat.{ℕ}
 use Rattle.ids.specs.inner.Ids.{idField}
 use Rattle.ids.specs.inner.Notes.{Indexed}
-use Rattle.ids.proofs.Picked.{has-id}
 use Rattle.clean.specs.inner.Blamed.{blamed}
 use Rattle.clean.proofs.Repeated.{Repeats, repeats-are, records-same}
 use Rattle.clean.proofs.repeats.note_file.Statement.{statement}
@@ -16,7 +15,7 @@ indexed-as {file} {notes = notes} e = subst (λ (l : List ℕ). Indexed file l n
 
 -- by the records that were found
 by-records : (c : tie.After-records-from) → let a = c .before .before .args in Repeats (a .file) (a .s .now) (c .records-from .result .now)
-by-records c = let x = c .before .before .pre in let i = has-id _ (x .0) in repeats-are _ _ (x .1) (x .2) (i .0) (i .1) (c .records-from .ensures)
+by-records c = let x = c .before .before .pre in repeats-are _ _ (x .1) (x .2) (x .0) (c .records-from .ensures)
 
 note-requires : tie.Need-note-requires
 note-requires c κs =
@@ -24,9 +23,9 @@ note-requires c κs =
 
 returns : tie.Need-returns
 returns c =
-    let r = c .before .before in let s = r .before .before in let x = s .pre in let file = s .args .file in let i = has-id _ (x .0) in (
+    let r = c .before .before in let s = r .before .before in let x = s .pre in let file = s .args .file in (
       by-records r .names ∙ ap (blamed (idField file)) (sym (c .note .ensures .0)),
-      λ h j p f. indexed-as (records-same _ _ (x .1) (x .2) (i .0) (i .1) (r .records-from .ensures) f) (c .note .ensures .1),
+      λ h j p f. indexed-as (records-same _ _ (x .1) (x .2) (x .0) (r .records-from .ensures) f) (c .note .ensures .1),
     )
 
 pub note-file-spec : {M : Type 1} → statement M

@@ -21,17 +21,17 @@ use Rattle.cross.proofs.bikes.judge_bike.Tie as tie
 judge-vehicle-requires : tie.Need-judge-vehicle-requires
 judge-vehicle-requires c κs =
     let f = c .before in
-    searchable-by (f .file-in .ensures) (c .notes-in .ensures) (f .before .before .before .before .before .before .before .before .pre .1 .types (λ e. omega arith))
+    searchable-by (f .file-in .ensures) (c .notes-in .ensures) (f .before .before .before .before .before .before .before .before .pre .1 .types (omega arith))
 
 refers-requires : tie.Need-refers-requires
 refers-requires c κs =
     let f = c .before in let s = f .before .before .before .before .before .before .before .before .before .before .before in
-    searchable-by (f .file-in2 .ensures) (c .notes-in2 .ensures) (s .pre .1 .stations)
+    searchable-by (f .file-in2 .ensures) (c .notes-in2 .ensures) (s .pre .1 .stations (omega arith))
 
 refers-requires-2 : tie.Need-refers-requires-2
 refers-requires-2 c κs =
     let f = c .before in let s = f .before .before .before .before .before .before .before .before .before .before .before .before .before .before .before .before in
-    searchable-by (f .file-in3 .ensures) (c .notes-in3 .ensures) (s .pre .1 .plans)
+    searchable-by (f .file-in3 .ensures) (c .notes-in3 .ensures) (s .pre .1 .plans (λ e. omega arith))
 
 returns : tie.Need-returns
 unfolding identified idField

@@ -18,7 +18,13 @@ returns-2 c = rw (c .before .match .keys2) (c .gather2 .ensures)
 
 returns-3 : tie.Need-returns-3
 unfolding recordFirst recordCount identified laidOut written23
-returns-3 c = let m = c .before in let r = m .match .rest in rw (last-referring (m .before .before .pre) (r .0 .1) (r .1)) (c .gather3 .ensures)
+returns-3 c = rw (c .before .match .keys3) (c .gather3 .ensures)
+
+returns-4 : tie.Need-returns-4
+unfolding recordFirst recordCount identified laidOut written23
+returns-4 c = let m = c .before in let r = m .match .rest in rw (last-referring (m .before .before .pre) (r .0 .0 .1) (r .0 .1) (r .1)) (c .gather4 .ensures)
 
 pub gather-record-spec : {M : Type 1} → statement M
-gather-record-spec = tie.close (tie.spec (λ c κs. search needs) (λ c κs. search needs) (λ c κs. search needs) returns returns-2 returns-3)
+gather-record-spec =
+    tie.close
+    (tie.spec (λ c κs. search needs) (λ c κs. search needs) (λ c κs. search needs) (λ c κs. search needs) returns returns-2 returns-3 returns-4)

@@ -1,4 +1,4 @@
--- `judge_record` goes by the file's number: past files 1 and 3 it is file 4.
+-- `judge_record` goes by the file's number: past files 1 to 3 it is file 4.
 use mathlib.Core.List.{map}
 use mathlib.Core.Path.{_≡_, subst}
 use Prim.Native.Nat.{ℕ}
@@ -19,11 +19,14 @@ known s e = let a = s .args in subst (λ (f : ℕ). Known f (map (λ p. p .now) 
 judge-type-requires : tie.Need-judge-type-requires
 judge-type-requires c κs = let s = c .before .before in let e = c .match .keys1 in (slotted s e, known s e)
 
+judge-station-requires : tie.Need-judge-station-requires
+judge-station-requires c κs = let s = c .before .before in let e = c .match .keys2 in (slotted s e, known s e)
+
 judge-status-requires : tie.Need-judge-status-requires
-judge-status-requires c κs = let s = c .before .before in let e = c .match .keys2 in (slotted s e, known s e, s .pre .3, s .pre .4)
+judge-status-requires c κs = let s = c .before .before in let e = c .match .keys3 in (slotted s e, known s e, s .pre .3, s .pre .4)
 
 is-bikes : (c : tie.At-match-rest) → c .before .before .args .file ≡ 4
-is-bikes c = let r = c .match .rest in last-referring (c .before .before .pre .0) (r .0 .1) (r .1)
+is-bikes c = let r = c .match .rest in last-referring (c .before .before .pre .0) (r .0 .0 .1) (r .0 .1) (r .1)
 
 judge-bike-requires : tie.Need-judge-bike-requires
 judge-bike-requires c κs = let s = c .before .before in let e = is-bikes c in (slotted s e, known s e)
@@ -34,11 +37,15 @@ returns c = rw (c .before .match .keys1) (c .judge-type .ensures)
 
 returns-2 : tie.Need-returns-2
 unfolding faultsOf
-returns-2 c = rw (c .before .match .keys2) (c .judge-status .ensures)
+returns-2 c = rw (c .before .match .keys2) (c .judge-station .ensures)
 
 returns-3 : tie.Need-returns-3
 unfolding faultsOf
-returns-3 c = rw (is-bikes (c .before)) (c .judge-bike .ensures)
+returns-3 c = rw (c .before .match .keys3) (c .judge-status .ensures)
+
+returns-4 : tie.Need-returns-4
+unfolding faultsOf
+returns-4 c = rw (is-bikes (c .before)) (c .judge-bike .ensures)
 
 pub judge-record-spec : {M : Type 1} → statement M
-judge-record-spec = tie.close (tie.spec judge-type-requires judge-status-requires judge-bike-requires returns returns-2 returns-3)
+judge-record-spec = tie.close (tie.spec judge-type-requires judge-station-requires judge-status-requires judge-bike-requires returns returns-2 returns-3 returns-4)

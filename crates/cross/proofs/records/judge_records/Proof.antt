@@ -21,6 +21,7 @@ use Rattle.ids.specs.inner.Notes.{Next}
 use Rattle.ids.proofs.Passing.{Noting, noting-start, noting-end, noting-next, noting-more}
 use Rattle.cross.specs.Cross.{faultsOf}
 use Rattle.cross.specs.inner.Judged.{filesBy}
+use Rattle.cross.proofs.Numbers.{referring-ids}
 use Rattle.cross.proofs.Staging.{repeat-is}
 use Rattle.cross.proofs.Walked.{Judging, judging-start, judging-end, judging-more}
 use Rattle.cross.proofs.records.judge_records.Statement.{statement}
@@ -34,7 +35,7 @@ abbrev μ-loop : tie.MeasureT-loop
 μ-loop file p noted₀ rs notes least₀ n₀ at₀ noted least n at = length p - at
 
 loop-holds : tie.Need-loop-holds Inv-loop μ-loop
-loop-holds c = let x = c .before .pre in (noting-start (x .3) (x .1 .along), judging-start _ _ _ (x .1 .along))
+loop-holds c = let x = c .before .pre .1 in let a = x .recorded .along in (noting-start (x .room) a, judging-start _ _ _ a)
 
 order-notes-requires : tie.Need-order-notes-requires Inv-loop μ-loop
 order-notes-requires c κs = let w = c .before .before .before .before .loop .inv .0 .noted in (w .few, w .long)
@@ -42,12 +43,12 @@ order-notes-requires c κs = let w = c .before .before .before .before .loop .in
 returns : tie.Need-returns Inv-loop μ-loop
 returns c =
     let d = c .before .before in let t = d .before .before in let l = t .before in let s = l .before .before in let a = s .args in
-    let e = c .order-notes .ensures (a .file) (l .loop .inv .0 .noted) (noting-end (l .loop .inv .0) (t .pass-item .ensures) (d .enum-told .given .1)) in let most = s .pre .0 .most in (
+    let e = c .order-notes .ensures (a .file) (l .loop .inv .0 .noted) (noting-end (l .loop .inv .0) (t .pass-item .ensures) (d .enum-told .given .1)) in let ids = referring-ids (s .pre .0) in (
       record {
-        repeats = e .0 ∙ repeat-is (a .file) (omega arith) (a .p .now);
+        repeats = e .0 ∙ repeat-is (a .file) ids (a .p .now);
         breaks = judging-end (l .loop .inv .1) (t .pass-item .ensures) (d .enum-told .given .1);
       },
-      record { least = s .pre .0 .least; most = omega arith; noted = e .1 },
+      record { ids = ids; noted = e .1 },
     )
 
 -- where a record was found
@@ -62,8 +63,8 @@ placed c = c .before .before .pass-item .ensures .placed _ (c .item .given .1)
 
 next : (c : Met) → let a = start c .args in Next (a .file) (a .p .now) (c .before .before .before .loop .n) (c .item .given .0 .0)
 next c =
-    let t = c .before .before in let x = start c .pre in
-    noting-next (t .before .loop .inv .0) (t .pass-item .ensures) _ (c .item .given .1) (x .1 .few) (x .1 .short) (x .2)
+    let t = c .before .before in let x = start c .pre .1 in let r = x .recorded in
+    noting-next (t .before .loop .inv .0) (t .pass-item .ensures) _ (c .item .given .1) (r .few) (r .short) (x .single)
 
 -- an object
 object : (c : Met) → (ms : Members) × (partTree (itemOf (start c .args .p .now) (c .item .given .0 .0)) ≡ tree.object ms)
@@ -73,12 +74,12 @@ whole : (c : Met) → Whole (itemOf (start c .args .p .now) (c .item .given .0 .
 whole c = subst (Whole (itemOf (start c .args .p .now) (c .item .given .0 .0))) (object c .1) (next c .whole)
 
 short : (c : Met) → length (itemOf (start c .args .p .now) (c .item .given .0 .0)) ≤ fileBytes
-short c = let s = start c in let m = c .item .given .0 .0 in omega (arith, s .pre .1 .short, part-short (s .args .p .now) (m .value) (m .«value_end»))
+short c = let s = start c in let m = c .item .given .0 .0 in omega (arith, s .pre .1 .recorded .short, part-short (s .args .p .now) (m .value) (m .«value_end»))
 
 judge-record-requires : tie.Need-judge-record-requires Inv-loop μ-loop
 judge-record-requires c κs =
     let g = c .before .before .before .before .before .before in let d = g .before .before .before in let s = start d in
-    (s .pre .0, g .gather-record .ensures, s .pre .4, short d, (object d .0, whole d))
+    (s .pre .0, g .gather-record .ensures, s .pre .2, short d, (object d .0, whole d))
 
 abbrev met : tie.After-lesser Inv-loop μ-loop → Met
 met c = c .before .before .before .before .before .before .before .before .before .before .before

@@ -1,4 +1,4 @@
--- `is_called_for` asks of each file that another calls for.
+-- `is_missing` asks of each file that is called for.
 use borrow.Author.Needs.{needs}
 use mathlib.Core.Bool.{Bool, not}
 use mathlib.Core.Path.{_≡_, ap, ap₂, _∙_}
@@ -29,10 +29,14 @@ returns-3 c =
     rw (h .before .match .keys3) (asked (c .is-lacking3 .ensures) (ap not (h .is-here5 .ensures)) (h₂ .is-here6 .ensures))
 
 returns-4 : tie.Need-returns-4
-returns-4 c = let r = c .match .rest in called-else _ _ (r .0 .0 .1) (r .0 .1) (r .1)
+unfolding missingFile
+returns-4 c = rw (c .before .match .keys4) (ap not (c .is-here7 .ensures))
+
+returns-5 : tie.Need-returns-5
+returns-5 c = let r = c .match .rest in called-else _ _ (r .0 .0 .0 .1) (r .0 .0 .1) (r .0 .1) (r .1)
 
 pub is-missing-spec : {M : Type 1} → statement M
 is-missing-spec =
     tie.close
     (tie.spec (λ c κs. search needs) (λ c κs. search needs) (λ c κs. search needs) (λ c κs. search needs) (λ c κs. search needs) (λ c κs. search needs)
-    (λ c κs. search needs) (λ c κs. search needs) (λ c κs. search needs) returns returns-2 returns-3 returns-4)
+    (λ c κs. search needs) (λ c κs. search needs) (λ c κs. search needs) (λ c κs. search needs) returns returns-2 returns-3 returns-4 returns-5)

@@ -4,7 +4,7 @@ use mathlib.Core.List.{List}
 use mathlib.Core.Path.{refl, sym, ap₂, subst, _∙_}
 use Prim.Native.Nat.{ℕ}
 use native.Mathlib.Omega.{arith}
-use Rattle.schema.specs.Records.{recordShape}
+use Rattle.schema.specs.Records.{recordShape, identified}
 use Rattle.fault.specs.Fault.{least}
 use Rattle.document.specs.inner.Items.{pickedItems}
 use Rattle.cross.specs.Cross.{zoneFaults, eachRecord, faultsOf}
@@ -16,10 +16,10 @@ use Rattle.cross.proofs.stage.judge_last.Tie as tie
 judge-zones-requires : tie.Need-judge-zones-requires
 judge-zones-requires c κs =
     let t = c .before in let z = t .before in let x = z .before .pre in
-    (searchable-by (t .file-in2 .ensures) (c .notes-in .ensures) (x .1 .types (λ e. omega arith)), subst Recorded (sym (z .file-in .ensures)) (x .0))
+    (searchable-by (t .file-in2 .ensures) (c .notes-in .ensures) (x .1 .types (omega arith)), subst Recorded (sym (z .file-in .ensures)) (x .0))
 
 returns : tie.Need-returns
-unfolding repeatOf faultsOf
+unfolding repeatOf faultsOf identified
 returns c =
     let t = c .before .before in
     record {

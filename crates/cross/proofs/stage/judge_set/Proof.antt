@@ -1,9 +1,13 @@
 -- `judge_set` finds the records of each file; the first file that breaks a rule is stage C's, and its rule fits the word.
 use borrow.Author.Needs.{needs}
+use mathlib.Core.Bool.{true}
 use mathlib.Core.List.{List, [], _∷_, map}
-use mathlib.Core.Path.{_∙_}
+use mathlib.Core.Path.{_≡_, refl, _∙_}
 use Prim.Native.Nat.{ℕ}
 use native.Mathlib.Omega.{arith}
+use Rattle.notation.proofs.Booleans.{true-false}
+use Rattle.schema.specs.Records.{hasRecords, located}
+use Rattle.schema.proofs.Recorded.{ids-recorded}
 use Rattle.document.specs.inner.Spans.{RecordsFrom}
 use Rattle.cross.specs.Stage.{bytesOf}
 use Rattle.cross.proofs.Numbers.{Each, by-number}
@@ -14,33 +18,54 @@ use Rattle.cross.proofs.stage.judge_set.Tie as tie
 
 -- where the records of all files were found
 abbrev Read : Type 0
-Read = tie.After-records-in6
+Read = tie.After-records-in7
 
 abbrev start : Read → tie.Start
-start c = c .before .before .before .before .before .before
+start c = c .before .before .before .before .before .before .before .before
 
 abbrev files : Read → List (List ℕ)
 files c = map (λ p. p .now) (start c .args .files)
 
 abbrev rests : Read → List (List ℕ)
 rests c =
-    let p₅ = c .before in let p₄ = p₅ .before in let p₃ = p₄ .before in let p₂ = p₃ .before in let p₁ = p₂ .before in
+    let p₇ = c .before in let p₆ = p₇ .before in let p₅ = p₆ .before in let p₄ = p₅ .before in let p₃ = p₄ .before in let p₂ = p₃ .before in let p₁ = p₂ .before in
     p₁ .records-in .result .now ∷ p₂ .records-in2 .result .now ∷ p₃ .records-in3 .result .now ∷ p₄ .records-in4 .result .now ∷ p₅ .records-in5 .result .now ∷
-    c .records-in6 .result .now ∷ []
+    p₆ .records-in6 .result .now ∷ p₇ .file-in .result .now ∷ c .records-in7 .result .now ∷ []
+
+-- the rest of each file that has records
+from : (c : Read) → Each (λ n. hasRecords n ≡ true → RecordsFrom n (bytesOf (files c) n) (bytesOf (rests c) n)) 1 8
+unfolding Each located
+from c =
+    let p₇ = c .before in let p₆ = p₇ .before in let p₅ = p₆ .before in let p₄ = p₅ .before in let p₃ = p₄ .before in let p₂ = p₃ .before in let p₁ = p₂ .before in (
+      λ k. p₁ .records-in .ensures,
+      (
+        λ k. p₂ .records-in2 .ensures,
+        (
+          λ k. p₃ .records-in3 .ensures,
+          (
+            λ k. p₄ .records-in4 .ensures,
+            (
+              λ k. p₅ .records-in5 .ensures,
+              (λ k. p₆ .records-in6 .ensures, (λ k. true-false k refl, (λ k. c .records-in7 .ensures, tt))),
+            ),
+          ),
+        ),
+      ),
+    )
 
 held : (c : Read) → AllInBytes (files c) (rests c)
-unfolding Each
-held c file h i =
-    let p₅ = c .before in let p₄ = p₅ .before in let p₃ = p₄ .before in let p₂ = p₃ .before in let p₁ = p₂ .before in
-    file-bytes file h i _ (start c .pre file h i)
-    (by-number (λ n. RecordsFrom n (bytesOf (files c) n) (bytesOf (rests c) n))
-    (p₁ .records-in .ensures, (p₂ .records-in2 .ensures, (p₃ .records-in3 .ensures, (p₄ .records-in4 .ensures, (p₅ .records-in5 .ensures, (c .records-in6 .ensures, tt)))))) file h i)
+held c =
+    record {
+      recorded = λ file h i k.
+          file-bytes file k _ (start c .pre file h i) (by-number (λ n. hasRecords n ≡ true → RecordsFrom n (bytesOf (files c) n) (bytesOf (rests c) n)) (from c) file h i k);
+      bare = c .before .file-in .ensures;
+    }
 
 judge-parts-requires : tie.Need-judge-parts-requires
 judge-parts-requires c κs =
     let all = held c in (
-      λ file h i. all file h i .recorded,
-      λ file h i. all file h (omega arith) .singles i,
+      λ file h i k. all .recorded file h i k .recorded,
+      λ file h i k. all .recorded file h i (ids-recorded file k) .singles k,
       all-narrow (files c) (rests c) all,
     )
 
@@ -51,4 +76,4 @@ pub judge-set-spec : {M : Type 1} → statement M
 judge-set-spec =
     tie.close
     (tie.spec (λ c κs. search needs) (λ c κs. search needs) (λ c κs. search needs) (λ c κs. search needs) (λ c κs. search needs) (λ c κs. search needs)
-    judge-parts-requires returns)
+    (λ c κs. search needs) (λ c κs. search needs) judge-parts-requires returns)

@@ -14,7 +14,7 @@ file-in-requires c κs = let h = c .pre .0 in let a = h .least in let b = h .mos
 judge-records-requires : tie.Need-judge-records-requires
 judge-records-requires c κs =
     let f = c .before in let s = f .before in let x = s .pre in let e = sym (f .file-in .ensures) in
-    (x .0, subst Recorded e (x .1), subst (AllIdsOnce (s .args .file)) e (x .2), fresh, x .3)
+    (x .0, record { recorded = subst Recorded e (x .1); single = subst (AllIdsOnce (s .args .file)) e (x .2); room = fresh }, x .3)
 
 returns : tie.Need-returns
 returns c = found-in (c .before .before .file-in .ensures) (c .judge-records .ensures .0)

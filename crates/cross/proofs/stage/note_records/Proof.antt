@@ -5,7 +5,7 @@ use Rattle.cross.proofs.stage.note_records.Statement.{statement}
 use Rattle.cross.proofs.stage.note_records.Tie as tie
 
 note-requires : tie.Need-note-requires
-note-requires c κs = let x = c .before .before .pre in (x .1 .short, x .1 .few, x .1 .along, x .2, x .3)
+note-requires c κs = let x = c .before .before .pre .1 in let r = x .recorded in (r .short, r .few, r .along, x .single, x .room)
 
 returns : tie.Need-returns
 returns c =

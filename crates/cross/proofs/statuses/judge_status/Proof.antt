@@ -7,21 +7,21 @@ use native.Mathlib.Omega.{arith}
 use Rattle.schema.specs.Records.{located}
 use Rattle.fault.specs.Fault.{least}
 use Rattle.cross.specs.Cross.{recordPlace}
-use Rattle.cross.specs.inner.Judged.{fileBy, filesBy, stationBy, countsBy}
+use Rattle.cross.specs.inner.Judged.{fileBy, filesBy, docksBy, countsBy}
 use Rattle.cross.proofs.Numbers.{searchable-by}
 use Rattle.cross.proofs.Joined.{both}
 use Rattle.cross.proofs.Gathering.{status-is, counts-along}
 use Rattle.cross.proofs.statuses.judge_status.Statement.{statement}
 use Rattle.cross.proofs.statuses.judge_status.Tie as tie
 
-judge-station-requires : tie.Need-judge-station-requires
-judge-station-requires c κs =
-    let f = c .before in searchable-by (f .file-in .ensures) (c .notes-in .ensures) (f .before .before .before .before .pre .1 .stations)
+judge-docks-requires : tie.Need-judge-docks-requires
+judge-docks-requires c κs =
+    let f = c .before in searchable-by (f .file-in .ensures) (c .notes-in .ensures) (f .before .before .before .before .pre .1 .stations (omega arith))
 
 judge-counts-requires : tie.Need-judge-counts-requires
 judge-counts-requires c κs =
     let f = c .before in let v = f .before .before in let x = v .before .before .before .before .before .before .before .pre in (
-      searchable-by (f .file-in2 .ensures) (c .notes-in2 .ensures) (x .1 .types (λ e. omega arith)),
+      searchable-by (f .file-in2 .ensures) (c .notes-in2 .ensures) (x .1 .types (omega arith)),
       omega (arith, x .2, v .value-in3 .ensures .1),
       counts-along (x .0) (v .value-in3 .ensures .0) (x .3 .1),
     )
@@ -32,8 +32,8 @@ returns c ms w =
     let j = c .before in let f₂ = j .before .before in let v₄ = f₂ .before in let v₃ = v₄ .before in let i = v₃ .before in let f = i .before .before in
     let v₂ = f .before in let v = v₂ .before in let s = v .before .before in let a = s .args in
     both _ _ (c .lesser .ensures)
-    (i .judge-station .ensures
-    ∙ ap (λ (q : List ℕ). least (stationBy (recordPlace (a .n) 0) (fileBy 2 q) (v .value-in .result .now) (v₂ .value-in2 .result .now))) (f .file-in .ensures))
+    (i .judge-docks .ensures
+    ∙ ap (λ (q : List ℕ). least (docksBy (recordPlace (a .n) 0) (fileBy 2 q) (v .value-in .result .now) (v₂ .value-in2 .result .now))) (f .file-in .ensures))
     (j .judge-counts .ensures
     ∙ ap (λ (q : List ℕ). least (countsBy (a .n) (fileBy 1 q) (v₃ .value-in3 .result .now) (v₄ .value-in4 .result .now))) (f₂ .file-in2 .ensures))
     ∙ ap least
@@ -43,5 +43,5 @@ returns c ms w =
 pub judge-status-spec : {M : Type 1} → statement M
 judge-status-spec =
     tie.close
-    (tie.spec (λ c κs. search needs) (λ c κs. search needs) (λ c κs. search needs) (λ c κs. search needs) judge-station-requires (λ c κs. search needs)
+    (tie.spec (λ c κs. search needs) (λ c κs. search needs) (λ c κs. search needs) (λ c κs. search needs) judge-docks-requires (λ c κs. search needs)
     (λ c κs. search needs) (λ c κs. search needs) (λ c κs. search needs) judge-counts-requires (λ c κs. search needs) returns)

@@ -3,6 +3,7 @@ use borrow.Author.Needs.{needs}
 use mathlib.Core.List.{List, map}
 use mathlib.Core.Path.{ap, _∙_}
 use Prim.Native.Nat.{ℕ}
+use native.Mathlib.Omega.{arith}
 use lib.Dec.{ltb}
 use lib.ListN.{length}
 use Rattle.schema.specs.Records.{recordShape, identified}
@@ -22,7 +23,7 @@ use Rattle.cross.proofs.types.judge_type.Tie as tie
 refers-requires : tie.Need-refers-requires
 refers-requires c κs =
     let f = c .before .before .before .before .before .before .before .before .before in
-    searchable-by (f .file-in .ensures) (c .notes-in .ensures) (f .before .before .pre .1 .plans)
+    searchable-by (f .file-in .ensures) (c .notes-in .ensures) (f .before .before .pre .1 .plans (λ e. omega arith))
 
 returns : tie.Need-returns
 unfolding identified idField

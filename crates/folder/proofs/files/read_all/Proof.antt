@@ -1,10 +1,11 @@
 -- `read_all` ends, and the files stand in order: each turn puts one file more behind those before it, and goes on only where that file ended.
 use mathlib.Core.Path.{_≡_, refl, sym, subst}
-use Prim.Native.Nat.{ℕ, _≤_, _-_}
+use Prim.Native.Nat.{ℕ, _≤_, _+_, _-_}
 use native.Mathlib.Omega.{arith}
 use borrow.Author.Needs.{needs}
 use lib.ListN.{length, getD}
 use lib.Seq.{getD-set-same}
+use Rattle.fault.specs.Outcome.{fileCount}
 use Rattle.folder.specs.declared.reading.Taken.the-variants.{Unread, Full, To}
 use Rattle.folder.specs.declared.reading.Turn.{Turn}
 use Rattle.folder.specs.declared.reading.Turn.the-variants.{Ended}
@@ -18,10 +19,10 @@ use Rattle.folder.proofs.files.read_all.Tie as tie
 
 abbrev Inv-loop : tie.InvT-loop
 Inv-loop bytes₀ places₀ left₀ i₀ bytes places left i =
-    (i ≤ 6) × (length bytes ≡ length bytes₀) × (length places ≡ 7) × PlacesInOrder i most places × (turnOf left ≡ Ended)
+    (i ≤ fileCount) × (length bytes ≡ length bytes₀) × (length places ≡ fileCount + 1) × PlacesInOrder i most places × (turnOf left ≡ Ended)
 
 abbrev μ-loop : tie.MeasureT-loop
-μ-loop bytes₀ places₀ left₀ i₀ bytes places left i = 6 - i
+μ-loop bytes₀ places₀ left₀ i₀ bytes places left i = fileCount - i
 
 loop-holds : tie.Need-loop-holds Inv-loop μ-loop
 loop-holds c =
@@ -55,9 +56,9 @@ loop-again c =
 returns-3 : tie.Need-returns-3 Inv-loop μ-loop
 returns-3 c =
     let l = c .before .before .loop in
-    let six : l .i ≡ 6 = omega arith in (
-      subst (λ (t : Turn). Decides t (To (getD (l .places) 6 0))) (sym (l .inv .4)) refl,
-      subst (λ (n : ℕ). InOrder n most (l .places)) six (l .inv .3 .1),
+    let all : l .i ≡ fileCount = omega arith in (
+      subst (λ (t : Turn). Decides t (To (getD (l .places) fileCount 0))) (sym (l .inv .4)) refl,
+      subst (λ (n : ℕ). InOrder n most (l .places)) all (l .inv .3 .1),
     )
 
 pub read-all-spec : {M : Type 1} → statement M

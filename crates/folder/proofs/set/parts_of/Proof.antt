@@ -11,7 +11,9 @@ returns : tie.Need-returns
 returns c =
     let r = c .before in
     let v = r .before .before .before in
-    let f6 = v .before .before in
+    let f8 = v .before .before in
+    let f7 = f8 .before in
+    let f6 = f7 .before in
     let f5 = f6 .before in
     let f4 = f5 .before in
     let f3 = f4 .before in
@@ -22,10 +24,12 @@ returns c =
     ∙ parts-said _ _ _ (omega arith) (omega (arith, r .before .before .word2 .given)) (v .verdict .ensures .1)
     ∙ ap
     (λ s. said (verdictOf s))
-    (same-set (f1 .file .ensures) (f2 .file2 .ensures) (f3 .file3 .ensures) (f4 .file4 .ensures) (f5 .file5 .ensures) (f6 .file6 .ensures))
+    (same-set (f1 .file .ensures) (f2 .file2 .ensures) (f3 .file3 .ensures) (f4 .file4 .ensures) (f5 .file5 .ensures) (f6 .file6 .ensures)
+    (f7 .file7 .ensures) (f8 .file8 .ensures))
 
 pub parts-of-spec : {M : Type 1} → statement M
 parts-of-spec =
     tie.close (tie.spec (λ c κs. search needs) (λ c κs. search needs) (λ c κs. search needs) (λ c κs. search needs)
-    (λ c κs. search needs) (λ c κs. search needs) (λ c. search needs) (λ c κs. search needs) (λ c. search needs)
+    (λ c κs. search needs) (λ c κs. search needs) (λ c κs. search needs) (λ c κs. search needs) (λ c. search needs)
+    (λ c κs. search needs) (λ c. search needs)
     (λ c κs. search needs) (λ c κs. search needs) returns)

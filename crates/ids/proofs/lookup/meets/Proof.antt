@@ -30,7 +30,7 @@ picked : (s : tie.Start) {t : Bool} → s .args .tested ≡ t → let a = s .arg
 picked s e =
     let a = s .args in
     ap (λ (t : Bool). anyMeets (a .file) t (textOf (a .id .now)) (recordBytes (a .p .now)) (length (itemsOf (a .p .now)))) (sym e)
-    ∙ meets-picked (a .file) (s .pre .least) (s .pre .most) (a .tested) (textOf (a .id .now)) (a .p .now)
+    ∙ meets-picked (a .file) (s .pre .ids) (a .tested) (textOf (a .id .now)) (a .p .now)
 
 given : (c : tie.Else1) → 0 < length (textOf (c .before .before .before .before .before .args .id .now))
 given c = ltb-true 0 _ (some-given _ (sym (c .before .text-is .ensures) ∙ c .if1 .left))

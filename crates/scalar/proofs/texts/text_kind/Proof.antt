@@ -16,27 +16,28 @@ use Rattle.scalar.proofs.texts.text_kind.Tie as tie
 tested : {t u : Bool} → u ≡ t → unless t outOfRange ≡ unless u outOfRange
 tested e = ap (λ (b : Bool). unless b outOfRange) (sym e)
 
-returns-5 : tie.Need-returns-5
-returns-5 c σ e h =
-    let m = c .before .before in
-    text-exactly σ _ _ e (m .match .keys5) h (only-word table23 (m .before .before .args .line)) ∙ tested (c .before .is-the-word .ensures) ∙ c .range-kind3 .ensures
-
 returns-6 : tie.Need-returns-6
 returns-6 c σ e h =
-    text-word σ _ e (c .before .before .match .keys6) h ∙ tested (c .before .is-a-word .ensures) ∙ c .range-kind4 .ensures
+    let m = c .before .before in
+    text-exactly σ _ _ e (m .match .keys6) h (only-word table23 (m .before .before .args .line)) ∙ tested (c .before .is-the-word .ensures) ∙ c .range-kind4 .ensures
 
 returns-7 : tie.Need-returns-7
 returns-7 c σ e h =
-    let w = c .match .rest in let x = w .0 in let y = x .0 in let i = y .0 in let t = i .0 in
-    no-text _ (t .0 .1) (t .1) (i .1) (y .1) (x .1) (w .1) σ e
+    text-word σ _ e (c .before .before .match .keys7) h ∙ tested (c .before .is-a-word .ensures) ∙ c .range-kind5 .ensures
+
+returns-8 : tie.Need-returns-8
+returns-8 c σ e h =
+    let w = c .match .rest in let x = w .0 in let d = x .0 in let y = d .0 in let i = y .0 in let t = i .0 in
+    no-text _ (t .0 .1) (t .1) (i .1) (y .1) (d .1) (x .1) (w .1) σ e
 
 pub text-kind-spec : {M : Type 1} → statement M
 unfolding sortKinds sortFrom
 text-kind-spec =
-    tie.close (tie.spec (λ c κs. search needs) (λ c κs. search needs) (λ c κs. search needs) (λ c κs. search needs)
+    tie.close (tie.spec (λ c κs. search needs) (λ c κs. search needs) (λ c κs. search needs) (λ c κs. search needs) (λ c κs. search needs) (λ c κs. search needs)
     (λ c κs. search needs) (λ c κs. search needs) (λ c κs. search needs) (λ c κs. search needs) (λ c κs. search needs)
     (λ c σ e h. by-letter textKinds _ _ (c .before .match .keys1) (λ ws. c .price-kind .ensures) σ e)
     (λ c σ e h. by-letter textKinds _ _ (c .match .keys2) (λ ws. refl) σ e)
     (λ c σ e h. by-letter textKinds _ _ (c .before .before .match .keys3) (λ ws. tested (ap not (c .before .longer-than .ensures)) ∙ c .range-kind .ensures) σ e)
     (λ c σ e h. by-letter textKinds _ _ (c .before .before .match .keys4) (λ ws. tested (c .before .is-currency .ensures) ∙ c .range-kind2 .ensures) σ e)
-    returns-5 returns-6 returns-7)
+    (λ c σ e h. by-letter textKinds _ _ (c .before .before .match .keys5) (λ ws. tested (c .before .is-date .ensures) ∙ c .range-kind3 .ensures) σ e)
+    returns-6 returns-7 returns-8)

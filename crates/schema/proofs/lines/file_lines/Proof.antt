@@ -9,7 +9,7 @@ use Rattle.schema.proofs.Columns.{range-columns}
 use Rattle.schema.proofs.lines.file_lines.Statement.{statement}
 use Rattle.schema.proofs.lines.file_lines.Tie as tie
 
-how-many : length (fileRanges table23) ≡ 7
+how-many : length (fileRanges table23) ≡ 9
 unfolding laidOut written23
 how-many = refl
 

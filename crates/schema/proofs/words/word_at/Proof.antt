@@ -9,7 +9,7 @@ use Rattle.schema.proofs.Columns.{range-columns}
 use Rattle.schema.proofs.words.word_at.Statement.{statement}
 use Rattle.schema.proofs.words.word_at.Tie as tie
 
-how-many : length (rangesFrom 0 (wordsOf table23)) ≡ 25
+how-many : length (rangesFrom 0 (wordsOf table23)) ≡ 27
 unfolding laidOut written23
 how-many = refl
 

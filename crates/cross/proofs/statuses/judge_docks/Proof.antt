@@ -1,10 +1,10 @@
--- `judge_station` joins what field 30 breaks, and what field 32 breaks by the station that 30 names.
+-- `judge_docks` joins what field 30 breaks, and what field 32 breaks by the station that 30 names.
 use borrow.Author.Needs.{needs}
 use Rattle.schema.specs.Records.{identified}
 use Rattle.ids.specs.inner.Ids.{idField}
 use Rattle.cross.proofs.Joined.{both, breaks}
-use Rattle.cross.proofs.statuses.judge_station.Statement.{statement}
-use Rattle.cross.proofs.statuses.judge_station.Tie as tie
+use Rattle.cross.proofs.statuses.judge_docks.Statement.{statement}
+use Rattle.cross.proofs.statuses.judge_docks.Tie as tie
 
 returns : tie.Need-returns
 unfolding identified idField
@@ -14,7 +14,7 @@ returns c =
     both _ _ (c .lesser .ensures) (breaks place 30 (f .refers .result) (a .broken .ensures) (f .refers .ensures))
     (breaks place 32 (n .demanded-by .result) (b .broken2 .ensures) (n .demanded-by .ensures))
 
-pub judge-station-spec : {M : Type 1} → statement M
-judge-station-spec =
+pub judge-docks-spec : {M : Type 1} → statement M
+judge-docks-spec =
     tie.close
     (tie.spec (λ c κs. search needs) (λ c κs. search needs) (λ c κs. search needs) (λ c κs. search needs) (λ c κs. search needs) returns)
