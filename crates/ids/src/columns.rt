@@ -81,7 +81,6 @@ fn doubled(member: usize, passes: bool) -> u32
 }
 
 // One entry more.
-// Shut out: a place that is lost.
 pub fn enter(
     notes: &mut [u32; Notes::SIZE],
     k: usize,

@@ -41,6 +41,7 @@ pub fn passes(file: u8, q: &[u8]) -> bool
 }
 
 // Whether a record of the array `p` has the id, and one with it passes where that is asked. An id of no bytes is none.
+// Shut out: that a record passes asked where it is not, and not asked where it is.
 pub fn meets(file: u8, p: &[u8], notes: &[u32; Notes::SIZE], id: &[u8], tested: bool) -> bool
     requires { ⌜ Searchable file (now p) (now notes) ⌝ }
     ensures { λ r. ⌜ r ≡ anyWith (testedOf file tested) (idField file) (pickedItems (recordShape file) (now (p .entry))) (textOf (now (id .entry))) ⌝ }

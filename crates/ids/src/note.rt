@@ -18,7 +18,7 @@ ghost use Rattle.ids.specs.inner.Ids.{AllIdsOnce, recordBytes, firstRepe
 ghost use Rattle.ids.specs.inner.Notes.{size, Next, Noted, Indexed};
 
 // Enters the record m of `p` behind the `n` that are entered.
-// Shut out: a record left out because its id repeats.
+// Shut out: the text of an id looked for where its record starts.
 pub fn note_record(file: u8, p: &[u8], m: Item, n: usize, notes: &mut [u32; Notes::SIZE])
     requires { ⌜ Next file (now p) n m × Noted file (now p) n (now notes) ⌝ }
     ensures { λ _. ⌜ Noted file (now (p .entry)) (n + 1) (now (notes .exit)) ⌝ }
@@ -34,7 +34,6 @@ pub fn note_record(file: u8, p: &[u8], m: Item, n: usize, notes: &mut [u32; Note
 }
 
 // Notes the records of the array `p`; the number of the first record whose id one before it has, or 0.
-// Shut out: the earlier of two records blamed.
 pub fn note(file: u8, p: &[u8], notes: &mut [u32; Notes::SIZE]) -> u16
     requires { ⌜ (length (now p) ≤ fileBytes) × (length (itemsOf (now p)) ≤ records) × ((0 < length (now p)) → AlongItems (now p) 1) × AllIdsOnce file (now p) × (length (now notes) ≡ size) ⌝ }
     ensures { λ r. ⌜ (r ≡ firstRepeat file (recordBytes (now (p .entry)))) × Indexed file (now (p .entry)) (now (notes .exit)) ⌝ }

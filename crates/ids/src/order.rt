@@ -26,7 +26,8 @@ fn arrange(
     order: &mut [u16],
     spare: &mut [u16],
 ) -> usize
-    requires { ⌜ (length (now keys) ≡ length (now order)) × (length (now spare) ≡ length (now order)) × (length (now order) ≤ records) × SameFront (idAt (now p) (now notes)) (length (now order)) front ⌝ }
+    requires { ⌜ (length (now keys) ≡ length (now order)) × (length (now spare) ≡ length (now order)) × (length (now order) ≤ records)
+        × SameFront (idAt (now p) (now notes)) (length (now order)) front ⌝ }
     ensures { λ r. ⌜ Arranged (now (p .entry)) (now (notes .entry)) (length (now (order .entry))) front (now (keys .exit)) (now (order .exit)) r ⌝ }
 {
     fill_keys(p, notes, front, keys);
@@ -68,7 +69,8 @@ fn hand_on(p: &[u8], notes: &mut [u32; Notes::SIZE], keys: &[u32], from: u16, to
 // Hands on what records are noted to pass to those with the same id: to the next in the order, from the first on, and then back.
 // Shut out: a record that does not pass, met in the place of one with its id that does.
 fn spread(p: &[u8], keys: &[u32], order: &[u16], notes: &mut [u32; Notes::SIZE])
-    requires { ⌜ (length (now order) ≤ records) × (length (now keys) ≡ length (now order)) × (length (now notes) ≡ size) × Ordered (idAt (now p) (now notes)) (now order) × Tells (now p) (now notes) (now keys) ⌝ }
+    requires { ⌜ (length (now order) ≤ records) × (length (now keys) ≡ length (now order)) × (length (now notes) ≡ size)
+        × Ordered (idAt (now p) (now notes)) (now order) × Tells (now p) (now notes) (now keys) ⌝ }
     ensures { λ _. ⌜ Closed (now (p .entry)) (now (order .entry)) (now (notes .entry)) (now (notes .exit)) ⌝ }
 {
     let mut i: usize = 1;
@@ -102,7 +104,6 @@ fn order_by(
 }
 
 // Puts the n records that are entered in order; the number of the first whose id one before it has, or 0.
-// Shut out: the earlier of two records blamed.
 pub fn order_notes(p: &[u8], n: usize, notes: &mut [u32; Notes::SIZE]) -> u16
     requires { ⌜ (n ≤ records) × (length (now notes) ≡ size) ⌝ }
     ensures { λ r. ⌜ Orders (now (p .entry)) n (now (notes .entry)) (now (notes .exit)) r ⌝ }

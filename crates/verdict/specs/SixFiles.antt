@@ -1,4 +1,4 @@
--- What document 02's request W1 adds to the rules and takes from none: each rule that the six older files break by the rules of before stands among those that
+-- Document 02's request W1 adds rules and takes none away: each rule that the six older files break by the rules of before stands among those that
 -- their stage breaks now. So a set that is accepted was accepted before. `proofs/SixFiles` shows it.
 use mathlib.Core.List.{List, [], _∷_, _++_, map, List·Memᴰ}
 use mathlib.Core.Path.{_≡_}

@@ -98,7 +98,7 @@ abbrev pub accepts : Outcome → Bool
 accepts Unbroken = true
 accepts (Broken p) = false
 
--- The number in its order of checking, and the buffer after the call: as it was without room for a word, else the word in front of the rest as it was.
+-- The question "verdict": its number in the order of checking, and the buffer after the call: as it was without room for a word, else the word in front of its rest.
 unfoldable pub verdictNumber : Feeds → (buffer : List ℕ) → ℕ
 verdictNumber s buffer = ltb (length buffer) wordSize ⇒ 2 else accepts (verdictOf s) ⇒ 0 else 1
 

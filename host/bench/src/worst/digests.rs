@@ -1,9 +1,9 @@
-//! Ids that have one digest.
+//! Ids that share a digest which the library once took of them.
 
 use super::{numbered, IDS};
 use reference::ceiling;
 
-/// The digest of an id multiplies by this before it adds the next byte. Being linear, it has texts that share one for anybody who looks for
+/// That digest multiplied by this before it added the next byte. Being linear, it has texts that share one for anybody who looks for
 /// them by halves.
 const FACTOR: u32 = 16_777_619;
 

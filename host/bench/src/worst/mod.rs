@@ -25,7 +25,7 @@ pub struct Made {
 }
 
 pub const ALL: [Worst; 27] = [
-    // Ids that differ and have one digest, of 8 bytes and of 100 bytes, 92 of which they share.
+    // Ids that differ and share a digest which the library once took, of 8 bytes and of 100 bytes, 92 of which they share.
     Worst { name: "digests", questions: &[Verdict, Quote], make: || referring(&digests::colliding(""), plain) },
     Worst { name: "digests-long", questions: &[Verdict, Quote], make: || referring(&digests::colliding(PREFIX), plain) },
     // Ids of which all but one differ in the last two of 100 bytes, and that one in its first, so that the others have one key: plain; spelled
@@ -105,7 +105,7 @@ fn alike() -> Vec<String> {
     short().iter().map(|id| format!("{PREFIX}{id}")).collect()
 }
 
-/// The same but for the first, which begins otherwise: all ids have no front in common, and the others have one key.
+/// Ids of 100 bytes that differ in the last two, but for the first, which begins otherwise: so no front is common to all, and the others have one key.
 fn one_key() -> Vec<String> {
     std::iter::once("-".into()).chain(alike().into_iter().skip(1)).collect()
 }
