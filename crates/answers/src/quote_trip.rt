@@ -4,6 +4,7 @@ use crate::hex::Decoded;
 use crate::number;
 use crate::number::Number;
 use crate::print;
+use crate::questions::TABLE;
 use crate::words;
 use quote::Quote;
 use quote::quote_trip;
@@ -34,7 +35,7 @@ fn ask(file: &[u8], id: &[u8], seconds: &[u8], metres: &[u8]) -> bool {
     let Number::Is(way) = number::parse(metres) else {
         return false;
     };
-    print_quote(quote_trip(file, id, time, way));
+    print_quote(quote_trip(TABLE, file, id, time, way));
     true
 }
 

@@ -4,6 +4,7 @@ use crate::files::FILES;
 use crate::number;
 use crate::number::Number;
 use crate::print;
+use crate::questions::TABLE;
 use crate::words;
 use verdict::Acceptance;
 use verdict::verdict;
@@ -49,7 +50,7 @@ fn verdict_on(bytes: &[u8], ends: &[usize; FILES], buffer: &mut [u8]) -> Accepta
         files::part(bytes, ends, 7),
         files::part(bytes, ends, 8),
     ];
-    verdict(set, buffer)
+    verdict(TABLE, set, buffer)
 }
 
 fn print_answer(r: Acceptance, room: &[u8; MOST]) {

@@ -4,6 +4,7 @@ use crate::files::FILES;
 use crate::number;
 use crate::number::Number;
 use crate::print;
+use crate::questions::TABLE;
 use crate::words;
 use clean::Shown;
 use clean::show_record;
@@ -22,7 +23,12 @@ pub fn answer(line: &[u8], bytes: &mut [u8]) -> bool {
     let Number::Is(record) = number::parse(words::at(line, FILES + 2)) else {
         return false;
     };
-    print_shown(show_record(file, record, files::part(bytes, &ends, file as usize)));
+    print_shown(show_record(
+        TABLE,
+        file,
+        record,
+        files::part(bytes, &ends, file as usize),
+    ));
     true
 }
 

@@ -4,6 +4,7 @@ use crate::hex::Decoded;
 use crate::number;
 use crate::number::Number;
 use crate::print;
+use crate::questions::TABLE;
 use crate::signed;
 use crate::signed::Signed;
 use crate::words;
@@ -39,7 +40,7 @@ fn ask(file: &[u8], type_id: &[u8], rest: &[u8]) -> bool {
     let Number::Is(moment) = number::parse(words::at(rest, 3)) else {
         return false;
     };
-    print_ruling(zone_rule(file, lon, lat, type_id, moment));
+    print_ruling(zone_rule(TABLE, file, lon, lat, type_id, moment));
     true
 }
 

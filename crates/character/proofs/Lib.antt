@@ -6,3 +6,4 @@ pub mod Escapes
 pub mod Lengths
 pub mod Leads
 pub mod Inside
+pub mod Said

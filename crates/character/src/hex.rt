@@ -3,11 +3,13 @@ use super::range::within;
 use lexeme::Quad;
 use lexeme::front::byte_at;
 ghost use mathlib.Core.Path.{_≡_};
+ghost use Prim.Native.Nat.{_<_};
 ghost use lib.ListN.{drop};
+ghost use Rattle.lexeme.specs.declared.Quad.the-variants.{Value};
 ghost use Rattle.lexeme.specs.Character as spec;
 
 // A hexadecimal digit's value, or 16.
-fn hex_value(b: u32) -> u32
+pub fn hex_value(b: u32) -> u32
     ensures { λ r. ⌜ r ≡ spec.hexValue b ⌝ }
 {
     if within(0x30, 0x39, b) {
@@ -50,4 +52,27 @@ pub fn quad(s: &[u8], at: usize) -> Quad
         return Quad::Short(3);
     }
     return Quad::Value(a * 4096 + b * 256 + c * 16 + d);
+}
+
+// The value of the four digits from `at` on, or 10000.
+pub fn quad_value(s: &[u8], at: usize) -> u32
+    ensures { λ r. ⌜ (r < 0x10000 → spec.quad (drop at (now (s .entry))) ≡ Value r) ⌝ }
+{
+    let a = hex_at(s, at, 0);
+    if 16 <= a {
+        return 0x10000;
+    }
+    let b = hex_at(s, at, 1);
+    if 16 <= b {
+        return 0x10000;
+    }
+    let c = hex_at(s, at, 2);
+    if 16 <= c {
+        return 0x10000;
+    }
+    let d = hex_at(s, at, 3);
+    if 16 <= d {
+        return 0x10000;
+    }
+    return a * 4096 + b * 256 + c * 16 + d;
 }

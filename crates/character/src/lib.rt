@@ -6,6 +6,7 @@ pub mod length;
 pub mod range;
 pub mod surrogate;
 pub mod utf8;
+pub mod wide;
 
 use escape::escape;
 use lexeme::Char;
@@ -17,6 +18,8 @@ use lexeme::front::first;
 use utf8::utf2;
 use utf8::utf3;
 use utf8::utf4;
+use wide::standing_at;
+use wide::wide_length;
 use word::kind::Kind;
 ghost use mathlib.Core.Path.{_≡_};
 ghost use lib.ListN.{drop};
@@ -75,7 +78,7 @@ pub fn next_by(table: &[u8; 256], s: &[u8], at: usize, class: u8) -> Next
     }
 }
 
-// What stands at `at`, inside a string. An escape is told without the table of classes, which would be laid out for it.
+// What stands at `at`, inside a string. Escapes and characters past ASCII are told without the table of classes, which would be laid out for each.
 // Shut out: a surrogate escape with no partner let through; a fault named at the backslash, and not at the first wrong byte after it.
 pub fn next_char(s: &[u8], at: usize) -> Next
     ensures { λ r. ⌜ r ≡ spec.next paired (drop at (now (s .entry))) ⌝ }
@@ -83,6 +86,10 @@ pub fn next_char(s: &[u8], at: usize) -> Next
     let b = first(s, at);
     if b == b'\\' {
         return escape(s, at);
+    }
+    let n = wide_length(s, at, b);
+    if 0 < n {
+        return Next::Character(standing_at(s, at, n));
     }
     let table = class_table();
     next_by(&table, s, at, class_by(&table, b))

@@ -12,8 +12,7 @@ use Rattle.json.specs.Text.{syntaxOf}
 use Rattle.json.specs.Tree as tree
 use Rattle.json.specs.Tree.{Json, Items, Members}
 use Rattle.schema.specs.Shape as shape
-use Rattle.schema.specs.Shape.{Shape, Rows, Need, Numbering, fileShape}
-use Rattle.schema.specs.Table23.{table23}
+use Rattle.schema.specs.Shape.{Shape, Rows, Need, Numbering}
 use Rattle.schema.specs.Pick.{Picked, PickedItems, Slots, Slot, missing, once, twice, unlessBlank, put, pickItems, pick, pickRows, find, listOf, elements}
 use Rattle.fault.specs.declared.Fault.{Fault}
 use Rattle.fault.specs.Fault.{least, faulty}
@@ -141,10 +140,9 @@ module _ (f g : PickedItems → List Found) where
   records-same most σ (tree.object ms) k p φ = refl
 
   -- a file in which they find the same is clean by both, or breaks the same rule first
-  pub clean-alike : (file : ℕ) (s : List ℕ) → fileFaultsBy f (fileShape table23 file) (treeOf s) ≡ fileFaultsBy g (fileShape table23 file) (treeOf s)
-      → cleanBy f file s ≡ cleanBy g file s
+  pub clean-alike : (σ : Shape) (file : ℕ) (s : List ℕ) → fileFaultsBy f σ (treeOf s) ≡ fileFaultsBy g σ (treeOf s) → cleanBy f σ file s ≡ cleanBy g σ file s
   unfolding cleanBy
-  clean-alike file [] e = refl
-  clean-alike file (b ∷ s) e =
+  clean-alike σ file [] e = refl
+  clean-alike σ file (b ∷ s) e =
       ap (λ (l : List Fault). orNext (syntaxOutcome file (syntaxOf (b ∷ s)))
-      (orNext (outcomeOf file (least l)) (outcomeOf file (least (repeats file (pick (fileShape table23 file) (treeOf (b ∷ s)))))))) e
+      (orNext (outcomeOf file (least l)) (outcomeOf file (least (repeats σ (pick σ (treeOf (b ∷ s)))))))) e

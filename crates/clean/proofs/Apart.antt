@@ -10,8 +10,7 @@ use Rattle.notation.proofs.Lists.{cons-nil}
 use Rattle.word.specs.Kinds.{idTwice}
 use Rattle.text.specs.Text.{same}
 use Rattle.text.proofs.Laws.{same-refl}
-use Rattle.schema.specs.Shape.{fileShape}
-use Rattle.schema.specs.Table23.{table23}
+use Rattle.schema.specs.Tables.{sheetShape}
 use Rattle.schema.specs.Records.{hasIds}
 use Rattle.schema.specs.Pick.{Picked, pick}
 use Rattle.fault.specs.declared.Fault.{Fault}
@@ -71,5 +70,5 @@ apart-from f n ps (z ∷ l) e =
     let k = none-right (repeatedId f n ps z) _ e in
     oneRecord (λ x t i h j. before-after f t (n + 1) (z ∷ ps) l k x z h j (List·Memᴰ·head refl) i) (apart-from f (n + 1) (z ∷ ps) l k)
 
-pub clean-apart : (n : ℕ) → hasIds n ≡ true → (s : List ℕ) → Sound n s → Apart (idField n) (recordsOf n (pick (fileShape table23 n) (treeOf s)))
+pub clean-apart : (n : ℕ) → hasIds n ≡ true → (s : List ℕ) → Sound n s → Apart (idField n) (recordsOf (sheetShape n) (pick (sheetShape n) (treeOf s)))
 clean-apart n h s c = apart-from (idField n) 1 [] _ (sym (repeats-some n (id-of n h) _) ∙ c .single)

@@ -21,6 +21,7 @@ use Rattle.json.specs.Text.{text, syntaxBy, syntaxOf}
 use Rattle.walk.specs.Walk.{part}
 use Rattle.walk.specs.Part.{Whole}
 use Rattle.walk.proofs.Files.{passed, valueStart}
+use Rattle.schema.specs.Shape.{Shape}
 use Rattle.fault.specs.declared.Fault.{Fault}
 use Rattle.fault.specs.declared.Least.the-variants.{None, Is}
 use Rattle.fault.specs.declared.outcome.Outcome.{Outcome}
@@ -33,22 +34,22 @@ use Rattle.document.specs.declared.Span.the-variants as span
 use Rattle.document.specs.Spans.{topSpan, recordSpan}
 use Rattle.document.proofs.Records.{top-is}
 use Rattle.clean.specs.declared.Shown.the-variants.{NoFile}
-use Rattle.clean.specs.Clean.{treeOf, cleanBy, cleanOf, syntaxOutcome}
+use Rattle.clean.specs.Clean.{treeOf, cleanBy, cleanIn, syntaxOutcome}
 use Rattle.clean.specs.inner.Blamed.{blamed}
 use Rattle.clean.specs.inner.Judged.{judged}
-use Rattle.clean.specs.Show.{answer, ofClean, ofSpan, shownOf}
+use Rattle.clean.specs.Show.{answer, ofClean, ofSpan, shownBy}
 use Rattle.clean.proofs.Repeated.{tree-is}
 
 -- a file that is not there, and one that is
-pub clean-absent : (file : ℕ) (s : List ℕ) → length s ≡ 0 → Unbroken ≡ cleanOf file s
+pub clean-absent : (σ : Shape) (file : ℕ) (s : List ℕ) → length s ≡ 0 → Unbroken ≡ cleanIn σ file s
 unfolding cleanBy
-clean-absent file [] e = refl
-clean-absent file (b ∷ s) e = absurd (omega arith)
+clean-absent σ file [] e = refl
+clean-absent σ file (b ∷ s) e = absurd (omega arith)
 
-pub clean-there : (file : ℕ) (s : List ℕ) → (length s ≡ 0 → ⊥) → judged file s (syntaxOf s) ≡ cleanOf file s
+pub clean-there : (σ : Shape) (file : ℕ) (s : List ℕ) → (length s ≡ 0 → ⊥) → judged σ file s (syntaxOf s) ≡ cleanIn σ file s
 unfolding cleanBy
-clean-there file [] h = absurd (h refl)
-clean-there file (b ∷ s) h = refl
+clean-there σ file [] h = absurd (h refl)
+clean-there σ file (b ∷ s) h = refl
 
 -- where stage A tells nothing it passes the file
 pub syntax-none : (file : ℕ) (x : Syntax) → syntaxOutcome file x ≡ Unbroken → x ≡ syntax.Sound
@@ -96,14 +97,14 @@ blamed-narrow field n h f = go (eqb n 0)
         let z : fault n field 0 idTwice ≡ f = cc in (omega (arith, h, ap (λ (g : Fault). g .«record») z), omega (arith, ap (λ (g : Fault). g .sub) z))
 
 -- what is shown
-module _ (f n : ℕ) (s : List ℕ) where
-  pub shown-none : (1 ≤ f → f ≤ fileCount → ⊥) → answer NoFile ≡ shownOf f n s
-  unfolding shownOf
+module _ (σ : Shape) (f n : ℕ) (s : List ℕ) where
+  pub shown-none : (1 ≤ f → f ≤ fileCount → ⊥) → answer NoFile ≡ shownBy σ f n s
+  unfolding shownBy
   shown-none h =
       by-test (leb 1 f)
-      (λ t. by-test (leb f fileCount) (λ u. absurd (h (leb-true 1 f t) (leb-true f fileCount u))) (λ u. rw (shownOf, t, u)))
-      (λ t. rw (shownOf, t))
+      (λ t. by-test (leb f fileCount) (λ u. absurd (h (leb-true 1 f t) (leb-true f fileCount u))) (λ u. rw (shownBy, t, u)))
+      (λ t. rw (shownBy, t))
 
-  pub shown-of : 1 ≤ f → f ≤ fileCount → (x : Outcome) → x ≡ cleanOf f s → ofClean x (ofSpan (recordSpan f s n)) ≡ shownOf f n s
-  unfolding shownOf
-  shown-of h i x e = rw (shownOf, le-leb 1 f h, le-leb f fileCount i, e)
+  pub shown-of : 1 ≤ f → f ≤ fileCount → (x : Outcome) → x ≡ cleanIn σ f s → ofClean x (ofSpan (recordSpan σ s n)) ≡ shownBy σ f n s
+  unfolding shownBy
+  shown-of h i x e = rw (shownBy, le-leb 1 f h, le-leb f fileCount i, e)

@@ -23,8 +23,7 @@ use Rattle.walk.specs.Part.{partTree}
 use Rattle.walk.proofs.Parts.{itemOf, items-whole}
 use Rattle.walk.proofs.Files.{Passed, passed}
 use Rattle.schema.specs.Shape as shape
-use Rattle.schema.specs.Shape.{fileShape}
-use Rattle.schema.specs.Table23.{table23}
+use Rattle.schema.specs.Tables.{sheetShape}
 use Rattle.schema.specs.Records.{recordShape, hasRecords, hasIds}
 use Rattle.schema.specs.Pick.{Picked, items, pick, listOf}
 use Rattle.schema.proofs.Recorded.{no-key, ids-recorded}
@@ -137,8 +136,8 @@ least-first file h p =
 -- the records of a file without a stage B fault
 pub record Held (n : ℕ) (s : List ℕ) (x : Json) : Type 0 where
   pub list : List Picked
-  pub are : recordsOf n (pick (fileShape table23 n) x) ≡ list
-  pub there : Records s (recordsSpan n s) (recordShape n) list
+  pub are : recordsOf (sheetShape n) (pick (sheetShape n) x) ≡ list
+  pub there : Records s (recordsSpan (sheetShape n) s) (recordShape n) list
   pub few : length list ≤ ceiling.records
   pub field : ℕ
   pub sound : (y : Picked) → List·Memᴰ y list → (q : Place) × (faults (recordShape n) q field y ≡ [])
@@ -149,15 +148,15 @@ pub record Repeats (n : ℕ) (s p : List ℕ) : Type 0 where
   pub few : length (itemsOf p) ≤ ceiling.records
   pub along : AlongItems p 1
   pub singles : AllIdsOnce n p
-  pub names : least (repeats n (pick (fileShape table23 n) (clean.treeOf s))) ≡ blamed (idField n) (firstRepeat n (recordBytes p))
+  pub names : least (repeats (sheetShape n) (pick (sheetShape n) (clean.treeOf s))) ≡ blamed (idField n) (firstRepeat n (recordBytes p))
 
-pub held : (n : ℕ) → hasRecords n ≡ true → (s : List ℕ) (t : Passed s) → fileFaults (fileShape table23 n) (t .tree) ≡ [] → Held n s (t .tree)
+pub held : (n : ℕ) → hasRecords n ≡ true → (s : List ℕ) (t : Passed s) → fileFaults (sheetShape n) (t .tree) ≡ [] → Held n s (t .tree)
 unfolding fileFaultsBy recordsOf rings.count
 held n h s t e =
     let r = records-of n h in
     let d = demands-there (r .leads) top 0 (t .tree) e in
     let a = array-there top (d .1) shape.records (λ b c. refl) ceiling.records (recordShape n) (d .0) (d .3) in
-    let way : along (map (λ k. k .field) (r .way .keys)) (pick (fileShape table23 n) (t .tree)) ≡ some (items (a .0)) = d .2 ∙ ap some (a .1) in
+    let way : along (map (λ k. k .field) (r .way .keys)) (pick (sheetShape n) (t .tree)) ≡ some (items (a .0)) = d .2 ∙ ap some (a .1) in
     record {
       list = listOf (a .0);
       are = rw (recordsOf, r .is) (ap elementsOf way);
@@ -168,12 +167,12 @@ held n h s t e =
     }
 
 -- Files whose records have no ids of their own, and numbers of no file.
-pub repeats-none : (n : ℕ) → hasIds n ≡ false → (x : Picked) → least (repeats n x) ≡ None
+pub repeats-none : (n : ℕ) → hasIds n ≡ false → (x : Picked) → least (repeats (sheetShape n) x) ≡ None
 unfolding repeats
 repeats-none n h x = let none = no-key n h in rw (repeats, repeatsIn, none) (none-least [] refl)
 
 -- and the others
-pub repeats-some : (n : ℕ) → Identified n → (x : Picked) → repeats n x ≡ repeatsFrom (idField n) 1 [] (recordsOf n x)
+pub repeats-some : (n : ℕ) → Identified n → (x : Picked) → repeats (sheetShape n) x ≡ repeatsFrom (idField n) 1 [] (recordsOf (sheetShape n) x)
 unfolding repeats idField
 repeats-some n d x = rw (repeats, repeatsIn, idField, d .is)
 
@@ -182,9 +181,9 @@ unfolding clean.treeOf
 tree-is s t = rw (clean.treeOf, t .reads)
 
 -- A file that stages A and B pass.
-module _ (n : ℕ) (s : List ℕ) (reads : syntaxOf s ≡ Sound) (faultless : least (fileFaults (fileShape table23 n) (clean.treeOf s)) ≡ None) where
-  none-found : (t : Passed s) → fileFaults (fileShape table23 n) (t .tree) ≡ []
-  none-found t = ap (fileFaults (fileShape table23 n)) (sym (tree-is s t)) ∙ least-none _ faultless
+module _ (n : ℕ) (s : List ℕ) (reads : syntaxOf s ≡ Sound) (faultless : least (fileFaults (sheetShape n) (clean.treeOf s)) ≡ None) where
+  none-found : (t : Passed s) → fileFaults (sheetShape n) (t .tree) ≡ []
+  none-found t = ap (fileFaults (sheetShape n)) (sym (tree-is s t)) ∙ least-none _ faultless
 
   module _ (h : hasIds n ≡ true) where
     -- its rest from its records on is one
@@ -206,8 +205,8 @@ module _ (n : ℕ) (s : List ℕ) (reads : syntaxOf s ≡ Sound) (faultless : le
               let y = r .sound (g m) (subst (List·Memᴰ (g m)) (sym l) (Memᴰ·map g j)) in
               single-id n h (items-whole p m j) (y .0) (r .field) (y .1);
           names =
-              let x = pick (fileShape table23 n) (clean.treeOf s) in
-              let are : recordsOf n x ≡ pickedItems (recordShape n) p =
-              ap (λ (y : Json). recordsOf n (pick (fileShape table23 n) y)) (tree-is s t) ∙ r .are ∙ l in
+              let x = pick (sheetShape n) (clean.treeOf s) in
+              let are : recordsOf (sheetShape n) x ≡ pickedItems (recordShape n) p =
+              ap (λ (y : Json). recordsOf (sheetShape n) (pick (sheetShape n) y)) (tree-is s t) ∙ r .are ∙ l in
               ap least (repeats-some n (id-of n h) x ∙ ap (repeatsFrom (idField n) 1 []) are) ∙ least-first n h p;
         }

@@ -7,6 +7,8 @@ use Rattle.word.specs.Word.{noParts}
 use Rattle.json.specs.Tree.{Json}
 use Rattle.walk.specs.Walk.{part}
 use Rattle.walk.specs.Part as walk
+use Rattle.schema.specs.Shape.{fileShape}
+use Rattle.schema.specs.Tables.{tableAt}
 use Rattle.schema.specs.Records.{identified}
 use Rattle.schema.specs.Pick as pick
 use Rattle.slots.specs.Cases.{gathering}
@@ -17,11 +19,11 @@ use Rattle.document.specs.Spans.{membersAlong, topSpan, recordsSpan, nth, recor
 use Rattle.document.specs.Trees.{valueAlong, listed, recordTrees, numbered}
 use Rattle.judge.specs.Cases.{judging, inData}
 use Rattle.clean.specs.Clean.{treeOf, recordsOf, usedBefore, repeatedId, repeatsFrom, repeats, cleanBy}
-use Rattle.clean.specs.Show.{Answer, refused, shown, shownOf}
+use Rattle.clean.specs.Show.{Answer, refused, shown, shownBy, shownOf}
 
 -- opens every definition of this layer
 unfoldable pub showing : Unit {0}
-unfolding judging identified gathering foundIn pick.slotOf document.field document.along document.text membersAlong topSpan recordsSpan nth recordSpan valueAlong listed recordTrees numbered treeOf recordsOf usedBefore repeatedId repeatsFrom repeats cleanBy shownOf
+unfolding judging identified gathering foundIn pick.slotOf document.field document.along document.text membersAlong topSpan recordsSpan nth recordSpan valueAlong listed recordTrees numbered treeOf recordsOf usedBefore repeatedId repeatsFrom repeats cleanBy shownBy
 showing = tt
 
 -- a file of two vehicle types, with blanks around them and a brace in a name
@@ -57,7 +59,7 @@ questions =
     ("an id that two regions have", (8, 1, regions (json ",{'name':'m','region_id':'r'}")), noted 8 12 100 2) ∷
     []
 
-questions-answered : Answers (λ c. shownOf (c .0) (c .1) (c .2)) questions
+questions-answered : Answers (λ c. shownOf (tableAt 0) (c .0) (c .1) (c .2)) questions
 unfolding showing
 questions-answered = refl
 
@@ -70,6 +72,6 @@ trees =
     ("none past the last", 3, none) ∷
     []
 
-trees-answered : Answers (λ n. numbered n (recordTrees 1 (treeOf types))) trees
+trees-answered : Answers (λ n. numbered n (recordTrees (fileShape (tableAt 0) 1) (treeOf types))) trees
 unfolding showing
 trees-answered = refl

@@ -11,9 +11,8 @@ use Rattle.json.specs.declared.Syntax.the-variants as syntax
 use Rattle.json.specs.Tree.{Json}
 use Rattle.json.specs.Text.{text, syntaxOf}
 use Rattle.text.specs.Text.{same}
-use Rattle.schema.specs.Shape.{fileShape}
-use Rattle.schema.specs.Table23.{table23}
-use Rattle.schema.specs.Records.{wayTo, idKey}
+use Rattle.schema.specs.Shape.{Shape, Table, fileShape}
+use Rattle.schema.specs.Records.{wayIn, idOf}
 use Rattle.schema.specs.Pick.{Picked, PickedItems, pick}
 use Rattle.fault.specs.declared.Fault.{Fault}
 use Rattle.fault.specs.declared.outcome.Outcome.{Outcome}
@@ -29,9 +28,12 @@ use Rattle.judge.specs.Faults.{fileFaultsBy}
 unfoldable pub treeOf : List ℕ → Json
 treeOf s = elim (text paired depth s) [ done x r ↦ x | bad k r ↦ Json.null ]
 
--- the records of a picked file
-unfoldable pub recordsOf : ℕ → Picked → List Picked
-recordsOf file x = elim (wayTo file) [ none ↦ [] | some w ↦ elementsOf (along (map (λ k. k .field) (w .keys)) x) ]
+-- the records of a picked file of this shape; and of its bytes
+unfoldable pub recordsOf : Shape → Picked → List Picked
+recordsOf σ x = elim (wayIn σ) [ none ↦ [] | some w ↦ elementsOf (along (map (λ k. k .field) (w .keys)) x) ]
+
+abbrev pub recordsIn : Shape → List ℕ → List Picked
+recordsIn σ s = recordsOf σ (pick σ (treeOf s))
 
 -- a record before has this id
 unfoldable pub usedBefore : ℕ → List Picked → List ℕ → List ℕ
@@ -52,28 +54,32 @@ repeatsFrom f n passed [] = []
 repeatsFrom f n passed (x ∷ l) = repeatedId f n passed x ++ repeatsFrom f (n + 1) (x ∷ passed) l
 
 -- kind 12 over all records of a file, by its records and by the picked file
-abbrev pub repeatsIn : ℕ → List Picked → List Fault
-repeatsIn file l = elim (idKey file) [ none ↦ [] | some k ↦ repeatsFrom (k .field) 1 [] l ]
+abbrev pub repeatsIn : Shape → List Picked → List Fault
+repeatsIn σ l = elim (idOf σ) [ none ↦ [] | some k ↦ repeatsFrom (k .field) 1 [] l ]
 
-unfoldable pub repeats : ℕ → Picked → List Fault
-repeats file x = repeatsIn file (recordsOf file x)
+unfoldable pub repeats : Shape → Picked → List Fault
+repeats σ x = repeatsIn σ (recordsOf σ x)
 
 -- what stage A tells of a file
 abbrev pub syntaxOutcome : ℕ → Syntax → Outcome
 syntaxOutcome file syntax.Sound = Unbroken
 syntaxOutcome file (syntax.Fault kind offset) = Broken (syntaxParts file kind offset)
 
--- a file of which stage A finds this; `coordinates` tells what is found in field 73
-abbrev pub judgedBy : (coordinates : PickedItems → List Found) → ℕ → List ℕ → Syntax → Outcome
-judgedBy coordinates file s x =
+-- a file of this shape and number, of which stage A finds this; `coordinates` tells what is found in field 73
+abbrev pub judgedBy : (coordinates : PickedItems → List Found) → Shape → (file : ℕ) → List ℕ → Syntax → Outcome
+judgedBy coordinates σ file s x =
     orNext (syntaxOutcome file x)
-    (orNext (outcomeOf file (least (fileFaultsBy coordinates (fileShape table23 file) (treeOf s))))
-    (outcomeOf file (least (repeats file (pick (fileShape table23 file) (treeOf s))))))
+    (orNext (outcomeOf file (least (fileFaultsBy coordinates σ (treeOf s))))
+    (outcomeOf file (least (repeats σ (pick σ (treeOf s))))))
 
 -- an absent file is clean
-unfoldable pub cleanBy : (coordinates : PickedItems → List Found) → ℕ → List ℕ → Outcome
-cleanBy coordinates file [] = Unbroken
-cleanBy coordinates file (b ∷ s) = judgedBy coordinates file (b ∷ s) (syntaxOf (b ∷ s))
+unfoldable pub cleanBy : (coordinates : PickedItems → List Found) → Shape → (file : ℕ) → List ℕ → Outcome
+cleanBy coordinates σ file [] = Unbroken
+cleanBy coordinates σ file (b ∷ s) = judgedBy coordinates σ file (b ∷ s) (syntaxOf (b ∷ s))
 
-abbrev pub cleanOf : ℕ → List ℕ → Outcome
-cleanOf = cleanBy coordinatesFound
+abbrev pub cleanIn : Shape → (file : ℕ) → List ℕ → Outcome
+cleanIn = cleanBy coordinatesFound
+
+-- by a table
+abbrev pub cleanOf : Table → (file : ℕ) → List ℕ → Outcome
+cleanOf t file s = cleanIn (fileShape t file) file s

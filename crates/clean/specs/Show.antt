@@ -5,6 +5,7 @@ use lib.Dec.{leb}
 use Rattle.notation.specs.Choice.{_⇒_else_, _and_}
 use Rattle.word.specs.declared.Parts.{Parts}
 use Rattle.word.specs.Word.{noParts}
+use Rattle.schema.specs.Shape.{Shape, Table, fileShape}
 use Rattle.document.specs.declared.Span.{Span}
 use Rattle.document.specs.declared.Span.the-variants.{None, Is}
 use Rattle.document.specs.Spans.{recordSpan}
@@ -13,7 +14,7 @@ use Rattle.fault.specs.declared.outcome.Outcome.the-variants.{Unbroken, Broken}
 use Rattle.fault.specs.Outcome.{fileCount}
 use Rattle.clean.specs.declared.Shown.{Shown}
 use Rattle.clean.specs.declared.Shown.the-variants.{NoFile, NotClean, NoRecord, Record}
-use Rattle.clean.specs.Clean.{cleanOf}
+use Rattle.clean.specs.Clean.{cleanIn}
 
 -- An answer's number, the parts of a word, and the part of the file's bytes that it shows. Parts that are not given are zero.
 pub record Answer : Type 0 where
@@ -45,9 +46,12 @@ abbrev pub ofClean : Outcome → Answer → Answer
 ofClean Unbroken next = next
 ofClean (Broken p) next = refused 5 p
 
--- record n of a file, of its bytes s
-unfoldable pub shownOf : (file n : ℕ) → List ℕ → Answer
-shownOf file n s =
+-- record n of a file of this shape and number, of its bytes s; and by a table
+unfoldable pub shownBy : Shape → (file n : ℕ) → List ℕ → Answer
+shownBy σ file n s =
     leb 1 file and leb file fileCount ⇒
-    ofClean (cleanOf file s) (ofSpan (recordSpan file s n))
+    ofClean (cleanIn σ file s) (ofSpan (recordSpan σ s n))
     else refused 10 noParts
+
+abbrev pub shownOf : Table → (file n : ℕ) → List ℕ → Answer
+shownOf t file n s = shownBy (fileShape t file) file n s

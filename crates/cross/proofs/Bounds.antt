@@ -2,7 +2,7 @@
 use mathlib.Core.Bool.{Bool, true, false, not}
 use mathlib.Core.List.{List, [], _∷_, map, List·Memᴰ, List·Memᴰ·head, List·Memᴰ·tail}
 use mathlib.Core.Logic.{_⊎_, inl, inr, ⊎-elim}
-use mathlib.Core.Path.{_≡_, refl}
+use mathlib.Core.Path.{_≡_, refl, sym, subst}
 use Prim.Native.Nat.{ℕ, _+_, _≤_}
 use native.Mathlib.Omega.{arith}
 use lib.Dec.{eqb}
@@ -15,9 +15,12 @@ use Rattle.walk.specs.declared.Item.{Item}
 use Rattle.walk.specs.Walk.{itemsOf}
 use Rattle.walk.specs.Part.{partTree}
 use Rattle.walk.proofs.Parts.{itemOf}
-use Rattle.schema.specs.Table23.{status, zone}
-use Rattle.schema.specs.Records.{recordShape, hasRecords, hasIds, located, identified}
+use Rattle.schema.specs.Shape.{Shape}
+use Rattle.schema.specs.Table23.{zone}
+use Rattle.schema.specs.Tables.{tableAt, sheetOf}
+use Rattle.schema.specs.Records.{recordShape, hasRecords, hasIds}
 use Rattle.schema.specs.Pick.{Picked, pick}
+use Rattle.schema.proofs.SheetShapes.{sheet-shape}
 use Rattle.fault.specs.declared.Fault.{Fault}
 use Rattle.fault.specs.declared.Least.the-variants.{Is}
 use Rattle.fault.specs.Fault.{fault, top, least, faulty}
@@ -36,10 +39,11 @@ use Rattle.clean.proofs.Faultless.{field-sound, items-few}
 use Rattle.ids.specs.References.{kindIf, anyWith, any, hasCapacity, motorized, named, refers, demanded}
 use Rattle.cross.specs.Cross.{Files, recordPlace, missingFile, sumOf, availableFaults, idFaults, ruleFaults, typeFaults, stationFaults, statusFaults, bikeFaults, zoneFaults, eachRecord, faultsOf, crossFaults}
 use Rattle.cross.specs.Stage.{fileOf}
-use Rattle.cross.specs.inner.Staged.{repeatOf, idsLeast}
-use Rattle.cross.proofs.Numbers.{by-number, Each, recordless}
-use Rattle.cross.proofs.Staging.{bare-faults}
-use Rattle.cross.proofs.Files.{InBytes}
+use Rattle.cross.specs.inner.Recorded.{repeatOf, idsLeast}
+use Rattle.cross.proofs.Numbers.{by-number, Each}
+use Rattle.cross.proofs.Tabled.{has-records, recordless, id-number, object-rows, status-rows, zone-shape}
+use Rattle.cross.proofs.Bare.{bare-faults}
+use Rattle.cross.proofs.Files.{InBytes, file-sheet}
 
 -- the kinds of stage C
 pub record OfStageC (kind : ℕ) : Type 0 where
@@ -144,20 +148,28 @@ module _ (n : ℕ) (h : n ≤ greatest) where
         (λ k. inr (_, k .1, omega (arith, items-few q 74 (k .0) (k .2) (listed {f = 77} refl) (λ a b. refl))))
         (field-sound q φ x e (listed {f = 74} refl)))
 
-    record-fits : (file : ℕ) → 1 ≤ file → file ≤ fileCount → faults (recordShape file) q φ (pick (recordShape file) x) ≡ []
-        → All Fitting (faultsOf s file n (pick (recordShape file) x))
-    unfolding Each faultsOf located status rowOf
+  module _ (table : ℕ) (s : Files) (x : Json) (q : Place) (φ : ℕ) where
+    -- a record of a file in which nothing is found breaks rules of stage C that fit
+    abbrev Fits : ℕ → Type 0
+    Fits file = let σ = recordShape (sheetOf table file) in faults σ q φ (pick σ x) ≡ [] → All Fitting (faultsOf s file n (pick σ x))
+
+    counted : Fits 3
+    unfolding faultsOf
+    counted e =
+        let is = object-rows (sheetOf table 3) (has-records table 3 (omega arith) (omega arith)) in
+        let few = items-few q φ x (subst (λ (σ : Shape). faults σ q φ (pick σ x) ≡ []) is e) (status-rows table .counts .lists) (λ a b. refl) in
+        status-fits s _ (subst (λ (σ : Shape). length (fieldItems 37 (pick σ x)) ≤ greatest) (sym is) (omega (arith, few)))
+
+    zoned : Fits 6
+    unfolding faultsOf
+    zoned =
+        subst (λ (σ : Shape). faults σ q φ (pick σ x) ≡ [] → All Fitting (faultsOf s 6 n (pick σ x))) (sym (zone-shape table)) (zone-fits s x q φ)
+
+    record-fits : (file : ℕ) → 1 ≤ file → file ≤ fileCount → Fits file
+    unfolding Each faultsOf
     record-fits =
-        by-number (λ file. faults (recordShape file) q φ (pick (recordShape file) x) ≡ [] → All Fitting (faultsOf s file n (pick (recordShape file) x))) (
-          λ e. type-fits s _,
-          (
-            λ e. station-fits s _,
-            (
-              λ e. status-fits s _ (omega (arith, items-few q φ x e (listed {f = 37} refl) (λ a b. refl))),
-              (λ e. bike-fits s _, (λ e. none, (zone-fits, (λ e. none, (λ e. none, tt))))),
-            ),
-          ),
-        )
+        by-number Fits
+        (λ e. type-fits s _, (λ e. station-fits s _, (counted, (λ e. bike-fits s _, (λ e. none, (zoned, (λ e. none, (λ e. none, tt))))))))
 
 -- Records one after another.
 each-fits : (faults′ : ℕ → Picked → List Fault) (g : Item → Picked) (n : ℕ) (ms : List Item) → n + length ms ≤ greatest + 1
@@ -168,11 +180,11 @@ each-fits faults′ g n (m ∷ ms) h k =
     all-append (k m (List·Memᴰ·head refl) n (omega arith)) (each-fits faults′ g (n + 1) ms (omega arith) (λ l i. k l (List·Memᴰ·tail i)))
 
 -- Repeated ids.
-repeat-few : (file n : ℕ) (passed rs : List (List ℕ)) → repeatFrom file (n + 1) passed rs ≤ n + length rs
+repeat-few : (sheet n : ℕ) (passed rs : List (List ℕ)) → repeatFrom sheet (n + 1) passed rs ≤ n + length rs
 unfolding repeatFrom
-repeat-few file n passed [] = omega arith
-repeat-few file n passed (q ∷ l) =
-    by-test (repeated file passed q) (λ t. rw (repeatFrom, t) (omega arith)) (λ t. rw (repeatFrom, t) (omega (arith, repeat-few file (n + 1) (q ∷ passed) l)))
+repeat-few sheet n passed [] = omega arith
+repeat-few sheet n passed (q ∷ l) =
+    by-test (repeated sheet passed q) (λ t. rw (repeatFrom, t) (omega arith)) (λ t. rw (repeatFrom, t) (omega (arith, repeat-few sheet (n + 1) (q ∷ passed) l)))
 
 blamed-fits : (φ number : ℕ) → φ ≤ fields → number ≤ greatest → Holds Fitting (blamed φ number)
 blamed-fits φ number h i =
@@ -180,38 +192,37 @@ blamed-fits φ number h i =
     (λ t. rw t (holding {f = fault number φ 0 idTwice} (record { rec = i; field = h; sub = omega arith; kind = record { least = omega arith; most = omega arith } })))
 
 -- the field of a file's ids is one of the word's
-id-most : (file : ℕ) → 1 ≤ file → file ≤ fileCount → idField file ≤ fields
-unfolding Each identified idField
-id-most =
-    by-number (λ file. idField file ≤ fields)
-    (omega arith, (omega arith, (omega arith, (omega arith, (omega arith, (omega arith, (omega arith, (omega arith, tt))))))))
+id-most : (table file : ℕ) → file ≤ fileCount → hasIds (sheetOf table file) ≡ true → idField (sheetOf table file) ≤ fields
+id-most table file i t = by-test (eqb file 8) (λ u. rw (id-number table file t, u) (omega arith)) (λ u. rw (id-number table file t, u) (omega arith))
 
-ids-least-fits : (n : ℕ) → 1 ≤ n → n ≤ fileCount → (p : List ℕ) → length (itemsOf p) ≤ greatest → Holds Fitting (idsLeast n p)
+ids-least-fits : (table file : ℕ) → file ≤ fileCount → (p : List ℕ) → length (itemsOf p) ≤ greatest → Holds Fitting (idsLeast (sheetOf table file) p)
 unfolding idsLeast repeatOf firstRepeat recordBytes
-ids-least-fits n i j p h =
+ids-least-fits table file i p h =
+    let n = sheetOf table file in
     by-test (hasIds n)
     (λ t.
     rw (idsLeast, repeatOf, t)
-    (blamed-fits (idField n) (firstRepeat n (recordBytes p)) (id-most n i j)
+    (blamed-fits (idField n) (firstRepeat n (recordBytes p)) (id-most table file i t)
     (omega (arith, repeat-few n 0 [] (recordBytes p), length-map (itemsOf p) (itemOf p)))))
     (λ t. rw (idsLeast, repeatOf, t) nothing)
 
 -- One file, of which the records are those of p where it has any.
-module _ (files : Files) (file : ℕ) (h : 1 ≤ file) (i : file ≤ fileCount) {s p : List ℕ} (e : files file ≡ fileOf file s) (b : hasRecords file ≡ true → InBytes file s p) where
+module _ (table : ℕ) (files : Files) (file : ℕ) (h : 1 ≤ file) (i : file ≤ fileCount) {s p : List ℕ} (e : files file ≡ fileOf (tableAt table) file s)
+    (b : hasRecords (sheetOf table file) ≡ true → InBytes (sheetOf table file) s p) where
   presence : (n : ℕ) → All Fitting (faulty top 0 (kindIf (missingFile files n) condition))
   presence n = own-fits 0 (omega arith) 0 (omega arith) (when-kinds (missingFile files n) condition (record { least = omega arith; most = omega arith }))
 
-  recorded-holds : InBytes file s p → Holds Fitting (least (crossFaults files file))
+  recorded-holds : InBytes (sheetOf table file) s p → Holds Fitting (least (crossFaults (tableAt table) files file))
   unfolding crossFaults
   recorded-holds c =
-      let few = c .recorded .few in
-      rw (crossFaults, e, c .is)
-      (holds-append _ _ (holds-append _ _ (holds-least (presence file)) (rw (c .repeated) (ids-least-fits file h i p few)))
-      (holds-least (each-fits _ (λ m. pick (recordShape file) (partTree (itemOf p m))) 1 (itemsOf p) (omega arith) (λ m j k l.
-      let y = c .sound m j in record-fits k l files _ (y .0) (y .1) file h i (y .2)))))
+      let few = c .recorded .few in let n = sheetOf table file in
+      rw (crossFaults, ← sheet-shape table file, e, file-sheet table file s, c .is)
+      (holds-append _ _ (holds-append _ _ (holds-least (presence file)) (rw (c .repeated) (ids-least-fits table file i p few)))
+      (holds-least (each-fits _ (λ m. pick (recordShape n) (partTree (itemOf p m))) 1 (itemsOf p) (omega arith) (λ m j k l.
+      let y = c .sound m j in record-fits k l table files _ (y .0) (y .1) file h i (y .2)))))
 
-  bare-holds : file ≡ 7 → Holds Fitting (least (crossFaults files file))
-  bare-holds k = rw (k, bare-faults files) (holds-least (presence 7))
+  bare-holds : file ≡ 7 → Holds Fitting (least (crossFaults (tableAt table) files file))
+  bare-holds k = rw (k, bare-faults table files) (holds-least (presence 7))
 
-  pub cross-fits : (f : Fault) → least (crossFaults files file) ≡ Is f → Fitting f
-  cross-fits f k = holds-is (by-test (hasRecords file) (λ t. recorded-holds (b t)) (λ t. bare-holds (recordless file h i t))) k
+  pub cross-fits : (f : Fault) → least (crossFaults (tableAt table) files file) ≡ Is f → Fitting f
+  cross-fits f k = holds-is (by-test (hasRecords (sheetOf table file)) (λ t. recorded-holds (b t)) (λ t. bare-holds (recordless table file h i t))) k

@@ -20,10 +20,11 @@ use Rattle.walk.specs.Part.{partTree}
 use Rattle.walk.proofs.Parts.{itemOf}
 use Rattle.walk.proofs.Wholes.{whole-some}
 use Rattle.walk.proofs.Files.{passed}
-use Rattle.schema.specs.Shape.{Shape, fileShape}
-use Rattle.schema.specs.Table23.{table23}
+use Rattle.schema.specs.Shape.{Shape, Table, fileShape}
+use Rattle.schema.specs.Tables.{tableAt, sheets, sheetShape, sheetOf}
 use Rattle.schema.specs.Records.{Key, recordShape, hasRecords, idKey, hasIds}
 use Rattle.schema.specs.Pick.{Picked, pick}
+use Rattle.schema.proofs.SheetShapes.{sheet-shape}
 use Rattle.fault.specs.declared.Least.the-variants.{None}
 use Rattle.fault.specs.Fault.{least}
 use Rattle.fault.proofs.Leasts.{none-least}
@@ -35,29 +36,37 @@ use Rattle.document.specs.inner.Items.{pickedItems}
 use Rattle.document.proofs.Rests.{none-from, rest-is, rest-along, rest-picked}
 use Rattle.ids.specs.inner.Ids.{AllIdsOnce, recordBytes, repeatFrom, firstRepeat}
 use Rattle.clean.specs.Clean as clean
-use Rattle.clean.specs.Clean.{recordsOf, repeatsFrom, repeatsIn, repeats}
+use Rattle.clean.specs.Clean.{recordsOf, recordsIn, repeatsFrom, repeatsIn, repeats}
 use Rattle.clean.proofs.Faultless.{object-there}
 use Rattle.clean.proofs.Repeated.{Held, held, tree-is, repeats-none, repeats-are}
 use Rattle.cross.specs.Stage.{fileOf}
 use Rattle.cross.specs.inner.Judged.{fileBy}
 use Rattle.cross.specs.inner.Stage.{PassesAB}
-use Rattle.cross.specs.inner.Staged.{Recorded, repeatOf, idsLeast}
+use Rattle.cross.specs.inner.Recorded.{Recorded, repeatOf, idsLeast}
 
 -- a file is there where it has bytes
-pub here-is : (n : ℕ) (s : List ℕ) → ltb 0 (length s) ≡ fileOf n s .here
-here-is n [] = refl
-here-is n (b ∷ s) = lt-ltb 0 (length (b ∷ s)) (omega arith)
+pub here-is : (t : Table) (n : ℕ) (s : List ℕ) → ltb 0 (length s) ≡ fileOf t n s .here
+here-is t n [] = refl
+here-is t n (b ∷ s) = lt-ltb 0 (length (b ∷ s)) (omega arith)
 
--- what is picked of the file s of number n, by the rest p from its records on
+-- what a set has of a file is a function of the file's shape; and so the same by its table and by its sheet
+same-file : (t u : Table) (n k : ℕ) → fileShape t n ≡ fileShape u k → (s : List ℕ) → fileOf t n s ≡ fileOf u k s
+same-file t u n k e [] = refl
+same-file t u n k e (b ∷ s) = λ i. record { here = true; records = recordsIn (e i) (b ∷ s) }
+
+pub file-sheet : (table file : ℕ) (s : List ℕ) → fileOf (tableAt table) file s ≡ fileOf sheets (sheetOf table file) s
+file-sheet table file s = same-file (tableAt table) sheets file (sheetOf table file) (sym (sheet-shape table file)) s
+
+-- what is picked of the file s of the sheet n, by the rest p from its records on
 pub record InBytes (n : ℕ) (s p : List ℕ) : Type 0 where
   pub recorded : Recorded p
-  pub is : fileOf n s ≡ fileBy n p
-  pub repeated : least (repeatsIn n (pickedItems (recordShape n) p)) ≡ idsLeast n p
+  pub is : fileOf sheets n s ≡ fileBy n p
+  pub repeated : least (repeatsIn (sheetShape n) (pickedItems (recordShape n) p)) ≡ idsLeast n p
   pub singles : hasIds n ≡ true → AllIdsOnce n p
   pub sound : (m : Item) → List·Memᴰ m (itemsOf p)
       → (q : Place) × (φ : ℕ) × (faults (recordShape n) q φ (pick (recordShape n) (partTree (itemOf p m))) ≡ [])
 
-no-repeats : (n : ℕ) → least (repeatsIn n []) ≡ None
+no-repeats : (n : ℕ) → least (repeatsIn (sheetShape n) []) ≡ None
 unfolding repeatsFrom
 no-repeats n = go (idKey n)
   where
@@ -87,12 +96,12 @@ module _ (n : ℕ) (h : hasRecords n ≡ true) (b : ℕ) (r : List ℕ) (t : Pas
   through : Held n s (clean.treeOf s)
   through =
       let v = passed s reads in
-      rw (tree-is s v) (held n h s v (ap (fileFaults (fileShape table23 n)) (sym (tree-is s v)) ∙ t .faultless (λ e. omega arith)))
+      rw (tree-is s v) (held n h s v (ap (fileFaults (sheetShape n)) (sym (tree-is s v)) ∙ t .faultless (λ e. omega arith)))
 
   are-picked : through .list ≡ pickedItems (recordShape n) p
   are-picked = rest-picked f reads (through .there)
 
-  repeated-is : least (repeats n (pick (fileShape table23 n) (clean.treeOf s))) ≡ idsLeast n p
+  repeated-is : least (repeats (sheetShape n) (pick (sheetShape n) (clean.treeOf s))) ≡ idsLeast n p
   unfolding idsLeast repeatOf
   repeated-is =
       let none = none-least _ (t .faultless (λ e. omega arith)) in
@@ -119,7 +128,7 @@ module _ (n : ℕ) (h : hasRecords n ≡ true) (b : ℕ) (r : List ℕ) (t : Pas
       let r = through .there in
       omega (arith, ap length (rest-is f reads r), whole-some (r .there .whole), length-take (r .end - r .start) (drop (r .start) s))
 
-  records-are : recordsOf n (pick (fileShape table23 n) (clean.treeOf s)) ≡ pickedItems (recordShape n) p
+  records-are : recordsOf (sheetShape n) (pick (sheetShape n) (clean.treeOf s)) ≡ pickedItems (recordShape n) p
   records-are = through .are ∙ are-picked
 
   there-bytes : InBytes n s p
@@ -134,7 +143,7 @@ module _ (n : ℕ) (h : hasRecords n ≡ true) (b : ℕ) (r : List ℕ) (t : Pas
               along = λ k. rest-along f reads (through .there);
             };
         is = λ j. record { here = sym (lt-ltb 0 (length p) rest-some) j; records = records-are j };
-        repeated = ap (λ (l : List Picked). least (repeatsIn n l)) (sym records-are) ∙ repeated-is;
+        repeated = ap (λ (l : List Picked). least (repeatsIn (sheetShape n) l)) (sym records-are) ∙ repeated-is;
         singles = λ j. repeats-are n s reads (none-least _ (t .faultless (λ e. omega arith))) j f .singles;
         sound = sound-item;
       }

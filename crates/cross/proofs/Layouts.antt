@@ -1,60 +1,69 @@
--- The rows of a file's records stand in the last of its lines; and so what a slot gives is the member of its row's name.
+-- The rows of a sheet's records fill the lines that the table has for them, with a slot each; and so what a slot gives is the member of its row's name.
 use mathlib.Core.Bool.{true}
-use mathlib.Core.List.{List, [], _++_}
-use mathlib.Core.Path.{_≡_, refl, sym, ap, _∙_}
-use Prim.Native.Nat.{ℕ, _+_, _≤_, _<_}
+use mathlib.Core.List.{List, []}
+use mathlib.Core.Path.{_≡_, refl, sym, ap, subst, _∙_}
+use Prim.Native.Nat.{ℕ, _≤_, _<_}
 use native.Mathlib.Omega.{arith}
-use lib.ListN.{length, getD, drop}
+use lib.ListN.{length, getD}
 use Rattle.text.specs.Text.{same}
 use Rattle.json.specs.Tree as tree
 use Rattle.json.specs.Tree.{Members}
 use Rattle.walk.specs.Part.{Whole}
 use Rattle.walk.proofs.Wholes.{whole-kind}
-use Rattle.schema.specs.Shape.{Rows}
-use Rattle.schema.specs.Later.{rowsOf, listedIn}
-use Rattle.schema.specs.inner.Line.{entries, entriesOf, laidOut}
-use Rattle.schema.specs.inner.Sound.{distinctRows}
-use Rattle.schema.specs.Table23.{table23, written23, vehicleType, station, status, bike}
-use Rattle.schema.specs.Records.{identified}
-use Rattle.schema.proofs.Walk.{Laid, linesIn}
+use Rattle.schema.specs.Shape.{Shape, Rows}
+use Rattle.schema.specs.Later.{listedIn}
+use Rattle.schema.specs.Tables.{sheets, written}
+use Rattle.schema.specs.Records.{recordIn, recordShape, hasRecords, located}
+use Rattle.schema.specs.inner.Line.{inside}
+use Rattle.schema.specs.inner.RecordLines.{recordLines}
+use Rattle.schema.specs.inner.Sound.{distinctNames, distinctRows}
+use Rattle.schema.proofs.Computed.{every, every-file}
+use Rattle.schema.proofs.Walk.{Laid, LaidIn, linesIn, laid-object}
+use Rattle.schema.proofs.Leading.{record-count, record-laid}
 use Rattle.slots.specs.declared.Slots.{Slots}
-use Rattle.slots.specs.inner.Rows.{mostRows, namesIn}
+use Rattle.slots.specs.inner.Rows.{mostRows, namesIn, fewIn}
 use Rattle.slots.specs.inner.Slots.{slotAt}
+use Rattle.slots.proofs.Few.{few-rows}
 use Rattle.document.specs.inner.Values.{kindCode, memberOf}
 use Rattle.document.proofs.ByKind.{found-standing, member-found}
-use Rattle.cross.specs.inner.Judged.{Referring, recordFirst, recordCount, Slotted, Reads}
+use Rattle.document.proofs.Ways.{records-of}
+use Rattle.cross.specs.inner.Judged.{Referring, Slotted, Reads}
+use Rattle.cross.proofs.Tabled.{recordRows, object-rows}
 
--- these rows fill the lines of a file's records, with a slot each
-pub record Layout (file : ℕ) (rows : Rows) : Type 0 where
-  laid : Laid table23 (recordFirst file) rows
-  lines : linesIn rows ≡ recordCount file
+-- these rows fill the lines of a sheet's records, with a slot each
+pub record Layout (sheet : ℕ) (rows : Rows) : Type 0 where
+  laid : Laid sheets (recordLines sheets sheet .first) rows
+  lines : linesIn rows ≡ recordLines sheets sheet .count
   distinct : distinctRows rows ≡ true
   few : length (namesIn rows) ≤ mostRows
 
--- by tests that are computed
-computed : {file : ℕ} {rows : Rows} → drop (recordFirst file) (entriesOf table23) ≡ entries rows ++ drop (recordFirst file + recordCount file) (entriesOf table23)
-    → recordFirst file + linesIn rows ≤ length (entriesOf table23) → linesIn rows ≡ recordCount file → distinctRows rows ≡ true
-    → length (namesIn rows) ≤ mostRows → Layout file rows
-computed splits fits lines distinct few = record { laid = record { rest = _; splits = splits; fits = fits }; lines = lines; distinct = distinct; few = few }
+-- tests that are computed over all sheets
+records-distinct : (sheet : ℕ) → distinctNames (recordShape sheet) ≡ true
+unfolding every written located distinctNames listedIn same
+records-distinct sheet = every-file (λ σ. distinctNames (recordIn σ)) sheets refl refl sheet
 
-pub type-layout : Layout 1 (rowsOf vehicleType)
-unfolding recordFirst recordCount identified laidOut written23 distinctRows listedIn same namesIn
-type-layout = computed refl (omega arith) refl refl (omega arith)
+records-few : (sheet : ℕ) → fewIn (recordShape sheet) ≡ true
+unfolding every written located fewIn namesIn
+records-few sheet = every-file (λ σ. fewIn (recordIn σ)) sheets refl refl sheet
 
-pub station-layout : Layout 2 (rowsOf station)
-unfolding recordFirst recordCount identified laidOut written23 distinctRows listedIn same namesIn
-station-layout = computed refl (omega arith) refl refl (omega arith)
+module _ (sheet : ℕ) (h : hasRecords sheet ≡ true) where
+  laid-in : LaidIn sheets (recordLines sheets sheet .first) (recordShape sheet)
+  unfolding recordIn
+  laid-in = let d = records-of sheet h in rw (recordIn, d .is) (record-laid sheets sheet (d .is))
 
-pub status-layout : Layout 3 (rowsOf status)
-unfolding recordFirst recordCount identified laidOut written23 distinctRows listedIn same namesIn
-status-layout = computed refl (omega arith) refl refl (omega arith)
-
-pub bike-layout : Layout 4 (rowsOf bike)
-unfolding recordFirst recordCount identified laidOut written23 distinctRows listedIn same namesIn
-bike-layout = computed refl (omega arith) refl refl (omega arith)
+  pub layout : Layout sheet (recordRows sheet)
+  unfolding inside distinctNames
+  layout =
+      let e = object-rows sheet h in
+      record {
+        laid = laid-object sheets (recordLines sheets sheet .first) (recordRows sheet) (subst (LaidIn sheets (recordLines sheets sheet .first)) e laid-in);
+        lines = sym (record-count sheets sheet ∙ ap (λ (σ : Shape). length (inside σ)) e);
+        distinct = subst (λ (σ : Shape). distinctNames σ ≡ true) e (records-distinct sheet);
+        few = few-rows (recordRows sheet) (subst (λ (σ : Shape). fewIn σ ≡ true) e (records-few sheet));
+      }
 
 -- what is read at a slot is the member of its row's name
-module _ {p : List ℕ} {file : ℕ} {s : Slots} (g : Slotted file p s) {rows : Rows} (l : Layout file rows) (j : ℕ) (h : j < length (namesIn rows))
+module _ {p : List ℕ} {sheet : ℕ} {s : Slots} (g : Slotted sheet p s) {rows : Rows} (l : Layout sheet rows) (j : ℕ) (h : j < length (namesIn rows))
     {q : List ℕ} (r : Reads p s j q) where
   pub slot-member : {ms : Members} → Whole p (tree.object ms) → q ≡ memberOf p (getD (namesIn rows) j [])
   slot-member w =

@@ -1,11 +1,12 @@
 pub mod FromFile
 pub mod Numbers
+pub mod Tabled
 pub mod Joined
 pub mod Layouts
 pub mod Fielded
 pub mod Walked
 pub mod Gathering
 pub mod Files
+pub mod Bare
 pub mod Bounds
-pub mod Staging
 pub mod Sets

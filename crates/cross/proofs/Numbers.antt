@@ -1,16 +1,12 @@
 -- What holds of the files one after another holds of each by its number, by induction on how many are left; and what is known of a file by its number is known
 -- of the bytes that a function was handed.
-use mathlib.Core.Bool.{true, false}
 use mathlib.Core.List.{List}
-use mathlib.Core.Path.{_≡_, refl, sym, subst}
+use mathlib.Core.Path.{_≡_, sym, subst}
 use Prim.Native.Nat.{ℕ, zero, suc, _+_, _≤_, _<_}
 use native.Mathlib.Decide.{ℕ-discrete}
 use native.Mathlib.Omega.{arith}
-use Rattle.notation.proofs.Booleans.{true-false}
-use Rattle.schema.specs.Records.{hasRecords, hasIds, located, identified}
 use Rattle.fault.specs.Outcome.{fileCount}
 use Rattle.ids.specs.inner.Known.{Searchable}
-use Rattle.cross.specs.inner.Judged.{Referring}
 
 -- it holds of `left` numbers from a file's on
 unfoldable pub Each : (ℕ → Type 0) → (file left : ℕ) → Type 0
@@ -27,18 +23,6 @@ each-at P file (suc left) e k h i =
 pub by-number : (P : ℕ → Type 0) → Each P 1 fileCount → (file : ℕ) → 1 ≤ file → file ≤ fileCount → P file
 by-number P e file h i = each-at P 1 fileCount e file h (omega arith)
 
--- file 7 alone has no records
-pub recordless : (file : ℕ) → 1 ≤ file → file ≤ fileCount → hasRecords file ≡ false → file ≡ 7
-unfolding Each located
-recordless =
-    by-number (λ file. hasRecords file ≡ false → file ≡ 7)
-    (true-false refl, (true-false refl, (true-false refl, (true-false refl, (true-false refl, (true-false refl, (λ e. refl, (true-false refl, tt))))))))
-
--- records that refer to others have ids
-pub referring-ids : {file : ℕ} → Referring file → hasIds file ≡ true
-unfolding Each identified
-referring-ids {file} h = each-at (λ n. hasIds n ≡ true) 1 4 (refl, (refl, (refl, (refl, tt)))) file (h .least) (omega (arith, h .most))
-
-pub searchable-by : {file : ℕ} {p q notes lent : List ℕ} → q ≡ p → lent ≡ notes → Searchable file p notes → Searchable file q lent
-searchable-by {file} {p} {q} {notes} {lent} e k h =
-    subst (λ (l : List ℕ). Searchable file l lent) (sym e) (subst (Searchable file p) (sym k) h)
+pub searchable-by : {sheet : ℕ} {p q notes lent : List ℕ} → q ≡ p → lent ≡ notes → Searchable sheet p notes → Searchable sheet q lent
+searchable-by {sheet} {p} {q} {notes} {lent} e k h =
+    subst (λ (l : List ℕ). Searchable sheet l lent) (sym e) (subst (Searchable sheet p) (sym k) h)

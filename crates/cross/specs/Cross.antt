@@ -6,6 +6,7 @@ use Prim.Native.Nat.{ℕ, _+_}
 use lib.Dec.{eqb}
 use Rattle.notation.specs.Choice.{_⇒_else_, _and_}
 use Rattle.word.specs.Kinds.{condition, sumDiffers}
+use Rattle.schema.specs.Shape.{Table, fileShape}
 use Rattle.schema.specs.Pick.{Picked}
 use Rattle.fault.specs.declared.Fault.{Fault}
 use Rattle.fault.specs.declared.Place.{Place}
@@ -99,9 +100,9 @@ missingFile s file =
     eqb file 4 ⇒ not (s 2 .here) and not (s 4 .here) else
     eqb file 7 ⇒ not (s 7 .here) else false
 
--- all of one file
-unfoldable pub crossFaults : Files → ℕ → List Fault
-crossFaults s file =
+-- all of one file, by a table
+unfoldable pub crossFaults : Table → Files → ℕ → List Fault
+crossFaults t s file =
     faulty top 0 (kindIf (missingFile s file) condition) ++
-    repeatsIn file (s file .records) ++
+    repeatsIn (fileShape t file) (s file .records) ++
     eachRecord (faultsOf s file) 1 (s file .records)

@@ -3,10 +3,8 @@ use mathlib.Core.Bool.{true, false}
 use mathlib.Core.List.{List, [], _∷_}
 use Prim.Native.Nat.{ℕ}
 use lib.ListN.{getD}
-use Rattle.schema.specs.Shape.{fileShape}
-use Rattle.schema.specs.Table23.{table23}
-use Rattle.schema.specs.Pick.{pick}
-use Rattle.clean.specs.Clean.{treeOf, recordsOf}
+use Rattle.schema.specs.Shape.{Table, fileShape}
+use Rattle.clean.specs.Clean.{recordsIn}
 use Rattle.cross.specs.Cross.{File, Files}
 
 -- the byte strings of a set, in the order of their numbers
@@ -17,10 +15,10 @@ Feeds = List (List ℕ)
 abbrev pub bytesOf : Feeds → ℕ → List ℕ
 bytesOf s file = getD ([] ∷ s) file []
 
--- what a file has, by its bytes: without any it is absent
-abbrev pub fileOf : ℕ → List ℕ → File
-fileOf file [] = record { here = false; records = [] }
-fileOf file (b ∷ s) = record { here = true; records = recordsOf file (pick (fileShape table23 file) (treeOf (b ∷ s))) }
+-- by a table, what a file has, by its bytes: without any it is absent
+abbrev pub fileOf : Table → (file : ℕ) → List ℕ → File
+fileOf t file [] = record { here = false; records = [] }
+fileOf t file (b ∷ s) = record { here = true; records = recordsIn (fileShape t file) (b ∷ s) }
 
-abbrev pub picked : Feeds → Files
-picked s file = fileOf file (bytesOf s file)
+abbrev pub picked : Table → Feeds → Files
+picked t s file = fileOf t file (bytesOf s file)

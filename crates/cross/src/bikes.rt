@@ -1,4 +1,6 @@
 // A record of file 4: a position of its own unless it stands at a station, and what it refers to.
+use crate::references::demanded_in;
+use crate::references::refers_in;
 use crate::set::FILES;
 use crate::set::LENT;
 use crate::set::file_in;
@@ -9,11 +11,10 @@ use fault::Place;
 use fault::lesser;
 use ids::Notes;
 use ids::references::demanded;
-use ids::references::demanded_by;
-use ids::references::refers;
 use slots::Slots;
 ghost use mathlib.Core.List.{map};
 ghost use mathlib.Core.Path.{_≡_};
+ghost use Rattle.schema.specs.Tables.{sheetOf};
 ghost use Rattle.fault.specs.Fault.{least};
 ghost use Rattle.slots.specs.inner.Slots.{slotsOf};
 ghost use Rattle.ids.specs.inner.Known.{Searchable};
@@ -32,23 +33,28 @@ fn judge_position(station: &[u8], lat: &[u8], lon: &[u8], place: Place) -> Least
 
 // Fields 45 and 46, by their values.
 fn judge_vehicle(
+    table: u8,
     reference: &[u8],
     range: &[u8],
     place: Place,
     types: &[u8],
     type_notes: &[u32; Notes::SIZE],
 ) -> Least
-    requires { ⌜ Searchable 1 (now types) (now «type_notes») ⌝ }
-    ensures { λ r. ⌜ r ≡ least (vehicleBy place (fileBy 1 (now (types .entry))) (now (reference .entry)) (now (range .entry))) ⌝ }
+    requires { ⌜ Searchable (sheetOf table 1) (now types) (now «type_notes») ⌝ }
+    ensures { λ r. ⌜ r ≡ least (vehicleBy place (fileBy (sheetOf table 1) (now (types .entry))) (now (reference .entry)) (now (range .entry))) ⌝ }
 {
     let a = place.broken(45, demanded(0 < types.len(), reference));
-    let b = place.broken(45, refers(reference, 1, types, type_notes));
-    let c = place.broken(46, demanded_by(reference, range, 1, types, type_notes));
+    let b = place.broken(45, refers_in(reference, table, 1, types, type_notes));
+    let c = place.broken(
+        46,
+        demanded_in(reference, range, table, 1, types, type_notes),
+    );
     lesser(lesser(a, b), c)
 }
 
 // The n-th record `p` by its slots.
 pub fn judge_bike<'a, 'n, 's>(
+    table: u8,
     p: &[u8],
     state: &'s [u8; Slots::ROWS],
     from: &'s [usize; Slots::ROWS],
@@ -57,8 +63,8 @@ pub fn judge_bike<'a, 'n, 's>(
     records: [&'a [u8]; FILES],
     notes: [&'n [u32; Notes::SIZE]; LENT],
 ) -> Least
-    requires { ⌜ Slotted 4 (now p) (slotsOf (now state) (now from) (now upto)) × Known 4 (map now records) (map now notes) ⌝ }
-    ensures { λ r. ⌜ Judges 4 (bikeFaults (filesBy (map now (records .entry))) n) (now (p .entry)) r ⌝ }
+    requires { ⌜ Slotted (sheetOf table 4) (now p) (slotsOf (now state) (now from) (now upto)) × Known table 4 (map now records) (map now notes) ⌝ }
+    ensures { λ r. ⌜ Judges (sheetOf table 4) (bikeFaults (filesBy table (map now (records .entry))) n) (now (p .entry)) r ⌝ }
 {
     let place = Place { record: n, sub: 0 };
     let station = value_in(p, state, from, upto, 7);
@@ -69,6 +75,7 @@ pub fn judge_bike<'a, 'n, 's>(
         place,
     );
     let b = judge_vehicle(
+        table,
         value_in(p, state, from, upto, 5),
         value_in(p, state, from, upto, 6),
         place,
@@ -77,9 +84,12 @@ pub fn judge_bike<'a, 'n, 's>(
     );
     let c = place.broken(
         47,
-        refers(station, 2, file_in(records, 2), notes_in(notes, 1)),
+        refers_in(station, table, 2, file_in(records, 2), notes_in(notes, 1)),
     );
     let plan = value_in(p, state, from, upto, 8);
-    let d = place.broken(48, refers(plan, 5, file_in(records, 5), notes_in(notes, 2)));
+    let d = place.broken(
+        48,
+        refers_in(plan, table, 5, file_in(records, 5), notes_in(notes, 2)),
+    );
     lesser(lesser(a, b), lesser(c, d))
 }

@@ -1,10 +1,9 @@
-// Stage C: what the files of a set demand of each other.
-mod bikes;
-mod records;
+// What each record demands of its own fields and of other files, for stage C.
+pub mod bikes;
+mod references;
 pub mod set;
 mod slotted;
-pub mod stage;
-mod stations;
-mod statuses;
-mod types;
-mod zones;
+pub mod stations;
+pub mod statuses;
+pub mod types;
+pub mod zones;

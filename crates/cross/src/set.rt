@@ -4,10 +4,11 @@ use word::Word;
 ghost use mathlib.Core.List.{[], map};
 ghost use mathlib.Core.Path.{_≡_};
 ghost use Prim.Native.Nat.{_≤_, _<_};
-ghost use lib.ListN.{getD};
+ghost use lib.Dec.{ltb};
+ghost use lib.ListN.{length, getD};
 ghost use Rattle.fault.specs.Outcome.{fileCount};
 ghost use Rattle.cross.specs.Stage.{bytesOf};
-ghost use Rattle.cross.specs.inner.Judged.{filesBy, lentCount};
+ghost use Rattle.cross.specs.inner.Judged.{lentCount};
 
 // How many files a set has.
 pub const FILES: usize = Word::FILES as usize;
@@ -26,7 +27,7 @@ pub fn file_in<'a>(files: [&'a [u8]; FILES], file: u8) -> &'a [u8]
 // Whether the file with this number is there, by its records.
 pub fn is_here<'a>(records: [&'a [u8]; FILES], file: u8) -> bool
     requires { ⌜ (1 ≤ file) × (file ≤ fileCount) ⌝ }
-    ensures { λ r. ⌜ r ≡ filesBy (map now (records .entry)) file .here ⌝ }
+    ensures { λ r. ⌜ r ≡ ltb 0 (length (bytesOf (map now (records .entry)) file)) ⌝ }
 {
     0 < file_in(records, file).len()
 }

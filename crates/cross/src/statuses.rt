@@ -1,4 +1,6 @@
 // A record of file 3: its station, and the types that are available there.
+use crate::references::demanded_in;
+use crate::references::refers_in;
 use crate::set::FILES;
 use crate::set::LENT;
 use crate::set::file_in;
@@ -12,8 +14,6 @@ use fault::Place;
 use fault::lesser;
 use ids::Notes;
 use ids::references::demanded;
-use ids::references::demanded_by;
-use ids::references::refers;
 use slots::Slots;
 use walk::ItemStep;
 use walk::pass_item;
@@ -29,8 +29,8 @@ ghost use Rattle.notation.specs.Choice.{_and_};
 ghost use Rattle.word.specs.Kinds.{sumDiffers};
 ghost use Rattle.word.specs.inner.Listed.{listed};
 ghost use Rattle.walk.specs.inner.Along.{AlongItems};
+ghost use Rattle.schema.specs.Tables.{sheetOf};
 ghost use Rattle.schema.specs.Table23.{available as availableShape};
-ghost use Rattle.schema.specs.Records.{recordShape};
 ghost use Rattle.fault.specs.Fault.{least};
 ghost use Rattle.slots.specs.inner.Slots.{slotsOf};
 ghost use Rattle.document.specs.inner.Items.{pickedItems};
@@ -49,9 +49,15 @@ pub struct Tally {
 }
 
 // The types that are available, in the array `p`, item by item.
-fn judge_available(p: &[u8], n: u32, types: &[u8], type_notes: &[u32; Notes::SIZE]) -> Tally
-    requires { ⌜ Searchable 1 (now types) (now «type_notes») × (length (now p) ≤ fileBytes) × ((0 < length (now p)) → AlongItems (now p) 1) ⌝ }
-    ensures { λ r. ⌜ Tallies n (pickedItems (recordShape 1) (now (types .entry))) (pickedItems availableShape (now (p .entry))) r ⌝ }
+fn judge_available(
+    table: u8,
+    p: &[u8],
+    n: u32,
+    types: &[u8],
+    type_notes: &[u32; Notes::SIZE],
+) -> Tally
+    requires { ⌜ Searchable (sheetOf table 1) (now types) (now «type_notes») × (length (now p) ≤ fileBytes) × ((0 < length (now p)) → AlongItems (now p) 1) ⌝ }
+    ensures { λ r. ⌜ Tallies n (fileBy (sheetOf table 1) (now (types .entry)) .records) (pickedItems availableShape (now (p .entry))) r ⌝ }
 {
     let mut sum: u64 = 0;
     let mut least = Least::None;
@@ -71,7 +77,7 @@ fn judge_available(p: &[u8], n: u32, types: &[u8], type_notes: &[u32; Notes::SIZ
         };
         let broken = place.broken(
             38,
-            refers(member(q, b"vehicle_type_id"), 1, types, type_notes),
+            refers_in(member(q, b"vehicle_type_id"), table, 1, types, type_notes),
         );
         least = lesser(least, broken);
         sum += integer_in(member(q, b"count"));
@@ -94,36 +100,39 @@ fn sum_kind(available: &[u8], sum: u64, bikes: &[u8]) -> u8
 
 // Fields 30 and 32, by their values.
 fn judge_docks(
+    table: u8,
     reference: &[u8],
     docks: &[u8],
     place: Place,
     stations: &[u8],
     station_notes: &[u32; Notes::SIZE],
 ) -> Least
-    requires { ⌜ Searchable 2 (now stations) (now «station_notes») ⌝ }
-    ensures { λ r. ⌜ r ≡ least (docksBy place (fileBy 2 (now (stations .entry))) (now (reference .entry)) (now (docks .entry))) ⌝ }
+    requires { ⌜ Searchable (sheetOf table 2) (now stations) (now «station_notes») ⌝ }
+    ensures { λ r. ⌜ r ≡ least (docksBy place (fileBy (sheetOf table 2) (now (stations .entry))) (now (reference .entry)) (now (docks .entry))) ⌝ }
 {
-    let a = place.broken(30, refers(reference, 2, stations, station_notes));
+    let a = place.broken(30, refers_in(reference, table, 2, stations, station_notes));
     let b = place.broken(
         32,
-        demanded_by(reference, docks, 2, stations, station_notes),
+        demanded_in(reference, docks, table, 2, stations, station_notes),
     );
     lesser(a, b)
 }
 
 // Field 37 and what stands in it, by its value and that of field 31.
 fn judge_counts(
+    table: u8,
     available: &[u8],
     bikes: &[u8],
     n: u32,
     types: &[u8],
     type_notes: &[u32; Notes::SIZE],
 ) -> Least
-    requires { ⌜ Searchable 1 (now types) (now «type_notes») × (length (now available) ≤ fileBytes) × ((0 < length (arrayBy (now available))) → AlongItems (arrayBy (now available)) 1) ⌝ }
-    ensures { λ r. ⌜ r ≡ least (countsBy n (fileBy 1 (now (types .entry))) (now (available .entry)) (now (bikes .entry))) ⌝ }
+    requires { ⌜ Searchable (sheetOf table 1) (now types) (now «type_notes») × (length (now available) ≤ fileBytes) ×
+        ((0 < length (arrayBy (now available))) → AlongItems (arrayBy (now available)) 1) ⌝ }
+    ensures { λ r. ⌜ r ≡ least (countsBy n (fileBy (sheetOf table 1) (now (types .entry))) (now (available .entry)) (now (bikes .entry))) ⌝ }
 {
     let place = Place { record: n, sub: 0 };
-    let tally = judge_available(array_in(available), n, types, type_notes);
+    let tally = judge_available(table, array_in(available), n, types, type_notes);
     let a = place.broken(37, demanded(0 < types.len(), available));
     let b = place.broken(37, sum_kind(available, tally.sum, bikes));
     let c = tally.least;
@@ -132,6 +141,7 @@ fn judge_counts(
 
 // The n-th record `p` by its slots.
 pub fn judge_status<'a, 'n, 's>(
+    table: u8,
     p: &[u8],
     state: &'s [u8; Slots::ROWS],
     from: &'s [usize; Slots::ROWS],
@@ -140,11 +150,12 @@ pub fn judge_status<'a, 'n, 's>(
     records: [&'a [u8]; FILES],
     notes: [&'n [u32; Notes::SIZE]; LENT],
 ) -> Least
-    requires { ⌜ Slotted 3 (now p) (slotsOf (now state) (now from) (now upto)) × Known 3 (map now records) (map now notes) × (length (now p) ≤ fileBytes) × Object (now p) ⌝ }
-    ensures { λ r. ⌜ Judges 3 (statusFaults (filesBy (map now (records .entry))) n) (now (p .entry)) r ⌝ }
+    requires { ⌜ Slotted (sheetOf table 3) (now p) (slotsOf (now state) (now from) (now upto)) × Known table 3 (map now records) (map now notes) × (length (now p) ≤ fileBytes) × Object (now p) ⌝ }
+    ensures { λ r. ⌜ Judges (sheetOf table 3) (statusFaults (filesBy table (map now (records .entry))) n) (now (p .entry)) r ⌝ }
 {
     let place = Place { record: n, sub: 0 };
     let a = judge_docks(
+        table,
         value_in(p, state, from, upto, 0),
         value_in(p, state, from, upto, 2),
         place,
@@ -152,6 +163,7 @@ pub fn judge_status<'a, 'n, 's>(
         notes_in(notes, 1),
     );
     let b = judge_counts(
+        table,
         value_in(p, state, from, upto, 7),
         value_in(p, state, from, upto, 1),
         n,

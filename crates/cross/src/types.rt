@@ -1,4 +1,5 @@
 // A record of file 1: a range unless a human drives, and a plan.
+use crate::references::refers_in;
 use crate::set::FILES;
 use crate::set::LENT;
 use crate::set::file_in;
@@ -10,15 +11,16 @@ use fault::lesser;
 use ids::Notes;
 use ids::lookup::is_motorized;
 use ids::references::demanded;
-use ids::references::refers;
 use slots::Slots;
 ghost use mathlib.Core.List.{map};
+ghost use Rattle.schema.specs.Tables.{sheetOf};
 ghost use Rattle.slots.specs.inner.Slots.{slotsOf};
 ghost use Rattle.cross.specs.Cross.{typeFaults};
 ghost use Rattle.cross.specs.inner.Judged.{filesBy, Known, Judges, Slotted};
 
 // The n-th record `p` by its slots.
 pub fn judge_type<'a, 'n, 's>(
+    table: u8,
     p: &[u8],
     state: &'s [u8; Slots::ROWS],
     from: &'s [usize; Slots::ROWS],
@@ -27,8 +29,8 @@ pub fn judge_type<'a, 'n, 's>(
     records: [&'a [u8]; FILES],
     notes: [&'n [u32; Notes::SIZE]; LENT],
 ) -> Least
-    requires { ⌜ Slotted 1 (now p) (slotsOf (now state) (now from) (now upto)) × Known 1 (map now records) (map now notes) ⌝ }
-    ensures { λ r. ⌜ Judges 1 (typeFaults (filesBy (map now (records .entry))) n) (now (p .entry)) r ⌝ }
+    requires { ⌜ Slotted (sheetOf table 1) (now p) (slotsOf (now state) (now from) (now upto)) × Known table 1 (map now records) (map now notes) ⌝ }
+    ensures { λ r. ⌜ Judges (sheetOf table 1) (typeFaults (filesBy table (map now (records .entry))) n) (now (p .entry)) r ⌝ }
 {
     let place = Place { record: n, sub: 0 };
     let plans = file_in(records, 5);
@@ -36,6 +38,9 @@ pub fn judge_type<'a, 'n, 's>(
     let reference = value_in(p, state, from, upto, 4);
     let a = place.broken(13, demanded(motorized, value_in(p, state, from, upto, 3)));
     let b = place.broken(14, demanded(0 < plans.len(), reference));
-    let c = place.broken(14, refers(reference, 5, plans, notes_in(notes, 2)));
+    let c = place.broken(
+        14,
+        refers_in(reference, table, 5, plans, notes_in(notes, 2)),
+    );
     lesser(a, lesser(b, c))
 }

@@ -1,11 +1,12 @@
 -- The code's steps along the names that lead to a file's records: the top value, a member in a span, an item by its number.
-use mathlib.Core.Bool.{false}
+use mathlib.Core.Bool.{true, false}
 use mathlib.Core.List.{List, [], _∷_, map}
 use mathlib.Core.Path.{_≡_, refl, sym, ap, _∙_}
 use Prim.Native.Nat.{ℕ, zero, suc, _+_, _-_, _≤_, _<_}
 use native.Mathlib.Omega.{arith}
 use lib.ListN.{length, drop}
-use Rattle.notation.specs.Maybe.{some}
+use Rattle.notation.specs.Maybe.{Maybe, none, some, given}
+use Rattle.notation.proofs.Booleans.{true-false}
 use Rattle.limits.specs.Ceilings.{depth}
 use Rattle.lexeme.specs.declared.Scan.the-variants as scan
 use Rattle.lexeme.specs.Read.{Read, placed}
@@ -21,7 +22,9 @@ use Rattle.walk.proofs.Rests.{rest-drop, rest-blanks, rest-there}
 use Rattle.walk.proofs.Finding.{valued-at}
 use Rattle.walk.proofs.Files.{passed}
 use Rattle.schema.specs.Records.{Way, wayTo, hasRecords}
+use Rattle.schema.specs.inner.Ways.{wayNames}
 use Rattle.schema.proofs.Recorded.{no-way}
+use Rattle.schema.specs.Tables.{sheetShape}
 use Rattle.document.specs.declared.Span.the-variants.{None, Is}
 use Rattle.document.specs.Spans.{memberSpan, membersAlong, topSpan, recordsSpan, nth}
 use Rattle.document.specs.inner.Spans.{Readable}
@@ -56,17 +59,27 @@ module _ (s : List ℕ) (from : ℕ) (e : from ≡ offsetOf s (blanks s)) where
       v (l .what) (drop (t .end) s) (ap (λ (n : ℕ). value paired depth (drop n s)) e ∙ l .reads) (t .after) ∙ sym (place-at s (t .end) (l .upto)) in
       rw (e, u) (sym (top-found s (t .end) (t .found)))
 
--- two names, or three; none in a file without records
-module _ (file : ℕ) (s a b : List ℕ) {w : Way} (e : wayTo file ≡ some w) where
-  pub along-two : map (λ k. k .name) (w .keys) ≡ a ∷ b ∷ [] → memberSpan s b (memberSpan s a (topSpan s)) ≡ recordsSpan file s
-  unfolding recordsSpan membersAlong
-  along-two i = rw (recordsSpan, e, i)
+-- along the names that lead to the records of a sheet; none where it has no records
+pub along-names : (n : ℕ) (s : List ℕ) → hasRecords n ≡ true → membersAlong s (wayNames (sheetShape n)) (topSpan s) ≡ recordsSpan (sheetShape n) s
+unfolding recordsSpan wayNames
+along-names n s h = go (wayTo n) h
+  where
+    go : (o : Maybe Way) → given o ≡ true
+        → membersAlong s (elim o [ none ↦ [] | some w ↦ map (λ k. k .name) (w .keys) ]) (topSpan s)
+        ≡ elim o [ none ↦ None | some w ↦ membersAlong s (map (λ k. k .name) (w .keys)) (topSpan s) ]
+    go none e = true-false e refl
+    go (some w) e = refl
 
-  pub along-three : (d : List ℕ) → map (λ k. k .name) (w .keys) ≡ a ∷ b ∷ d ∷ [] → memberSpan s d (memberSpan s b (memberSpan s a (topSpan s))) ≡ recordsSpan file s
-  unfolding recordsSpan membersAlong
-  along-three d i = rw (recordsSpan, e, i)
+-- a way has names just where there are records
+pub names-given : (n : ℕ) (name : List ℕ) (names : List (List ℕ)) → wayNames (sheetShape n) ≡ name ∷ names → hasRecords n ≡ true
+unfolding wayNames
+names-given n name names e = go (wayTo n) e
+  where
+    go : (o : Maybe Way) → (elim o [ none ↦ [] | some w ↦ map (λ k. k .name) (w .keys) ]) ≡ name ∷ names → given o ≡ true
+    go none i = let z : _≡_ {A = ℕ} 0 1 = cc in absurd (omega arith)
+    go (some w) i = refl
 
-pub along-none : (file : ℕ) (s : List ℕ) → hasRecords file ≡ false → recordsSpan file s ≡ None
+pub along-none : (file : ℕ) (s : List ℕ) → hasRecords file ≡ false → recordsSpan (sheetShape file) s ≡ None
 unfolding recordsSpan
 along-none file s h = rw (recordsSpan, no-way file h)
 

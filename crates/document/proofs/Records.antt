@@ -19,8 +19,8 @@ use Rattle.walk.proofs.Trees.{array-parts}
 use Rattle.walk.proofs.Open.{front-map}
 use Rattle.walk.proofs.Files.{valueStart, Passed}
 use Rattle.schema.specs.Shape as shape
-use Rattle.schema.specs.Shape.{Shape, fileShape}
-use Rattle.schema.specs.Table23.{table23}
+use Rattle.schema.specs.Shape.{Shape}
+use Rattle.schema.specs.Tables.{sheetShape}
 use Rattle.schema.specs.Records.{Key, recordShape}
 use Rattle.schema.specs.Pick.{Picked, PickedItems, items, pick, pickItems, listOf}
 use Rattle.document.specs.declared.Span.{Span}
@@ -124,7 +124,7 @@ module _ (numbering : shape.Numbering) (most : ℕ) (σ : Shape) (is : PickedIte
 
 -- of a file that passes, where the way to its records is there
 pub records-stand : (n : ℕ) (d : Recorded n) (s : List ℕ) (t : Passed s) (is : PickedItems)
-    → along (map (λ k. k .field) (d .way .keys)) (pick (fileShape table23 n) (t .tree)) ≡ some (items is) → Records s (recordsSpan n s) (recordShape n) (listOf is)
+    → along (map (λ k. k .field) (d .way .keys)) (pick (sheetShape n) (t .tree)) ≡ some (items is) → Records s (recordsSpan (sheetShape n) s) (recordShape n) (listOf is)
 unfolding recordsSpan
 records-stand n d s t is e =
     let p = leads-on (d .leads) s (valueStart s) (t .end) (t .tree) (top-stands s t) (items is) e in

@@ -31,6 +31,7 @@ use Rattle.document.specs.declared.Span.the-variants.{None, Is}
 use Rattle.document.specs.Spans.{moved, memberSpan, membersAlong, topSpan, recordsSpan, nth, nthIn, recordSpan}
 use Rattle.document.specs.inner.Spans.{Listed, ValueFrom, RecordsFrom}
 use Rattle.walk.proofs.Cuts.{part-rest}
+use Rattle.schema.specs.Tables.{sheetShape}
 use Rattle.document.proofs.Along.{along-none}
 use Rattle.document.proofs.Rows.{Stands, stands-found}
 use Rattle.document.proofs.Records.{top-is, top-stands, open-items, Records}
@@ -88,7 +89,7 @@ no-records file s r h e =
       starts = λ i from upto j. let k : None ≡ Is from upto = sym (along-none file s h) ∙ j in let z : _≡_ {A = ℕ} 0 1 = cc in absurd (omega arith);
     }
 
-pub records-begin : (file : ℕ) (s : List ℕ) (span : Span) (r : List ℕ) → hasRecords file ≡ true → span ≡ recordsSpan file s → Begins s span r → RecordsFrom file s r
+pub records-begin : (file : ℕ) (s : List ℕ) (span : Span) (r : List ℕ) → hasRecords file ≡ true → span ≡ recordsSpan (sheetShape file) s → Begins s span r → RecordsFrom file s r
 records-begin file s span r h e b =
     record { inside = b .inside; none = λ i. true-false h i; starts = λ i from upto j. b .starts i from upto (e ∙ j) .2 }
 
@@ -101,7 +102,7 @@ none-from {r = r} f e = go r (omega (arith, f .inside, ap length e))
     go (b ∷ l) h = absurd (omega arith)
 
 -- Of a file whose records are picked, the rest from its records on has them for its items, and a walk goes along them.
-module _ {file : ℕ} {s p : List ℕ} {σ : Shape} {l : List Picked} (f : RecordsFrom file s p) (sound : syntaxOf s ≡ Sound) (r : Records s (recordsSpan file s) σ l) where
+module _ {file : ℕ} {s p : List ℕ} {σ : Shape} {l : List Picked} (f : RecordsFrom file s p) (sound : syntaxOf s ≡ Sound) (r : Records s (recordsSpan (sheetShape file) s) σ l) where
   pub rest-is : p ≡ drop (r .start) s
   rest-is = f .starts sound (r .start) (r .end) (r .is)
 
@@ -114,7 +115,7 @@ module _ {file : ℕ} {s p : List ℕ} {σ : Shape} {l : List Picked} (f : Recor
   pub rest-picked : l ≡ pickedItems σ p
   rest-picked = r .picked ∙ sym (ap (pickedItems σ) rest-is ∙ open-items σ s (r .start) (r .end) (r .there .whole))
 
-pub records-listed : {file : ℕ} {s : List ℕ} {σ : Shape} {l : List Picked} → syntaxOf s ≡ Sound → Records s (recordsSpan file s) σ l → Listed file s
+pub records-listed : {file : ℕ} {s : List ℕ} {σ : Shape} {l : List Picked} → syntaxOf s ≡ Sound → Records s (recordsSpan (sheetShape file) s) σ l → Listed file s
 records-listed sound r = Listed.listed (r .start) (r .end) sound (r .is) (r .there .whole)
 
 pub none-along : (s : List ℕ) (names : List (List ℕ)) → membersAlong s names None ≡ None
@@ -122,7 +123,7 @@ unfolding membersAlong
 none-along s [] = refl
 none-along s (name ∷ names) = none-along s names
 
-pub no-record : (file n : ℕ) → recordSpan file [] n ≡ None
+pub no-record : (file n : ℕ) → recordSpan (sheetShape file) [] n ≡ None
 unfolding recordSpan recordsSpan topSpan blanks
 no-record file n = go (wayTo file)
   where
@@ -135,14 +136,14 @@ no-record file n = go (wayTo file)
 
 -- the n-th record, in the rest p
 module _ (file : ℕ) (s p : List ℕ) (n : ℕ) (f : RecordsFrom file s p) where
-  pub record-absent : length p ≡ 0 → Listed file s → None ≡ recordSpan file s n
+  pub record-absent : length p ≡ 0 → Listed file s → None ≡ recordSpan (sheetShape file) s n
   unfolding recordSpan
-  record-absent h (Listed.absent e) = sym (ap (λ (l : List ℕ). recordSpan file l n) e ∙ no-record file n)
+  record-absent h (Listed.absent e) = sym (ap (λ (l : List ℕ). recordSpan (sheetShape file) l n) e ∙ no-record file n)
   record-absent h (Listed.recordless e) = sym (ap (λ (z : Span). nthIn s z n) (along-none file s e))
   record-absent h (Listed.listed from upto sound is w) =
       absurd (omega (arith, ap length (f .starts sound from upto is), whole-some w, length-take (upto - from) (drop from s)))
 
-  pub record-there : (length p ≡ 0 → ⊥) → Listed file s → AlongItems p 1 × (nth (length s - length p) (itemsOf p) n ≡ recordSpan file s n)
+  pub record-there : (length p ≡ 0 → ⊥) → Listed file s → AlongItems p 1 × (nth (length s - length p) (itemsOf p) n ≡ recordSpan (sheetShape file) s n)
   unfolding recordSpan
   record-there h (Listed.absent e) = absurd (h (ap length (none-from f e)))
   record-there h (Listed.recordless e) = absurd (h (ap length (f .none e)))

@@ -25,6 +25,7 @@ use Rattle.walk.proofs.Files.{valueStart, Passed}
 use Rattle.schema.specs.Shape.{Shape}
 use Rattle.schema.specs.Records.{Way, wayTo}
 use Rattle.schema.specs.Pick.{Picked}
+use Rattle.schema.specs.Tables.{sheetShape}
 use Rattle.slots.specs.declared.Found.{Found}
 use Rattle.slots.specs.declared.Found.the-variants.{Missing, Once, Twice}
 use Rattle.slots.specs.Found.{noted, foundIn}
@@ -112,8 +113,8 @@ listed-of [] = refl
 listed-of (x ∷ l) = ap (λ (z : List Json). x ∷ z) (listed-of l)
 
 -- of a file that stage A passes, in which an array stands where its records do
-pub records-trees : (file : ℕ) {s : List ℕ} {σ : Shape} {l : List Picked} (t : Passed s) (r : Records s (recordsSpan file s) σ l)
-    → recordTrees file (t .tree) ≡ itemTrees (part s (r .start) (r .end))
+pub records-trees : (file : ℕ) {s : List ℕ} {σ : Shape} {l : List Picked} (t : Passed s) (r : Records s (recordsSpan (sheetShape file) s) σ l)
+    → recordTrees (sheetShape file) (t .tree) ≡ itemTrees (part s (r .start) (r .end))
 unfolding recordTrees recordsSpan
 records-trees file {s} t r = go (wayTo file) (r .is)
   where

@@ -9,7 +9,8 @@ use Rattle.limits.specs.Ceilings.{depth}
 use Rattle.json.specs.Text.{value}
 use Rattle.walk.specs.declared.Item.{Item}
 use Rattle.walk.specs.Walk.{offsetOf, part, itemsOf}
-use Rattle.schema.specs.Records.{wayTo}
+use Rattle.schema.specs.Shape.{Shape}
+use Rattle.schema.specs.Records.{wayIn}
 use Rattle.slots.specs.declared.Found.{Found}
 use Rattle.slots.specs.declared.Found.the-variants.{Missing, Once, Twice}
 use Rattle.slots.specs.Found.{foundIn}
@@ -35,9 +36,9 @@ membersAlong s (name ∷ names) span = membersAlong s names (memberSpan s name s
 unfoldable pub topSpan : List ℕ → Span
 topSpan s = elim (value paired depth (blanks s)) [ done x r ↦ Is (offsetOf s (blanks s)) (offsetOf s r) | bad k r ↦ None ]
 
--- the array of records; none in a file without records
-unfoldable pub recordsSpan : ℕ → List ℕ → Span
-recordsSpan file s = elim (wayTo file) [ none ↦ None | some w ↦ membersAlong s (map (λ k. k .name) (w .keys)) (topSpan s) ]
+-- the array of records, in a file of this shape; none in one without records
+unfoldable pub recordsSpan : Shape → List ℕ → Span
+recordsSpan σ s = elim (wayIn σ) [ none ↦ None | some w ↦ membersAlong s (map (λ k. k .name) (w .keys)) (topSpan s) ]
 
 -- the n-th item, counted from 1, of a list of them
 unfoldable pub nth : ℕ → List Item → ℕ → Span
@@ -50,5 +51,5 @@ abbrev pub nthIn : List ℕ → Span → ℕ → Span
 nthIn s None n = None
 nthIn s (Is from upto) n = nth from (itemsOf (part s from upto)) n
 
-unfoldable pub recordSpan : ℕ → List ℕ → ℕ → Span
-recordSpan file s n = nthIn s (recordsSpan file s) n
+unfoldable pub recordSpan : Shape → List ℕ → ℕ → Span
+recordSpan σ s n = nthIn s (recordsSpan σ s) n

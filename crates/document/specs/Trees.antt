@@ -3,7 +3,8 @@ use mathlib.Core.List.{List, [], _∷_, map}
 use Prim.Native.Nat.{ℕ, zero, suc}
 use Rattle.json.specs.Tree as tree
 use Rattle.json.specs.Tree.{Json, Items}
-use Rattle.schema.specs.Records.{wayTo}
+use Rattle.schema.specs.Shape.{Shape}
+use Rattle.schema.specs.Records.{wayIn}
 use Rattle.schema.specs.Pick.{find}
 use Rattle.document.specs.Document.{Maybe, none, some, onceOnly}
 
@@ -35,9 +36,9 @@ itemsIn (some (tree.boolean b)) = []
 itemsIn (some tree.null) = []
 itemsIn none = []
 
--- the records of a file of this number and tree
-unfoldable pub recordTrees : ℕ → Json → List Json
-recordTrees file x = elim (wayTo file) [ none ↦ [] | some w ↦ itemsIn (valueAlong (map (λ k. k .name) (w .keys)) x) ]
+-- the records of a file of this shape and tree
+unfoldable pub recordTrees : Shape → Json → List Json
+recordTrees σ x = elim (wayIn σ) [ none ↦ [] | some w ↦ itemsIn (valueAlong (map (λ k. k .name) (w .keys)) x) ]
 
 -- the n-th of a list, counted from 1
 unfoldable pub numbered : {A : Type 0} → ℕ → List A → Maybe A

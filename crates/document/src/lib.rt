@@ -8,11 +8,15 @@ ghost use Rattle.json.specs.Tree.{Json};
 ghost use Rattle.walk.specs.Walk.{itemsOf};
 ghost use Rattle.walk.specs.Part.{Whole};
 ghost use Rattle.walk.specs.inner.Along.{AlongItems};
+ghost use Rattle.schema.specs.Tables.{sheetShape};
 ghost use Rattle.slots.specs.Found.{oneMore, foundIn};
 ghost use Rattle.document.specs.Spans.{topSpan, nth, recordSpan};
 ghost use Rattle.document.specs.inner.Spans.{Readable, Listed, ValueFrom, RecordsFrom};
 use lexeme::blank::skip_blanks;
 use lexeme::front::first;
+use schema::lines::table_bytes;
+use schema::names::name_in;
+use schema::ways::steps_to;
 use slots::Found;
 use text::compare::text_is;
 use walk::ItemStep;
@@ -123,40 +127,27 @@ fn value_from<'a>(p: &'a [u8], name: &[u8]) -> &'a [u8]
     }
 }
 
-// The rest of a file from its records on; no bytes where the number is no file's, or that of a file without records. Nothing is passed over but what
+// The rest of a file of a sheet from its records on; no bytes where the number is no sheet's, or that of one without records. Nothing is passed over but what
 // stands before them.
 // Shut out: an object's member of a name on the way that stands deeper down.
-pub fn records_from(file: u8, s: &[u8]) -> &[u8]
-    ensures { λ r. ⌜ RecordsFrom file (now (s .entry)) (now r) ⌝ }
+pub fn records_from(sheet: u8, s: &[u8]) -> &[u8]
+    ensures { λ r. ⌜ RecordsFrom sheet (now (s .entry)) (now r) ⌝ }
 {
-    let from = skip_blanks(s, 0);
-    let data = value_from(&s[from..], b"data");
-    match file {
-        1 => {
-            return value_from(data, b"vehicle_types");
-        }
-        2 => {
-            return value_from(data, b"stations");
-        }
-        3 => {
-            return value_from(data, b"stations");
-        }
-        4 => {
-            return value_from(data, b"bikes");
-        }
-        5 => {
-            return value_from(data, b"plans");
-        }
-        6 => {
-            return value_from(value_from(data, b"geofencing_zones"), b"features");
-        }
-        8 => {
-            return value_from(data, b"regions");
-        }
-        _ => {
-            return cut(s, 0, 0);
-        }
+    let steps = steps_to(sheet);
+    if steps.count == 0 {
+        return cut(s, 0, 0);
     }
+    let table = table_bytes();
+    let from = skip_blanks(s, 0);
+    let top = value_from(&s[from..], name_in(&table, steps.first));
+    if steps.count == 1 {
+        return top;
+    }
+    let inner = value_from(top, name_in(&table, steps.second));
+    if steps.count == 2 {
+        return inner;
+    }
+    value_from(inner, name_in(&table, steps.third))
 }
 
 // The n-th item, counted from 1, of the array at the front of `p`, whose places are counted on from a number.
@@ -185,12 +176,12 @@ fn nth_span(p: &[u8], from: usize, n: usize) -> Span
     }
 }
 
-// The n-th record of a file, counted from 1.
+// The n-th record of a file of a sheet, counted from 1.
 // Shut out: records counted from 0; the last record shown where n is past it.
-pub fn record_span(file: u8, s: &[u8], n: usize) -> Span
-    ensures { λ r. ⌜ (Listed file (now (s .entry)) → r ≡ recordSpan file (now (s .entry)) n) ⌝ }
+pub fn record_span(sheet: u8, s: &[u8], n: usize) -> Span
+    ensures { λ r. ⌜ (Listed sheet (now (s .entry)) → r ≡ recordSpan (sheetShape sheet) (now (s .entry)) n) ⌝ }
 {
-    let p = records_from(file, s);
+    let p = records_from(sheet, s);
     if p.len() == 0 {
         return Span::None;
     }

@@ -7,13 +7,16 @@ ghost use mathlib.Core.Path.{_≡_};
 ghost use Prim.Native.Nat.{_<_};
 ghost use lib.ListN.{length};
 ghost use Rattle.fault.specs.Outcome.{fileCount};
-ghost use Rattle.verdict.specs.Verdict.{said, verdictOf};
-ghost use Rattle.folder.specs.Places.{InOrder, fileIn, setIn};
+ghost use Rattle.folder.specs.Places.{InOrder, fileIn};
+ghost use Rattle.folder.specs.Desk.{saidOf};
+
+// The number of the table that files are judged by: that of version 2.3.
+const TABLE: u8 = 0;
 
 // What the verdict's word says; it can always be read back.
 pub fn parts_of(bytes: &[u8], places: &[usize; PLACES]) -> Parts
     requires { ⌜ InOrder fileCount (length (now bytes)) (now places) ⌝ }
-    ensures { λ r. ⌜ r ≡ said (verdictOf (setIn (now (bytes .entry)) (now (places .entry)))) ⌝ }
+    ensures { λ r. ⌜ r ≡ saidOf (now (bytes .entry)) (now (places .entry)) ⌝ }
 {
     let mut word: [u8; Word::SIZE] = [0; Word::SIZE];
     let files = [
@@ -26,7 +29,7 @@ pub fn parts_of(bytes: &[u8], places: &[usize; PLACES]) -> Parts
         file(bytes, places, 6),
         file(bytes, places, 7),
     ];
-    verdict(files, &mut word);
+    verdict(TABLE, files, &mut word);
     Word::read(&word).word_parts()
 }
 

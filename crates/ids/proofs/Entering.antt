@@ -20,7 +20,7 @@ use Rattle.ids.specs.inner.Notes.{size, startAt, memberStart, passAt, bi
 pub fresh : length (replicate {A = ℕ} size 0) ≡ size
 fresh = length-replicate {A = ℕ} size 0
 
-pub noted-none : {file : ℕ} {p notes : List ℕ} → length notes ≡ size → Noted file p 0 notes
+pub noted-none : {sheet : ℕ} {p notes : List ℕ} → length notes ≡ size → Noted sheet p 0 notes
 noted-none long =
     record {
       long = long;
@@ -98,16 +98,16 @@ module _ (notes : List ℕ) (n t a x : ℕ) (b : Bool) (long : length notes ≡ 
     mark-old = entered-other (2 * records + j) (λ z. omega arith) (λ z. omega arith) (λ z. omega arith)
 
 -- where the notes tell the same places, an entry tells the same
-pub entry-at : {file : ℕ} {p q : List ℕ} {a e x y : ℕ} → a ≡ e → x ≡ y → Entry file p q e y → Entry file p q a x
-entry-at {file} {p} {q} {a} {x = x} f g w = subst (λ (k : ℕ). Entry file p q k x) (sym f) (subst (Entry file p q _) (sym g) w)
+pub entry-at : {sheet : ℕ} {p q : List ℕ} {a e x y : ℕ} → a ≡ e → x ≡ y → Entry sheet p q e y → Entry sheet p q a x
+entry-at {sheet} {p} {q} {a} {x = x} f g w = subst (λ (k : ℕ). Entry sheet p q k x) (sym f) (subst (Entry sheet p q _) (sym g) w)
 
 -- one record more is noted
-module _ {file : ℕ} {p : List ℕ} {n : ℕ} {notes : List ℕ} (w : Noted file p n notes) (h : n < records) (t a x : ℕ) (b : Bool) where
+module _ {sheet : ℕ} {p : List ℕ} {n : ℕ} {notes : List ℕ} (w : Noted sheet p n notes) (h : n < records) (t a x : ℕ) (b : Bool) where
   abbrev after : List ℕ
   after = entered notes n t a x (bit b)
 
-  pub noted-more : Entry file p (getD (recordBytes p) n []) a x → textOf (drop t p) ≡ idsOf file p n → bit b ≡ bit (passing file (getD (recordBytes p) n []))
-      → Noted file p (n + 1) after
+  pub noted-more : Entry sheet p (getD (recordBytes p) n []) a x → textOf (drop t p) ≡ idsOf sheet p n → bit b ≡ bit (passing sheet (getD (recordBytes p) n []))
+      → Noted sheet p (n + 1) after
   noted-more entry text test =
       record {
         long = entered-long notes n t a x b (w .long) h;
@@ -115,7 +115,7 @@ module _ {file : ℕ} {p : List ℕ} {n : ℕ} {notes : List ℕ} (w : Noted fil
         entries = λ j i.
             elim (ℕ-discrete j n) [
               | yes z ↦
-                  subst (λ (k : ℕ). Entry file p (getD (recordBytes p) k []) (startAt after k) (memberStart after k)) (sym z)
+                  subst (λ (k : ℕ). Entry sheet p (getD (recordBytes p) k []) (startAt after k) (memberStart after k)) (sym z)
                   (entry-at (start-new notes n t a x b (w .long) h) (member-new notes n t a x b (w .long) h) entry)
               | no z ↦
                   let k : j < n = omega arith in
@@ -123,34 +123,34 @@ module _ {file : ℕ} {p : List ℕ} {n : ℕ} {notes : List ℕ} (w : Noted fil
             ];
         texts = λ j i.
             elim (ℕ-discrete j n) [
-              | yes z ↦ subst (λ (k : ℕ). idAt p after k ≡ idsOf file p k) (sym z) (ap (λ (k : ℕ). textOf (drop k p)) (place-new notes n t a x b (w .long) h) ∙ text)
+              | yes z ↦ subst (λ (k : ℕ). idAt p after k ≡ idsOf sheet p k) (sym z) (ap (λ (k : ℕ). textOf (drop k p)) (place-new notes n t a x b (w .long) h) ∙ text)
               | no z ↦ let k : j < n = omega arith in ap (λ (k : ℕ). textOf (drop k p)) (place-old notes n t a x b (w .long) h j k) ∙ w .texts j k
             ];
         tests = λ j i.
             elim (ℕ-discrete j n) [
-              | yes z ↦ subst (λ (k : ℕ). passAt after k ≡ bit (passing file (getD (recordBytes p) k []))) (sym z) (pass-new notes n t a x b (w .long) h ∙ test)
+              | yes z ↦ subst (λ (k : ℕ). passAt after k ≡ bit (passing sheet (getD (recordBytes p) k []))) (sym z) (pass-new notes n t a x b (w .long) h ∙ test)
               | no z ↦ let k : j < n = omega arith in ap (λ (m : ℕ). m % 2) (mark-old notes n t a x b (w .long) h j k) ∙ w .tests j k
             ];
       }
 
 -- by the id of the record m
-module _ {file : ℕ} {p : List ℕ} {n : ℕ} {notes : List ℕ} {m : Item} (w : Noted file p n notes) (x : Next file p n m) {y : Bool} (passes : y ≡ passing file (itemOf p m)) where
-  text-by : (o : Maybe (List ℕ)) → idOf file (itemOf p m) ≡ o → textOr o ≡ idsOf file p n
+module _ {sheet : ℕ} {p : List ℕ} {n : ℕ} {notes : List ℕ} {m : Item} (w : Noted sheet p n notes) (x : Next sheet p n m) {y : Bool} (passes : y ≡ passing sheet (itemOf p m)) where
+  text-by : (o : Maybe (List ℕ)) → idOf sheet (itemOf p m) ≡ o → textOr o ≡ idsOf sheet p n
   unfolding idText
-  text-by o e = ap textOr (sym e) ∙ ap (λ (q : List ℕ). idText file q) (x .is)
+  text-by o e = ap textOr (sym e) ∙ ap (λ (q : List ℕ). idText sheet q) (x .is)
 
-  test-by : bit y ≡ bit (passing file (getD (recordBytes p) n []))
-  test-by = ap bit (passes ∙ ap (passing file) (x .is))
+  test-by : bit y ≡ bit (passing sheet (getD (recordBytes p) n []))
+  test-by = ap bit (passes ∙ ap (passing sheet) (x .is))
 
-  entry-by : {a at : ℕ} → Entry file p (itemOf p m) a at → Entry file p (getD (recordBytes p) n []) a at
-  entry-by {a} {at} = subst (λ (q : List ℕ). Entry file p q a at) (x .is)
+  entry-by : {a at : ℕ} → Entry sheet p (itemOf p m) a at → Entry sheet p (getD (recordBytes p) n []) a at
+  entry-by {a} {at} = subst (λ (q : List ℕ). Entry sheet p q a at) (x .is)
 
-  pub enter-none : idOf file (itemOf p m) ≡ none → Noted file p (n + 1) (entered notes n (length p) (length p) 0 (bit y))
+  pub enter-none : idOf sheet (itemOf p m) ≡ none → Noted sheet p (n + 1) (entered notes n (length p) (length p) 0 (bit y))
   enter-none e =
       noted-more w (x .room) (length p) (length p) 0 y (entry-by (Entry.without e (omega arith))) (text-end p (length p) (omega arith) ∙ text-by none e) test-by
 
-  pub enter-some : (r at : ℕ) → TextPlace (itemOf p m) (idOf file (itemOf p m)) r → 0 < r → NoIdBefore file (itemOf p m) at
-      → Noted file p (n + 1) (entered notes n (m .value + r) (m .value) at (bit y))
+  pub enter-some : (r at : ℕ) → TextPlace (itemOf p m) (idOf sheet (itemOf p m)) r → 0 < r → NoIdBefore sheet (itemOf p m) at
+      → Noted sheet p (n + 1) (entered notes n (m .value + r) (m .value) at (bit y))
   enter-some r at t h u =
       let v = t .some h in let a = m .value in let k = m .«value_end» - m .value in
       noted-more w (x .room) (a + r) a at y (entry-by (Entry.within (v .1) m (x .among) refl refl u))

@@ -22,50 +22,50 @@ use Rattle.ids.specs.inner.Ids.{idOf, textOr, idText, hasId, anyHas, rep
 use Rattle.ids.proofs.Texts.{id-given}
 
 -- a record has an id that is given, by the text of its own
-module _ (file : ℕ) (id q : List ℕ) where
-  pub has-text : hasId file id q ≡ true → idText file q ≡ id
+module _ (sheet : ℕ) (id q : List ℕ) where
+  pub has-text : hasId sheet id q ≡ true → idText sheet q ≡ id
   unfolding idText
-  has-text = go (idOf file q)
+  has-text = go (idOf sheet q)
     where
       go : (o : Maybe (List ℕ)) → isId id o ≡ true → textOr o ≡ id
       go none e = true-false e refl
       go (some t) e = same-true t id e
 
-  pub text-has : 0 < length id → idText file q ≡ id → hasId file id q ≡ true
+  pub text-has : 0 < length id → idText sheet q ≡ id → hasId sheet id q ≡ true
   unfolding idText
-  text-has h = go (idOf file q)
+  text-has h = go (idOf sheet q)
     where
       go : (o : Maybe (List ℕ)) → textOr o ≡ id → isId id o ≡ true
       go none e = absurd (omega (arith, ap length e))
       go (some t) e = ap (λ (x : List ℕ). same x id) e ∙ same-refl id
 
-pub no-has : (file : ℕ) (q : List ℕ) → hasId file [] q ≡ false
-no-has file q = by-test (hasId file [] q) (λ t. go (idOf file q) refl t) λ t. t
+pub no-has : (sheet : ℕ) (q : List ℕ) → hasId sheet [] q ≡ false
+no-has sheet q = by-test (hasId sheet [] q) (λ t. go (idOf sheet q) refl t) λ t. t
   where
-    go : (o : Maybe (List ℕ)) → idOf file q ≡ o → isId [] o ≡ true → hasId file [] q ≡ false
+    go : (o : Maybe (List ℕ)) → idOf sheet q ≡ o → isId [] o ≡ true → hasId sheet [] q ≡ false
     go none e t = true-false t refl
-    go (some x) e t = absurd (omega (arith, id-given file q x e, ap length (same-true x [] t)))
+    go (some x) e t = absurd (omega (arith, id-given sheet q x e, ap length (same-true x [] t)))
 
-module _ (file : ℕ) (rs : List (List ℕ)) (ids : ℕ → List ℕ) (are : (k : ℕ) → k < length rs → ids k ≡ idText file (getD rs k [])) where
+module _ (sheet : ℕ) (rs : List (List ℕ)) (ids : ℕ → List ℕ) (are : (k : ℕ) → k < length rs → ids k ≡ idText sheet (getD rs k [])) where
   -- one of those before has the id of the record j
-  used-any : (id : List ℕ) → 0 < length id → (j n : ℕ) → ids j ≡ id → n ≤ length rs → usedBefore ids j n ≡ anyHas file id (earlier rs n)
+  used-any : (id : List ℕ) → 0 < length id → (j n : ℕ) → ids j ≡ id → n ≤ length rs → usedBefore ids j n ≡ anyHas sheet id (earlier rs n)
   unfolding usedBefore anyHas earlier sameId
   used-any id h j zero e l = refl
   used-any id h j (suc n) e l =
       let q = getD rs n [] in
       let ih = used-any id h j n e (omega arith) in
-      let one : sameId ids n j ≡ hasId file id q = same-has in
-      by-test (hasId file id q) (λ t. rw (usedBefore, earlier, anyHas, one ∙ t, t)) λ t. rw (usedBefore, earlier, anyHas, one ∙ t, t) ih
+      let one : sameId ids n j ≡ hasId sheet id q = same-has in
+      by-test (hasId sheet id q) (λ t. rw (usedBefore, earlier, anyHas, one ∙ t, t)) λ t. rw (usedBefore, earlier, anyHas, one ∙ t, t) ih
     where
-      same-has : sameId ids n j ≡ hasId file id (getD rs n [])
+      same-has : sameId ids n j ≡ hasId sheet id (getD rs n [])
       same-has =
           let given : ltb 0 (length (ids j)) ≡ true = lt-ltb 0 (length (ids j)) (omega (arith, h, ap length e)) in
-          let is : idText file (getD rs n []) ≡ ids n = sym (are n (omega arith)) in
-          by-test (hasId file id (getD rs n []))
-          (λ t. rw (sameId, given) (ap₂ same (sym is ∙ has-text file id (getD rs n []) t) e ∙ same-refl id ∙ sym t))
+          let is : idText sheet (getD rs n []) ≡ ids n = sym (are n (omega arith)) in
+          by-test (hasId sheet id (getD rs n []))
+          (λ t. rw (sameId, given) (ap₂ same (sym is ∙ has-text sheet id (getD rs n []) t) e ∙ same-refl id ∙ sym t))
           λ t.
           by-test (same (ids n) (ids j))
-          (λ s. true-false (text-has file id (getD rs n []) h (is ∙ same-true (ids n) (ids j) s ∙ e)) t)
+          (λ s. true-false (text-has sheet id (getD rs n []) h (is ∙ same-true (ids n) (ids j) s ∙ e)) t)
           λ s. rw (sameId, given) (s ∙ sym t)
 
   none-used : (j n : ℕ) → ids j ≡ [] → usedBefore ids j n ≡ false
@@ -76,36 +76,36 @@ module _ (file : ℕ) (rs : List (List ℕ)) (ids : ℕ → List ℕ) (are : (k 
       let none : ltb 0 (length (ids j)) ≡ false = le-ltb 0 (length (ids j)) (omega (arith, ap length e)) in
       rw (usedBefore, sameId, none) ih
 
-  used-repeated : (k : ℕ) → k < length rs → usedBefore ids k k ≡ repeated file (earlier rs k) (getD rs k [])
+  used-repeated : (k : ℕ) → k < length rs → usedBefore ids k k ≡ repeated sheet (earlier rs k) (getD rs k [])
   unfolding idText
-  used-repeated k h = go (idOf file (getD rs k [])) refl
+  used-repeated k h = go (idOf sheet (getD rs k [])) refl
     where
-      text : (o : Maybe (List ℕ)) → idOf file (getD rs k []) ≡ o → ids k ≡ textOr o
+      text : (o : Maybe (List ℕ)) → idOf sheet (getD rs k []) ≡ o → ids k ≡ textOr o
       text o e = are k h ∙ ap textOr e
 
-      go : (o : Maybe (List ℕ)) → idOf file (getD rs k []) ≡ o → usedBefore ids k k ≡ (elim o [ none ↦ false | some id ↦ anyHas file id (earlier rs k) ])
+      go : (o : Maybe (List ℕ)) → idOf sheet (getD rs k []) ≡ o → usedBefore ids k k ≡ (elim o [ none ↦ false | some id ↦ anyHas sheet id (earlier rs k) ])
       go none e = none-used k k (text none e)
-      go (some id) e = used-any id (id-given file (getD rs k []) id e) k k (text (some id) e) (omega arith)
+      go (some id) e = used-any id (id-given sheet (getD rs k []) id e) k k (text (some id) e) (omega arith)
 
-  from-same : (n k : ℕ) → k + n ≡ length rs → sorting.repeatFrom ids k n ≡ repeatFrom file (k + 1) (earlier rs k) (drop k rs)
+  from-same : (n k : ℕ) → k + n ≡ length rs → sorting.repeatFrom ids k n ≡ repeatFrom sheet (k + 1) (earlier rs k) (drop k rs)
   unfolding sorting.repeatFrom repeatFrom earlier
   from-same zero k e =
       let z : k ≡ length rs = omega arith in
-      sym (ap (λ (x : ℕ). repeatFrom file (k + 1) (earlier rs k) (drop x rs)) z ∙ ap (repeatFrom file (k + 1) (earlier rs k)) (drop-length rs))
+      sym (ap (λ (x : ℕ). repeatFrom sheet (k + 1) (earlier rs k) (drop x rs)) z ∙ ap (repeatFrom sheet (k + 1) (earlier rs k)) (drop-length rs))
   from-same (suc n) k e =
       let h : k < length rs = omega arith in
       let ih = from-same n (k + 1) (omega arith) in
       let u = used-repeated k h in
-      let step : repeatFrom file (k + 1) (earlier rs k) (drop k rs) ≡ (repeated file (earlier rs k) (getD rs k []) ⇒ k + 1 else repeatFrom file (k + 1 + 1) (getD rs k [] ∷ earlier rs k) (drop (suc k) rs)) =
-      ap (repeatFrom file (k + 1) (earlier rs k)) (drop-cons rs k [] h) in
-      by-test (repeated file (earlier rs k) (getD rs k []))
-      (λ t. rw (sorting.repeatFrom, u ∙ t) (sym (step ∙ ap (λ (b : Bool). b ⇒ k + 1 else repeatFrom file (k + 1 + 1) (getD rs k [] ∷ earlier rs k) (drop (suc k) rs)) t)))
+      let step : repeatFrom sheet (k + 1) (earlier rs k) (drop k rs) ≡ (repeated sheet (earlier rs k) (getD rs k []) ⇒ k + 1 else repeatFrom sheet (k + 1 + 1) (getD rs k [] ∷ earlier rs k) (drop (suc k) rs)) =
+      ap (repeatFrom sheet (k + 1) (earlier rs k)) (drop-cons rs k [] h) in
+      by-test (repeated sheet (earlier rs k) (getD rs k []))
+      (λ t. rw (sorting.repeatFrom, u ∙ t) (sym (step ∙ ap (λ (b : Bool). b ⇒ k + 1 else repeatFrom sheet (k + 1 + 1) (getD rs k [] ∷ earlier rs k) (drop (suc k) rs)) t)))
       λ t.
       rw (sorting.repeatFrom, u ∙ t)
-      (ih ∙ ap (λ (x : ℕ). repeatFrom file (k + 1 + 1) (earlier rs x) (drop x rs)) (add-one k)
-      ∙ sym (step ∙ ap (λ (b : Bool). b ⇒ k + 1 else repeatFrom file (k + 1 + 1) (getD rs k [] ∷ earlier rs k) (drop (suc k) rs)) t))
+      (ih ∙ ap (λ (x : ℕ). repeatFrom sheet (k + 1 + 1) (earlier rs x) (drop x rs)) (add-one k)
+      ∙ sym (step ∙ ap (λ (b : Bool). b ⇒ k + 1 else repeatFrom sheet (k + 1 + 1) (getD rs k [] ∷ earlier rs k) (drop (suc k) rs)) t))
 
-  pub first-same : sorting.firstRepeat ids (length rs) ≡ firstRepeat file rs
+  pub first-same : sorting.firstRepeat ids (length rs) ≡ firstRepeat sheet rs
   unfolding firstRepeat earlier
   first-same = from-same (length rs) 0 (omega arith)
 

@@ -45,17 +45,17 @@ unfolding foundIn membersOf membersFrom
 nothing-found name = refl
 
 -- where nothing is found, or twice
-none-found : (file : ℕ) (q : List ℕ) (o : Found) → o ≡ foundIn q (idName file) → foundBytes q o ≡ [] → idOf file q ≡ none
+none-found : (sheet : ℕ) (q : List ℕ) (o : Found) → o ≡ foundIn q (idName sheet) → foundBytes q o ≡ [] → idOf sheet q ≡ none
 unfolding idValue memberOf
-none-found file q o e z =
+none-found sheet q o e z =
     ap textBy
     (by-test (eqb (kindCode (kindAt q)) 5) (λ t. rw (idValue, memberOf, t, ← e) z) (λ t. rw (idValue, memberOf, t)))
     ∙ no-text
 
 -- a record with an id is an object in which its name stands once
-module _ (file : ℕ) (q id : List ℕ) (e : idOf file q ≡ some id) where
-  pub id-single : foundIn q (idName file) ≡ Twice → ⊥
-  id-single t = let n = none-found file q Twice (sym t) refl in let z : _≡_ {A = ℕ} 0 1 = cc in omega arith
+module _ (sheet : ℕ) (q id : List ℕ) (e : idOf sheet q ≡ some id) where
+  pub id-single : foundIn q (idName sheet) ≡ Twice → ⊥
+  id-single t = let n = none-found sheet q Twice (sym t) refl in let z : _≡_ {A = ℕ} 0 1 = cc in omega arith
 
   pub id-object : 5 ≡ kindCode (kindAt q)
   unfolding idValue memberOf
@@ -65,9 +65,9 @@ module _ (file : ℕ) (q id : List ℕ) (e : idOf file q ≡ some id) where
       (λ t.
       let n : none ≡ some id = sym no-text ∙ (rw (idValue, memberOf, t) at e) in let z : _≡_ {A = ℕ} 0 1 = cc in absurd (omega arith))
 
-pub id-some : (file : ℕ) (q id : List ℕ) → idOf file q ≡ some id → 0 < length q
-id-some file [] id e = let n = none-found file [] Missing (sym (nothing-found (idName file))) refl in let z : _≡_ {A = ℕ} 0 1 = cc in absurd (omega arith)
-id-some file (b ∷ q) id e = omega arith
+pub id-some : (sheet : ℕ) (q id : List ℕ) → idOf sheet q ≡ some id → 0 < length q
+id-some sheet [] id e = let n = none-found sheet [] Missing (sym (nothing-found (idName sheet))) refl in let z : _≡_ {A = ℕ} 0 1 = cc in absurd (omega arith)
+id-some sheet (b ∷ q) id e = omega arith
 
 -- a step that passes over values, along such a record or in nothing
 nothing-at : (at : ℕ) → memberAt [] at ≡ members.End
@@ -103,40 +103,40 @@ module _ (q name : List ℕ) where
 
 -- Where no member of the name is met.
 
-pub unmet-start : (file : ℕ) {q : List ℕ} {ms : Members} → Whole q (Json.object ms) → NoIdBefore file q 1
+pub unmet-start : (sheet : ℕ) {q : List ℕ} {ms : Members} → Whole q (Json.object ms) → NoIdBefore sheet q 1
 unfolding foundIn
-unmet-start file w = record { left = members-start _ _ Missing; along = λ h. AlongMembers.start w }
+unmet-start sheet w = record { left = members-start _ _ Missing; along = λ h. AlongMembers.start w }
 
-pub unmet-at : {file : ℕ} {q r : List ℕ} {a b : ℕ} → q ≡ r → a ≡ b → NoIdBefore file r b → NoIdBefore file q a
-unmet-at {file} {r = r} {a = a} e i u = subst (λ (l : List ℕ). NoIdBefore file l a) (sym e) (subst (NoIdBefore file r) (sym i) u)
+pub unmet-at : {sheet : ℕ} {q r : List ℕ} {a b : ℕ} → q ≡ r → a ≡ b → NoIdBefore sheet r b → NoIdBefore sheet q a
+unmet-at {sheet} {r = r} {a = a} e i u = subst (λ (l : List ℕ). NoIdBefore sheet l a) (sym e) (subst (NoIdBefore sheet r) (sym i) u)
 
-module _ {file : ℕ} {q : List ℕ} {at : ℕ} (u : NoIdBefore file q at) where
+module _ {sheet : ℕ} {q : List ℕ} {at : ℕ} (u : NoIdBefore sheet q at) where
   -- at the end none has it
-  unmet-end : memberAt q at ≡ members.End → Missing ≡ foundIn q (idName file)
-  unmet-end e = walk-end (memberSteps q) (noted q (idName file)) Missing at (foundIn q (idName file)) e (u .left)
+  unmet-end : memberAt q at ≡ members.End → Missing ≡ foundIn q (idName sheet)
+  unmet-end e = walk-end (memberSteps q) (noted q (idName sheet)) Missing at (foundIn q (idName sheet)) e (u .left)
 
   -- the member there, x its name
   module _ (m : Member) (f : memberAt q at ≡ members.Found m) (x : List ℕ) (is : x ≡ part q (m .name) (m .«name_end»)) where
-    onward : {t : Bool} → same (textOf x) (idName file) ≡ t
-        → Walk (memberSteps q) (noted q (idName file)) (t ⇒ Once (m .value) (m .«value_end») else Missing) (m .next) (foundIn q (idName file))
+    onward : {t : Bool} → same (textOf x) (idName sheet) ≡ t
+        → Walk (memberSteps q) (noted q (idName sheet)) (t ⇒ Once (m .value) (m .«value_end») else Missing) (m .next) (foundIn q (idName sheet))
     onward e =
-        subst (λ (t : Bool). Walk (memberSteps q) (noted q (idName file)) (t ⇒ Once (m .value) (m .«value_end») else Missing) (m .next) (foundIn q (idName file)))
-        (ap (λ (y : List ℕ). same (textOf y) (idName file)) (sym is) ∙ e) (walk-more (memberSteps q) (noted q (idName file)) Missing at (foundIn q (idName file)) m f (u .left))
+        subst (λ (t : Bool). Walk (memberSteps q) (noted q (idName sheet)) (t ⇒ Once (m .value) (m .«value_end») else Missing) (m .next) (foundIn q (idName sheet)))
+        (ap (λ (y : List ℕ). same (textOf y) (idName sheet)) (sym is) ∙ e) (walk-more (memberSteps q) (noted q (idName sheet)) Missing at (foundIn q (idName sheet)) m f (u .left))
 
-    pub unmet-next : same (textOf x) (idName file) ≡ false → NoIdBefore file q (m .next)
+    pub unmet-next : same (textOf x) (idName sheet) ≡ false → NoIdBefore sheet q (m .next)
     unmet-next e = record { left = onward e; along = λ h. AlongMembers.next (u .along h) f }
 
     -- v is what it holds
-    pub value-here : same (textOf x) (idName file) ≡ true → 5 ≡ kindCode (kindAt q) → (foundIn q (idName file) ≡ Twice → ⊥) → {v : List ℕ}
-        → (FoundWhole q (Once (m .value) (m .«value_end»)) → v ≡ foundBytes q (Once (m .value) (m .«value_end»))) → v ≡ idValue file q
+    pub value-here : same (textOf x) (idName sheet) ≡ true → 5 ≡ kindCode (kindAt q) → (foundIn q (idName sheet) ≡ Twice → ⊥) → {v : List ℕ}
+        → (FoundWhole q (Once (m .value) (m .«value_end»)) → v ≡ foundBytes q (Once (m .value) (m .«value_end»))) → v ≡ idValue sheet q
     unfolding idValue
     value-here e object single holds =
         holds (member-whole q at m f)
-        ∙ member-found q (idName file) 5 object refl (Once (m .value) (m .«value_end»)) (first-found q (idName file) (m .value) (m .«value_end») (m .next) (onward e) single)
+        ∙ member-found q (idName sheet) 5 object refl (Once (m .value) (m .«value_end»)) (first-found q (idName sheet) (m .value) (m .«value_end») (m .next) (onward e) single)
 
 -- where no member has the name, the record has no id
-pub end-none : {file : ℕ} {q : List ℕ} {at : ℕ} → NoIdBefore file q at → memberAt q at ≡ members.End → idOf file q ≡ none
-end-none {file} {q} u e = none-found file q Missing (unmet-end u e) refl
+pub end-none : {sheet : ℕ} {q : List ℕ} {at : ℕ} → NoIdBefore sheet q at → memberAt q at ≡ members.End → idOf sheet q ≡ none
+end-none {sheet} {q} u e = none-found sheet q Missing (unmet-end u e) refl
 
 -- the text that a value stands for, which is a string
 module _ (v t : List ℕ) (e : textBy v ≡ some t) where

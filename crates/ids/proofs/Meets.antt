@@ -27,26 +27,26 @@ use Rattle.ids.specs.References.{anyWith, notHuman}
 use Rattle.ids.specs.inner.Known.{testOf, testedOf}
 
 -- the record of a file answers alike in bytes and picked
-record Alike (file : ℕ) (q : List ℕ) (x : Picked) : Type 0 where
-  id : idOf file q ≡ text (idField file) x
-  passed : passing file q ≡ testOf file x
+record Alike (sheet : ℕ) (q : List ℕ) (x : Picked) : Type 0 where
+  id : idOf sheet q ≡ text (idField sheet) x
+  passed : passing sheet q ≡ testOf sheet x
 
-passed-picked : (file : ℕ) {q : List ℕ} {x : Json} → Whole q x → passing file q ≡ testOf file (pick (recordShape file) x)
+passed-picked : (sheet : ℕ) {q : List ℕ} {x : Json} → Whole q x → passing sheet q ≡ testOf sheet (pick (recordShape sheet) x)
 unfolding located vehicleType station rowOf
 passed-picked zero w = refl
 passed-picked (suc zero) w = ap notHuman (field-text (listed refl) w)
 passed-picked (suc (suc zero)) w = field-given (listed refl) w
 passed-picked (suc (suc (suc n))) w = rw (ne-eqb (suc (suc (suc n))) 1 (λ e. omega arith), ne-eqb (suc (suc (suc n))) 2 (λ e. omega arith))
 
-alike : (file : ℕ) → hasIds file ≡ true → {q : List ℕ} {x : Json} → Whole q x → Alike file q (pick (recordShape file) x)
-alike file h w = record { id = id-picked file h w; passed = passed-picked file w }
+alike : (sheet : ℕ) → hasIds sheet ≡ true → {q : List ℕ} {x : Json} → Whole q x → Alike sheet q (pick (recordShape sheet) x)
+alike sheet h w = record { id = id-picked sheet h w; passed = passed-picked sheet w }
 
-module _ (file : ℕ) (tested : Bool) (id : List ℕ) where
-  asked : (t : Bool) {q : List ℕ} {x : Picked} → Alike file q x → (t ⇒ passing file q else true) ≡ testedOf file t x
+module _ (sheet : ℕ) (tested : Bool) (id : List ℕ) where
+  asked : (t : Bool) {q : List ℕ} {x : Picked} → Alike sheet q x → (t ⇒ passing sheet q else true) ≡ testedOf sheet t x
   asked true a = a .passed
   asked false a = refl
 
-  alike-meeting : {q : List ℕ} {x : Picked} → Alike file q x → meeting file tested id q ≡ (isId id (text (idField file) x) and testedOf file tested x)
+  alike-meeting : {q : List ℕ} {x : Picked} → Alike sheet q x → meeting sheet tested id q ≡ (isId id (text (idField sheet) x) and testedOf sheet tested x)
   alike-meeting a = ap₂ _and_ (ap (isId id) (a .id)) (asked tested a)
 
   -- from the front
@@ -59,12 +59,12 @@ module _ (file : ℕ) (tested : Bool) (id : List ℕ) where
       go none = refl
       go (some t) = refl
 
-  any-front : (q : List ℕ) (l : List (List ℕ)) (n : ℕ) → anyMeets file tested id (q ∷ l) (suc n) ≡ (meeting file tested id q ⇒ true else anyMeets file tested id l n)
+  any-front : (q : List ℕ) (l : List (List ℕ)) (n : ℕ) → anyMeets sheet tested id (q ∷ l) (suc n) ≡ (meeting sheet tested id q ⇒ true else anyMeets sheet tested id l n)
   unfolding anyMeets
   any-front q l zero = refl
   any-front q l (suc n) =
       let ih = any-front q l n in
-      ap (λ (t : Bool). meeting file tested id (getD l n []) ⇒ true else t) ih ∙ swapped (meeting file tested id (getD l n [])) (meeting file tested id q) (anyMeets file tested id l n)
+      ap (λ (t : Bool). meeting sheet tested id (getD l n []) ⇒ true else t) ih ∙ swapped (meeting sheet tested id (getD l n [])) (meeting sheet tested id q) (anyMeets sheet tested id l n)
     where
       swapped : (a b c : Bool) → (a ⇒ true else (b ⇒ true else c)) ≡ (b ⇒ true else (a ⇒ true else c))
       swapped true true c = refl
@@ -72,18 +72,18 @@ module _ (file : ℕ) (tested : Bool) (id : List ℕ) where
       swapped false true c = refl
       swapped false false c = refl
 
-  alike-all : (bytesOf : Item → List ℕ) (pickedOf : Item → Picked) (ms : List Item) → ((m : Item) → List·Memᴰ m ms → Alike file (bytesOf m) (pickedOf m))
-      → anyMeets file tested id (map bytesOf ms) (length ms) ≡ anyWith (testedOf file tested) (idField file) (map pickedOf ms) id
+  alike-all : (bytesOf : Item → List ℕ) (pickedOf : Item → Picked) (ms : List Item) → ((m : Item) → List·Memᴰ m ms → Alike sheet (bytesOf m) (pickedOf m))
+      → anyMeets sheet tested id (map bytesOf ms) (length ms) ≡ anyWith (testedOf sheet tested) (idField sheet) (map pickedOf ms) id
   unfolding anyMeets anyWith
   alike-all f g [] a = refl
   alike-all f g (m ∷ ms) a =
       any-front (f m) (map f ms) (length ms)
       ∙ ap₂ (λ (t u : Bool). t ⇒ true else u) (alike-meeting (a m (List·Memᴰ·head refl))) (alike-all f g ms (λ n i. a n (List·Memᴰ·tail i)))
-      ∙ sym (any-step (testedOf file tested) (idField file) (g m) (map g ms))
+      ∙ sym (any-step (testedOf sheet tested) (idField sheet) (g m) (map g ms))
 
 -- all records of an array
-pub meets-picked : (file : ℕ) → hasIds file ≡ true → (tested : Bool) (id p : List ℕ)
-    → anyMeets file tested id (recordBytes p) (length (itemsOf p)) ≡ anyWith (testedOf file tested) (idField file) (pickedItems (recordShape file) p) id
+pub meets-picked : (sheet : ℕ) → hasIds sheet ≡ true → (tested : Bool) (id p : List ℕ)
+    → anyMeets sheet tested id (recordBytes p) (length (itemsOf p)) ≡ anyWith (testedOf sheet tested) (idField sheet) (pickedItems (recordShape sheet) p) id
 unfolding recordBytes
-meets-picked file h tested id p =
-    alike-all file tested id (itemOf p) (λ m. pick (recordShape file) (partTree (itemOf p m))) (itemsOf p) (λ m j. alike file h (items-whole p m j))
+meets-picked sheet h tested id p =
+    alike-all sheet tested id (itemOf p) (λ m. pick (recordShape sheet) (partTree (itemOf p m))) (itemsOf p) (λ m j. alike sheet h (items-whole p m j))

@@ -21,30 +21,30 @@ use Rattle.ids.specs.inner.Notes.{size, Next, Noted}
 use Rattle.ids.proofs.Entering.{noted-none}
 
 -- by the id of a record
-module _ (file : ℕ) (passed : List (List ℕ)) (q : List ℕ) where
-  by-id : (o : Maybe (List ℕ)) → idOf file q ≡ o → (elim o [ none ↦ false | some id ↦ anyHas file id passed ]) ≡ repeated file passed q
-  by-id o e = ap (λ (x : Maybe (List ℕ)). elim x [ none ↦ false | some id ↦ anyHas file id passed ]) (sym e)
+module _ (sheet : ℕ) (passed : List (List ℕ)) (q : List ℕ) where
+  by-id : (o : Maybe (List ℕ)) → idOf sheet q ≡ o → (elim o [ none ↦ false | some id ↦ anyHas sheet id passed ]) ≡ repeated sheet passed q
+  by-id o e = ap (λ (x : Maybe (List ℕ)). elim x [ none ↦ false | some id ↦ anyHas sheet id passed ]) (sym e)
 
-  pub repeated-none : idOf file q ≡ none → false ≡ repeated file passed q
+  pub repeated-none : idOf sheet q ≡ none → false ≡ repeated sheet passed q
   repeated-none e = by-id none e
 
-  pub repeated-some : (id : List ℕ) → idOf file q ≡ some id → anyHas file id passed ≡ repeated file passed q
+  pub repeated-some : (id : List ℕ) → idOf sheet q ≡ some id → anyHas sheet id passed ≡ repeated sheet passed q
   repeated-some id e = by-id (some id) e
 
 -- the first n records of the array are entered; those from `at` on are left
-pub record Noting (file : ℕ) (p notes : List ℕ) (n at : ℕ) : Type 0 where
+pub record Noting (sheet : ℕ) (p notes : List ℕ) (n at : ℕ) : Type 0 where
   items : List Item
   pub left : Left p at items
   count : n + length items ≡ length (itemsOf p)
   rest : drop n (recordBytes p) ≡ map (itemOf p) items
-  pub noted : Noted file p n notes
+  pub noted : Noted sheet p n notes
 
-pub noting-start : {file : ℕ} {p notes : List ℕ} → length notes ≡ size → (0 < length p → AlongItems p 1) → Noting file p notes 0 1
+pub noting-start : {sheet : ℕ} {p notes : List ℕ} → length notes ≡ size → (0 < length p → AlongItems p 1) → Noting sheet p notes 0 1
 unfolding recordBytes
-noting-start {file} {p} z a = record { items = itemsOf p; left = left-start a; count = omega arith; rest = refl; noted = noted-none z }
+noting-start {sheet} {p} z a = record { items = itemsOf p; left = left-start a; count = omega arith; rest = refl; noted = noted-none z }
 
 -- what a step that passes over the next record finds
-module _ {file : ℕ} {p notes : List ℕ} {n at : ℕ} (w : Noting file p notes n at) {s : ItemStep} (f : ItemPassed p at s) where
+module _ {sheet : ℕ} {p notes : List ℕ} {n at : ℕ} (w : Noting sheet p notes n at) {s : ItemStep} (f : ItemPassed p at s) where
   pub noting-end : s ≡ step.End → n ≡ length (itemsOf p)
   noting-end e = omega (arith, w .count, ap length (left-end (w .left) f e))
 
@@ -65,7 +65,7 @@ module _ {file : ℕ} {p notes : List ℕ} {n at : ℕ} (w : Noting file p notes
     is : itemOf p m ≡ getD (recordBytes p) n []
     is = cc split
 
-    pub noting-next : length (itemsOf p) ≤ records → length p ≤ fileBytes → AllIdsOnce file p → Next file p n m
+    pub noting-next : length (itemsOf p) ≤ records → length p ≤ fileBytes → AllIdsOnce sheet p → Next sheet p n m
     noting-next h i single =
         let k = f .placed m e in
         record {
@@ -79,7 +79,7 @@ module _ {file : ℕ} {p notes : List ℕ} {n at : ℕ} (w : Noting file p notes
           is = is;
         }
 
-    pub noting-more : {now′ : List ℕ} → Noted file p (n + 1) now′ → Noting file p now′ (n + 1) (m .next)
+    pub noting-more : {now′ : List ℕ} → Noted sheet p (n + 1) now′ → Noting sheet p now′ (n + 1) (m .next)
     noting-more k =
         record {
           items = onward .rest;

@@ -45,9 +45,9 @@ id-of (suc (suc (suc (suc (suc (suc (suc zero))))))) h = true-false h refl
 id-of (suc (suc (suc (suc (suc (suc (suc (suc zero)))))))) h = record { key = _; is = refl; number = omega arith; rows = _; object = refl; required = here }
 id-of (suc (suc (suc (suc (suc (suc (suc (suc (suc n))))))))) h = true-false h refl
 
-pub id-picked : (file : ℕ) → hasIds file ≡ true → {q : List ℕ} {x : Json} → Whole q x → idOf file q ≡ text (idField file) (pick (recordShape file) x)
+pub id-picked : (sheet : ℕ) → hasIds sheet ≡ true → {q : List ℕ} {x : Json} → Whole q x → idOf sheet q ≡ text (idField sheet) (pick (recordShape sheet) x)
 unfolding idValue
-id-picked file h w = let d = id-of file h in rw (d .object) (field-text (lists (d .required)) w)
+id-picked sheet h w = let d = id-of sheet h in rw (d .object) (field-text (lists (d .required)) w)
 
 -- the field is 0 just where there are no ids
 pub zero-field : (n : ℕ) → hasIds n ≡ false → idField n ≡ 0

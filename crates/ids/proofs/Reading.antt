@@ -56,46 +56,46 @@ found-text q a e id h =
     λ t. text-inside (part q a e) id (ap (λ (b : Bool). textBy (b ⇒ [] else part q a e)) (sym t) ∙ h)
 
 -- a walk over the members of the record q in the bytes r has come to `at`, and none that it passed has the name of the file's ids
-pub data Reading (file : ℕ) (q r : List ℕ) (at : ℕ) : Type 0 where
-  nothing : idOf file q ≡ none → r ≡ [] → Reading file q r at
-  reading : {id : List ℕ} → idOf file q ≡ some id → take (length q) r ≡ q → NoIdBefore file q at → Reading file q r at
+pub data Reading (sheet : ℕ) (q r : List ℕ) (at : ℕ) : Type 0 where
+  nothing : idOf sheet q ≡ none → r ≡ [] → Reading sheet q r at
+  reading : {id : List ℕ} → idOf sheet q ≡ some id → take (length q) r ≡ q → NoIdBefore sheet q at → Reading sheet q r at
 
 front-again : (k : ℕ) (l : List ℕ) → take (length (take k l)) l ≡ take k l
 front-again k l = ap (take (length (take k l))) (sym (take-append-drop k l)) ∙ take-at (take k l) (drop k l) (length (take k l)) refl
 
-pub reading-start : {file : ℕ} {p q r : List ℕ} {start member at : ℕ} → Entry file p q start member → r ≡ drop start p → at ≡ member → Reading file q r at
+pub reading-start : {sheet : ℕ} {p q r : List ℕ} {start member at : ℕ} → Entry sheet p q start member → r ≡ drop start p → at ≡ member → Reading sheet q r at
 reading-start {p = p} (Entry.without e h) i j = Reading.nothing e (i ∙ drop-of-length-le p h)
-reading-start {file} {p} {q} {r} (Entry.within e m among is s u) i j =
+reading-start {sheet} {p} {q} {r} (Entry.within e m among is s u) i j =
     Reading.reading e
     (ap (λ (l : List ℕ). take (length l) r) (sym is) ∙ ap (take (length (itemOf p m))) (i ∙ ap (λ (k : ℕ). drop k p) (sym s))
     ∙ front-again (m .«value_end» - m .value) (drop (m .value) p) ∙ is)
-    (subst (NoIdBefore file q) (sym j) u)
+    (subst (NoIdBefore sheet q) (sym j) u)
 
-module _ {file : ℕ} {q r : List ℕ} {at : ℕ} {o : MemberStep} (h : MemberPassed r at o) where
+module _ {sheet : ℕ} {q r : List ℕ} {at : ℕ} {o : MemberStep} (h : MemberPassed r at o) where
   -- the step in r is that in q
-  along-id : {id : List ℕ} → idOf file q ≡ some id → NoIdBefore file q at → AlongMembers q at
-  along-id {id} e u = u .along (id-some file q id e)
+  along-id : {id : List ℕ} → idOf sheet q ≡ some id → NoIdBefore sheet q at → AlongMembers q at
+  along-id {id} e u = u .along (id-some sheet q id e)
 
-  step-is : {id : List ℕ} → idOf file q ≡ some id → take (length q) r ≡ q → NoIdBefore file q at → memberAt q at ≡ o
+  step-is : {id : List ℕ} → idOf sheet q ≡ some id → take (length q) r ≡ q → NoIdBefore sheet q at → memberAt q at ≡ o
   step-is e is u = let a = along-id e u in sym (h .same (along-in q r is a) ∙ member-in q r is a)
 
-  pub reading-end : Reading file q r at → o ≡ members.End → idText file q ≡ []
+  pub reading-end : Reading sheet q r at → o ≡ members.End → idText sheet q ≡ []
   unfolding idText
   reading-end (Reading.nothing e z) f = ap textOr e
   reading-end (Reading.reading e is u) f = ap textOr (end-none u (step-is e is u ∙ f))
 
   -- the member that is found, x its name
   module _ (m : Member) (f : o ≡ members.Found m) (x : List ℕ) (named : x ≡ part r (m .name) (m .«name_end»)) where
-    pub reading-more : same (textOf x) (idName file) ≡ false → Reading file q r at → Reading file q r (m .next)
+    pub reading-more : same (textOf x) (idName sheet) ≡ false → Reading sheet q r at → Reading sheet q r (m .next)
     reading-more t (Reading.nothing e z) = Reading.nothing e z
     reading-more t (Reading.reading e is u) = let g = step-is e is u ∙ f in Reading.reading e is (unmet-next u m g x (name-in q r is at m g named) t)
 
-    pub reading-text : same (textOf x) (idName file) ≡ true → Reading file q r at → textOf (inside (part r (m .value) (m .«value_end»))) ≡ idText file q
+    pub reading-text : same (textOf x) (idName sheet) ≡ true → Reading sheet q r at → textOf (inside (part r (m .value) (m .«value_end»))) ≡ idText sheet q
     unfolding idText
     reading-text t (Reading.nothing e z) = let k = h .placed m f in absurd (omega (arith, k .later, k .name, k .apart, k .value, k .next, k .inside, ap length z))
     reading-text t (Reading.reading {id} e is u) =
         let g = step-is e is u ∙ f in let k = member-placed q at m g in
-        let holds = value-here u m g x (name-in q r is at m g named) t (id-object file q id e) (id-single file q id e) {v = foundBytes q (Once (m .value) (m .«value_end»))} (λ w. refl) in
+        let holds = value-here u m g x (name-in q r is at m g named) t (id-object sheet q id e) (id-single sheet q id e) {v = foundBytes q (Once (m .value) (m .«value_end»))} (λ w. refl) in
         ap (λ (l : List ℕ). textOf (inside l)) (part-in q r is (m .value) (m .«value_end») (omega arith) (omega arith))
         ∙ found-text q (m .value) (m .«value_end») id (ap textBy holds ∙ e)
         ∙ sym (ap textOr e)

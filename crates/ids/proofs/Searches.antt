@@ -17,12 +17,12 @@ pub none-less : {x : List ℕ} (y : List ℕ) → x ≡ [] → 0 < length y → 
 none-less [] e h = absurd (omega arith)
 none-less {x} (b ∷ y) e h = order-short {y = b ∷ y} e refl
 
-module _ (file : ℕ) (p notes id : List ℕ) (i : ℕ) {key wanted : ℕ} (k : key ≡ getD notes i 0) (v : wanted ≡ keyOf (drop (skipIn notes) id)) where
-  pub probe-less : key < wanted → probe file p notes id i ≡ Less
-  probe-less h = by-key-less (idInOrder file p) notes id _ i (subst (λ (x : ℕ). x < keyOf (drop (skipIn notes) id)) k (subst (λ (x : ℕ). key < x) v h))
+module _ (sheet : ℕ) (p notes id : List ℕ) (i : ℕ) {key wanted : ℕ} (k : key ≡ getD notes i 0) (v : wanted ≡ keyOf (drop (skipIn notes) id)) where
+  pub probe-less : key < wanted → probe sheet p notes id i ≡ Less
+  probe-less h = by-key-less (idInOrder sheet p) notes id _ i (subst (λ (x : ℕ). x < keyOf (drop (skipIn notes) id)) k (subst (λ (x : ℕ). key < x) v h))
 
-  pub probe-greater : wanted < key → probe file p notes id i ≡ Greater
-  probe-greater h = by-key-greater (idInOrder file p) notes id _ i (subst (λ (x : ℕ). x < getD notes i 0) v (subst (λ (x : ℕ). wanted < x) k h))
+  pub probe-greater : wanted < key → probe sheet p notes id i ≡ Greater
+  probe-greater h = by-key-greater (idInOrder sheet p) notes id _ i (subst (λ (x : ℕ). x < getD notes i 0) v (subst (λ (x : ℕ). wanted < x) k h))
 
-  pub probe-same : wanted ≤ key → key ≤ wanted → {o : Order} → orderOf (idInOrder file p i) id ≡ o → probe file p notes id i ≡ o
-  probe-same g h e = let z : key ≡ wanted = omega arith in by-key-same (idInOrder file p) notes id _ i (sym k ∙ z ∙ v) ∙ e
+  pub probe-same : wanted ≤ key → key ≤ wanted → {o : Order} → orderOf (idInOrder sheet p i) id ≡ o → probe sheet p notes id i ≡ o
+  probe-same g h e = let z : key ≡ wanted = omega arith in by-key-same (idInOrder sheet p) notes id _ i (sym k ∙ z ∙ v) ∙ e

@@ -101,10 +101,10 @@ found-given q name t (Once a b) i e =
     λ h. nonempty (part q a b) t (partTree (part q a b)) (found-standing q name (Once a b) i) h (rw h at e)
 found-given q name t Twice i e = no-some e
 
-pub id-given : (file : ℕ) (q t : List ℕ) → idOf file q ≡ some t → 0 < length t
+pub id-given : (sheet : ℕ) (q t : List ℕ) → idOf sheet q ≡ some t → 0 < length t
 unfolding idValue memberOf
-id-given file q t e =
-    by-test (eqb (kindCode (kindAt q)) 5) (λ h. found-given q (idName file) t (foundIn q (idName file)) refl (rw (idValue, memberOf, h) at e)) λ h. no-some (rw (idValue, memberOf, h) at e)
+id-given sheet q t e =
+    by-test (eqb (kindCode (kindAt q)) 5) (λ h. found-given q (idName sheet) t (foundIn q (idName sheet)) refl (rw (idValue, memberOf, h) at e)) λ h. no-some (rw (idValue, memberOf, h) at e)
 
 -- a text that is found in q, with what follows q
 pub once-text : (q s : List ℕ) (a e : ℕ) → a < e → e ≤ length q → Whole (part q a e) (partTree (part q a e)) → {v : List ℕ} → v ≡ foundBytes q (Once a e) → 3 ≡ kindCode (kindAt v)

@@ -29,7 +29,7 @@ recordsIn s = recordBytes (map mark (bytes s))
 
 -- the first of them whose id one before it has, in a file
 unfoldable repeatIn : ℕ → String → ℕ
-repeatIn file s = firstRepeat file (recordsIn s)
+repeatIn sheet s = firstRepeat sheet (recordsIn s)
 
 abbrev repeats : List (Case (ℕ × String) ℕ)
 repeats =
@@ -38,7 +38,7 @@ repeats =
     ("another spelling is the same id", (4, "[{'bike_id':'a'},{'bike_id':'a b'},{'bike_id':'\\u0061'}]"), 3) ∷
     ("no id, an empty one, a number", (4, "[{},{},{'bike_id':''},{'bike_id':''},{'bike_id':1},{'bike_id':1}]"), 0) ∷
     ("two ids are none", (4, "[{'bike_id':'a','bike_id':'a'},{'bike_id':'a'}]"), 0) ∷
-    ("a file's own name for ids, and not deeper down", (5, "[{'bike_id':'a'},{'bike_id':'a'},{'x':{'plan_id':'a'},'plan_id':'b'},{'plan_id':'a'},{'plan_id':'b'}]"), 5) ∷
+    ("a sheet's own name for ids, and not deeper down", (5, "[{'bike_id':'a'},{'bike_id':'a'},{'x':{'plan_id':'a'},'plan_id':'b'},{'plan_id':'a'},{'plan_id':'b'}]"), 5) ∷
     ("regions", (8, "[{'region_id':'a'},{'name':'n','region_id':'a'}]"), 2) ∷
     []
 

@@ -19,23 +19,23 @@ ghost use Rattle.ids.specs.inner.Ids.{idField, idName, TextPlace, IdTold
 
 // The field of a file's own ids; 0 where its records have none.
 // Shut out: plans whose ids are not looked at; a region that repeats an id blamed on another field.
-pub fn id_field(file: u8) -> u8
-    ensures { λ r. ⌜ r ≡ idField file ⌝ }
+pub fn id_field(sheet: u8) -> u8
+    ensures { λ r. ⌜ r ≡ idField sheet ⌝ }
 {
-    if file == 8 {
+    if sheet == 8 {
         return 100;
     }
-    if 5 < file {
+    if 5 < sheet {
         return 0;
     }
-    file * 10
+    sheet * 10
 }
 
 // Whether a name is that of a file's own ids; no bytes are, where its records have none.
-pub fn names_id(file: u8, spelled: &[u8]) -> bool
-    ensures { λ r. ⌜ r ≡ same (textOf (now (spelled .entry))) (idName file) ⌝ }
+pub fn names_id(sheet: u8, spelled: &[u8]) -> bool
+    ensures { λ r. ⌜ r ≡ same (textOf (now (spelled .entry))) (idName sheet) ⌝ }
 {
-    match file {
+    match sheet {
         1 => text_is(spelled, b"vehicle_type_id"),
         2 => text_is(spelled, b"station_id"),
         3 => text_is(spelled, b"station_id"),
@@ -58,9 +58,9 @@ fn text_from(q: &[u8], from: usize, upto: usize) -> usize
 }
 
 // Where the id of the record `q` is: its members are passed over up to the one that has the name of the file's ids.
-pub fn id_text(file: u8, q: &[u8]) -> IdText
+pub fn id_text(sheet: u8, q: &[u8]) -> IdText
     requires { ⌜ length (now q) ≤ fileBytes ⌝ }
-    ensures { λ r. ⌜ IdTold file (now (q .entry)) r ⌝ }
+    ensures { λ r. ⌜ IdTold sheet (now (q .entry)) r ⌝ }
 {
     let mut at: usize = 1;
     loop {
@@ -70,7 +70,7 @@ pub fn id_text(file: u8, q: &[u8]) -> IdText
                 text: 0,
             };
         };
-        if names_id(file, cut(q, m.name, m.name_end)) {
+        if names_id(sheet, cut(q, m.name, m.name_end)) {
             let text = text_from(q, m.value, m.value_end);
             return IdText { member: at, text };
         }

@@ -29,11 +29,11 @@ pub fn is_motorized(value: &[u8]) -> bool
 }
 
 // Whether the record `q` is of the sort that its file's references are asked about: a type whose propulsion is not human, a station with a capacity.
-pub fn passes(file: u8, q: &[u8]) -> bool
+pub fn passes(sheet: u8, q: &[u8]) -> bool
     requires { ⌜ Whole (now q) (partTree (now q)) ⌝ }
-    ensures { λ r. ⌜ r ≡ passing file (now (q .entry)) ⌝ }
+    ensures { λ r. ⌜ r ≡ passing sheet (now (q .entry)) ⌝ }
 {
-    match file {
+    match sheet {
         1 => is_motorized(member(q, b"propulsion_type")),
         2 => 0 < member(q, b"capacity").len(),
         _ => true,
@@ -42,14 +42,14 @@ pub fn passes(file: u8, q: &[u8]) -> bool
 
 // Whether a record of the array `p` has the id, and one with it passes where that is asked. An id of no bytes is none.
 // Shut out: that a record passes asked where it is not, and not asked where it is.
-pub fn meets(file: u8, p: &[u8], notes: &[u32; Notes::SIZE], id: &[u8], tested: bool) -> bool
-    requires { ⌜ Searchable file (now p) (now notes) ⌝ }
-    ensures { λ r. ⌜ r ≡ anyWith (testedOf file tested) (idField file) (pickedItems (recordShape file) (now (p .entry))) (textOf (now (id .entry))) ⌝ }
+pub fn meets(sheet: u8, p: &[u8], notes: &[u32; Notes::SIZE], id: &[u8], tested: bool) -> bool
+    requires { ⌜ Searchable sheet (now p) (now notes) ⌝ }
+    ensures { λ r. ⌜ r ≡ anyWith (testedOf sheet tested) (idField sheet) (pickedItems (recordShape sheet) (now (p .entry))) (textOf (now (id .entry))) ⌝ }
 {
     if text_is(id, b"") {
         return false;
     }
-    let found = search(file, p, notes, id, false);
+    let found = search(sheet, p, notes, id, false);
     if found.met == 0 {
         return false;
     }

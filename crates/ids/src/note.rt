@@ -19,13 +19,13 @@ ghost use Rattle.ids.specs.inner.Notes.{size, Next, Noted, Indexed};
 
 // Enters the record m of `p` behind the `n` that are entered.
 // Shut out: the text of an id looked for where its record starts.
-pub fn note_record(file: u8, p: &[u8], m: Item, n: usize, notes: &mut [u32; Notes::SIZE])
-    requires { ⌜ Next file (now p) n m × Noted file (now p) n (now notes) ⌝ }
-    ensures { λ _. ⌜ Noted file (now (p .entry)) (n + 1) (now (notes .exit)) ⌝ }
+pub fn note_record(sheet: u8, p: &[u8], m: Item, n: usize, notes: &mut [u32; Notes::SIZE])
+    requires { ⌜ Next sheet (now p) n m × Noted sheet (now p) n (now notes) ⌝ }
+    ensures { λ _. ⌜ Noted sheet (now (p .entry)) (n + 1) (now (notes .exit)) ⌝ }
 {
     let q = item_bytes(p, m);
-    let passed = passes(file, q);
-    let id = id_text(file, q);
+    let passed = passes(sheet, q);
+    let id = id_text(sheet, q);
     if id.text == 0 {
         enter(notes, n, p.len(), p.len(), 0, passed);
         return;
@@ -34,9 +34,9 @@ pub fn note_record(file: u8, p: &[u8], m: Item, n: usize, notes: &mut [u32; Note
 }
 
 // Notes the records of the array `p`; the number of the first record whose id one before it has, or 0.
-pub fn note(file: u8, p: &[u8], notes: &mut [u32; Notes::SIZE]) -> u16
-    requires { ⌜ (length (now p) ≤ fileBytes) × (length (itemsOf (now p)) ≤ records) × ((0 < length (now p)) → AlongItems (now p) 1) × AllIdsOnce file (now p) × (length (now notes) ≡ size) ⌝ }
-    ensures { λ r. ⌜ (r ≡ firstRepeat file (recordBytes (now (p .entry)))) × Indexed file (now (p .entry)) (now (notes .exit)) ⌝ }
+pub fn note(sheet: u8, p: &[u8], notes: &mut [u32; Notes::SIZE]) -> u16
+    requires { ⌜ (length (now p) ≤ fileBytes) × (length (itemsOf (now p)) ≤ records) × ((0 < length (now p)) → AlongItems (now p) 1) × AllIdsOnce sheet (now p) × (length (now notes) ≡ size) ⌝ }
+    ensures { λ r. ⌜ (r ≡ firstRepeat sheet (recordBytes (now (p .entry)))) × Indexed sheet (now (p .entry)) (now (notes .exit)) ⌝ }
 {
     let mut n: usize = 0;
     let mut at: usize = 1;
@@ -44,7 +44,7 @@ pub fn note(file: u8, p: &[u8], notes: &mut [u32; Notes::SIZE]) -> u16
         let ItemStep::Found(m) = pass_item(p, at) else {
             return order_notes(p, n, notes);
         };
-        note_record(file, p, m, n, notes);
+        note_record(sheet, p, m, n, notes);
         n += 1;
         at = m.next;
     }

@@ -28,14 +28,14 @@ pub fn demanded(needed: bool, value: &[u8]) -> u8
 }
 
 // Whether a record of a file that a reference names is of the sort that is asked about there; none is where no reference is given.
-fn named(value: &[u8], file: u8, p: &[u8], notes: &[u32; Notes::SIZE]) -> bool
-    requires { ⌜ Searchable file (now p) (now notes) ⌝ }
-    ensures { λ r. ⌜ r ≡ namedBy (testOf file) (idField file) (pickedItems (recordShape file) (now (p .entry))) (textBy (now (value .entry))) ⌝ }
+fn named(value: &[u8], sheet: u8, p: &[u8], notes: &[u32; Notes::SIZE]) -> bool
+    requires { ⌜ Searchable sheet (now p) (now notes) ⌝ }
+    ensures { λ r. ⌜ r ≡ namedBy (testOf sheet) (idField sheet) (pickedItems (recordShape sheet) (now (p .entry))) (textBy (now (value .entry))) ⌝ }
 {
     if code_of(value) != STRING {
         return false;
     }
-    meets(file, p, notes, unquoted(value), true)
+    meets(sheet, p, notes, unquoted(value), true)
 }
 
 // What a field breaks that is needed where a record which a reference names is of that sort: the kind, or 0. The record is searched for only where the
@@ -43,29 +43,29 @@ fn named(value: &[u8], file: u8, p: &[u8], notes: &[u32; Notes::SIZE]) -> bool
 pub fn demanded_by(
     reference: &[u8],
     value: &[u8],
-    file: u8,
+    sheet: u8,
     p: &[u8],
     notes: &[u32; Notes::SIZE],
 ) -> u8
-    requires { ⌜ Searchable file (now p) (now notes) ⌝ }
-    ensures { λ r. ⌜ listed r ≡ demandedOf (namedBy (testOf file) (idField file) (pickedItems (recordShape file) (now (p .entry))) (textBy (now (reference .entry)))) (thereBy (now (value .entry))) ⌝ }
+    requires { ⌜ Searchable sheet (now p) (now notes) ⌝ }
+    ensures { λ r. ⌜ listed r ≡ demandedOf (namedBy (testOf sheet) (idField sheet) (pickedItems (recordShape sheet) (now (p .entry))) (textBy (now (reference .entry)))) (thereBy (now (value .entry))) ⌝ }
 {
     if 0 < value.len() {
         return 0;
     }
-    let needed = named(reference, file, p, notes);
+    let needed = named(reference, sheet, p, notes);
     demanded(needed, value)
 }
 
 // What a reference breaks that names no record: the kind, or 0.
-pub fn refers(value: &[u8], file: u8, p: &[u8], notes: &[u32; Notes::SIZE]) -> u8
-    requires { ⌜ Searchable file (now p) (now notes) ⌝ }
-    ensures { λ r. ⌜ listed r ≡ refersTo (textBy (now (value .entry))) (idField file) (pickedItems (recordShape file) (now (p .entry))) ⌝ }
+pub fn refers(value: &[u8], sheet: u8, p: &[u8], notes: &[u32; Notes::SIZE]) -> u8
+    requires { ⌜ Searchable sheet (now p) (now notes) ⌝ }
+    ensures { λ r. ⌜ listed r ≡ refersTo (textBy (now (value .entry))) (idField sheet) (pickedItems (recordShape sheet) (now (p .entry))) ⌝ }
 {
     if code_of(value) != STRING {
         return 0;
     }
-    if meets(file, p, notes, unquoted(value), false) {
+    if meets(sheet, p, notes, unquoted(value), false) {
         return 0;
     }
     Kind::DANGLING

@@ -29,9 +29,9 @@ ghost use Rattle.ids.specs.inner.Known.{probe, Searchable, RecordOf};
 // search goes by halves over the records in order: the key of the one in the middle tells in which half to go on. Where it is the key of the id, the search
 // goes over the members of that record, from the one that was noted on, and is left where the id is met. A record without an id comes before all others.
 // Shut out: a read that is not counted.
-pub fn search(file: u8, p: &[u8], notes: &[u32; Notes::SIZE], id: &[u8], raw: bool) -> Lookup
-    requires { ⌜ Indexed file (now p) (now notes) × (0 < length (meant raw (now id))) ⌝ }
-    ensures { λ r. ⌜ r ≡ foundBy (probe file (now (p .entry)) (now (notes .entry)) (meant raw (now (id .entry)))) 14 0 (length (itemsOf (now (p .entry)))) ⌝ }
+pub fn search(sheet: u8, p: &[u8], notes: &[u32; Notes::SIZE], id: &[u8], raw: bool) -> Lookup
+    requires { ⌜ Indexed sheet (now p) (now notes) × (0 < length (meant raw (now id))) ⌝ }
+    ensures { λ r. ⌜ r ≡ foundBy (probe sheet (now (p .entry)) (now (notes .entry)) (meant raw (now (id .entry)))) 14 0 (length (itemsOf (now (p .entry)))) ⌝ }
 {
     let wanted = key_of(id, skip(notes), raw);
     let mut met: usize = 0;
@@ -60,7 +60,7 @@ pub fn search(file: u8, p: &[u8], notes: &[u32; Notes::SIZE], id: &[u8], raw: bo
                 }
                 MemberStep::Found(m) => {
                     let name = cut(record, m.name, m.name_end);
-                    if names_id(file, name) {
+                    if names_id(sheet, name) {
                         let value = cut(record, m.value, m.value_end);
                         match order_of(unquoted(value), id, raw) {
                             Order::Less => {
@@ -87,14 +87,14 @@ pub fn search(file: u8, p: &[u8], notes: &[u32; Notes::SIZE], id: &[u8], raw: bo
 
 // Where the record of the array `p` starts that has the id, which is no spelling but its bytes. An id of no bytes is none.
 // Shut out: a record found by an id that it spells as asked and that decodes to another.
-pub fn find_record(file: u8, p: &[u8], notes: &[u32; Notes::SIZE], id: &[u8]) -> Start
-    requires { ⌜ Searchable file (now p) (now notes) ⌝ }
-    ensures { λ r. ⌜ RecordOf file (now (p .entry)) (now (id .entry)) r ⌝ }
+pub fn find_record(sheet: u8, p: &[u8], notes: &[u32; Notes::SIZE], id: &[u8]) -> Start
+    requires { ⌜ Searchable sheet (now p) (now notes) ⌝ }
+    ensures { λ r. ⌜ RecordOf sheet (now (p .entry)) (now (id .entry)) r ⌝ }
 {
     if id.len() == 0 {
         return Start::Nowhere;
     }
-    let found = search(file, p, notes, id, true);
+    let found = search(sheet, p, notes, id, true);
     if found.met == 0 {
         return Start::Nowhere;
     }

@@ -11,8 +11,8 @@ use Rattle.notation.proofs.Booleans.{by-test, true-false, and-left, and-right}
 use Rattle.word.specs.Kinds.{wrongType, tooMany}
 use Rattle.json.specs.Tree.{Json}
 use Rattle.schema.specs.Shape as shape
-use Rattle.schema.specs.Shape.{Shape, Rows, Need, Numbering, Sort, fileShape}
-use Rattle.schema.specs.Table23.{table23, written23}
+use Rattle.schema.specs.Shape.{Shape, Rows, Need, Numbering, Sort}
+use Rattle.schema.specs.Tables.{sheets, written, sheetShape}
 use Rattle.schema.specs.Pick.{Picked, PickedItems, Slots, bare, items, slots, noItem, item, noSlot, absent, repeated, present, pick, listOf}
 use Rattle.schema.proofs.Computed.{every, every-file}
 use Rattle.fault.specs.declared.Fault.{Fault}
@@ -235,9 +235,9 @@ pub shape-fits : (σ : Shape) → fitsWord σ header 0 ≡ true → (x : Json) (
 unfolding fileFaultsBy
 shape-fits σ t x f e = holds-is (keeps σ header 0 (omega arith) t top (refl, refl) (pick σ x)) e .fits (omega arith)
 
-pub file-fits : (file : ℕ) → fitsWord (fileShape table23 file) header 0 ≡ true
-unfolding every written23 fitsWord
-file-fits file = every-file (λ σ. fitsWord σ header 0) table23 refl refl file
+pub file-fits : (file : ℕ) → fitsWord (sheetShape file) header 0 ≡ true
+unfolding every written fitsWord
+file-fits file = every-file (λ σ. fitsWord σ header 0) sheets refl refl file
 
-pub first-fits : (file : ℕ) (x : Json) (f : Fault) → least (fileFaults (fileShape table23 file) x) ≡ Is f → Fitting f
-first-fits file x f e = shape-fits (fileShape table23 file) (file-fits file) x f e
+pub first-fits : (file : ℕ) (x : Json) (f : Fault) → least (fileFaults (sheetShape file) x) ≡ Is f → Fitting f
+first-fits file x f e = shape-fits (sheetShape file) (file-fits file) x f e

@@ -15,7 +15,7 @@ use Rattle.schema.specs.Shape as shape
 use Rattle.schema.specs.Shape.{Shape, Rows, Need}
 use Rattle.schema.specs.inner.Line.{lineAt}
 use Rattle.schema.specs.Pick.{Slot, missing, once, twice, unlessBlank, find, put, pick, pickRows}
-use Rattle.schema.specs.Table23.{table23}
+use Rattle.schema.specs.Tables.{sheets}
 use Rattle.schema.proofs.Walk.{Laid, linesIn, step, first-row, no-row}
 use Rattle.slots.specs.declared.Slots.{Slots as Filled}
 use Rattle.slots.specs.inner.Rows.{mostRows, namesIn, lineNames, rowLine}
@@ -55,7 +55,7 @@ no-rows q ms = refl
 -- the rows that are left, at line i and slot `row`
 pub record Left (p : List ℕ) (s : Filled) (end : ℕ) (q : Place) (level i row : ℕ) (acc : Least) (ms : Members) (total : Least) : Type 0 where
   pub rest : Rows
-  pub laid : Laid table23 i rest
+  pub laid : Laid sheets i rest
   pub ends : i + linesIn rest ≡ end
   pub few : row + length (namesIn rest) ≤ mostRows
   pub judgeable-rest : judgeableRows rest level ≡ true
@@ -71,8 +71,8 @@ RowsGo state leasts first count q i row acc =
 
 -- past the row at the front of those that are left
 row-passed : (p : List ℕ) (s : Filled) (end : ℕ) (q : Place) (level i row : ℕ) (acc : Least) (ms : Members) (total : Least) {line : Line} {r : Least} →
-    line ≡ lineAt table23 i → Row p (slotAt s row) i q level r → Whole p (Json.object ms) →
-    (field : ℕ) (need : Need) (name : List ℕ) (σ : Shape) (below : Rows) → Laid table23 i (shape.row field need name σ below) →
+    line ≡ lineAt sheets i → Row p (slotAt s row) i q level r → Whole p (Json.object ms) →
+    (field : ℕ) (need : Need) (name : List ℕ) (σ : Shape) (below : Rows) → Laid sheets i (shape.row field need name σ below) →
     i + linesIn (shape.row field need name σ below) ≡ end → row + length (namesIn (shape.row field need name σ below)) ≤ mostRows →
     judgeableRows (shape.row field need name σ below) level ≡ true →
     Slotted p s row (shape.row field need name σ below) →
@@ -80,7 +80,7 @@ row-passed : (p : List ℕ) (s : Filled) (end : ℕ) (q : Place) (level i row : 
     Left p s end q level (i + 1 + line .inside) (row + 1) (lesser acc r) ms total
 unfolding judgeableRows namesIn
 row-passed p s end q level i row acc ms total at o w field need name σ below l h m e f t =
-    let k = step table23 i field need name σ below l in
+    let k = step sheets i field need name σ below l in
     record {
       rest = below;
       laid = rw at (k .next);
@@ -111,7 +111,7 @@ module _ (state : List ℕ) (leasts : List Least) (first count : ℕ) (q : Place
         makes = none-lesser _;
       }
 
-  pub rows-next : (i row : ℕ) (acc : Least) {line : Line} {r : Least} → line ≡ lineAt table23 i → i < first + count → row < mostRows → i ≡ rowLine table23 first row →
+  pub rows-next : (i row : ℕ) (acc : Least) {line : Line} {r : Least} → line ≡ lineAt sheets i → i < first + count → row < mostRows → i ≡ rowLine sheets first row →
       r ≡ rowLeast (getD state row 0) (getD leasts row None) line q →
       RowsGo state leasts first count q i row acc → RowsGo state leasts first count q (i + 1 + line .inside) (row + 1) (lesser acc r)
   rows-next i row acc {line} {r} at h few here j go p from upto level rows t ms w e kept =
@@ -122,7 +122,7 @@ module _ (state : List ℕ) (leasts : List Least) (first count : ℕ) (q : Place
       let f = first-row (k .rest) (omega (arith, k .ends)) in
       let o =
       row-judged p s row i q level value at few j (λ a b m. subst (λ (l : ℕ). Member (part p a b) l q level value) (sym here) (kept .is row a b few m)) in
-      subst (λ (z : Rows). Laid table23 i z → i + linesIn z ≡ first + count → row + length (namesIn z) ≤ mostRows → judgeableRows z level ≡ true → Slotted p s row z →
+      subst (λ (z : Rows). Laid sheets i z → i + linesIn z ≡ first + count → row + length (namesIn z) ≤ mostRows → judgeableRows z level ≡ true → Slotted p s row z →
       lesser acc (least (rowFaults z q (pickRows z ms))) ≡ total → Left p s (first + count) q level (i + 1 + line .inside) (row + 1) (lesser acc r) ms total)
       (sym (f .is)) (row-passed p s (first + count) q level i row acc ms total at o w (f .field) (f .need) (f .name) (f .value) (f .below))
       (k .laid) (k .ends) (k .few) (k .judgeable-rest) (k .slotting) (k .makes)

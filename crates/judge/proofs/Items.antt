@@ -32,7 +32,7 @@ use Rattle.schema.specs.Shape.{Shape, Numbering}
 use Rattle.schema.specs.inner.Line.{lineAt, numberingLetter}
 use Rattle.schema.specs.Pick as picking
 use Rattle.schema.specs.Pick.{Picked, PickedItems, pick, pickItems, listOf}
-use Rattle.schema.specs.Table23.{table23}
+use Rattle.schema.specs.Tables.{sheets}
 use Rattle.notation.proofs.Booleans.{and-left, and-right}
 use Rattle.fault.specs.declared.Least.{Least}
 use Rattle.fault.specs.declared.Least.the-variants.{None}
@@ -119,7 +119,7 @@ module _ (p : List ℕ) (i : ℕ) (q : Place) (level : ℕ) where
         go = λ n a e is w. comes-start (itemsFound (take n p) a q None 0) (λ h. AlongItems.start w);
       }
 
-  module _ {line : Line} (line-is : line ≡ lineAt table23 i) (other : line .numbering ≡ code "p" → ⊥) where
+  module _ {line : Line} (line-is : line ≡ lineAt sheets i) (other : line .numbering ≡ code "p" → ⊥) where
     -- nor is the row that line i is of numbered by positions
     not-positions : (a : ArrayAt i) → numberingLetter (a .numbering) ≡ code "p" → ⊥
     not-positions a k = other (ap (λ (m : Line). m .numbering) line-is ∙ line-numbering a ∙ k)
@@ -142,7 +142,7 @@ module _ (p : List ℕ) (i : ℕ) (q : Place) (level : ℕ) where
         let x = partTree (itemOf P m) in
         let h =
         o .is σ (item-told a b) (λ c. plain-single σ b (line-item a ∙ c)) (and-right (plain σ) (judgeable σ level) y) x (item-whole P at m f)
-        ∙ ap (λ (z : Place). least (faults σ z (lineAt table23 i .field) (pick σ x))) (line-place a (k + 1) q)
+        ∙ ap (λ (z : Place). least (faults σ z (lineAt sheets i .field) (pick σ x))) (line-place a (k + 1) q)
         ∙ ap (λ (φ : ℕ). least (faults σ (itemPlace (a .numbering) (k + 1) q) φ (pick σ x))) (line-field (a .row)) in
         comes-more (met .go n a d is w) (as-read P at) f (itemsFound P a q (lesser acc r) (k + 1)) (found-more P (a .numbering) σ q (a .row .field) acc k m h)
 
@@ -193,7 +193,7 @@ module _ (p : List ℕ) (i : ℕ) (q : Place) (level : ℕ) where
               let t : pick σ x ≡ picking.items picked =
               ap (pick σ) (m .1) ∙ ap (λ (z : Items). picking.items (pickItems (λ y. pick (a .item) y) z)) (array-parts P v′) in
               h ∙ ap (λ (z : Line). lesser (least (faulty q (z .field) (unless (leb k (z .most)) tooMany))) acc) line-is
-              ∙ ap (λ (φ : ℕ). lesser (least (faulty q φ (unless (leb k (lineAt table23 i .most)) tooMany))) acc) (line-field (a .row))
+              ∙ ap (λ (φ : ℕ). lesser (least (faulty q φ (unless (leb k (lineAt sheets i .most)) tooMany))) acc) (line-field (a .row))
               ∙ ap (λ (z : ℕ). lesser (least (faulty q field (unless (leb k z) tooMany))) acc) (line-most a)
               ∙ array-total (λ r f y. faults (a .item) r f y) (a .numbering) (a .most) q field picked k acc c l
               ∙ ap least (sym (counted-faults (a .numbering) (not-positions a) (a .most) (a .item) q field (picking.items picked)))

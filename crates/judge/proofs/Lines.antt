@@ -20,7 +20,7 @@ use Rattle.schema.specs.Shape as shape
 use Rattle.schema.specs.Shape.{Shape, Rows, Need, Numbering}
 use Rattle.schema.specs.inner.Line.{inside, entries, entriesOf, lineAt, valueLetter, sortWords, shapeWords, needLetter, numberingLetter, laidOut, lineOf}
 use Rattle.schema.specs.Later.{itemShape}
-use Rattle.schema.specs.Table23.{table23, written23}
+use Rattle.schema.specs.Tables.{sheets, written}
 use Rattle.schema.specs.Pick.{pick}
 use Rattle.schema.proofs.Letters.{array-letter}
 use Rattle.schema.proofs.Walk.{Step, step, laid-array}
@@ -31,22 +31,22 @@ use Rattle.fault.specs.Fault.{faulty}
 use Rattle.judge.specs.inner.Judgeable.{noWords, plain}
 use Rattle.judge.specs.inner.Judged.{bracketsOf, absenceOf, itemPlaceOf, LineTells, RowAt, ArrayAt}
 
-pub how-many : length (entriesOf table23) ≡ lineCount
-unfolding laidOut written23
+pub how-many : length (entriesOf sheets) ≡ lineCount
+unfolding laidOut written
 how-many = refl
 
 module _ {i : ℕ} (a : RowAt i) where
-  walked : Step table23 i (a .field) (a .need) (a .name) (a .value) (a .below)
-  walked = step table23 i (a .field) (a .need) (a .name) (a .value) (a .below) (a .laid)
+  walked : Step sheets i (a .field) (a .need) (a .name) (a .value) (a .below)
+  walked = step sheets i (a .field) (a .need) (a .name) (a .value) (a .below) (a .laid)
 
   pub laid-there : i < lineCount
   unfolding entries
   laid-there = omega (arith, a .laid .fits, how-many)
 
-  pub line-field : lineAt table23 i .field ≡ a .field
+  pub line-field : lineAt sheets i .field ≡ a .field
   line-field = ap (λ (l : Line). l .field) (walked .line)
 
-  pub line-need : absenceOf (lineAt table23 i .need) ≡ absence (a .need)
+  pub line-need : absenceOf (lineAt sheets i .need) ≡ absence (a .need)
   line-need = ap (λ (l : Line). absenceOf (l .need)) (walked .line) ∙ by-need (a .need)
     where
       by-need : (n : Need) → absenceOf (needLetter n) ≡ absence n
@@ -54,10 +54,10 @@ module _ {i : ℕ} (a : RowAt i) where
       by-need shape.optional = refl
       by-need shape.conditional = refl
 
-  pub line-value : valueLetter (a .value) ≡ lineAt table23 i .value
+  pub line-value : valueLetter (a .value) ≡ lineAt sheets i .value
   line-value = sym (ap (λ (l : Line). l .value) (walked .line))
 
-  pub row-told : LineTells i (lineAt table23 i .value) (a .value)
+  pub row-told : LineTells i (lineAt sheets i .value) (a .value)
   row-told =
       record {
         there = laid-there;
@@ -84,34 +84,34 @@ unfolding plain
 plain-single σ e h = let a = array-letter σ h in true-false (sym (ap plain (a .is)) ∙ e) refl
 
 module _ {i : ℕ} (a : ArrayAt i) where
-  told : LineTells i (lineAt table23 i .value) (shape.array (a .numbering) (a .most) (a .item))
-  told = subst (LineTells i (lineAt table23 i .value)) (a .is) (row-told (a .row))
+  told : LineTells i (lineAt sheets i .value) (shape.array (a .numbering) (a .most) (a .item))
+  told = subst (LineTells i (lineAt sheets i .value)) (a .is) (row-told (a .row))
 
-  lined : lineAt table23 i ≡ lineOf (record { field = a .row .field; need = a .row .need; name = a .row .name; shape = shape.array (a .numbering) (a .most) (a .item) })
+  lined : lineAt sheets i ≡ lineOf (record { field = a .row .field; need = a .row .need; name = a .row .name; shape = shape.array (a .numbering) (a .most) (a .item) })
   lined = walked (a .row) .line ∙ ap (λ (σ : Shape). lineOf (record { field = a .row .field; need = a .row .need; name = a .row .name; shape = σ })) (a .is)
 
-  pub line-numbering : lineAt table23 i .numbering ≡ numberingLetter (a .numbering)
+  pub line-numbering : lineAt sheets i .numbering ≡ numberingLetter (a .numbering)
   line-numbering = ap (λ (l : Line). l .numbering) lined
 
-  pub line-most : lineAt table23 i .most ≡ a .most
+  pub line-most : lineAt sheets i .most ≡ a .most
   line-most = ap (λ (l : Line). l .most) lined
 
-  pub line-item : valueLetter (a .item) ≡ lineAt table23 i .item
+  pub line-item : valueLetter (a .item) ≡ lineAt sheets i .item
   unfolding itemShape
   line-item = sym (ap (λ (l : Line). l .item) lined)
 
-  pub item-told : plain (a .item) ≡ true → LineTells i (lineAt table23 i .item) (a .item)
+  pub item-told : plain (a .item) ≡ true → LineTells i (lineAt sheets i .item) (a .item)
   unfolding inside
   item-told e =
       record {
         there = told .there;
         lettered = line-item;
         words = told .words ∙ no-words (a .item) e;
-        inner = laid-array table23 (i + 1) (a .numbering) (a .most) (a .item) (told .inner);
+        inner = laid-array sheets (i + 1) (a .numbering) (a .most) (a .item) (told .inner);
         lines = told .lines;
       }
 
-  pub line-place : (n : ℕ) (q : Place) → itemPlaceOf (lineAt table23 i .numbering) n q ≡ itemPlace (a .numbering) n q
+  pub line-place : (n : ℕ) (q : Place) → itemPlaceOf (lineAt sheets i .numbering) n q ≡ itemPlace (a .numbering) n q
   line-place n q = ap (λ (l : ℕ). itemPlaceOf l n q) line-numbering ∙ by-letter (a .numbering)
     where
       by-letter : (m : Numbering) → itemPlaceOf (numberingLetter m) n q ≡ itemPlace m n q

@@ -15,12 +15,12 @@ use Rattle.walk.specs.inner.Front.{Ends}
 use Rattle.walk.proofs.Fronts.{whole-fronts, fronts-whole}
 use Rattle.schema.specs.declared.Range.{Range}
 use Rattle.schema.specs.Shape as shape
-use Rattle.schema.specs.Shape.{Shape, Rows, fileShape}
+use Rattle.schema.specs.Shape.{Shape, Rows}
 use Rattle.schema.specs.inner.Line.{inside, fileLines, laidOut}
 use Rattle.schema.specs.Later.{listedIn}
 use Rattle.schema.specs.Pick.{pick}
 use Rattle.schema.specs.inner.Sound.{distinctRows}
-use Rattle.schema.specs.Table23.{table23, written23}
+use Rattle.schema.specs.Tables.{sheets, written, sheetShape}
 use Rattle.schema.proofs.Computed.{every, every-file}
 use Rattle.schema.proofs.Walk.{LaidIn, laid-object, file-lined, linesIn}
 use Rattle.slots.specs.inner.Rows.{namesIn}
@@ -43,9 +43,9 @@ judgeableFile (shape.scalar sort) = false
 judgeableFile (shape.array numbering most σ) = false
 judgeableFile (shape.object rows) = ltb 0 (linesIn rows) and judgeable (shape.object rows) levels
 
-file-laid : (file : ℕ) → judgeableFile (fileShape table23 file) ≡ true
-unfolding every judgeableFile written23 laidOut judgeable arrays plain distinctRows listedIn namesIn same
-file-laid file = every-file judgeableFile table23 refl refl file
+file-laid : (file : ℕ) → judgeableFile (sheetShape file) ≡ true
+unfolding every judgeableFile written laidOut judgeable arrays plain distinctRows listedIn namesIn same
+file-laid file = every-file judgeableFile sheets refl refl file
 
 record WithLines (σ : Shape) : Type 0 where
   rows : Rows
@@ -67,23 +67,23 @@ without-lines (shape.array numbering most σ) e n x = true-false e refl
 without-lines (shape.object rows) e n x =
     let some : 0 < linesIn rows = ltb-true 0 (linesIn rows) (and-left (ltb 0 (linesIn rows)) (judgeable (shape.object rows) levels) e) in absurd (omega arith)
 
-pub file-unlisted : (file : ℕ) → fileLines table23 file .count ≡ 0 → (x : Json) → None ≡ least (fileFaults (fileShape table23 file) x)
-file-unlisted file e x = without-lines (fileShape table23 file) (file-laid file) (sym (file-lined table23 file .count) ∙ e) x
+pub file-unlisted : (file : ℕ) → fileLines sheets file .count ≡ 0 → (x : Json) → None ≡ least (fileFaults (sheetShape file) x)
+file-unlisted file e x = without-lines (sheetShape file) (file-laid file) (sym (file-lined sheets file .count) ∙ e) x
 
-pub file-listed : (p : List ℕ) (e : ℕ) {r : Least} {lines : Range} (file : ℕ) → lines ≡ fileLines table23 file → (lines .count ≡ 0 → ⊥) → Ends p e →
-    Object (take e p) (lines .first) (lines .count) 0 top levels r → (x : Json) → Whole p x → r ≡ least (fileFaults (fileShape table23 file) x)
+pub file-listed : (p : List ℕ) (e : ℕ) {r : Least} {lines : Range} (file : ℕ) → lines ≡ fileLines sheets file → (lines .count ≡ 0 → ⊥) → Ends p e →
+    Object (take e p) (lines .first) (lines .count) 0 top levels r → (x : Json) → Whole p x → r ≡ least (fileFaults (sheetShape file) x)
 unfolding fileFaultsBy inside
 file-listed p e {r} file at n ends o x w =
-    go (with-lines (fileShape table23 file) (file-laid file) (λ z. n (ap (λ (l : Range). l .count) at ∙ file-lined table23 file .count ∙ z)))
+    go (with-lines (sheetShape file) (file-laid file) (λ z. n (ap (λ (l : Range). l .count) at ∙ file-lined sheets file .count ∙ z)))
     (subst (λ (l : Range). Object (take e p) (l .first) (l .count) 0 top levels r) at o)
   where
     whole : Whole (take e p) x
     whole = let f = whole-fronts w in rw (ends .is x (length p) f) (fronts-whole f)
 
-    go : WithLines (fileShape table23 file) → Object (take e p) (fileLines table23 file .first) (fileLines table23 file .count) 0 top levels r →
-        r ≡ least (fileFaults (fileShape table23 file) x)
+    go : WithLines (sheetShape file) → Object (take e p) (fileLines sheets file .first) (fileLines sheets file .count) 0 top levels r →
+        r ≡ least (fileFaults (sheetShape file) x)
     go k o′ =
-        let d = file-lined table23 file in
-        o′ .is (k .rows) (laid-object table23 (fileLines table23 file .first) (k .rows) (subst (LaidIn table23 (fileLines table23 file .first)) (k .is) (d .laid)))
+        let d = file-lined sheets file in
+        o′ .is (k .rows) (laid-object sheets (fileLines sheets file .first) (k .rows) (subst (LaidIn sheets (fileLines sheets file .first)) (k .is) (d .laid)))
         (sym (d .count ∙ ap (λ (σ : Shape). length (inside σ)) (k .is))) (k .judgeable-rows) x whole
         ∙ ap (λ (σ : Shape). least (faults σ top 0 (pick σ x))) (sym (k .is))

@@ -24,7 +24,7 @@ use Rattle.walk.proofs.Places.{member-placed}
 use Rattle.walk.proofs.Open.{front-part}
 use Rattle.walk.proofs.Along.{MembersAlong, members-along, members-along-next, members-along-last}
 use Rattle.walk.proofs.Fronts.{fronts-whole, member-ended, member-met, members-end, cut-same}
-use Rattle.schema.specs.Table23.{table23}
+use Rattle.schema.specs.Tables.{sheets}
 use Rattle.slots.specs.declared.Row.{Row}
 use Rattle.slots.specs.declared.Slots.{Slots}
 use Rattle.slots.specs.inner.Rows.{mostRows, lineNames, rowNamed, rowLine, RowOf}
@@ -95,12 +95,12 @@ module _ (p : List ℕ) (first count : ℕ) (q : Place) (level : ℕ) where
           ∙ sym (row-is .named))
 
       first-kept : (j a u : ℕ) → j < mostRows → Put before (r .row) (m .value) (m .value + e) j a u →
-          Member (part (take n p) a u) (rowLine table23 first j) q level (getD (set leasts (r .row) least) j None)
+          Member (part (take n p) a u) (rowLine sheets first j) q level (getD (set leasts (r .row) least) j None)
       first-kept j a u h (there d o) =
           rw (getD-set-other leasts (r .row) j least None d) (g .kept n ms w .is j a u h o)
       first-kept j a u h (here d new b f) =
           let inside : m .value + e ≤ length (take n p) = omega (arith, placed .next, placed .inside) in
-          let line : r .line ≡ rowLine table23 first (r .row) = row-is .line (omega arith) in
+          let line : r .line ≡ rowLine sheets first (r .row) = row-is .line (omega arith) in
           let kept = getD-set-same leasts (r .row) least None (omega (arith, g .many)) in
           rw (d, b, f, kept, sym (cut-same p n at (m .value) e inside), sym line) (judged new)
 

@@ -15,7 +15,8 @@ use Rattle.schema.specs.Shape as shape
 use Rattle.schema.specs.Shape.{Shape, Numbering}
 use Rattle.schema.specs.inner.Line.{lineAt, numberingLetter}
 use Rattle.schema.specs.Pick.{Picked, PickedItems, bare, items, item, emptied, inArray, pickItems, pick}
-use Rattle.schema.specs.Table23.{table23, coordinates}
+use Rattle.schema.specs.Table23.{coordinates}
+use Rattle.schema.specs.Tables.{sheets}
 use Rattle.fault.specs.declared.Least.{Least}
 use Rattle.fault.specs.Fault.{least}
 use Rattle.fault.specs.declared.Place.{Place}
@@ -81,7 +82,7 @@ position-faults shape.positions h most σ level e q φ x =
     ap (coordinateFaults q φ) (nested-picked 4 coordinates (shape.array shape.positions most σ) refl e x)
 
 module _ {p : List ℕ} {i : ℕ} {q : Place} {level : ℕ} {r : Least} {line : Line} where
-  pub array-positions : line ≡ lineAt table23 i → line .numbering ≡ code "p" →
+  pub array-positions : line ≡ lineAt sheets i → line .numbering ≡ code "p" →
       ((x : Json) → Whole p x → r ≡ least (coordinateFaults q (line .field) (pick coordinates x))) → Array p i q level r
   array-positions at v h =
       record {

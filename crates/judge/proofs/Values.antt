@@ -22,7 +22,7 @@ use Rattle.schema.specs.Shape.{Shape, Rows, Sort}
 use Rattle.schema.specs.inner.Line.{lineAt, wordsAt, sortLetter, sortWords, inside}
 use Rattle.schema.specs.Pick.{Slot, missing, once, unlessBlank, unlessEmpty, find, emptied, pick}
 use Rattle.schema.specs.inner.Sound.{distinctRows}
-use Rattle.schema.specs.Table23.{table23}
+use Rattle.schema.specs.Tables.{sheets}
 use Rattle.schema.proofs.Letters.{IsObject, array-letter, object-letter}
 use Rattle.schema.proofs.Walk.{laid-object}
 use Rattle.slots.specs.declared.Found.{Found}
@@ -61,50 +61,50 @@ scalar-faults : (sort : Sort) (q : Place) (φ : ℕ) (x : Json) (ks : List ℕ) 
 unfolding faultsBy pick
 scalar-faults sort q φ x ks e = ap (faulty q φ) (sym (outline-kinds sort x ∙ e))
 
-line-at-field : (i : ℕ) {line : Line} → line ≡ lineAt table23 i → line .field ≡ lineAt table23 i .field
+line-at-field : (i : ℕ) {line : Line} → line ≡ lineAt sheets i → line .field ≡ lineAt sheets i .field
 line-at-field i at = ap (λ (l : Line). l .field) at
 
 module _ {p : List ℕ} {letter i : ℕ} {q : Place} {level : ℕ} {r : Least} where
   pub single-past : lineCount ≤ i → Single p letter i q level r
   single-past h = record { is = λ σ t n e x w. absurd (omega (arith, t .there)) }
 
-  pub single-object : {line : Line} {count : ℕ} → line ≡ lineAt table23 i → count ≡ line .inside → letter ≡ code "{" →
+  pub single-object : {line : Line} {count : ℕ} → line ≡ lineAt sheets i → count ≡ line .inside → letter ≡ code "{" →
       Object p (i + 1) count (line .field) q level r → Single p letter i q level r
   unfolding inside
   single-object {line} {count} at c l o = record { is = λ σ t n e x w. go σ (object-letter σ (t .lettered ∙ l)) t e x w }
     where
       rows-go : (rows : Rows) → LineTells i letter (shape.object rows) → judgeable (shape.object rows) level ≡ true → (x : Json) → Whole p x →
-          r ≡ least (faults (shape.object rows) q (lineAt table23 i .field) (pick (shape.object rows) x))
+          r ≡ least (faults (shape.object rows) q (lineAt sheets i .field) (pick (shape.object rows) x))
       rows-go rows t e x w =
-          o .is rows (laid-object table23 (i + 1) rows (t .inner)) (sym (t .lines) ∙ sym (ap (λ (l : Line). l .inside) at) ∙ sym c) e x w
+          o .is rows (laid-object sheets (i + 1) rows (t .inner)) (sym (t .lines) ∙ sym (ap (λ (l : Line). l .inside) at) ∙ sym c) e x w
           ∙ ap (λ (φ : ℕ). least (faults (shape.object rows) q φ (pick (shape.object rows) x))) (line-at-field i at)
 
-      go : (σ : Shape) → IsObject σ → LineTells i letter σ → judgeable σ level ≡ true → (x : Json) → Whole p x → r ≡ least (faults σ q (lineAt table23 i .field) (pick σ x))
+      go : (σ : Shape) → IsObject σ → LineTells i letter σ → judgeable σ level ≡ true → (x : Json) → Whole p x → r ≡ least (faults σ q (lineAt sheets i .field) (pick σ x))
       go σ s =
-          subst (λ (τ : Shape). LineTells i letter τ → judgeable τ level ≡ true → (x : Json) → Whole p x → r ≡ least (faults τ q (lineAt table23 i .field) (pick τ x)))
+          subst (λ (τ : Shape). LineTells i letter τ → judgeable τ level ≡ true → (x : Json) → Whole p x → r ≡ least (faults τ q (lineAt sheets i .field) (pick τ x)))
           (sym (s .is)) (rows-go (s .rows))
 
-  pub single-scalar : {line : Line} (kind : ℕ) → line ≡ lineAt table23 i → (letter ≡ code "{" → ⊥) → r ≡ least (faulty q (line .field) (listed kind)) →
-      ((sort : Sort) (x : Json) → sortLetter sort ≡ letter → wordsAt table23 i ≡ sortWords sort → Whole p x → kindsOf sort x ≡ listed kind) →
+  pub single-scalar : {line : Line} (kind : ℕ) → line ≡ lineAt sheets i → (letter ≡ code "{" → ⊥) → r ≡ least (faulty q (line .field) (listed kind)) →
+      ((sort : Sort) (x : Json) → sortLetter sort ≡ letter → wordsAt sheets i ≡ sortWords sort → Whole p x → kindsOf sort x ≡ listed kind) →
       Single p letter i q level r
   unfolding judgeable
   single-scalar {line} kind at o h k = record { is = go }
     where
       go : (σ : Shape) → LineTells i letter σ → (letter ≡ code "[" → ⊥) → judgeable σ level ≡ true → (x : Json) → Whole p x →
-          r ≡ least (faults σ q (lineAt table23 i .field) (pick σ x))
+          r ≡ least (faults σ q (lineAt sheets i .field) (pick σ x))
       go shape.unlisted t n e x w = true-false e refl
       go (shape.scalar sort) t n e x w =
           h ∙ ap (λ (φ : ℕ). least (faulty q φ (listed kind))) (line-at-field i at)
-          ∙ ap least (scalar-faults sort q (lineAt table23 i .field) x (listed kind) (k sort x (t .lettered) (t .words) w))
+          ∙ ap least (scalar-faults sort q (lineAt sheets i .field) x (listed kind) (k sort x (t .lettered) (t .words) w))
       go (shape.array numbering most σ) t n e x w = absurd (n (sym (t .lettered)))
       go (shape.object rows) t n e x w = absurd (o (sym (t .lettered)))
 
 -- a member that is not there
-absent-faults : (q : Place) {i : ℕ} (a : RowAt i) {line : Line} → line ≡ lineAt table23 i →
+absent-faults : (q : Place) {i : ℕ} (a : RowAt i) {line : Line} → line ≡ lineAt sheets i →
     faulty q (line .field) (absenceOf (line .need)) ≡ faulty q (a .field) (absence (a .need))
 absent-faults q {i} a at =
     ap (λ (m : Line). faulty q (m .field) (absenceOf (m .need))) at
-    ∙ ap (λ (φ : ℕ). faulty q φ (absenceOf (lineAt table23 i .need))) (line-field a) ∙ ap (faulty q (a .field)) (line-need a)
+    ∙ ap (λ (φ : ℕ). faulty q φ (absenceOf (lineAt sheets i .need))) (line-field a) ∙ ap (faulty q (a .field)) (line-need a)
 
 -- equal slots break the same
 member-same : (q : Place) {i : ℕ} (a : RowAt i) {o u : Slot Json} → o ≡ u →
@@ -115,7 +115,7 @@ member-same q a e = sym (ap (λ (o : Slot Json). least (memberFaults (a .need) (
 given-by : (b : Bool) (x : Json) → b ≡ blankText x → {t : Bool} → b ≡ t → unlessEmpty x ≡ (t ⇒ missing else once x)
 given-by b x e f = unless-blank x ∙ ap (λ (t : Bool). t ⇒ missing else once x) (sym e ∙ f)
 
-module _ {p : List ℕ} {i : ℕ} {q : Place} {level : ℕ} {r : Least} {line : Line} (at : line ≡ lineAt table23 i) (blank : Bool)
+module _ {p : List ℕ} {i : ℕ} {q : Place} {level : ℕ} {r : Least} {line : Line} (at : line ≡ lineAt sheets i) (blank : Bool)
     (told : (x : Json) → Whole p x → blank ≡ blankText x) where
   pub member-blank : blank ≡ true → r ≡ least (faulty q (line .field) (absenceOf (line .need))) → Member p i q level r
   member-blank t h = record { is = λ a e x w. h ∙ ap least (absent-faults q a at) ∙ member-same q a (given-by blank x (told x w) t) }
@@ -149,7 +149,7 @@ given-found : {p : List ℕ} {found o : Found} (name : List ℕ) (ms : Members) 
 given-found {p} name ms w f e = ap unlessBlank (find-found p name w ∙ ap (treeIn p) (sym f ∙ e))
 
 module _ {p : List ℕ} {found : Found} {i : ℕ} {q : Place} {level : ℕ} {r : Least} where
-  module _ {line : Line} (at : line ≡ lineAt table23 i) where
+  module _ {line : Line} (at : line ≡ lineAt sheets i) where
     row-missing : found ≡ Missing → r ≡ least (faulty q (line .field) (absenceOf (line .need))) → Row p found i q level r
     row-missing g h = record { is = λ a e ms w f. h ∙ ap least (absent-faults q a at) ∙ member-same q a (given-found (a .name) ms w f g) }
 
@@ -169,7 +169,7 @@ module _ {p : List ℕ} {found : Found} {i : ℕ} {q : Place} {level : ℕ} {r :
       }
 
 -- by how often its name was met
-pub row-judged : (p : List ℕ) (s : Slots) (row i : ℕ) (q : Place) (level : ℕ) (value : Least) {line : Line} {r : Least} → line ≡ lineAt table23 i → row < mostRows →
+pub row-judged : (p : List ℕ) (s : Slots) (row i : ℕ) (q : Place) (level : ℕ) (value : Least) {line : Line} {r : Least} → line ≡ lineAt sheets i → row < mostRows →
     r ≡ rowLeast (getD (s .state) row 0) value line q → ((from upto : ℕ) → slotAt s row ≡ Once from upto → Member (part p from upto) i q level value) →
     Row p (slotAt s row) i q level r
 row-judged p s row i q level value {line} {r} at h e kept =

@@ -8,7 +8,7 @@ use Rattle.walk.specs.Part.{partTree}
 use Rattle.text.specs.Cases.{comparing}
 use Rattle.calendar.specs.Cases.{dating}
 use Rattle.schema.specs.Shape.{fileShape}
-use Rattle.schema.specs.Table23.{table23}
+use Rattle.schema.specs.Tables.{tableAt}
 use Rattle.schema.specs.Pick.{find}
 use Rattle.fault.specs.declared.Least.{Least}
 use Rattle.fault.specs.declared.Least.the-variants.{None, Is}
@@ -105,6 +105,6 @@ files =
     ("sixteen, which are too many", (6, polygons "[7,7,7,7,7,7,7,7],[7,7,7,7,7,7,7,7]"), broken 1 73 0 10) ∷
     []
 
-files-answered : Answers (λ c. least (fileFaults (fileShape table23 (c .0)) (partTree (c .1)))) files
+files-answered : Answers (λ c. least (fileFaults (fileShape (tableAt 0) (c .0)) (partTree (c .1)))) files
 unfolding judging times
 files-answered = refl

@@ -13,8 +13,7 @@ ghost use lib.ListN.{length};
 ghost use Rattle.limits.specs.Ceilings.{fileBytes};
 ghost use Rattle.json.specs.Tree.{Json};
 ghost use Rattle.walk.specs.Part.{Whole};
-ghost use Rattle.schema.specs.Shape.{fileShape};
-ghost use Rattle.schema.specs.Table23.{table23};
+ghost use Rattle.schema.specs.Tables.{sheetShape};
 ghost use Rattle.word.specs.Kinds.{tooMany};
 ghost use Rattle.fault.specs.Fault.{least, faulty};
 ghost use Rattle.scalar.specs.Scalars.{unless};
@@ -78,12 +77,12 @@ pub struct Judged {
 // How many objects of the table lie in one another at most.
 const LEVELS: u8 = 8;
 
-// The first broken rule of a file, by its number, of which p is the value; no rule holds for a number that no file has.
-pub fn judge_file(p: &[u8], file: u8) -> Least
+// The first broken rule of a file of a sheet, of which p is the value; no rule holds for a number that no sheet has.
+pub fn judge_file(p: &[u8], sheet: u8) -> Least
     requires { ⌜ length (now p) ≤ fileBytes ⌝ }
-    ensures { λ r. ⌜ ((x : Json) → Whole (now (p .entry)) x → r ≡ least (fileFaults (fileShape table23 file) x)) ⌝ }
+    ensures { λ r. ⌜ ((x : Json) → Whole (now (p .entry)) x → r ≡ least (fileFaults (sheetShape sheet) x)) ⌝ }
 {
-    let lines = file_lines(file);
+    let lines = file_lines(sheet);
     if lines.count == 0 {
         return Least::None;
     }

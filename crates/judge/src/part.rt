@@ -37,7 +37,8 @@ ghost use Rattle.walk.specs.inner.Kind.{kindAt};
 ghost use Rattle.walk.specs.inner.Front.{Ends};
 ghost use Rattle.schema.specs.Pick.{pick};
 ghost use Rattle.schema.specs.inner.Line.{lineAt, bytesOf};
-ghost use Rattle.schema.specs.Table23.{table23, coordinates};
+ghost use Rattle.schema.specs.Table23.{coordinates};
+ghost use Rattle.schema.specs.Tables.{sheets};
 ghost use Rattle.slots.specs.inner.Rows.{lineCount};
 ghost use Rattle.fault.specs.Fault.{least};
 ghost use Rattle.judge.specs.Faults.{coordinateFaults};
@@ -96,7 +97,7 @@ fn judge_positions(p: &[u8], field: u8, place: Place) -> Judged
 
 // A value that is to be neither array nor object.
 fn judge_plain(p: &[u8], letter: u8, i: usize, line: Line, place: Place) -> Judged
-    requires { ⌜ line ≡ lineAt table23 i ⌝ }
+    requires { ⌜ line ≡ lineAt sheets i ⌝ }
     ensures { λ r. ⌜ Ends (now (p .entry)) (r .end) ×
         ((level : ℕ) → (letter ≡ 0x7b → ⊥) → Single (take (r .end) (now (p .entry))) letter i place level (r .least)) ⌝ }
 {
@@ -118,7 +119,7 @@ fn judge_single(
     place: Place,
     level: u8,
 ) -> Judged
-    requires { ⌜ (length (now p) ≤ fileBytes) × (line ≡ lineAt table23 i) × (now table ≡ bytesOf table23) ⌝ }
+    requires { ⌜ (length (now p) ≤ fileBytes) × (line ≡ lineAt sheets i) × (now table ≡ bytesOf sheets) ⌝ }
     ensures { λ r. ⌜ Ends (now (p .entry)) (r .end) × Single (take (r .end) (now (p .entry))) letter i place level (r .least) ⌝ }
 {
     if Line::COUNT <= i {
@@ -139,7 +140,7 @@ fn judge_array(
     place: Place,
     level: u8,
 ) -> Judged
-    requires { ⌜ (length (now p) ≤ fileBytes) × (line ≡ lineAt table23 i) × (now table ≡ bytesOf table23) ⌝ }
+    requires { ⌜ (length (now p) ≤ fileBytes) × (line ≡ lineAt sheets i) × (now table ≡ bytesOf sheets) ⌝ }
     ensures { λ r. ⌜ Ends (now (p .entry)) (r .end) × Array (take (r .end) (now (p .entry))) i place level (r .least) ⌝ }
 {
     if line.numbering == Line::POSITIONS {
@@ -178,7 +179,7 @@ fn judge_member(
     place: Place,
     level: u8,
 ) -> Judged
-    requires { ⌜ (length (now p) ≤ fileBytes) × (line ≡ lineAt table23 i) × (now table ≡ bytesOf table23) ⌝ }
+    requires { ⌜ (length (now p) ≤ fileBytes) × (line ≡ lineAt sheets i) × (now table ≡ bytesOf sheets) ⌝ }
     ensures { λ r. ⌜ Ends (now (p .entry)) (r .end) × (new ≡ true → Member (take (r .end) (now (p .entry))) i place level (r .least)) ⌝ }
 {
     if !new {
@@ -221,7 +222,7 @@ fn judge_rows(
     count: usize,
     place: Place,
 ) -> Least
-    requires { ⌜ (now table ≡ bytesOf table23) × (first + count ≤ lineCount) ⌝ }
+    requires { ⌜ (now table ≡ bytesOf sheets) × (first + count ≤ lineCount) ⌝ }
     ensures { λ r. ⌜ RowsJudged (now (state .entry)) leasts first count place r ⌝ }
 {
     let mut least = Least::None;
@@ -250,7 +251,7 @@ fn judge_members(
     place: Place,
     level: u8,
 ) -> Judged
-    requires { ⌜ (length (now p) ≤ fileBytes) × (first + count ≤ lineCount) × (bracketsOf (kindAt (now p)) ≡ 0x7b) × (now table ≡ bytesOf table23) ⌝ }
+    requires { ⌜ (length (now p) ≤ fileBytes) × (first + count ≤ lineCount) × (bracketsOf (kindAt (now p)) ≡ 0x7b) × (now table ≡ bytesOf sheets) ⌝ }
     ensures { λ r. ⌜ Ends (now (p .entry)) (r .end) × MembersJudged (take (r .end) (now (p .entry))) first count place level (r .least) ⌝ }
 {
     let none = Least::None;
@@ -294,7 +295,7 @@ pub fn judge_object(
     place: Place,
     level: u8,
 ) -> Judged
-    requires { ⌜ (length (now p) ≤ fileBytes) × (now table ≡ bytesOf table23) ⌝ }
+    requires { ⌜ (length (now p) ≤ fileBytes) × (now table ≡ bytesOf sheets) ⌝ }
     ensures { λ r. ⌜ Ends (now (p .entry)) (r .end) × Object (take (r .end) (now (p .entry))) first count field place level (r .least) ⌝ }
 {
     if level == 0 {

@@ -11,7 +11,7 @@ use Rattle.decimal.specs.Exact.{tenThousandths}
 use Rattle.fare.specs.declared.Segment.{Segment}
 use Rattle.fare.specs.Charges.{minutesOf, kilometresOf, amount, allEnded, greatestEnd, past}
 use Rattle.fare.proofs.Past.{past-set, amount-past-minutes, amount-past-kilometres}
-use Rattle.quote.specs.Plan.{priceAt, perMinute, perKilometre, planOf, plans, tripAmount, pastMinutes, pastKilometres}
+use Rattle.quote.specs.Plan.{priceAt, perMinute, perKilometre, planOf, tripAmount, pastMinutes, pastKilometres}
 use Rattle.quote.specs.Quote.{priced, planQuote, cleanQuote}
 
 -- the shortest ride at the greatest end
@@ -34,9 +34,9 @@ ended-marked {l} {ride} e =
     ap (λ (z : List Segment). past z ride) (e .are)
     ∙ past-set (e .first) (e .others) ride (ap allEnded (sym (e .are)) ∙ e .ended) (subst (λ (z : List Segment). greatestEnd z ≤ ride) (e .are) (e .late))
 
-module _ (file : Picked) (id : List ℕ) {plan : Picked} (found : planOf (plans file) id ≡ some plan) (seconds metres : ℕ) where
+module _ (plans : List Picked) (id : List ℕ) {plan : Picked} (found : planOf plans id ≡ some plan) (seconds metres : ℕ) where
   pub ended-minutes : Ended (perMinute plan) (minutesOf seconds .count)
-      → cleanQuote file id seconds metres ≡ priced (tripAmount plan (lastSeconds plan) metres) true (pastKilometres plan metres)
+      → cleanQuote plans id seconds metres ≡ priced (tripAmount plan (lastSeconds plan) metres) true (pastKilometres plan metres)
   unfolding cleanQuote tripAmount pastMinutes
   ended-minutes e =
       let t = ended-marked e in
@@ -48,7 +48,7 @@ module _ (file : Picked) (id : List ℕ) {plan : Picked} (found : planOf (plans 
       ∙ ap (λ m. priced (tripAmount plan (lastSeconds plan) metres) m (pastKilometres plan metres)) t
 
   pub ended-kilometres : Ended (perKilometre plan) (kilometresOf metres .count)
-      → cleanQuote file id seconds metres ≡ priced (tripAmount plan seconds (lastMetres plan)) (pastMinutes plan seconds) true
+      → cleanQuote plans id seconds metres ≡ priced (tripAmount plan seconds (lastMetres plan)) (pastMinutes plan seconds) true
   unfolding cleanQuote tripAmount pastKilometres
   ended-kilometres e =
       let t = ended-marked e in

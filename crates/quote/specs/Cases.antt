@@ -8,18 +8,19 @@ use Prim.Native.String.{String}
 use lib.IntN.{pos}
 use Rattle.notation.specs.Ascii.{bytes}
 use Rattle.notation.specs.Case.{Case, Answers, json}
+use Rattle.schema.specs.Tables.{tableAt}
 use Rattle.schema.specs.Records.{identified}
 use Rattle.schema.specs.Pick.{slotOf}
 use Rattle.document.specs.Document as document
 use Rattle.fare.specs.Cases.{charging}
 use Rattle.judge.specs.Cases.{judging, inData}
 use Rattle.clean.specs.Clean.{treeOf, recordsOf, usedBefore, repeatedId, repeatsFrom, repeats, cleanBy}
-use Rattle.quote.specs.Plan.{priceAt, planSegment, perKilometre, perMinute, planOf, plans, tripAmount, pastMinutes, pastKilometres}
+use Rattle.quote.specs.Plan.{priceAt, planSegment, perKilometre, perMinute, planOf, tripAmount, pastMinutes, pastKilometres}
 use Rattle.quote.specs.Quote.{Answer, refused, unclean, priced, cleanQuote, short, quoteOf}
 
 -- opens every definition of a quote
 unfoldable pub quoting : Unit {0}
-unfolding judging identified charging slotOf document.field document.fieldItems document.along document.text document.spelling treeOf recordsOf usedBefore repeatedId repeatsFrom repeats cleanBy priceAt planSegment perKilometre perMinute planOf plans tripAmount pastMinutes pastKilometres cleanQuote short quoteOf
+unfolding judging identified charging slotOf document.field document.fieldItems document.along document.text document.spelling treeOf recordsOf usedBefore repeatedId repeatsFrom repeats cleanBy priceAt planSegment perKilometre perMinute planOf tripAmount pastMinutes pastKilometres cleanQuote short quoteOf
 quoting = tt
 
 -- a file with these plans; a plan of this id, with its price and segments
@@ -31,7 +32,7 @@ plan id s = json "{'plan_id':'" ++ json id ++ json "','name':'n','currency':'USD
 
 -- the quote of a file's only plan for so many seconds and metres
 abbrev pub quoteBy : String → (seconds metres : ℕ) → Answer
-quoteBy s seconds metres = quoteOf (file (plan "p" s)) (bytes "p") seconds metres
+quoteBy s seconds metres = quoteOf (tableAt 0) (file (plan "p" s)) (bytes "p") seconds metres
 
 -- an amount without a mark; one past the minutes, and past both
 abbrev pub fare : ℕ → Answer
@@ -149,6 +150,6 @@ refusals =
     ("a longer one", (twoPlans, "pqr", 0, 0), refused 6) ∷
     []
 
-refusals-answered : Answers (λ c. quoteOf (c .0) (bytes (c .1)) (c .2) (c .3)) refusals
+refusals-answered : Answers (λ c. quoteOf (tableAt 0) (c .0) (bytes (c .1)) (c .2) (c .3)) refusals
 unfolding quoting
 refusals-answered = refl

@@ -5,6 +5,7 @@ use mathlib.Core.List.{List}
 use mathlib.Core.Path.{_≡_}
 use Prim.Native.Nat.{ℕ, _≤_}
 use lib.Signed.{leZ}
+use Rattle.schema.specs.Shape.{Table}
 use Rattle.schema.specs.Pick.{Picked}
 use Rattle.fare.specs.Charges.{minutesOf, kilometresOf}
 use Rattle.fare.specs.Longer.{NoNegativeRate, Settled}
@@ -22,8 +23,8 @@ pub record Ride : Type 0 where
   pub seconds : ℕ
   pub metres : ℕ
 
-abbrev pub quoteFor : (s id : List ℕ) → Ride → Answer
-quoteFor s id a = quoteOf s id (a .seconds) (a .metres)
+abbrev pub quoteFor : Table → (s id : List ℕ) → Ride → Answer
+quoteFor t s id a = quoteOf t s id (a .seconds) (a .metres)
 
 -- a ride within the ceilings
 abbrev pub Short : Ride → Type 0
@@ -49,18 +50,18 @@ pub record InOrder (x y : Answer) : Type 0 where
   pub second : y .number ≡ 0
   pub amounts : leZ (x .amount) (y .amount) ≡ true
 
-pub record LongerRides : Type 0 where
+pub record LongerRides (t : Table) : Type 0 where
   -- By one clean plan whose rates are all zero or more, of rides within the ceilings: where neither minutes nor kilometres fall, the amount does not.
   -- Shut out: a longer ride that costs less; one that is refused.
-  pub neverLess : (s id : List ℕ) (plan : Picked) (a b : Ride) → PlanIn s id plan → NoNegativeRates plan → Short a → Short b → NotShorter a b
-      → InOrder (quoteFor s id a) (quoteFor s id b)
+  pub neverLess : (s id : List ℕ) (plan : Picked) (a b : Ride) → PlanIn t s id plan → NoNegativeRates plan → Short a → Short b → NotShorter a b
+      → InOrder (quoteFor t s id a) (quoteFor t s id b)
   -- And so where neither seconds nor metres fall, which is how rides are measured.
-  pub neverLessMeasured : (s id : List ℕ) (plan : Picked) (a b : Ride) → PlanIn s id plan → NoNegativeRates plan → Short b → NoFewer a b
-      → InOrder (quoteFor s id a) (quoteFor s id b)
+  pub neverLessMeasured : (s id : List ℕ) (plan : Picked) (a b : Ride) → PlanIn t s id plan → NoNegativeRates plan → Short b → NoFewer a b
+      → InOrder (quoteFor t s id a) (quoteFor t s id b)
   -- Whatever the rates: past both marks every ride within the ceilings that is shorter in neither is answered the same, in number, amount and marks.
   -- Shut out: a charge past the ends, and a mark that goes.
-  pub pastBoth : (s id : List ℕ) (a b : Ride) → quoteFor s id a .pastMinutes ≡ true → quoteFor s id a .pastKilometres ≡ true → Short b → NotShorter a b
-      → quoteFor s id b ≡ quoteFor s id a
+  pub pastBoth : (s id : List ℕ) (a b : Ride) → quoteFor t s id a .pastMinutes ≡ true → quoteFor t s id a .pastKilometres ≡ true → Short b → NotShorter a b
+      → quoteFor t s id b ≡ quoteFor t s id a
   -- And so where no charge is to come, also where there is no mark since a sort has no segment.
-  pub settled : (s id : List ℕ) (plan : Picked) (a b : Ride) → PlanIn s id plan → AllSettled plan a → Short a → Short b → NotShorter a b
-      → quoteFor s id b ≡ quoteFor s id a
+  pub settled : (s id : List ℕ) (plan : Picked) (a b : Ride) → PlanIn t s id plan → AllSettled plan a → Short a → Short b → NotShorter a b
+      → quoteFor t s id b ≡ quoteFor t s id a

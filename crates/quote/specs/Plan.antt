@@ -17,7 +17,6 @@ use Rattle.notation.specs.Choice.{_⇒_else_}
 use Rattle.schema.specs.Pick.{Picked}
 use Rattle.document.specs.Document.{Maybe, none, some, field, fieldItems, text, spelling, given}
 use Rattle.document.specs.Values.{integerIn}
-use Rattle.clean.specs.Clean.{recordsOf}
 use Rattle.fare.specs.declared.Segment.{Segment}
 use Rattle.fare.specs.Charges.{minutesOf, kilometresOf, amount, past}
 
@@ -73,9 +72,6 @@ perMinute plan = map (planSegment 62) (fieldItems 61 plan)
 unfoldable pub planOf : List Picked → List ℕ → Maybe Picked
 planOf [] id = none
 planOf (x ∷ l) id = elim (text 50 x) [ none ↦ planOf l id | some t ↦ same t id ⇒ some x else planOf l id ]
-
-unfoldable pub plans : Picked → List Picked
-plans file = recordsOf 5 file
 
 -- what a plan asks for a ride
 unfoldable pub tripAmount : Picked → (seconds metres : ℕ) → ℤ

@@ -8,16 +8,15 @@ use lib.IntN.{ℤ, pos}
 use Rattle.notation.specs.Choice.{_⇒_else_, _and_}
 use Rattle.word.specs.declared.Parts.{Parts}
 use Rattle.word.specs.Word.{noParts}
-use Rattle.schema.specs.Shape.{fileShape}
-use Rattle.schema.specs.Table23.{table23}
-use Rattle.schema.specs.Pick.{Picked, pick}
+use Rattle.schema.specs.Shape.{Table, fileShape}
+use Rattle.schema.specs.Pick.{Picked}
 use Rattle.document.specs.Document.{Maybe, none, some}
 use Rattle.fault.specs.declared.outcome.Outcome.{Outcome}
 use Rattle.fault.specs.declared.outcome.Outcome.the-variants.{Unbroken, Broken}
-use Rattle.clean.specs.Clean.{treeOf, cleanOf}
+use Rattle.clean.specs.Clean.{recordsIn, cleanOf}
 use Rattle.quote.specs.declared.Quote.{Quote}
 use Rattle.quote.specs.declared.Quote.the-variants.{TooLong, NotClean, NoPlan, Fare}
-use Rattle.quote.specs.Plan.{planOf, plans, tripAmount, pastMinutes, pastKilometres}
+use Rattle.quote.specs.Plan.{planOf, tripAmount, pastMinutes, pastKilometres}
 
 -- the longest ride
 abbrev pub mostSeconds : ℕ
@@ -57,8 +56,8 @@ planQuote seconds metres none = refused 6
 planQuote seconds metres (some plan) = priced (tripAmount plan seconds metres) (pastMinutes plan seconds) (pastKilometres plan metres)
 
 -- of a clean file of plans
-unfoldable pub cleanQuote : Picked → List ℕ → ℕ → ℕ → Answer
-cleanQuote file id seconds metres = planQuote seconds metres (planOf (plans file) id)
+unfoldable pub cleanQuote : (plans : List Picked) → List ℕ → ℕ → ℕ → Answer
+cleanQuote plans id seconds metres = planQuote seconds metres (planOf plans id)
 
 -- a ride that is short enough
 unfoldable pub short : ℕ → ℕ → Bool
@@ -69,9 +68,9 @@ abbrev pub ofClean : Outcome → Answer → Answer
 ofClean Unbroken next = next
 ofClean (Broken p) next = unclean p
 
--- of the bytes s of file 5, and of an id: 4 where the ride is too long, before all else
-unfoldable pub quoteOf : (s id : List ℕ) → (seconds metres : ℕ) → Answer
-quoteOf s id seconds metres =
+-- by a table, of the bytes s of file 5, and of an id: 4 where the ride is too long, before all else
+unfoldable pub quoteOf : Table → (s id : List ℕ) → (seconds metres : ℕ) → Answer
+quoteOf t s id seconds metres =
     short seconds metres ⇒
-    ofClean (cleanOf 5 s) (cleanQuote (pick (fileShape table23 5) (treeOf s)) id seconds metres)
+    ofClean (cleanOf t 5 s) (cleanQuote (recordsIn (fileShape t 5) s) id seconds metres)
     else refused 4

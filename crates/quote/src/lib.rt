@@ -6,16 +6,16 @@ use fault::outcome::Outcome;
 use ids::Notes;
 use ids::Start;
 use ids::search::find_record;
+use schema::sheets::sheet_of;
 use walk::cut;
 use walk::skip::skip_value;
 use word::Parts;
 ghost use mathlib.Core.Path.{_≡_};
 ghost use Prim.Native.Nat.{_≤_};
 ghost use Rattle.schema.specs.Shape.{fileShape};
-ghost use Rattle.schema.specs.Table23.{table23};
-ghost use Rattle.schema.specs.Pick.{pick};
+ghost use Rattle.schema.specs.Tables.{tableAt, sheetOf};
 ghost use Rattle.fault.specs.declared.outcome.Outcome.the-variants.{Unbroken};
-ghost use Rattle.clean.specs.Clean.{treeOf, cleanOf};
+ghost use Rattle.clean.specs.Clean.{recordsIn, cleanOf};
 ghost use Rattle.clean.specs.inner.Noted.{RecordsNoted};
 ghost use Rattle.quote.specs.Quote.{mostSeconds, mostMetres, answer, short, cleanQuote, quoteOf};
 
@@ -75,39 +75,47 @@ fn is_short(seconds: u64, metres: u64) -> bool
     metres <= Quote::MOST_METRES
 }
 
-// The quote of a plan out of a clean file of plans, whose records are noted, for a ride that is short enough.
-fn quote_clean(s: &[u8], notes: &[u32; Notes::SIZE], id: &[u8], seconds: u64, metres: u64) -> Quote
-    requires { ⌜ (cleanOf 5 (now s) ≡ Unbroken) × RecordsNoted 5 (now s) (now notes) × (seconds ≤ mostSeconds) × (metres ≤ mostMetres) ⌝ }
-    ensures { λ r. ⌜ answer r ≡ cleanQuote (pick (fileShape table23 5) (treeOf (now (s .entry)))) (now (id .entry)) seconds metres ⌝ }
+// By a table, the quote of a plan out of a clean file of plans, whose records are noted, for a ride that is short enough.
+fn quote_clean(
+    table: u8,
+    s: &[u8],
+    notes: &[u32; Notes::SIZE],
+    id: &[u8],
+    seconds: u64,
+    metres: u64,
+) -> Quote
+    requires { ⌜ (cleanOf (tableAt table) 5 (now s) ≡ Unbroken) × RecordsNoted (sheetOf table 5) (now s) (now notes) × (seconds ≤ mostSeconds) × (metres ≤ mostMetres) ⌝ }
+    ensures { λ r. ⌜ answer r ≡ cleanQuote (recordsIn (fileShape (tableAt table) 5) (now (s .entry))) (now (id .entry)) seconds metres ⌝ }
 {
     if s.len() == 0 {
         return Quote::NoPlan;
     }
-    let records = records_from(Quote::FILE, s);
-    let Start::At(start) = find_record(Quote::FILE, records, notes, id) else {
+    let sheet = sheet_of(table, Quote::FILE);
+    let records = records_from(sheet, s);
+    let Start::At(start) = find_record(sheet, records, notes, id) else {
         return Quote::NoPlan;
     };
     let end = skip_value(records, start);
     quote_plan(cut(records, start, end), seconds, metres)
 }
 
-// What a trip costs by the plan of an id, of the bytes of file 5; an absent file has no plans. The file is read a constant number of times: once by
-// stage A, once by stage B for each level of the table, and once for its ids, which are then in order, so that the plan is found by a handful of them.
+// What a trip costs, by a table and the plan of an id, of the bytes of file 5; an absent file has no plans. The file is read a constant number of times: once
+// by stage A, once by stage B for each level of the table, and once for its ids, which are then in order, so that the plan is found by a handful of them.
 // Shut out: a file's faults, or an amount, told of a ride that is too long; a plan quoted from a file that only stage A passes; the plan of another id; the
 // plans before it taken for a part of it.
-pub fn quote_trip(s: &[u8], id: &[u8], seconds: u64, metres: u64) -> Quote
-    ensures { λ r. ⌜ answer r ≡ quoteOf (now (s .entry)) (now (id .entry)) seconds metres ⌝ }
+pub fn quote_trip(table: u8, s: &[u8], id: &[u8], seconds: u64, metres: u64) -> Quote
+    ensures { λ r. ⌜ answer r ≡ quoteOf (tableAt table) (now (s .entry)) (now (id .entry)) seconds metres ⌝ }
 {
     if !is_short(seconds, metres) {
         return Quote::TooLong;
     }
     let mut notes: [u32; Notes::SIZE] = [0; Notes::SIZE];
-    match check_noted(Quote::FILE, s, &mut notes) {
+    match check_noted(sheet_of(table, Quote::FILE), Quote::FILE, s, &mut notes) {
         Outcome::Broken(p) => {
             return Quote::NotClean(p);
         }
         Outcome::Unbroken => {
-            return quote_clean(s, &notes, id, seconds, metres);
+            return quote_clean(table, s, &notes, id, seconds, metres);
         }
     }
 }

@@ -9,7 +9,8 @@ use Rattle.json.specs.Cases.{reading}
 use Rattle.walk.specs.Part.{partTree}
 use Rattle.decimal.specs.Cases.{deciding}
 use Rattle.geometry.specs.Cases.{holding}
-use Rattle.schema.specs.Table23.{coordinates, written23}
+use Rattle.schema.specs.Table23.{coordinates}
+use Rattle.schema.specs.Tables.{written}
 use Rattle.schema.specs.Pick.{Picked, PickedItems, bare, items, slots, noItem, item, pickItems, pick, listOf}
 use Rattle.fault.specs.declared.Least.{Least}
 use Rattle.fault.specs.declared.Least.the-variants.{None, Is}
@@ -20,7 +21,7 @@ use Rattle.rings.specs.inner.Parts.{ringShape, positionShape}
 
 -- opens every definition of this layer
 unfoldable pub ringing : Unit {0}
-unfolding reading partTree deciding holding written23 pickItems pick scalar.formedKinds scalar.sortKinds scalar.kindsOf foundAt numbered listOf count coordinateKinds numberKindsIn positionKinds pointOf position noKinds allSound positionsFound ringFound ringsFound itemTotal polygonsFound coordinatesFound before lesser least
+unfolding reading partTree deciding holding written pickItems pick scalar.formedKinds scalar.sortKinds scalar.kindsOf foundAt numbered listOf count coordinateKinds numberKindsIn positionKinds pointOf position noKinds allSound positionsFound ringFound ringsFound itemTotal polygonsFound coordinatesFound before lesser least
 ringing = tt
 
 -- what is found in the coordinates that a text spells: positions' numbers and kinds

@@ -9,7 +9,7 @@ use lib.ListN.{length, getD, take, drop}
 use lib.Seq.{drop-cons}
 use Rattle.text.specs.Text.{sameWord}
 use Rattle.schema.specs.Shape.{Table}
-use Rattle.schema.specs.Table23.{table23, written23}
+use Rattle.schema.specs.Tables.{sheets, written}
 use Rattle.schema.specs.inner.Line.{lineWords, wordsOf, wordsAt, wordAt, rangeAt, laidOut}
 use Rattle.schema.proofs.Walk.{words-part}
 use Rattle.scalar.specs.Scalars.{anyWord}
@@ -49,6 +49,6 @@ pub only-word : (t : Table) (line : ℕ) (x : List ℕ) → wordsAt t line ≡ x
 only-word t line x e = begins (wordsOf t) (rangeAt (lineWords t) line .first) (rangeAt (lineWords t) line .count) x [] (words-part t line ∙ e)
 
 -- all words of the table
-pub all-words : length (wordsOf table23) ≡ 27
-unfolding laidOut written23
+pub all-words : length (wordsOf sheets) ≡ 27
+unfolding laidOut written
 all-words = refl

@@ -12,7 +12,7 @@ ghost use Rattle.text.specs.Text.{textOf};
 ghost use Rattle.walk.specs.Part.{Whole, inside};
 ghost use Rattle.schema.specs.Shape.{Sort};
 ghost use Rattle.schema.specs.inner.Line.{sortLetter, sortWords, wordsAt};
-ghost use Rattle.schema.specs.Table23.{table23};
+ghost use Rattle.schema.specs.Tables.{sheets};
 ghost use Rattle.scalar.specs.Scalars.{kindsOf, booleanKinds, textKinds};
 ghost use Rattle.word.specs.inner.Listed.{listed};
 
@@ -35,7 +35,7 @@ fn boolean_kind(letter: u8) -> u8
 
 // A string, with its quotation marks. A whole one has both.
 fn string_kind(p: &[u8], letter: u8, line: usize) -> u8
-    ensures { λ r. ⌜ ((σ : Sort) → sortLetter σ ≡ letter → wordsAt table23 line ≡ sortWords σ → 2 ≤ length (now (p .entry)) → textKinds σ (textOf (inside (now (p .entry)))) ≡ listed r) ⌝ }
+    ensures { λ r. ⌜ ((σ : Sort) → sortLetter σ ≡ letter → wordsAt sheets line ≡ sortWords σ → 2 ≤ length (now (p .entry)) → textKinds σ (textOf (inside (now (p .entry)))) ≡ listed r) ⌝ }
 {
     if p.len() < 2 {
         return 0;
@@ -46,7 +46,7 @@ fn string_kind(p: &[u8], letter: u8, line: usize) -> u8
 
 // The value p against the sort of a letter, whose words are those of a line.
 pub fn judge_scalar(p: &[u8], letter: u8, line: usize) -> u8
-    ensures { λ r. ⌜ ((σ : Sort) (x : Json) → sortLetter σ ≡ letter → wordsAt table23 line ≡ sortWords σ → Whole (now (p .entry)) x → kindsOf σ x ≡ listed r) ⌝ }
+    ensures { λ r. ⌜ ((σ : Sort) (x : Json) → sortLetter σ ≡ letter → wordsAt sheets line ≡ sortWords σ → Whole (now (p .entry)) x → kindsOf σ x ≡ listed r) ⌝ }
 {
     match value_kind(p) {
         ValueKind::Null => Kind::WRONG_TYPE,

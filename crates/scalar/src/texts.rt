@@ -18,7 +18,7 @@ ghost use Rattle.text.specs.Text.{textOf, same};
 ghost use Rattle.decimal.specs.Decimals.{priceOf};
 ghost use Rattle.schema.specs.Shape.{Sort};
 ghost use Rattle.schema.specs.inner.Line.{sortLetter, sortWords, wordsAt, wordAt, lineWords, rangeAt};
-ghost use Rattle.schema.specs.Table23.{table23};
+ghost use Rattle.schema.specs.Tables.{sheets};
 ghost use Rattle.scalar.specs.Scalars.{pricing, anyWord, textKinds};
 ghost use Rattle.word.specs.inner.Listed.{listed};
 
@@ -35,7 +35,7 @@ fn price_kind(spelled: &[u8]) -> u8
 
 // Whether the text is the first word of a line, letter for letter.
 fn is_the_word(spelled: &[u8], line: usize) -> bool
-    ensures { λ r. ⌜ r ≡ same (textOf (now (spelled .entry))) (wordAt table23 (rangeAt (lineWords table23) line .first)) ⌝ }
+    ensures { λ r. ⌜ r ≡ same (textOf (now (spelled .entry))) (wordAt sheets (rangeAt (lineWords sheets) line .first)) ⌝ }
 {
     let words = words_at(line);
     word_is_exactly(words.first, spelled)
@@ -43,7 +43,7 @@ fn is_the_word(spelled: &[u8], line: usize) -> bool
 
 // Whether the text is one of the words of a line, whatever the case of its letters.
 fn is_a_word(spelled: &[u8], line: usize) -> bool
-    ensures { λ r. ⌜ r ≡ anyWord (wordsAt table23 line) (textOf (now (spelled .entry))) ⌝ }
+    ensures { λ r. ⌜ r ≡ anyWord (wordsAt sheets line) (textOf (now (spelled .entry))) ⌝ }
 {
     let words = words_at(line);
     let end = words.first + words.count;
@@ -60,7 +60,7 @@ fn is_a_word(spelled: &[u8], line: usize) -> bool
 // A string's text against the sort of a letter, whose words are those of a line.
 // Shut out: an id measured as it is spelled; an enum's word held to its case, or a type name let through in another case.
 pub fn text_kind(spelled: &[u8], letter: u8, line: usize) -> u8
-    ensures { λ r. ⌜ ((σ : Sort) → sortLetter σ ≡ letter → wordsAt table23 line ≡ sortWords σ → textKinds σ (textOf (now (spelled .entry))) ≡ listed r) ⌝ }
+    ensures { λ r. ⌜ ((σ : Sort) → sortLetter σ ≡ letter → wordsAt sheets line ≡ sortWords σ → textKinds σ (textOf (now (spelled .entry))) ≡ listed r) ⌝ }
 {
     match letter {
         Line::PRICE => price_kind(spelled),

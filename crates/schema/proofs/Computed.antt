@@ -12,10 +12,11 @@ use Rattle.notation.specs.Choice.{_and_}
 use Rattle.notation.proofs.Booleans.{and-left, and-right}
 use Rattle.text.specs.Text.{same}
 use Rattle.schema.specs.Shape.{Shape, Table, unlisted, fileShape}
-use Rattle.schema.specs.Table23.{table23, written23}
+use Rattle.schema.specs.Tables.{sheets, written, sheetShape}
 use Rattle.schema.specs.Later.{listedIn}
 use Rattle.schema.specs.inner.Sound.{distinctNames, fieldsOf, rising}
-use Rattle.schema.specs.inner.Line.{linesOf, bytesOf, wordsOf, laidOut}
+use Rattle.schema.specs.inner.Names.{naming}
+use Rattle.schema.specs.inner.Line.{linesOf, eachName, bytesOf, wordsOf, laidOut}
 
 -- A test that every file passes, and the empty shape too, is passed by the shape of any number.
 unfoldable pub every : (Shape → Bool) → Table → Bool
@@ -44,13 +45,13 @@ unfolding fileShape
 no-file t zero h = refl
 no-file t (suc i) h = past-all t i (omega (arith, h (omega arith)))
 
-pub distinct : (file : ℕ) → distinctNames (fileShape table23 file) ≡ true
-unfolding every written23 distinctNames listedIn same
-distinct file = every-file distinctNames table23 refl refl file
+pub distinct : (file : ℕ) → distinctNames (sheetShape file) ≡ true
+unfolding every written distinctNames listedIn same
+distinct file = every-file distinctNames sheets refl refl file
 
-rising-file : (file : ℕ) → rising (fieldsOf (fileShape table23 file)) ≡ true
-unfolding every written23 rising fieldsOf
-rising-file file = every-file (λ σ. rising (fieldsOf σ)) table23 refl refl file
+rising-file : (file : ℕ) → rising (fieldsOf (sheetShape file)) ≡ true
+unfolding every written rising fieldsOf
+rising-file file = every-file (λ σ. rising (fieldsOf σ)) sheets refl refl file
 
 -- In a rising list what stands later is larger.
 rising-below : (a : ℕ) (l : List ℕ) → rising (a ∷ l) ≡ true → (i : ℕ) → i < length l → a < getD l i 0
@@ -75,19 +76,23 @@ rising-apart (a ∷ l) e (suc i) zero h k = absurd (omega arith)
 rising-apart (a ∷ l) e (suc i) (suc j) h k = rising-apart l (rising-tail a l e) i j (omega arith) (omega arith)
 
 -- the field numbers of a file, in preorder
-pub fields-rise : (file i j : ℕ) → i < j → j < length (fieldsOf (fileShape table23 file)) →
-    getD (fieldsOf (fileShape table23 file)) i 0 < getD (fieldsOf (fileShape table23 file)) j 0
-fields-rise file i j h k = rising-apart (fieldsOf (fileShape table23 file)) (rising-file file) i j h k
+pub fields-rise : (file i j : ℕ) → i < j → j < length (fieldsOf (sheetShape file)) →
+    getD (fieldsOf (sheetShape file)) i 0 < getD (fieldsOf (sheetShape file)) j 0
+fields-rise file i j h k = rising-apart (fieldsOf (sheetShape file)) (rising-file file) i j h k
 
--- how many lines there are, and how many bytes; and those of all words
-pub line-count : length (linesOf table23) ≡ 109
-unfolding laidOut written23
+-- how many lines and names there are, and how many bytes; and those of all words
+pub line-count : length (linesOf sheets) ≡ 109
+unfolding laidOut written
 line-count = refl
 
-pub table-length : length (bytesOf table23) ≡ 2159
-unfolding laidOut written23
+pub name-count : length (eachName sheets) ≡ 61
+unfolding laidOut naming written
+name-count = refl
+
+pub table-length : length (bytesOf sheets) ≡ 2065
+unfolding laidOut naming written
 table-length = refl
 
-pub words-length : length (flatten (wordsOf table23)) ≡ 223
-unfolding laidOut written23
+pub words-length : length (flatten (wordsOf sheets)) ≡ 223
+unfolding laidOut written
 words-length = refl

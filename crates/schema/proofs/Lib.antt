@@ -2,7 +2,13 @@ pub mod PickLater
 pub mod Examples
 pub mod Computed
 pub mod Recorded
+pub mod SheetShapes
 pub mod Columns
 pub mod Walk
+pub mod Leading
 pub mod Bytes
+pub mod Numbers
+pub mod Found
+pub mod Prefixes
+pub mod Escaped
 pub mod Letters

@@ -1,5 +1,5 @@
 -- Which files have records, and records ids, by numbers: the table has a way to records for 1 to 6 and 8, and a record's first field is no id in file 6.
-use mathlib.Core.Bool.{Bool, true, false}
+use mathlib.Core.Bool.{true, false}
 use mathlib.Core.Path.{_≡_, ap}
 use Prim.Native.Nat.{ℕ, _≤_}
 use native.Mathlib.Decide.{ℕ-discrete}
@@ -8,23 +8,21 @@ use Rattle.notation.specs.Maybe.{none, given}
 use Rattle.notation.proofs.Booleans.{by-test, true-false}
 use Rattle.notation.proofs.Maybes.{given-none}
 use Rattle.schema.specs.Shape.{Shape}
-use Rattle.schema.specs.Table23.{table23}
-use Rattle.schema.specs.Records.{wayIn, wayTo, recordShape, idIn, idKey, hasRecords, hasIds, located, identified}
+use Rattle.schema.specs.Tables.{sheets}
+use Rattle.schema.specs.Records.{wayIn, wayTo, recordIn, idIn, idOf, idKey, hasRecords, hasIds, located, identified}
 use Rattle.schema.specs.Later.{rowsOf}
 use Rattle.schema.proofs.Computed.{no-file}
 
 pub no-way : (n : ℕ) → hasRecords n ≡ false → wayTo n ≡ none
-unfolding hasRecords
 no-way n e = given-none (wayTo n) e
 
 pub no-key : (n : ℕ) → hasIds n ≡ false → idKey n ≡ none
-unfolding hasIds
 no-key n e = given-none (idKey n) e
 
 -- without records there are no ids
 no-ids : (n : ℕ) → hasRecords n ≡ false → hasIds n ≡ false
-unfolding hasIds idKey recordShape rowsOf idIn
-no-ids n e = rw (hasIds, idKey, recordShape, no-way n e)
+unfolding idOf recordIn rowsOf idIn
+no-ids n e = rw (idOf, recordIn, no-way n e)
 
 pub ids-recorded : (n : ℕ) → hasIds n ≡ true → hasRecords n ≡ true
 ids-recorded n h = by-test (hasRecords n) (λ t. t) (λ t. true-false h (no-ids n t))
@@ -33,7 +31,7 @@ ids-recorded n h = by-test (hasRecords n) (λ t. t) (λ t. true-false h (no-ids 
 pub other-records : (n : ℕ) → (1 ≤ n → n ≤ 6 → ⊥) → (n ≡ 8 → ⊥) → hasRecords n ≡ false
 unfolding located
 other-records n h e =
-    elim (ℕ-discrete n 7) [ yes i ↦ ap hasRecords i | no i ↦ ap (λ (σ : Shape). given (wayIn σ)) (no-file table23 n (λ j k. h j (omega arith))) ]
+    elim (ℕ-discrete n 7) [ yes i ↦ ap hasRecords i | no i ↦ ap (λ (σ : Shape). given (wayIn σ)) (no-file sheets n (λ j k. h j (omega arith))) ]
 
 pub other-ids : (n : ℕ) → (1 ≤ n → n ≤ 5 → ⊥) → (n ≡ 8 → ⊥) → hasIds n ≡ false
 unfolding identified

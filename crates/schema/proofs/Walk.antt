@@ -19,7 +19,7 @@ pub record Stands {A : Type 0} (whole : List A) (i : ℕ) (part : List A) : Type
   pub fits : i + length part ≤ length whole
 
 module _ {A : Type 0} {whole : List A} {i : ℕ} where
-  stands-left : (a b : List A) → Stands whole i (a ++ b) → Stands whole i a
+  pub stands-left : (a b : List A) → Stands whole i (a ++ b) → Stands whole i a
   stands-left a b s =
       record {
         rest = b ++ s .rest;
@@ -27,7 +27,7 @@ module _ {A : Type 0} {whole : List A} {i : ℕ} where
         fits = omega (arith, s .fits, length-append a b);
       }
 
-  stands-right : (a b : List A) → Stands whole i (a ++ b) → Stands whole (i + length a) b
+  pub stands-right : (a b : List A) → Stands whole i (a ++ b) → Stands whole (i + length a) b
   stands-right a b s =
       record {
         rest = s .rest;

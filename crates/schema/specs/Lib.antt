@@ -1,6 +1,7 @@
 pub mod Shape
 pub mod Words
 pub mod Table23
+pub mod Tables
 pub mod Pick
 pub mod Later
 pub mod Records

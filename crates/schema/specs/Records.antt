@@ -1,11 +1,12 @@
--- Where the records of a file stand, and which field is their own id: both are read off the file's shape.
+-- Where the records of a file stand, and which field is their own id: both are read off the file's shape, of any table.
 use mathlib.Core.Bool.{Bool}
-use mathlib.Core.List.{List, [], _∷_, List-discrete}
+use mathlib.Core.List.{List, [], _∷_, flatten, List-discrete}
 use Prim.Native.Nat.{ℕ}
 use native.Mathlib.Decide.{ℕ-discrete}
 use Rattle.notation.specs.Maybe.{Maybe, none, some, given}
 use Rattle.schema.specs.Shape.{Shape, Rows, Sort-discrete, id, unlisted, scalar, array, object, noRow, row, records, subs, outer, positions, fileShape}
 use Rattle.schema.specs.Table23.{table23, file, listing, vehicleType, station, status, bike, plan, zone, zones, system, region}
+use Rattle.schema.specs.Tables.{tables, sheets, sheetShape}
 use Rattle.schema.specs.Later.{rowsOf}
 
 -- a listed member: the number of its field, and its name
@@ -46,28 +47,35 @@ idIn (row field need name (scalar sort) rows) =
 idIn (row field need name (array numbering most σ) rows) = none
 idIn (row field need name (object inner) rows) = none
 
--- of a file, by its number: the way to its records, the shape of one, and its id
-unfoldable pub wayTo : ℕ → Maybe Way
-wayTo file = wayIn (fileShape table23 file)
+-- of a file, by its shape: the shape of a record, and its id
+unfoldable pub recordIn : Shape → Shape
+recordIn σ = elim (wayIn σ) [ none ↦ unlisted | some w ↦ w .item ]
 
-unfoldable pub recordShape : ℕ → Shape
-recordShape file = elim (wayTo file) [ none ↦ unlisted | some w ↦ w .item ]
+unfoldable pub idOf : Shape → Maybe Key
+idOf σ = idIn (rowsOf (recordIn σ))
 
-unfoldable pub idKey : ℕ → Maybe Key
-idKey file = idIn (rowsOf (recordShape file))
+-- of a sheet, by its number: the way to its records, the shape of one, and its id
+abbrev pub wayTo : ℕ → Maybe Way
+wayTo sheet = wayIn (sheetShape sheet)
 
--- whether the file of a number has records, and whether they have ids
-unfoldable pub hasRecords : ℕ → Bool
-hasRecords file = given (wayTo file)
+abbrev pub recordShape : ℕ → Shape
+recordShape sheet = recordIn (sheetShape sheet)
 
-unfoldable pub hasIds : ℕ → Bool
-hasIds file = given (idKey file)
+abbrev pub idKey : ℕ → Maybe Key
+idKey sheet = idOf (sheetShape sheet)
+
+-- whether it has records, and whether they have ids
+abbrev pub hasRecords : ℕ → Bool
+hasRecords sheet = given (wayTo sheet)
+
+abbrev pub hasIds : ℕ → Bool
+hasIds sheet = given (idKey sheet)
 
 -- opens all that finds a file's records; and all that finds their ids
 unfoldable pub located : Unit {0}
-unfolding wayIn wayTo recordShape hasRecords fileShape table23 listing file zones system
+unfolding wayIn recordIn fileShape sheets tables flatten table23 listing file zones system
 located = tt
 
 unfoldable pub identified : Unit {0}
-unfolding located idIn idKey hasIds rowsOf vehicleType station status bike plan zone region
+unfolding located idIn idOf rowsOf vehicleType station status bike plan zone region
 identified = tt

@@ -4,12 +4,21 @@ ghost use Prim.Native.Nat.{_+_, _*_};
 
 pub mod lines;
 pub mod names;
+pub mod sheets;
+mod spelling;
 mod table;
+pub mod ways;
 pub mod words;
 
 // Part of a list: its first place, and how many places.
 pub struct Range {
     pub first: usize,
+    pub count: usize,
+}
+
+// The first bytes of a text: as many of the array as `count` tells.
+pub struct Prefix {
+    pub bytes: [u8; 32],
     pub count: usize,
 }
 

@@ -4,23 +4,28 @@ use crate::Range;
 use crate::from_u8;
 use crate::table::FILE_COUNTS;
 use crate::table::FILE_FIRSTS;
+use crate::table::RECORD_COUNTS;
+use crate::table::RECORD_FIRSTS;
 use crate::table::TABLE;
 use crate::two_bytes;
 ghost use mathlib.Core.Path.{_≡_};
-ghost use Rattle.schema.specs.Table23.{table23};
-ghost use Rattle.schema.specs.inner.Line.{lineAt, bytesOf, fileLines};
+ghost use Prim.Native.Nat.{_<_};
+ghost use lib.ListN.{length};
+ghost use Rattle.schema.specs.Tables.{sheets};
+ghost use Rattle.schema.specs.inner.Line.{linesOf, lineAt, bytesOf, fileLines};
+ghost use Rattle.schema.specs.inner.RecordLines.{recordLines};
 
 // The table, for a walk that takes it once and lends it: a constant is laid out anew wherever it is named.
 pub fn table_bytes() -> [u8; Line::TABLE_BYTES]
-    ensures { λ r. ⌜ r ≡ bytesOf table23 ⌝ }
+    ensures { λ r. ⌜ r ≡ bytesOf sheets ⌝ }
 {
     TABLE
 }
 
 // The line at a place, counted from 0, by the table that is lent; past the last one a line of zeros.
 pub fn line_at(table: &[u8; Line::TABLE_BYTES], i: usize) -> Line
-    requires { ⌜ now table ≡ bytesOf table23 ⌝ }
-    ensures { λ r. ⌜ r ≡ lineAt table23 i ⌝ }
+    requires { ⌜ now table ≡ bytesOf sheets ⌝ }
+    ensures { λ r. ⌜ r ≡ lineAt sheets i ⌝ }
 {
     if Line::COUNT <= i {
         return Line {
@@ -45,20 +50,17 @@ pub fn line_at(table: &[u8; Line::TABLE_BYTES], i: usize) -> Line
     }
 }
 
-// How many lines stand inside the line at a place; none past the last one.
+// How many lines stand inside a line.
 pub fn inside_at(table: &[u8; Line::TABLE_BYTES], i: usize) -> u8
-    requires { ⌜ now table ≡ bytesOf table23 ⌝ }
-    ensures { λ r. ⌜ r ≡ lineAt table23 i .inside ⌝ }
+    requires { ⌜ (now table ≡ bytesOf sheets) × (i < length (linesOf sheets)) ⌝ }
+    ensures { λ r. ⌜ r ≡ lineAt sheets i .inside ⌝ }
 {
-    if Line::COUNT <= i {
-        return 0;
-    }
     table[i * Line::BYTES + 7]
 }
 
 // The lines of a file, by its number from 1 on; none of another number.
 pub fn file_lines(file: u8) -> Range
-    ensures { λ r. ⌜ r ≡ fileLines table23 file ⌝ }
+    ensures { λ r. ⌜ r ≡ fileLines sheets file ⌝ }
 {
     let i = file as usize;
     if FILE_FIRSTS.len() <= i {
@@ -67,5 +69,19 @@ pub fn file_lines(file: u8) -> Range
     Range {
         first: from_u8(FILE_FIRSTS[i]),
         count: from_u8(FILE_COUNTS[i]),
+    }
+}
+
+// The lines of the rows of a sheet's records, by the sheet's number from 1 on; none of another number, or where it has no records.
+pub fn record_lines(sheet: u8) -> Range
+    ensures { λ r. ⌜ r ≡ recordLines sheets sheet ⌝ }
+{
+    let i = sheet as usize;
+    if RECORD_FIRSTS.len() <= i {
+        return Range { first: 0, count: 0 };
+    }
+    Range {
+        first: from_u8(RECORD_FIRSTS[i]),
+        count: from_u8(RECORD_COUNTS[i]),
     }
 }

@@ -10,12 +10,12 @@ use crate::table::WORDS;
 use text::compare;
 ghost use mathlib.Core.Path.{_≡_};
 ghost use Rattle.text.specs.Text.{textOf, same, sameWord};
-ghost use Rattle.schema.specs.Table23.{table23};
+ghost use Rattle.schema.specs.Tables.{sheets};
 ghost use Rattle.schema.specs.inner.Line.{lineWords, wordsOf, wordAt, rangeAt};
 
 // Which words are a line's.
 pub fn words_at(i: usize) -> Range
-    ensures { λ r. ⌜ r ≡ rangeAt (lineWords table23) i ⌝ }
+    ensures { λ r. ⌜ r ≡ rangeAt (lineWords sheets) i ⌝ }
 {
     if Line::COUNT <= i {
         return Range { first: 0, count: 0 };
@@ -28,7 +28,7 @@ pub fn words_at(i: usize) -> Range
 
 // Where a word stands.
 fn word_at(k: usize) -> Range
-    ensures { λ r. ⌜ r ≡ rangeAt (wordsOf table23) k ⌝ }
+    ensures { λ r. ⌜ r ≡ rangeAt (wordsOf sheets) k ⌝ }
 {
     if WORD_FIRSTS.len() <= k {
         return Range { first: 0, count: 0 };
@@ -41,7 +41,7 @@ fn word_at(k: usize) -> Range
 
 // The text that is spelled is a word, whatever the case of its letters.
 pub fn word_is(k: usize, spelled: &[u8]) -> bool
-    ensures { λ r. ⌜ r ≡ sameWord (textOf (now (spelled .entry))) (wordAt table23 k) ⌝ }
+    ensures { λ r. ⌜ r ≡ sameWord (textOf (now (spelled .entry))) (wordAt sheets k) ⌝ }
 {
     let word = word_at(k);
     let first = word.first;
@@ -51,7 +51,7 @@ pub fn word_is(k: usize, spelled: &[u8]) -> bool
 
 // The text that is spelled is a word, letter for letter.
 pub fn word_is_exactly(k: usize, spelled: &[u8]) -> bool
-    ensures { λ r. ⌜ r ≡ same (textOf (now (spelled .entry))) (wordAt table23 k) ⌝ }
+    ensures { λ r. ⌜ r ≡ same (textOf (now (spelled .entry))) (wordAt sheets k) ⌝ }
 {
     let word = word_at(k);
     let first = word.first;

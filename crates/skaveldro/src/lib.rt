@@ -5,14 +5,16 @@ use crate::encode::give;
 use word::Word;
 ghost use mathlib.Core.List.{[], _∷_};
 ghost use mathlib.Core.Path.{_≡_};
-ghost use Rattle.verdict.specs.Verdict.{verdictNumber, bufferOf};
 ghost use Rattle.skaveldro.specs.Encoding.{filled};
-ghost use Rattle.skaveldro.specs.Answers.{wordAnswer, quoteAnswer, zoneAnswer, shownAnswer, told};
+ghost use Rattle.skaveldro.specs.Answers.{verdictAnswer, verdictBuffer, wordAnswer, quoteAnswer, zoneAnswer, shownAnswer, told};
 
 mod encode;
 mod quote_trip;
 mod show_record;
 mod zone_rule;
+
+// The number of the table that files are judged by: that of version 2.3.
+const TABLE: u8 = 0;
 
 // The verdict on a set of eight files, of which one without bytes is absent. The word stands in the first eight bytes of the buffer.
 // Shut out: one file judged in another's place.
@@ -28,16 +30,17 @@ pub extern "C" fn skaveldro_verdict<'a>(
     regions: &'a [u8],
     buffer: &mut [u8],
 ) -> u8
-    ensures { λ r. ⌜ r ≡ verdictNumber
+    ensures { λ r. ⌜ r ≡ verdictAnswer
         (now (types .entry) ∷ now (stations .entry) ∷ now (statuses .entry) ∷ now (bikes .entry)
         ∷ now (plans .entry) ∷ now (zones .entry) ∷ now (system .entry) ∷ now (regions .entry) ∷ [])
         (now (buffer .entry)) ⌝ }
-    ensures { λ _. ⌜ now (buffer .exit) ≡ bufferOf
+    ensures { λ _. ⌜ now (buffer .exit) ≡ verdictBuffer
         (now (types .entry) ∷ now (stations .entry) ∷ now (statuses .entry) ∷ now (bikes .entry)
         ∷ now (plans .entry) ∷ now (zones .entry) ∷ now (system .entry) ∷ now (regions .entry) ∷ [])
         (now (buffer .entry)) ⌝ }
 {
     verdict::verdict(
+        TABLE,
         [
             types,
             stations,
@@ -76,7 +79,7 @@ pub extern "C" fn skaveldro_quote(
     ensures { λ r. ⌜ r ≡ told (now (answer .entry)) (quoteAnswer (now (plans .entry)) (now (id .entry)) seconds metres) ⌝ }
     ensures { λ _. ⌜ now (answer .exit) ≡ filled (now (answer .entry)) (quoteAnswer (now (plans .entry)) (now (id .entry)) seconds metres .values) ⌝ }
 {
-    let q = quote::quote_trip(plans, id, seconds, metres);
+    let q = quote::quote_trip(TABLE, plans, id, seconds, metres);
     give(q.number(), q.word_parts(), &quote_trip::rest(q), answer)
 }
 
@@ -95,7 +98,7 @@ pub extern "C" fn skaveldro_zone_rule(
     ensures { λ r. ⌜ r ≡ told (now (answer .entry)) (zoneAnswer (now (zones .entry)) (record { lon = lon; lat = lat }) (now («type_id» .entry)) moment) ⌝ }
     ensures { λ _. ⌜ now (answer .exit) ≡ filled (now (answer .entry)) (zoneAnswer (now (zones .entry)) (record { lon = lon; lat = lat }) (now («type_id» .entry)) moment .values) ⌝ }
 {
-    let r = zone::zone_rule(zones, lon, lat, type_id, moment);
+    let r = zone::zone_rule(TABLE, zones, lon, lat, type_id, moment);
     give(r.number(), r.word_parts(), &zone_rule::rest(r), answer)
 }
 
@@ -112,7 +115,7 @@ pub extern "C" fn skaveldro_show_record(
     ensures { λ r. ⌜ r ≡ told (now (answer .entry)) (shownAnswer file «record» (now (bytes .entry))) ⌝ }
     ensures { λ _. ⌜ now (answer .exit) ≡ filled (now (answer .entry)) (shownAnswer file «record» (now (bytes .entry)) .values) ⌝ }
 {
-    let shown = clean::show_record(file, record, bytes);
+    let shown = clean::show_record(TABLE, file, record, bytes);
     give(
         shown.number(),
         shown.word_parts(),

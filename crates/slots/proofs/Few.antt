@@ -11,7 +11,7 @@ use Rattle.notation.specs.Choice.{_and_}
 use Rattle.notation.proofs.Booleans.{and-left, and-right}
 use Rattle.schema.specs.Shape as shape
 use Rattle.schema.specs.Shape.{Shape, Rows, Need, Numbering, Table, unlisted, fileShape}
-use Rattle.schema.specs.Table23.{table23, written23}
+use Rattle.schema.specs.Tables.{sheets, written, sheetShape}
 use Rattle.slots.specs.inner.Rows.{mostRows, namesIn, fewIn, fewBelow}
 
 all-few : Table → Bool
@@ -24,9 +24,9 @@ few-at [] e i = refl
 few-at (σ ∷ t) e zero = and-left (fewIn σ) (all-few t) e
 few-at (σ ∷ t) e (suc i) = few-at t (and-right (fewIn σ) (all-few t) e) i
 
-pub few : (file : ℕ) → fewIn (fileShape table23 file) ≡ true
-unfolding fileShape all-few fewIn namesIn written23
-few file = few-at (unlisted ∷ table23) refl file
+pub few : (file : ℕ) → fewIn (sheetShape file) ≡ true
+unfolding fileShape all-few fewIn namesIn written
+few file = few-at (unlisted ∷ sheets) refl file
 
 pub few-array : (numbering : Numbering) (most : ℕ) (σ : Shape) → fewIn (shape.array numbering most σ) ≡ true → fewIn σ ≡ true
 unfolding fewIn

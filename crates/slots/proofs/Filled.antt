@@ -21,7 +21,7 @@ use Rattle.walk.specs.Part.{Whole}
 use Rattle.walk.proofs.Parts.{nameOf}
 use Rattle.schema.specs.Shape.{Rows}
 use Rattle.schema.specs.inner.Sound.{distinctRows}
-use Rattle.schema.specs.Table23.{table23}
+use Rattle.schema.specs.Tables.{sheets}
 use Rattle.schema.proofs.Walk.{Laid, linesIn}
 use Rattle.slots.specs.declared.Found.{Found}
 use Rattle.slots.specs.declared.Found.the-variants.{Missing, Once, Twice}
@@ -196,7 +196,7 @@ filled p names apart few j h =
     fold-filled names apart few j h p (membersOf p) empty empty-sized
     ∙ ap (λ (o : Found). foldl (noted p (getD names j [])) o (membersOf p)) (empty-missing j)
 
-pub gathered-slot : (p : List ℕ) (first count : ℕ) (rows : Rows) → Laid table23 first rows → linesIn rows ≡ count → distinctRows rows ≡ true
+pub gathered-slot : (p : List ℕ) (first count : ℕ) (rows : Rows) → Laid sheets first rows → linesIn rows ≡ count → distinctRows rows ≡ true
     → length (namesIn rows) ≤ mostRows → (j : ℕ) → j < length (namesIn rows) → slotAt (gathered p (lineNames first count)) j ≡ foundIn p (getD (namesIn rows) j [])
 gathered-slot p first count rows l c d few j h = rw (names-laid rows first count l c few) (filled p (namesIn rows) (distinct-apart rows d) few j h)
 

@@ -1,12 +1,13 @@
 -- The rows of an object by number. Walking the lines gives the names of whatever rows are laid out there; and where no name is listed twice,
 -- a row's number is found by its name and by no other.
-use mathlib.Core.Bool.{true, false, not}
+use mathlib.Core.Bool.{Bool, true, false, not}
 use mathlib.Core.List.{List, [], _∷_}
 use mathlib.Core.Path.{_≡_, refl, sym, ap, _∙_}
 use Prim.Native.Nat.{ℕ, zero, suc, _+_, _-_, _≤_, _<_, min}
 use native.Mathlib.Omega.{arith}
 use lib.ListN.{length, getD}
-use borrow.Author.Tests.{lt-ltb, le-ltb, not-true}
+use lib.Dec.{eqb, ltb}
+use borrow.Author.Tests.{lt-ltb, le-ltb, ltb-true, ltb-false, not-true}
 use Rattle.notation.specs.Choice.{_and_}
 use Rattle.notation.proofs.Booleans.{by-test, true-false, and-left, and-right}
 use Rattle.text.specs.Text.{same}
@@ -15,9 +16,11 @@ use Rattle.schema.specs.Shape as shape
 use Rattle.schema.specs.Shape.{Rows, Table}
 use Rattle.schema.specs.Later.{listedIn}
 use Rattle.schema.specs.inner.Sound.{distinctNames, distinctRows}
-use Rattle.schema.specs.inner.Line.{lineAt, nameAt, entries, entriesOf, laidOut}
-use Rattle.schema.specs.Table23.{table23, written23}
+use Rattle.schema.specs.inner.Line.{lineAt, nameAt, numberOf, numberAt, entries, entriesOf, laidOut}
+use Rattle.schema.specs.Tables.{sheets, written}
 use Rattle.schema.proofs.Walk.{Laid, linesIn, step}
+use Rattle.schema.proofs.Computed.{line-count}
+use Rattle.schema.proofs.Found.{name-same, name-none}
 use Rattle.slots.specs.inner.Rows.{lineCount, mostRows, namesIn, namesAt, lineNames, rowNamed, rowLine}
 
 -- Lines.
@@ -49,15 +52,15 @@ laid-names t (shape.row field need name σ rows) end (suc most) i l e h =
     ∙ ap (λ (n : List ℕ). n ∷ namesAt t end most (i + 1 + lineAt t i .inside)) (s .named)
     ∙ ap (λ (ns : List (List ℕ)). name ∷ ns) (laid-names t rows end most (i + 1 + lineAt t i .inside) (s .next) next (omega arith))
 
-how-many : length (entriesOf table23) ≡ lineCount
-unfolding laidOut written23
+how-many : length (entriesOf sheets) ≡ lineCount
+unfolding laidOut written
 how-many = refl
 
 -- of the 2.3 table, where the code ends with the last line
-pub names-laid : (rows : Rows) (first count : ℕ) → Laid table23 first rows → linesIn rows ≡ count → length (namesIn rows) ≤ mostRows
+pub names-laid : (rows : Rows) (first count : ℕ) → Laid sheets first rows → linesIn rows ≡ count → length (namesIn rows) ≤ mostRows
     → lineNames first count ≡ namesIn rows
 names-laid rows first count l e h =
-    laid-names table23 rows (min lineCount (first + count)) mostRows first l (omega (arith, l .fits, how-many)) h
+    laid-names sheets rows (min lineCount (first + count)) mostRows first l (omega (arith, l .fits, how-many)) h
 
 -- Names.
 
@@ -143,6 +146,28 @@ module _ (t : Table) (x : List ℕ) (end row i : ℕ) where
 
     pub row-next : same x (nameAt t i) ≡ false → rowFrom t x end (row + 1) (i + 1 + lineAt t i .inside) ≡ rowFrom t x end row i
     row-next e = sym (rw at-line (named-later x (nameAt t i) (namesAt t end (mostRows - (row + 1)) (i + 1 + lineAt t i .inside)) row e))
+
+-- a text that is no line's name has no row
+pub row-none : (t : Table) (x : List ℕ) → ((i : ℕ) → i < lineCount → same x (nameAt t i) ≡ false) → (end : ℕ) → end ≤ lineCount → (most row i : ℕ)
+    → mostRows ≡ rowNamed x (namesAt t end most i) row
+row-none t x none end h zero row i = sym (ap (λ (names : List (List ℕ)). rowNamed x names row) (names-none t end i) ∙ named-none x row)
+row-none t x none end h (suc most) row i =
+    let ih = row-none t x none end h most (row + 1) (i + 1 + lineAt t i .inside) in
+    by-test (ltb i end)
+    (λ l. let g : i < end = ltb-true i end l in
+    sym (ap (λ (names : List (List ℕ)). rowNamed x names row) (names-more t end most i g)
+    ∙ named-later x (nameAt t i) (namesAt t end most (i + 1 + lineAt t i .inside)) row (none i (omega arith)) ∙ sym ih))
+    λ l. sym (ap (λ (names : List (List ℕ)). rowNamed x names row) (names-end t end (suc most) i (ltb-false i end l)) ∙ named-none x row)
+
+-- By the number of a text: where it has none no line has its name, and else a line has its name where it has its number.
+module _ (x : List ℕ) {n : ℕ} (e : n ≡ numberOf sheets x) where
+  pub unnumbered-row : (first count : ℕ) → n < 1 → mostRows ≡ rowNamed x (lineNames first count) 0
+  unnumbered-row first count h =
+      row-none sheets x (λ i l. name-none i (omega (arith, line-count)) x (omega arith)) (min lineCount (first + count)) (omega arith) mostRows 0 first
+
+  pub numbered-row : {t : Bool} (i : ℕ) → 1 ≤ n → i < lineCount → t ≡ eqb (numberAt sheets i) n → same x (nameAt sheets i) ≡ t
+  numbered-row i h l f =
+      sym (name-same i (omega (arith, line-count)) x (λ z. omega arith)) ∙ ap (eqb (numberAt sheets i)) (sym e) ∙ sym f
 
 -- the line of the next row
 pub row-line-next : (t : Table) (i j : ℕ) → rowLine t i (j + 1) ≡ rowLine t i j + 1 + lineAt t (rowLine t i j) .inside

@@ -13,7 +13,7 @@ use Rattle.walk.specs.Part.{Whole, partTree}
 use Rattle.schema.specs.Shape as shape
 use Rattle.schema.specs.Shape.{Rows, Shape, Need}
 use Rattle.schema.specs.inner.Sound.{distinctRows}
-use Rattle.schema.specs.Table23.{table23}
+use Rattle.schema.specs.Tables.{sheets}
 use Rattle.schema.specs.Pick.{Slot, missing, once, unlessEmpty, unlessBlank, put, noSlot, pick, pickRows}
 use Rattle.schema.proofs.Walk.{Laid, linesIn}
 use Rattle.slots.specs.declared.Found.the-variants.{Once}
@@ -40,13 +40,13 @@ slotted-from p s (shape.row field need name σ rows) k h =
     (ap (slotAt s) z ∙ h 0 (omega arith), slotted-from p s rows (k + 1) (λ j i. let n : k + 1 + j ≡ k + suc j = omega arith in ap (slotAt s) n ∙ h (suc j) (omega arith)))
 
 -- those of the rows at these lines
-pub slotted-all : (p : List ℕ) (first count : ℕ) (s : Slots) → s ≡ gathered p (lineNames first count) → (rows : Rows) → Laid table23 first rows → linesIn rows ≡ count
+pub slotted-all : (p : List ℕ) (first count : ℕ) (s : Slots) → s ≡ gathered p (lineNames first count) → (rows : Rows) → Laid sheets first rows → linesIn rows ≡ count
     → distinctRows rows ≡ true → length (namesIn rows) ≤ mostRows → Slotted p s 0 rows
 slotted-all p first count s e rows l c d few =
     slotted-from p s rows 0 (λ j h. let n : 0 + j ≡ j = omega arith in rw e (ap (slotAt (gathered p (lineNames first count))) n ∙ gathered-slot p first count rows l c d few j h))
 
 module _ {p : List ℕ} {ms : Members} (w : Whole p (Json.object ms)) where
-  pub slotted : (first count : ℕ) (s : Slots) → Gathered p first count s → (rows : Rows) → Laid table23 first rows → linesIn rows ≡ count
+  pub slotted : (first count : ℕ) (s : Slots) → Gathered p first count s → (rows : Rows) → Laid sheets first rows → linesIn rows ≡ count
       → distinctRows rows ≡ true → length (namesIn rows) ≤ mostRows → Slotted p s 0 rows
   slotted first count s g rows l c d few =
       slotted-from p s rows 0 (λ j h. let n : 0 + j ≡ j = omega arith in ap (slotAt s) n ∙ g .slot w rows l c d few j h)

@@ -7,7 +7,7 @@ use Rattle.notation.specs.Case.{Case, Answers}
 use Rattle.text.specs.Text.{same}
 use Rattle.walk.specs.Cases.{walking}
 use Rattle.schema.specs.inner.Line.{laidOut}
-use Rattle.schema.specs.Table23.{written23}
+use Rattle.schema.specs.Tables.{written}
 use Rattle.slots.specs.declared.Found.{Found}
 use Rattle.slots.specs.declared.Found.the-variants.{Missing, Once, Twice}
 use Rattle.slots.specs.declared.Slots.{Slots}
@@ -51,5 +51,5 @@ rows =
     []
 
 rows-answered : Answers (λ c. lineNames (c .0) (c .1)) rows
-unfolding laidOut written23 namesAt
+unfolding laidOut written namesAt
 rows-answered = refl

@@ -7,7 +7,7 @@ ghost use Rattle.json.specs.Tree.{Json};
 ghost use Rattle.text.specs.Text.{textOf};
 ghost use Rattle.walk.specs.Part.{Whole};
 ghost use Rattle.schema.specs.inner.Line.{bytesOf};
-ghost use Rattle.schema.specs.Table23.{table23};
+ghost use Rattle.schema.specs.Tables.{sheets};
 ghost use Rattle.slots.specs.inner.Rows.{lineCount, RowOf};
 ghost use Rattle.slots.specs.inner.Slots.{slotsOf, slotAt, newAt, countedIn, putIn, Gathered};
 ghost use Rattle.slots.specs.inner.Blank.{blankText, BeginsBlank};
@@ -15,7 +15,8 @@ use lexeme::front::first;
 use schema::Line;
 use schema::lines::inside_at;
 use schema::lines::table_bytes;
-use schema::names::name_is;
+use schema::names::has_name;
+use schema::names::name_number;
 use walk::MemberStep;
 use walk::pass_member;
 
@@ -111,9 +112,16 @@ pub struct Row {
 
 // The row that has the name that is spelled, among the rows at these lines of the table that is lent; number `Slots::ROWS` where none has it.
 pub fn row_of(table: &[u8; Line::TABLE_BYTES], spelled: &[u8], first: usize, count: usize) -> Row
-    requires { ⌜ now table ≡ bytesOf table23 ⌝ }
+    requires { ⌜ now table ≡ bytesOf sheets ⌝ }
     ensures { λ r. ⌜ RowOf (textOf (now (spelled .entry))) first count r ⌝ }
 {
+    let number = name_number(table, spelled);
+    if number < 1 {
+        return Row {
+            row: Slots::ROWS,
+            line: first,
+        };
+    }
     let end = lines_end(first, count);
     let mut i = first;
     let mut row: usize = 0;
@@ -124,7 +132,7 @@ pub fn row_of(table: &[u8; Line::TABLE_BYTES], spelled: &[u8], first: usize, cou
                 line: i,
             };
         }
-        if name_is(table, i, spelled) {
+        if has_name(table, i, number) {
             return Row { row: row, line: i };
         }
         i = i + 1 + wide(inside_at(table, i));

@@ -93,12 +93,15 @@ module _ (s : List ℕ) (i : ℕ) (h : i < length s) where
       ∙ ap (λ z. bytesOf x ++ z) (text-past (x .more) (drop (i + 1) s) ∙ ap textOf (drop-drop (x .more) (i + 1) s))
 
   -- a byte that stands for itself
-  pub text-plain : alone (byte s i) ≡ true → textOf (drop i s) ≡ byte s i ∷ textOf (drop (i + 1) s)
+  pub next-plain : alone (byte s i) ≡ true → next paired (drop i s) ≡ char1 (byte s i) 0
   unfolding nextBy
+  next-plain e =
+      next-led paired (drop i s) (ap lead (sym (first-byte s i)) ∙ alone-plain (byte s i) e) ∙ ap (λ b. char1 b 0) (sym (first-byte s i))
+
+  pub text-plain : alone (byte s i) ≡ true → textOf (drop i s) ≡ byte s i ∷ textOf (drop (i + 1) s)
   text-plain e =
-      let f : next paired (drop i s) ≡ char1 (byte s i) 0 = next-led paired (drop i s) (ap lead (sym (first-byte s i)) ∙ alone-plain (byte s i) e) ∙ ap (λ b. char1 b 0) (sym (first-byte s i)) in
       let g : i + 1 + 0 ≡ i + 1 = omega arith in
-      text-character _ f ∙ ap (λ k. byte s i ∷ textOf (drop k s)) g
+      text-character _ (next-plain e) ∙ ap (λ k. byte s i ∷ textOf (drop k s)) g
 
 -- what is left at a cursor
 module _ (s : List ℕ) where

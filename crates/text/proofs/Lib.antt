@@ -4,6 +4,7 @@ pub mod Lengths
 pub mod Steps
 pub mod Filling
 pub mod Laws
+pub mod Words
 pub mod Ordered
 pub mod Bytes
 pub mod Keys
@@ -11,3 +12,4 @@ pub mod Seeing
 pub mod Fronts
 pub mod Quoted
 pub mod Escapes
+pub mod Packed

@@ -1,6 +1,6 @@
 -- The order of byte strings is total and transitive, and two are equal in it exactly where they are the same: each by going through both strings, where the
 -- first bytes differ or the rests decide.
-use mathlib.Core.List.{List, [], _∷_}
+use mathlib.Core.List.{List, [], _∷_, _++_}
 use mathlib.Core.Path.{_≡_, refl, sym, ap, _∙_}
 use Prim.Native.Nat.{ℕ, _≤_, _<_}
 use native.Mathlib.Omega.{arith}
@@ -85,6 +85,11 @@ module _ {x y : List ℕ} where
 
     pub order-next : a ≡ b → orderOf x y ≡ orderOf u v
     order-next h = rw (e, f) (first-same a u b v h)
+
+-- the same bytes in front of both
+pub order-past : (x u v : List ℕ) → orderOf (x ++ u) (x ++ v) ≡ orderOf u v
+order-past [] u v = refl
+order-past (a ∷ x) u v = first-same a (x ++ u) a (x ++ v) refl ∙ order-past x u v
 
 -- one string ends
 pub order-ended : {x : List ℕ} (y : List ℕ) → x ≡ [] → orderOf [] y ≡ orderOf x y

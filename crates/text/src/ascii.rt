@@ -1,13 +1,11 @@
 // Letters of ASCII, its bytes that need no escape, and its characters in escapes.
-use character::hex::quad;
-use lexeme::Quad;
-use lexeme::front::ahead;
-use lexeme::front::byte_at;
+use character::hex::hex_value;
+ghost use mathlib.Core.Bool.{true};
 ghost use mathlib.Core.Path.{_≡_};
 ghost use lib.ListN.{drop};
 ghost use Rattle.lexeme.specs.Character.{within};
 ghost use Rattle.text.specs.Text as spec;
-ghost use Rattle.text.specs.inner.Walk.{alone, Escapes};
+ghost use Rattle.text.specs.inner.Walk.{alone, Escapes, LowEscape};
 
 pub fn is_capital(b: u8) -> bool
     ensures { λ r. ⌜ r ≡ within 0x41 0x5a b ⌝ }
@@ -44,26 +42,46 @@ pub fn is_plain(b: u8) -> bool
     b != b'"'
 }
 
+// Whether an escape \u00 begins at a place, with room for two digits more.
+fn opens_low(s: &[u8], at: usize) -> bool
+    ensures { λ r. ⌜ (r ≡ true → LowEscape (now (s .entry)) at) ⌝ }
+{
+    if s.len() <= at {
+        return false;
+    }
+    if s.len() - at < 6 {
+        return false;
+    }
+    if s[at] != b'\\' {
+        return false;
+    }
+    if s[at + 1] != b'u' {
+        return false;
+    }
+    if s[at + 2] != b'0' {
+        return false;
+    }
+    s[at + 3] == b'0'
+}
+
 // The character of ASCII that an escape \u at a place stands for; 128 where there is no such escape. Most escapes are of this kind, and it is told without the
 // bytes of any other character.
 pub fn escaped(s: &[u8], at: usize) -> u8
     ensures { λ r. ⌜ Escapes (drop at (now (s .entry))) r ⌝ }
 {
-    if byte_at(s, at, 0) != b'\\' {
+    if !opens_low(s, at) {
         return 128;
     }
-    if byte_at(s, at, 1) != b'u' {
+    let c = s[at + 4];
+    if c < b'0' {
         return 128;
     }
-    match quad(s, ahead(s, at, 2)) {
-        Quad::Short(_) => {
-            return 128;
-        }
-        Quad::Value(v) => {
-            if v < 128 {
-                return v as u8;
-            }
-            return 128;
-        }
+    if b'7' < c {
+        return 128;
     }
+    let d = hex_value(s[at + 5] as u32);
+    if 15 < d {
+        return 128;
+    }
+    (c - b'0') * 16 + d as u8
 }

@@ -8,8 +8,10 @@ use crate::walk::next_byte;
 ghost use mathlib.Core.Path.{_≡_};
 ghost use mathlib.Core.List.{[]};
 ghost use lib.Dec.{eqb};
-ghost use lib.ListN.{drop};
+ghost use Prim.Native.Nat.{_+_, _^_, _≤_, _<_};
+ghost use lib.ListN.{length, drop};
 ghost use Rattle.text.specs.Text.{textOf, same, sameWord};
+ghost use Rattle.text.specs.inner.Packed.{four, eight, SameAt};
 ghost use Rattle.text.specs.inner.Walk.{agreeing, cased, left};
 
 // The same byte; or, where case is folded, the same letter.
@@ -92,8 +94,47 @@ pub fn word_is(spelled: &[u8], plain: &[u8]) -> bool
     reads_as(spelled, plain, true)
 }
 
-// The bytes of two spellings are the same.
-pub fn same_bytes(a: &[u8], b: &[u8]) -> bool
+// A byte as a number of 64 bits.
+fn wide(b: u8) -> u64
+    ensures { λ r. ⌜ (r ≡ b) × (r < 256) ⌝ }
+{
+    b as u64
+}
+
+// The four bytes at `at` as one number.
+pub fn four_at(s: &[u8], at: usize) -> u64
+    requires { ⌜ at + 4 ≤ length (now s) ⌝ }
+    ensures { λ r. ⌜ (r ≡ four (now (s .entry)) at) × (r < 2 ^ 32) ⌝ }
+{
+    wide(s[at]) + wide(s[at + 1]) * 256 + wide(s[at + 2]) * 65536 + wide(s[at + 3]) * 16777216
+}
+
+// The eight bytes at `at` as one number. The compiler makes one load of these sums.
+fn eight_at(s: &[u8], at: usize) -> u64
+    requires { ⌜ at + 8 ≤ length (now s) ⌝ }
+    ensures { λ r. ⌜ r ≡ eight (now (s .entry)) at ⌝ }
+{
+    four_at(s, at) + four_at(s, at + 4) * 4294967296
+}
+
+// Four bytes are the same in both.
+fn same_four(a: &[u8], b: &[u8], at: usize) -> bool
+    requires { ⌜ (at + 4 ≤ length (now a)) × (at + 4 ≤ length (now b)) ⌝ }
+    ensures { λ r. ⌜ SameAt 4 at (now (a .entry)) (now (b .entry)) r ⌝ }
+{
+    four_at(a, at) == four_at(b, at)
+}
+
+// Eight bytes are the same in both.
+fn same_eight(a: &[u8], b: &[u8], at: usize) -> bool
+    requires { ⌜ (at + 8 ≤ length (now a)) × (at + 8 ≤ length (now b)) ⌝ }
+    ensures { λ r. ⌜ SameAt 8 at (now (a .entry)) (now (b .entry)) r ⌝ }
+{
+    eight_at(a, at) == eight_at(b, at)
+}
+
+// The same bytes, one by one.
+fn same_each(a: &[u8], b: &[u8]) -> bool
     ensures { λ r. ⌜ r ≡ same (now (a .entry)) (now (b .entry)) ⌝ }
 {
     if a.len() != b.len() {
@@ -107,4 +148,40 @@ pub fn same_bytes(a: &[u8], b: &[u8]) -> bool
         i += 1;
     }
     true
+}
+
+// The same, of fewer than eight bytes: the first four and the last four have them all.
+fn same_few(a: &[u8], b: &[u8]) -> bool
+    requires { ⌜ (length (now a) ≡ length (now b)) × (length (now a) < 8) ⌝ }
+    ensures { λ r. ⌜ r ≡ same (now (a .entry)) (now (b .entry)) ⌝ }
+{
+    if a.len() < 4 {
+        return same_each(a, b);
+    }
+    let last = a.len() - 4;
+    if !same_four(a, b, 0) {
+        return false;
+    }
+    same_four(a, b, last)
+}
+
+// The bytes of two spellings are the same. Eight at once; the last eight overlap with those before them.
+pub fn same_bytes(a: &[u8], b: &[u8]) -> bool
+    ensures { λ r. ⌜ r ≡ same (now (a .entry)) (now (b .entry)) ⌝ }
+{
+    if a.len() != b.len() {
+        return false;
+    }
+    if a.len() < 8 {
+        return same_few(a, b);
+    }
+    let last = a.len() - 8;
+    let mut i: usize = 0;
+    while i < last {
+        if !same_eight(a, b, i) {
+            return false;
+        }
+        i += 8;
+    }
+    same_eight(a, b, last)
 }

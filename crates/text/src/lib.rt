@@ -2,6 +2,7 @@
 use lexeme::Char;
 
 pub mod ascii;
+pub mod codes;
 pub mod compare;
 pub mod key;
 pub mod measure;

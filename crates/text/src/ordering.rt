@@ -3,6 +3,11 @@ use crate::Cursor;
 use crate::Order;
 use crate::Step;
 use crate::ascii::is_plain;
+use crate::codes::ascii_at;
+use crate::codes::code_at;
+use crate::codes::same_code;
+use crate::codes::same_wide;
+use crate::codes::width;
 use crate::compare::same_bytes;
 use crate::walk::cursor_at;
 use crate::walk::next_byte;
@@ -14,7 +19,7 @@ ghost use Prim.Native.Nat.{_≤_};
 ghost use lib.ListN.{take, drop};
 ghost use Rattle.text.specs.Text.{textOf, meant};
 ghost use Rattle.text.specs.Ordering.{orderOf};
-ghost use Rattle.text.specs.inner.Walk.{leftBy, samePlain, Ahead};
+ghost use Rattle.text.specs.inner.Walk.{left, leftBy, samePlain, Ahead};
 
 // Whether two spellings have the same byte at a place, and it stands for itself.
 fn same_plain(a: &[u8], b: &[u8], at: usize) -> bool
@@ -53,20 +58,20 @@ fn order_at_end(s: &[u8], c: Cursor, raw: bool) -> Order
     }
 }
 
-// The order of what two spellings stand for from a place on, byte by byte.
-fn order_from(a: &[u8], b: &[u8], at: usize, raw: bool) -> Order
-    ensures { λ r. ⌜ r ≡ orderOf (textOf (drop at (now (a .entry)))) (meant raw (drop at (now (b .entry)))) ⌝ }
+// The order of what is left of two texts at a cursor of each, byte by byte.
+fn order_left(a: &[u8], b: &[u8], c: Cursor, d: Cursor, raw: bool) -> Order
+    ensures { λ r. ⌜ r ≡ orderOf (left (now (a .entry)) c) (leftBy raw (now (b .entry)) d) ⌝ }
 {
-    let mut c = cursor_at(at);
-    let mut d = cursor_at(at);
+    let mut first = c;
+    let mut second = d;
     loop {
-        match next_byte(a, c) {
+        match next_byte(a, first) {
             Step::End => {
-                return order_at_end(b, d, raw);
+                return order_at_end(b, second, raw);
             }
             Step::Byte(x, after) => {
-                c = after;
-                match next_meant(b, d, raw) {
+                first = after;
+                match next_meant(b, second, raw) {
                     Step::End => {
                         return Order::Greater;
                     }
@@ -77,12 +82,53 @@ fn order_from(a: &[u8], b: &[u8], at: usize, raw: bool) -> Order
                         if y < x {
                             return Order::Greater;
                         }
-                        d = beyond;
+                        second = beyond;
                     }
                 }
             }
         }
     }
+}
+
+// The order of what two spellings stand for from a place on. Characters that are the same are passed over whole, however they are spelled, and the bytes of
+// the first two that differ decide.
+fn order_spelled(a: &[u8], b: &[u8], at: usize) -> Order
+    ensures { λ r. ⌜ r ≡ orderOf (textOf (drop at (now (a .entry)))) (textOf (drop at (now (b .entry)))) ⌝ }
+{
+    let mut i = at;
+    let mut j = at;
+    loop {
+        let x = ascii_at(a, i);
+        let y = ascii_at(b, j);
+        if same_code(x, y) {
+            i += width(x);
+            j += width(y);
+        } else {
+            let n = same_wide(a, b, i, j);
+            if 0 < n {
+                i += n;
+                j += n;
+            } else {
+                let c = code_at(a, i);
+                let d = code_at(b, j);
+                if !same_code(c, d) {
+                    return order_left(a, b, cursor_at(i), cursor_at(j), false);
+                }
+                i += width(c);
+                j += width(d);
+            }
+        }
+    }
+}
+
+// The order from a place on, where the second may be raw bytes.
+fn order_from(a: &[u8], b: &[u8], at: usize, raw: bool) -> Order
+    ensures { λ r. ⌜ r ≡ orderOf (textOf (drop at (now (a .entry)))) (meant raw (drop at (now (b .entry)))) ⌝ }
+{
+    if raw {
+        return order_left(a, b, cursor_at(at), cursor_at(at), raw);
+    }
+    order_spelled(a, b, at)
 }
 
 // The order by the first bytes from a place on, where both can be seen with nothing decoded and differ.

@@ -52,7 +52,7 @@ fn tail(x: Char) -> Char
     }
 }
 
-// The first byte of what is spelled from `at` on. Characters of ASCII are told before any others, for which a table of classes is laid out.
+// The first byte of what is spelled from `at` on. Characters of ASCII are told before any others.
 fn first_byte(s: &[u8], at: usize) -> Step
     ensures { λ r. ⌜ told (now (s .entry)) r ≡ textOf (drop at (now (s .entry))) ⌝ }
 {

@@ -9,6 +9,7 @@ use Rattle.word.specs.declared.Parts.{Parts}
 use Rattle.json.specs.declared.Syntax.{Syntax}
 use Rattle.json.specs.declared.Syntax.the-variants as syntax
 use Rattle.json.specs.Text.{syntaxOf}
+use Rattle.schema.specs.Shape.{Table}
 use Rattle.fault.specs.declared.Fault.{Fault}
 use Rattle.fault.specs.declared.Least.{Least}
 use Rattle.fault.specs.declared.Least.the-variants.{None, Is}
@@ -125,23 +126,23 @@ unfolding first
 first-read file [] = refl
 first-read file (b ∷ s) = first-syntax file (syntaxOf (b ∷ s))
 
--- of a set
-module _ (s : Feeds) where
-  pub first-stageA : first (stageA s) ≡ firstIn stage.A s
+-- of a set, by a table
+module _ (t : Table) (s : Feeds) where
+  pub first-stageA : first (stageA s) ≡ firstIn t stage.A s
   unfolding stageA firstIn
   first-stageA =
       first-files (λ file. rulesA file (bytesOf s file)) (λ file. read-of file (bytesOf s file)) ∙ ap firstOf (λ i file. first-read file (bytesOf s file) i)
 
-  pub first-stageB : first (stageB s) ≡ firstIn stage.B s
+  pub first-stageB : first (stageB t s) ≡ firstIn t stage.B s
   unfolding stageBBy firstIn
-  first-stageB = first-placed (λ file. faultsB file (bytesOf s file))
+  first-stageB = first-placed (λ file. faultsB t file (bytesOf s file))
 
-  first-stageC : first (stageC s) ≡ firstC (picked s)
+  first-stageC : first (stageC t s) ≡ firstC t (picked t s)
   unfolding stageC firstC
-  first-stageC = first-placed (crossFaults (picked s))
+  first-stageC = first-placed (crossFaults t (picked t s))
 
-  pub verdict-staged : verdictOf s ≡ staged s
+  pub verdict-staged : verdictOf t s ≡ staged t s
   unfolding verdictOf brokenRulesBy staged
   verdict-staged =
-      first-orElse (stageA s) (orElse (stageB s) (stageC s))
-      ∙ ap₂ orNext first-stageA (first-orElse (stageB s) (stageC s) ∙ ap₂ orNext first-stageB first-stageC)
+      first-orElse (stageA s) (orElse (stageB t s) (stageC t s))
+      ∙ ap₂ orNext first-stageA (first-orElse (stageB t s) (stageC t s) ∙ ap₂ orNext first-stageB first-stageC)

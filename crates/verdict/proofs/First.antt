@@ -7,6 +7,7 @@ use Prim.Native.Nat.{ℕ}
 use native.Mathlib.Omega.{arith}
 use Rattle.notation.proofs.Booleans.{by-test}
 use Rattle.word.specs.declared.Parts.{Parts}
+use Rattle.schema.specs.Shape.{Table}
 use Rattle.judge.proofs.Holds.{All, none, more}
 use Rattle.fault.specs.declared.outcome.Outcome.{Outcome}
 use Rattle.fault.specs.declared.outcome.Outcome.the-variants.{Unbroken, Broken}
@@ -85,15 +86,15 @@ first-broken (r ∷ l) p e = go (first l) refl e (first-broken l)
         (λ f. at (sym (earlier-first r q f) ∙ k) (first-here r l q (ih q h) f))
 
 -- of a set
-module _ (s : Feeds) where
-  pub accepted : brokenRules s ≡ [] → verdictOf s ≡ Unbroken
+module _ (t : Table) (s : Feeds) where
+  pub accepted : brokenRules t s ≡ [] → verdictOf t s ≡ Unbroken
   unfolding verdictOf first
   accepted e = ap first e
 
-  pub accepted-only : verdictOf s ≡ Unbroken → brokenRules s ≡ []
+  pub accepted-only : verdictOf t s ≡ Unbroken → brokenRules t s ≡ []
   unfolding verdictOf
-  accepted-only e = first-clean (brokenRules s) e
+  accepted-only e = first-clean (brokenRules t s) e
 
-  pub refused-first : (p : Parts) → verdictOf s ≡ Broken p → First p (brokenRules s)
+  pub refused-first : (p : Parts) → verdictOf t s ≡ Broken p → First p (brokenRules t s)
   unfolding verdictOf
-  refused-first p e = first-broken (brokenRules s) p e
+  refused-first p e = first-broken (brokenRules t s) p e

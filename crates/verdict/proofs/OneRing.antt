@@ -10,16 +10,15 @@ use Rattle.notation.specs.Choice.{_⇒_else_, _and_}
 use Rattle.word.specs.declared.Parts.{Parts}
 use Rattle.word.specs.Form.{writtenForm, wordSize}
 use Rattle.word.specs.Word.{noParts, wordOf}
-use Rattle.schema.specs.Shape.{fileShape}
-use Rattle.schema.specs.Table23.{table23}
-use Rattle.schema.specs.Pick.{pick}
+use Rattle.schema.specs.Shape.{Table, fileShape}
+use Rattle.schema.specs.Tables.{tableAt}
 use Rattle.rings.specs.Rings.{coordinatesFound}
 use Rattle.rings.specs.OneRing.{coordinatesOfOne}
 use Rattle.document.specs.Spans.{recordSpan}
 use Rattle.fault.specs.declared.outcome.Outcome.{Outcome}
 use Rattle.fault.specs.Outcome.{fileCount, faultParts}
-use Rattle.clean.specs.Clean.{treeOf}
-use Rattle.clean.specs.Show.{ofSpan, ofClean, refused, shownOf}
+use Rattle.clean.specs.Clean.{recordsIn}
+use Rattle.clean.specs.Show.{ofSpan, ofClean, refused, shownBy, shownOf}
 use Rattle.quote.specs.Quote as quote
 use Rattle.quote.specs.Quote.{short, cleanQuote, quoteOf}
 use Rattle.zone.specs.Single.{WithoutHoles, cleanOfOne}
@@ -29,52 +28,58 @@ use Rattle.verdict.specs.Verdict.{faultsBBy, stageA, stageBBy, stageC, o
 use Rattle.verdict.specs.OneRing.{verdictOfOne, OneRing}
 use Rattle.verdict.proofs.Every.{every-same}
 
-file-same : (file : ℕ) (s : List ℕ) → (file ≡ 6 → WithoutHoles s) → faultsBBy coordinatesFound file s ≡ faultsBBy coordinatesOfOne file s
-file-same file [] one = refl
-file-same file (b ∷ s) one = faults-one file (b ∷ s) one
+module _ (table : ℕ) where
+  abbrev t : Table
+  t = tableAt table
 
-module _ (s : Feeds) (one : WithoutHoles (bytesOf s 6)) where
-  zones-one : (file : ℕ) → file ≡ 6 → WithoutHoles (bytesOf s file)
-  zones-one file e = subst (λ (k : ℕ). WithoutHoles (bytesOf s k)) (sym e) one
+  file-same : (file : ℕ) (s : List ℕ) → (file ≡ 6 → WithoutHoles t s) → faultsBBy coordinatesFound t file s ≡ faultsBBy coordinatesOfOne t file s
+  file-same file [] one = refl
+  file-same file (b ∷ s) one = faults-one table file (b ∷ s) one
 
-  stage-same : stageBBy coordinatesFound s ≡ stageBBy coordinatesOfOne s
-  unfolding stageBBy
-  stage-same = every-same _ _ (λ file h i. ap (map (faultParts file)) (file-same file (bytesOf s file) (zones-one file)))
+  module _ (s : Feeds) (one : WithoutHoles t (bytesOf s 6)) where
+    zones-one : (file : ℕ) → file ≡ 6 → WithoutHoles t (bytesOf s file)
+    zones-one file e = subst (λ (k : ℕ). WithoutHoles t (bytesOf s k)) (sym e) one
 
-  verdict-same : verdictOf s ≡ verdictOfOne s
-  unfolding verdictOf brokenRulesBy
-  verdict-same = ap (λ (l : List Parts). first (orElse (stageA s) (orElse l (stageC s)))) stage-same
+    stage-same : stageBBy coordinatesFound t s ≡ stageBBy coordinatesOfOne t s
+    unfolding stageBBy
+    stage-same = every-same _ _ (λ file h i. ap (map (faultParts file)) (file-same file (bytesOf s file) (zones-one file)))
 
-  module _ (b : List ℕ) where
-    number-same : verdictNumber s b ≡ (ltb (length b) wordSize ⇒ 2 else accepts (verdictOfOne s) ⇒ 0 else 1)
-    unfolding verdictNumber
-    number-same = ap (λ (v : Outcome). ltb (length b) wordSize ⇒ 2 else accepts v ⇒ 0 else 1) verdict-same
+    verdict-same : verdictOf t s ≡ verdictOfOne t s
+    unfolding verdictOf brokenRulesBy
+    verdict-same = ap (λ (l : List Parts). first (orElse (stageA s) (orElse l (stageC t s)))) stage-same
 
-    buffer-same : bufferOf s b ≡ (ltb (length b) wordSize ⇒ b else wordOf writtenForm (said (verdictOfOne s)) ++ drop wordSize b)
-    unfolding bufferOf
-    buffer-same = ap (λ (v : Outcome). ltb (length b) wordSize ⇒ b else wordOf writtenForm (said v) ++ drop wordSize b) verdict-same
+    module _ (b : List ℕ) where
+      number-same : verdictNumber t s b ≡ (ltb (length b) wordSize ⇒ 2 else accepts (verdictOfOne t s) ⇒ 0 else 1)
+      unfolding verdictNumber
+      number-same = ap (λ (v : Outcome). ltb (length b) wordSize ⇒ 2 else accepts v ⇒ 0 else 1) verdict-same
 
-shown-same : (file n : ℕ) (s : List ℕ) → (file ≡ 6 → WithoutHoles s)
-    → shownOf file n s ≡ (leb 1 file and leb file fileCount ⇒ ofClean (cleanOfOne file s) (ofSpan (recordSpan file s n)) else refused 10 noParts)
-unfolding shownOf
-shown-same file n s one =
-    ap (λ (c : Outcome). leb 1 file and leb file fileCount ⇒ ofClean c (ofSpan (recordSpan file s n)) else refused 10 noParts) (single .clean file s one)
+      buffer-same : bufferOf t s b ≡ (ltb (length b) wordSize ⇒ b else wordOf writtenForm (said (verdictOfOne t s)) ++ drop wordSize b)
+      unfolding bufferOf
+      buffer-same = ap (λ (v : Outcome). ltb (length b) wordSize ⇒ b else wordOf writtenForm (said v) ++ drop wordSize b) verdict-same
 
-quoted-same : (s id : List ℕ) (seconds metres : ℕ)
-    → quoteOf s id seconds metres
-    ≡ (short seconds metres ⇒ quote.ofClean (cleanOfOne 5 s) (cleanQuote (pick (fileShape table23 5) (treeOf s)) id seconds metres) else quote.refused 4)
-unfolding quoteOf
-quoted-same s id seconds metres =
-    ap (λ (c : Outcome). short seconds metres ⇒ quote.ofClean c (cleanQuote (pick (fileShape table23 5) (treeOf s)) id seconds metres) else quote.refused 4)
-    (single .clean 5 s (λ e. absurd (omega arith)))
+  shown-same : (file n : ℕ) (s : List ℕ) → (file ≡ 6 → WithoutHoles t s)
+      → shownOf t file n s
+      ≡ (leb 1 file and leb file fileCount ⇒ ofClean (cleanOfOne t file s) (ofSpan (recordSpan (fileShape t file) s n)) else refused 10 noParts)
+  unfolding shownBy
+  shown-same file n s one =
+      ap (λ (c : Outcome). leb 1 file and leb file fileCount ⇒ ofClean c (ofSpan (recordSpan (fileShape t file) s n)) else refused 10 noParts)
+      (single table .clean file s one)
 
-pub one-ring : OneRing
-one-ring =
+  quoted-same : (s id : List ℕ) (seconds metres : ℕ)
+      → quoteOf t s id seconds metres
+      ≡ (short seconds metres ⇒ quote.ofClean (cleanOfOne t 5 s) (cleanQuote (recordsIn (fileShape t 5) s) id seconds metres) else quote.refused 4)
+  unfolding quoteOf
+  quoted-same s id seconds metres =
+      ap (λ (c : Outcome). short seconds metres ⇒ quote.ofClean c (cleanQuote (recordsIn (fileShape t 5) s) id seconds metres) else quote.refused 4)
+      (single table .clean 5 s (λ e. absurd (omega arith)))
+
+pub one-ring : (table : ℕ) → OneRing (tableAt table)
+one-ring table =
     record {
-      verdict = verdict-same;
-      number = λ s b one. number-same s one b;
-      buffer = λ s b one. buffer-same s one b;
-      ruling = single .answer;
-      shown = shown-same;
-      quoted = quoted-same;
+      verdict = verdict-same table;
+      number = λ s b one. number-same table s one b;
+      buffer = λ s b one. buffer-same table s one b;
+      ruling = single table .answer;
+      shown = shown-same table;
+      quoted = quoted-same table;
     }

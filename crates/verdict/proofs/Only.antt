@@ -9,6 +9,7 @@ use Rattle.word.specs.declared.Parts.{Parts}
 use Rattle.json.specs.declared.Syntax.{Syntax}
 use Rattle.json.specs.declared.Syntax.the-variants as syntax
 use Rattle.json.specs.Text.{syntaxOf}
+use Rattle.schema.specs.Shape.{Table}
 use Rattle.fault.specs.declared.Fault.{Fault}
 use Rattle.fault.proofs.Order as faults
 use Rattle.judge.proofs.Holds.{All, none, more, only}
@@ -70,18 +71,18 @@ offsets-orElse : (l m : List Parts) → Offsets l → Offsets m → Offsets (orE
 offsets-orElse [] m o n = n
 offsets-orElse (p ∷ l) m o n = o
 
-offsets : (s : Feeds) → Offsets (brokenRules s)
+offsets : (t : Table) (s : Feeds) → Offsets (brokenRules t s)
 unfolding brokenRulesBy stageA stageBBy stageC
-offsets s =
+offsets t s =
     offsets-orElse (stageA s) _
     (record { at = _; are = every-all (λ file. rulesA file (bytesOf s file)) (λ file h i. read-offset (bytesOf s) file (bytesOf s file) refl) })
-    (offsets-orElse (stageB s) (stageC s) (offsets-placed (λ file. faultsB file (bytesOf s file))) (offsets-placed (crossFaults (picked s))))
+    (offsets-orElse (stageB t s) (stageC t s) (offsets-placed (λ file. faultsB t file (bytesOf s file))) (offsets-placed (crossFaults t (picked t s))))
 
 -- what has none before it is what the verdict names
-pub first-refused : (s : Feeds) (p : Parts) → First p (brokenRules s) → verdictOf s ≡ Broken p
+pub first-refused : (t : Table) (s : Feeds) (p : Parts) → First p (brokenRules t s) → verdictOf t s ≡ Broken p
 unfolding verdictOf
-first-refused s p f = go (first (brokenRules s)) refl
+first-refused t s p f = go (first (brokenRules t s)) refl
   where
-    go : (x : Outcome) → first (brokenRules s) ≡ x → first (brokenRules s) ≡ Broken p
-    go Unbroken e = absurd (List·Memᴰ·not-nil (subst (List·Memᴰ p) (first-clean (brokenRules s) e) (f .among)))
-    go (Broken q) e = e ∙ ap Broken (first-only (brokenRules s) (offsets s) q p (first-broken (brokenRules s) q e) f)
+    go : (x : Outcome) → first (brokenRules t s) ≡ x → first (brokenRules t s) ≡ Broken p
+    go Unbroken e = absurd (List·Memᴰ·not-nil (subst (List·Memᴰ p) (first-clean (brokenRules t s) e) (f .among)))
+    go (Broken q) e = e ∙ ap Broken (first-only (brokenRules t s) (offsets t s) q p (first-broken (brokenRules t s) q e) f)

@@ -1,5 +1,5 @@
--- An object that holds a version string other than 2.3 breaks a rule at field 1 of any file: that member is empty, not the one string that is listed, or
--- one of two. The fault stands first in the file's list.
+-- An object that holds a version string other than 2.3 breaks a rule at field 1 of any file of a table that asks for the version: that member is empty, not the one
+-- string that is listed, or one of two. The fault stands first in the file's list.
 use mathlib.Core.Bool.{Bool, true, false}
 use mathlib.Core.List.{List, [], _∷_}
 use mathlib.Core.Path.{_≡_, refl, sym, ap, subst}
@@ -13,16 +13,14 @@ use Rattle.json.specs.Tree.{Json, Members}
 use Rattle.text.specs.Text.{same}
 use Rattle.text.proofs.Laws.{same-refl, same-true}
 use Rattle.schema.specs.Shape as shape
-use Rattle.schema.specs.Shape.{Shape, Rows, fileShape}
-use Rattle.schema.specs.Table23.{table23, written23}
+use Rattle.schema.specs.Shape.{Shape, Rows, Table, fileShape}
 use Rattle.schema.specs.Pick.{Slot, once, twice, missing, again, unlessBlank, put, find, Slots, pick, pickRows}
 use Rattle.fault.specs.declared.Fault.{Fault}
 use Rattle.fault.specs.Fault.{fault, top, faulty}
 use Rattle.fault.specs.Outcome.{fileCount}
 use Rattle.scalar.specs.Scalars.{kindsOf, sortKinds}
 use Rattle.judge.specs.Faults.{faultsBy, rowFaultsBy, rowFaults, fileFaultsBy, fileFaults}
-use Rattle.cross.proofs.Numbers.{by-number, Each}
-use Rattle.verdict.specs.Demand3.{Holds, here, later, Outdated, outdated}
+use Rattle.verdict.specs.Demand3.{AsksVersion, Holds, here, later, Outdated, outdated}
 
 -- the slot of a name under which a string is held: that string once, or twice whatever
 data Seen (v : List ℕ) : Slot Json → Type 0 where
@@ -47,23 +45,12 @@ seen {name} {v} (later {n = n} {x = x} {ms = ms} h) = go (same name n) (seen h)
     go true s = seen-later x s
     go false s = s
 
--- the shape of every file begins with field 1
+-- a shape that begins with field 1
 abbrev version : Shape
 version = shape.scalar (shape.exactly (bytes "2.3"))
 
 abbrev headed : Rows → Shape
 headed rows = shape.object (shape.row 1 shape.required (bytes "version") version rows)
-
-record Headed (σ : Shape) : Type 0 where
-  rows : Rows
-  is : σ ≡ headed rows
-
-is-headed : {rows : Rows} → Headed (headed rows)
-is-headed = record { rows = _; is = refl }
-
-file-headed : (file : ℕ) → 1 ≤ file → file ≤ fileCount → Headed (fileShape table23 file)
-unfolding Each fileShape written23
-file-headed = by-number (λ file. Headed (fileShape table23 file)) (is-headed, (is-headed, (is-headed, (is-headed, (is-headed, (is-headed, (is-headed, (is-headed, tt))))))))
 
 -- a list of faults that begins at field 1 of the header
 pub record Opening (l : List Fault) : Type 0 where
@@ -94,8 +81,8 @@ opening-object v rows ms s e = opening-slot rows (pickRows rows ms) s e
 not-same : (x y : List ℕ) → (x ≡ y → ⊥) → same x y ≡ false
 not-same x y n = by-test (same x y) (λ t. absurd (n (same-true x y t))) (λ f. f)
 
-pub opening : (file : ℕ) → 1 ≤ file → file ≤ fileCount → (x : Json) → Outdated x → Opening (fileFaults (fileShape table23 file) x)
-opening file h i x (outdated {v} {ms} holds other) =
-    let r = file-headed file h i in
-    subst Opening (ap (λ (σ : Shape). fileFaults σ (tree.object ms)) (sym (r .is)))
-    (opening-object v (r .rows) ms (seen holds) (not-same v (bytes "2.3") other))
+pub opening : (t : Table) → AsksVersion t → (file : ℕ) → 1 ≤ file → file ≤ fileCount → (x : Json) → Outdated x → Opening (fileFaults (fileShape t file) x)
+opening t asks file h i x (outdated {v} {ms} holds other) =
+    let r = asks file h i in
+    subst Opening (ap (λ (σ : Shape). fileFaults σ (tree.object ms)) (sym (r .1)))
+    (opening-object v (r .0) ms (seen holds) (not-same v (bytes "2.3") other))

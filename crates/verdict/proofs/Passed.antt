@@ -20,11 +20,9 @@ use Rattle.json.proofs.Spelled.{spelled-read}
 use Rattle.limits.specs.Ceilings.{depth}
 use Rattle.notation.proofs.Booleans.{by-test}
 use Rattle.walk.proofs.Files.{passed}
-use Rattle.schema.specs.Shape.{fileShape}
-use Rattle.schema.specs.Table23.{table23}
-use Rattle.schema.specs.Pick.{pick}
+use Rattle.schema.specs.Shape.{Table, fileShape}
 use Rattle.judge.specs.Faults.{fileFaults}
-use Rattle.clean.specs.Clean.{treeOf, recordsOf}
+use Rattle.clean.specs.Clean.{treeOf, recordsIn}
 use Rattle.cross.specs.Stage.{fileOf}
 use Rattle.verdict.specs.Verdict.{syntaxRules, rulesA}
 use Rattle.verdict.specs.inner.Stages.{faultsB}
@@ -48,10 +46,10 @@ pub read-there : (file : ℕ) (s : List ℕ) → syntaxOf s ≡ Sound → rulesA
 read-there file [] e = refl
 read-there file (b ∷ s) e = ap (syntaxRules file) e
 
-pub faults-there : (file : ℕ) (s : List ℕ) → syntaxOf s ≡ Sound → faultsB file s ≡ fileFaults (fileShape table23 file) (treeOf s)
-faults-there file [] e = absurd (there [] e refl)
-faults-there file (b ∷ s) e = refl
+pub faults-there : (t : Table) (file : ℕ) (s : List ℕ) → syntaxOf s ≡ Sound → faultsB t file s ≡ fileFaults (fileShape t file) (treeOf s)
+faults-there t file [] e = absurd (there [] e refl)
+faults-there t file (b ∷ s) e = refl
 
-pub file-there : (file : ℕ) (s : List ℕ) → syntaxOf s ≡ Sound → fileOf file s ≡ record { here = true; records = recordsOf file (pick (fileShape table23 file) (treeOf s)) }
-file-there file [] e = absurd (there [] e refl)
-file-there file (b ∷ s) e = refl
+pub file-there : (t : Table) (file : ℕ) (s : List ℕ) → syntaxOf s ≡ Sound → fileOf t file s ≡ record { here = true; records = recordsIn (fileShape t file) s }
+file-there t file [] e = absurd (there [] e refl)
+file-there t file (b ∷ s) e = refl

@@ -12,9 +12,8 @@ use lib.Signed.{leZ}
 use borrow.Author.Tests.{leb-true, le-leb, eq-eqb}
 use Rattle.word.specs.declared.Parts.{Parts}
 use Rattle.notation.proofs.Booleans.{true-false, and-left, and-right}
-use Rattle.schema.specs.Shape.{fileShape}
-use Rattle.schema.specs.Table23.{table23}
-use Rattle.schema.specs.Pick.{Picked, pick}
+use Rattle.schema.specs.Shape.{Table, fileShape}
+use Rattle.schema.specs.Pick.{Picked}
 use Rattle.document.specs.Document.{Maybe, none, some}
 use Rattle.decimal.specs.Exact.{tenThousandths}
 use Rattle.fare.specs.declared.Segment.{Segment}
@@ -24,7 +23,7 @@ use Rattle.fare.proofs.Past as ends
 use Rattle.fare.proofs.Amounts.{amount-natural}
 use Rattle.fault.specs.declared.outcome.Outcome.{Outcome}
 use Rattle.fault.specs.declared.outcome.Outcome.the-variants.{Unbroken, Broken}
-use Rattle.clean.specs.Clean.{treeOf, cleanOf}
+use Rattle.clean.specs.Clean.{recordsIn, cleanOf}
 use Rattle.quote.specs.Plan.{priceAt, perMinute, perKilometre, tripAmount, pastMinutes, pastKilometres}
 use Rattle.quote.specs.Quote.{Answer, planQuote, cleanQuote, short, quoteOf, mostSeconds, mostMetres, refused, unclean}
 use Rattle.quote.proofs.Asked.{asked, Passed, passed}
@@ -97,77 +96,79 @@ marked-ends l ride e =
 ended-at : {l : List Segment} {a : ℕ} (b : ℕ) → greatestEnd l ≤ b → past.Ended l a → past.Ended l b
 ended-at b h e = record { first = e .first; others = e .others; are = e .are; ended = e .ended; late = h }
 
-module _ (s id : List ℕ) where
-  -- the picked file
-  abbrev file : Picked
-  file = pick (fileShape table23 5) (treeOf s)
+module _ (t : Table) (s id : List ℕ) where
+  -- the plans of the file
+  abbrev plans : List Picked
+  plans = recordsIn (fileShape t 5) s
 
-  quote-clean : (seconds metres : ℕ) → short seconds metres ≡ true → cleanOf 5 s ≡ Unbroken → quoteOf s id seconds metres ≡ cleanQuote file id seconds metres
+  quote-clean : (seconds metres : ℕ) → short seconds metres ≡ true → cleanOf t 5 s ≡ Unbroken → quoteOf t s id seconds metres ≡ cleanQuote plans id seconds metres
   unfolding quoteOf
   quote-clean seconds metres h c = rw (h, c)
 
-  pub price : (seconds metres : ℕ) (plan : Picked) → seconds ≤ mostSeconds → metres ≤ mostMetres → cleanOf 5 s ≡ Unbroken
-      → planIn s id ≡ some plan → quoteOf s id seconds metres ≡ fare plan seconds metres
+  pub price : (seconds metres : ℕ) (plan : Picked) → seconds ≤ mostSeconds → metres ≤ mostMetres → cleanOf t 5 s ≡ Unbroken
+      → planIn t s id ≡ some plan → quoteOf t s id seconds metres ≡ fare plan seconds metres
   unfolding short cleanQuote tripAmount sum amount pastMinutes pastKilometres
   price seconds metres plan a b c found =
       let brief : short seconds metres ≡ true = rw (le-leb seconds mostSeconds a, le-leb metres mostMetres b, short) in
       quote-clean seconds metres brief c ∙ ap (planQuote seconds metres) found
 
-  pub no-credit : (seconds metres : ℕ) → leZ (pos 0) (quoteOf s id seconds metres .amount) ≡ true
+  pub no-credit : (seconds metres : ℕ) → leZ (pos 0) (quoteOf t s id seconds metres .amount) ≡ true
   unfolding quoteOf cleanQuote
-  no-credit seconds metres = asked-natural (short seconds metres) (cleanOf 5 s) (planIn s id) seconds metres
+  no-credit seconds metres = asked-natural (short seconds metres) (cleanOf t 5 s) (planIn t s id) seconds metres
 
-  pub marked-minutes-ends : (seconds metres : ℕ) (plan : Picked) → planIn s id ≡ some plan → quoteOf s id seconds metres .pastMinutes ≡ true → PastEnds (perMinute plan) (seconds / 60)
+  pub marked-minutes-ends : (seconds metres : ℕ) (plan : Picked) → planIn t s id ≡ some plan → quoteOf t s id seconds metres .pastMinutes ≡ true
+      → PastEnds (perMinute plan) (seconds / 60)
   unfolding quoteOf cleanQuote pastMinutes
   marked-minutes-ends seconds metres plan found e =
       marked-ends (perMinute plan) (seconds / 60)
-      (asked-mark (λ (x : Answer). x .pastMinutes) refl (λ p. refl) refl (short seconds metres) (cleanOf 5 s) (planIn s id) seconds metres plan found e)
+      (asked-mark (λ (x : Answer). x .pastMinutes) refl (λ p. refl) refl (short seconds metres) (cleanOf t 5 s) (planIn t s id) seconds metres plan found e)
 
-  pub marked-kilometres-ends : (seconds metres : ℕ) (plan : Picked) → planIn s id ≡ some plan → quoteOf s id seconds metres .pastKilometres ≡ true → PastEnds (perKilometre plan) (metres / 1000)
+  pub marked-kilometres-ends : (seconds metres : ℕ) (plan : Picked) → planIn t s id ≡ some plan → quoteOf t s id seconds metres .pastKilometres ≡ true
+      → PastEnds (perKilometre plan) (metres / 1000)
   unfolding quoteOf cleanQuote pastKilometres
   marked-kilometres-ends seconds metres plan found e =
       marked-ends (perKilometre plan) (metres / 1000)
-      (asked-mark (λ (x : Answer). x .pastKilometres) refl (λ p. refl) refl (short seconds metres) (cleanOf 5 s) (planIn s id) seconds metres plan found e)
+      (asked-mark (λ (x : Answer). x .pastKilometres) refl (λ p. refl) refl (short seconds metres) (cleanOf t 5 s) (planIn t s id) seconds metres plan found e)
 
-  module _ (seconds metres : ℕ) (e : quoteOf s id seconds metres .number ≡ 0) where
-    through : Passed (short seconds metres) (cleanOf 5 s) (planIn s id)
+  module _ (seconds metres : ℕ) (e : quoteOf t s id seconds metres .number ≡ 0) where
+    through : Passed (short seconds metres) (cleanOf t 5 s) (planIn t s id)
     unfolding quoteOf cleanQuote
     through =
-        passed (λ (x : Answer). eqb (x .number) 0) refl (λ p. refl) refl (short seconds metres) (cleanOf 5 s) (planIn s id) seconds metres
-        (eq-eqb (quoteOf s id seconds metres .number) 0 e)
+        passed (λ (x : Answer). eqb (x .number) 0) refl (λ p. refl) refl (short seconds metres) (cleanOf t 5 s) (planIn t s id) seconds metres
+        (eq-eqb (quoteOf t s id seconds metres .number) 0 e)
 
-    by-plan : quoteOf s id seconds metres ≡ cleanQuote file id seconds metres
+    by-plan : quoteOf t s id seconds metres ≡ cleanQuote plans id seconds metres
     by-plan = quote-clean seconds metres (through .brief) (through .clean)
 
-    pub price-given : (seconds ≤ mostSeconds) × (metres ≤ mostMetres) × (cleanOf 5 s ≡ Unbroken)
-        × (plan : Picked) × (planIn s id ≡ some plan) × (quoteOf s id seconds metres ≡ fare plan seconds metres)
+    pub price-given : (seconds ≤ mostSeconds) × (metres ≤ mostMetres) × (cleanOf t 5 s ≡ Unbroken)
+        × (plan : Picked) × (planIn t s id ≡ some plan) × (quoteOf t s id seconds metres ≡ fare plan seconds metres)
     unfolding short cleanQuote tripAmount sum amount pastMinutes pastKilometres
     price-given =
         let a = leb-true seconds mostSeconds (and-left (leb seconds mostSeconds) _ (through .brief)) in
         let b = leb-true metres mostMetres (and-right (leb seconds mostSeconds) _ (through .brief)) in
         (a, b, through .clean, through .plan, through .found, by-plan ∙ ap (planQuote seconds metres) (through .found))
 
-    module _ (plan : Picked) (found : planIn s id ≡ some plan) where
+    module _ (plan : Picked) (found : planIn t s id ≡ some plan) where
       pub past-minutes : PastEnds (perMinute plan) (seconds / 60)
-          → (quoteOf s id seconds metres ≡ quoteOf s id (greatestEnd (perMinute plan) * 60) metres) × (quoteOf s id seconds metres .pastMinutes ≡ true)
+          → (quoteOf t s id seconds metres ≡ quoteOf t s id (greatestEnd (perMinute plan) * 60) metres) × (quoteOf t s id seconds metres .pastMinutes ≡ true)
       unfolding short
       past-minutes over =
           let last = greatestEnd (perMinute plan) * 60 in
           let p = past-ends (perMinute plan) (seconds / 60) over in let late = p .late in
           let a = leb-true seconds mostSeconds (and-left (leb seconds mostSeconds) _ (through .brief)) in
           let brief : short last metres ≡ true = rw (le-leb last mostSeconds (omega arith), short) (and-right (leb seconds mostSeconds) _ (through .brief)) in
-          let one = by-plan ∙ ended-minutes file id found seconds metres p in
-          let two = quote-clean last metres brief (through .clean) ∙ ended-minutes file id found last metres (ended-at (last / 60) (omega arith) p) in
+          let one = by-plan ∙ ended-minutes plans id found seconds metres p in
+          let two = quote-clean last metres brief (through .clean) ∙ ended-minutes plans id found last metres (ended-at (last / 60) (omega arith) p) in
           (one ∙ sym two, ap (λ (x : Answer). x .pastMinutes) one)
 
       pub past-kilometres : PastEnds (perKilometre plan) (metres / 1000)
-          → (quoteOf s id seconds metres ≡ quoteOf s id seconds (greatestEnd (perKilometre plan) * 1000)) × (quoteOf s id seconds metres .pastKilometres ≡ true)
+          → (quoteOf t s id seconds metres ≡ quoteOf t s id seconds (greatestEnd (perKilometre plan) * 1000)) × (quoteOf t s id seconds metres .pastKilometres ≡ true)
       unfolding short
       past-kilometres over =
           let last = greatestEnd (perKilometre plan) * 1000 in
           let p = past-ends (perKilometre plan) (metres / 1000) over in let late = p .late in
           let a = leb-true metres mostMetres (and-right (leb seconds mostSeconds) _ (through .brief)) in
           let brief : short seconds last ≡ true = rw (and-left (leb seconds mostSeconds) _ (through .brief), short) (le-leb last mostMetres (omega arith)) in
-          let one = by-plan ∙ ended-kilometres file id found seconds metres p in
-          let two = quote-clean seconds last brief (through .clean) ∙ ended-kilometres file id found seconds last (ended-at (last / 1000) (omega arith) p) in
+          let one = by-plan ∙ ended-kilometres plans id found seconds metres p in
+          let two = quote-clean seconds last brief (through .clean) ∙ ended-kilometres plans id found seconds last (ended-at (last / 1000) (omega arith) p) in
           (one ∙ sym two, ap (λ (x : Answer). x .pastKilometres) one)

@@ -14,6 +14,8 @@ use Rattle.word.proofs.Laws.{written-full, word-read}
 use Rattle.json.specs.declared.Syntax.{Syntax}
 use Rattle.json.specs.declared.Syntax.the-variants as syntax
 use Rattle.json.specs.Text.{syntaxOf}
+use Rattle.schema.specs.Shape.{Table}
+use Rattle.schema.specs.Tables.{tableAt}
 use Rattle.fault.specs.declared.Fault.{Fault}
 use Rattle.fault.specs.declared.Least.{Least}
 use Rattle.fault.specs.declared.Least.the-variants.{None, Is}
@@ -89,35 +91,38 @@ sayable-faults : (faults : ℕ → List Fault) → ((file : ℕ) → 1 ≤ file 
     → Sayable (firstOf (λ file. outcomeOf file (least (faults file))))
 sayable-faults faults w = first-all Sayable said-clean _ (λ file h i. sayable-least file h i (least (faults file)) (w file h i))
 
-module _ (s : Feeds) where
-  sayable-A : Sayable (firstIn stage.A s)
+module _ (table : ℕ) (s : Feeds) where
+  abbrev t : Table
+  t = tableAt table
+
+  sayable-A : Sayable (firstIn t stage.A s)
   unfolding firstIn
   sayable-A = first-all Sayable said-clean _ (λ file h i. sayable-read file h i (bytesOf s file))
 
-  sayable-B : Sayable (firstIn stage.B s)
+  sayable-B : Sayable (firstIn t stage.B s)
   unfolding firstIn
-  sayable-B = sayable-faults (λ file. faultsB file (bytesOf s file)) (λ file h i. faults-fit file (bytesOf s file))
+  sayable-B = sayable-faults (λ file. faultsB t file (bytesOf s file)) (λ file h i. faults-fit table file (bytesOf s file))
 
-  sayable-C : firstIn stage.A s ≡ Unbroken → firstIn stage.B s ≡ Unbroken → Sayable (firstC (picked s))
+  sayable-C : firstIn t stage.A s ≡ Unbroken → firstIn t stage.B s ≡ Unbroken → Sayable (firstC t (picked t s))
   unfolding firstC
-  sayable-C a b = sayable-faults (crossFaults (picked s)) (cross-fits s (all-through s a b))
+  sayable-C a b = sayable-faults (crossFaults t (picked t s)) (cross-fits table s (all-through table s a b))
 
-  verdict-said : Said (said (verdictOf s))
+  verdict-said : Said (said (verdictOf t s))
   unfolding staged
   verdict-said =
-      rw (verdict-staged s)
-      (sayable-next (firstIn stage.A s) _ sayable-A (λ a. sayable-next (firstIn stage.B s) _ sayable-B (λ b. sayable-C a b)))
+      rw (verdict-staged t s)
+      (sayable-next (firstIn t stage.A s) _ sayable-A (λ a. sayable-next (firstIn t stage.B s) _ sayable-B (λ b. sayable-C a b)))
 
   -- what the code that packs the word needs
-  pub verdict-fits : Fits writtenForm (said (verdictOf s))
+  pub verdict-fits : Fits writtenForm (said (verdictOf t s))
   verdict-fits = verdict-said .fits
 
-  pub verdict-kept : keeps writtenForm (said (verdictOf s)) ≡ true
+  pub verdict-kept : keeps writtenForm (said (verdictOf t s)) ≡ true
   verdict-kept = verdict-said .kept
 
   -- the word in the buffer reads as the verdict
-  pub verdict-read : (b : List ℕ) → wordSize ≤ length b → readWord (take wordSize (bufferOf s b)) ≡ record { number = 0; parts = said (verdictOf s) }
+  pub verdict-read : (b : List ℕ) → wordSize ≤ length b → readWord (take wordSize (bufferOf t s b)) ≡ record { number = 0; parts = said (verdictOf t s) }
   unfolding readWord
   verdict-read b room =
-      word-read writtenForm written-full (said (verdictOf s)) (take wordSize (bufferOf s b))
-      (record { fits = verdict-fits; kept = verdict-kept; packs = sym (word-room s b room) })
+      word-read writtenForm written-full (said (verdictOf t s)) (take wordSize (bufferOf t s b))
+      (record { fits = verdict-fits; kept = verdict-kept; packs = sym (word-room t s b room) })

@@ -5,7 +5,7 @@ use mathlib.Core.List.{List, [], _∷_, _++_, map, List·Memᴰ, List·Memᴰ·n
 use mathlib.Core.List.{Memᴰ·append-left, Memᴰ·append-right, Memᴰ·map}
 use mathlib.Core.Logic.{⊎-elim}
 use mathlib.Core.Path.{_≡_, refl, sym, ap, subst}
-use Prim.Native.Nat.{ℕ, zero, suc, _+_, _≤_, _<_}
+use Prim.Native.Nat.{ℕ, zero, suc, _+_, _≤_}
 use native.Mathlib.Omega.{arith}
 use lib.Dec.{eqb, leb}
 use Rattle.notation.specs.Choice.{_⇒_else_}
@@ -14,9 +14,8 @@ use Rattle.word.specs.declared.Parts.{Parts}
 use Rattle.json.specs.Tree as tree
 use Rattle.json.specs.Tree.{Json, Items, Members}
 use Rattle.schema.specs.Shape as shape
-use Rattle.schema.specs.Shape.{Shape, Rows, Numbering, Need, fileShape}
-use Rattle.schema.specs.Table23.{table23}
-use Rattle.schema.specs.Pick.{Picked, Slot, Slots, once, twice, missing, inArray, inObject, unlessBlank, find, put, pick, pickRows, pickItems, listOf}
+use Rattle.schema.specs.Shape.{Shape, Rows, Numbering, Need, Table, fileShape}
+use Rattle.schema.specs.Pick.{Picked, Slot, once, twice, missing, inArray, inObject, unlessBlank, find, put, pick, pickRows, pickItems, listOf}
 use Rattle.rings.specs.Rings.{count, coordinatesFound}
 use Rattle.fault.specs.declared.Fault.{Fault}
 use Rattle.fault.specs.declared.Place.{Place}
@@ -28,7 +27,7 @@ use Rattle.clean.specs.Clean.{treeOf, repeatsIn}
 use Rattle.ids.specs.References.{kindIf}
 use Rattle.cross.specs.Cross.{Files, eachRecord, faultsOf, missingFile, crossFaults}
 use Rattle.cross.specs.Stage.{Feeds, bytesOf, picked}
-use Rattle.verdict.specs.Verdict.{rulesA, eachFrom, stageA, stageBBy, stageC, orElse, brokenRulesBy, brokenRules}
+use Rattle.verdict.specs.Verdict.{eachFrom, stageA, stageBBy, stageC, orElse, brokenRulesBy, brokenRules}
 use Rattle.verdict.specs.SixFiles.{without, rowsWithout, faultsBOfSix, faultsOfSix, crossFaultsOfSix, stageAOfSix, stageBOfSix, stageCOfSix, brokenRulesOfSix, SixFiles}
 use Rattle.verdict.specs.inner.Stages.{faultsB}
 
@@ -137,17 +136,17 @@ mutual
   fewer-rows f (shape.row g need name σ rows) p ms =
       row-among f σ (λ q ψ y. fewer f σ q ψ y) rows (λ q ns. fewer-rows f rows q ns) g need name p ms (eqb g f)
 
-fewer-B : (file : ℕ) (s : List ℕ) → Among (faultsBOfSix file s) (faultsB file s)
+fewer-B : (t : Table) (file : ℕ) (s : List ℕ) → Among (faultsBOfSix t file s) (faultsB t file s)
 unfolding fileFaultsBy
-fewer-B file [] = all-among _
-fewer-B file (b ∷ s) = fewer 25 (fileShape table23 file) top 0 (treeOf (b ∷ s))
+fewer-B t file [] = all-among _
+fewer-B t file (b ∷ s) = fewer 25 (fileShape t file) top 0 (treeOf (b ∷ s))
 
 -- Stage C: a station's region less.
 module _ (s : Files) (file : ℕ) where
   record-among : (n : ℕ) (x : Picked) → Among (faultsOfSix s file n x) (faultsOf s file n x)
   record-among n x = go (eqb file 2)
     where
-      go : (t : Bool) → Among (t ⇒ [] else faultsOf s file n x) (faultsOf s file n x)
+      go : (b : Bool) → Among (b ⇒ [] else faultsOf s file n x) (faultsOf s file n x)
       go true = none-among _
       go false = all-among _
 
@@ -156,40 +155,40 @@ module _ (s : Files) (file : ℕ) where
   each-among n [] = all-among []
   each-among n (x ∷ l) = both-among (record-among n x) (each-among (n + 1) l)
 
-  fewer-C : Among (crossFaultsOfSix s file) (crossFaults s file)
+  fewer-C : (t : Table) → Among (crossFaultsOfSix t s file) (crossFaults t s file)
   unfolding crossFaults
-  fewer-C =
-      both-among (all-among (faulty top 0 (kindIf (missingFile s file) condition) ++ repeatsIn file (s file .records))) (each-among 1 (s file .records))
+  fewer-C t =
+      both-among (all-among (faulty top 0 (kindIf (missingFile s file) condition) ++ repeatsIn (fileShape t file) (s file .records))) (each-among 1 (s file .records))
 
--- Of six files and of eight.
+-- Of six files and of eight, by any table.
 from-among : {g h : ℕ → List Parts} → ((k : ℕ) → Among (g k) (h k)) → (file left more : ℕ) → left ≤ more → Among (eachFrom g file left) (eachFrom h file more)
 unfolding eachFrom
 from-among w file zero more i = none-among _
 from-among w file (suc left) zero i = absurd (omega arith)
 from-among w file (suc left) (suc more) i = both-among (w file) (from-among w (file + 1) left more (omega arith))
 
-module _ (s : Feeds) where
+module _ (t : Table) (s : Feeds) where
   among-A : Among (stageAOfSix s) (stageA s)
   unfolding stageA
   among-A = from-among (λ file. all-among _) 1 6 fileCount (omega arith)
 
-  among-B : Among (stageBOfSix s) (stageBBy coordinatesFound s)
+  among-B : Among (stageBOfSix t s) (stageBBy coordinatesFound t s)
   unfolding stageBBy
-  among-B = from-among (λ file. map-among (faultParts file) _ (fewer-B file (bytesOf s file))) 1 6 fileCount (omega arith)
+  among-B = from-among (λ file. map-among (faultParts file) _ (fewer-B t file (bytesOf s file))) 1 6 fileCount (omega arith)
 
-  among-C : Among (stageCOfSix s) (stageC s)
+  among-C : Among (stageCOfSix t s) (stageC t s)
   unfolding stageC
-  among-C = from-among (λ file. map-among (faultParts file) _ (fewer-C (picked s) file)) 1 6 fileCount (omega arith)
+  among-C = from-among (λ file. map-among (faultParts file) _ (fewer-C (picked t s) file t)) 1 6 fileCount (omega arith)
 
   neither : (l m : List Parts) → orElse l m ≡ [] → (l ≡ []) × (m ≡ [])
   neither [] m e = (refl, e)
   neither (p ∷ l) m e = let z : _≡_ {A = ℕ} 0 1 = cc in absurd (omega arith)
 
-  accepted : brokenRules s ≡ [] → brokenRulesOfSix s ≡ []
+  accepted : brokenRules t s ≡ [] → brokenRulesOfSix t s ≡ []
   unfolding brokenRulesBy
   accepted e =
-      let a = neither (stageA s) (orElse (stageBBy coordinatesFound s) (stageC s)) e in let b = neither (stageBBy coordinatesFound s) (stageC s) (a .1) in
-      rw (among-none (stageAOfSix s) among-A (a .0), among-none (stageBOfSix s) among-B (b .0)) (among-none (stageCOfSix s) among-C (b .1))
+      let a = neither (stageA s) (orElse (stageBBy coordinatesFound t s) (stageC t s)) e in let b = neither (stageBBy coordinatesFound t s) (stageC t s) (a .1) in
+      rw (among-none (stageAOfSix s) among-A (a .0), among-none (stageBOfSix t s) among-B (b .0)) (among-none (stageCOfSix t s) among-C (b .1))
 
-pub six-files : SixFiles
-six-files = record { stageA = among-A; stageB = among-B; stageC = among-C; accepted = accepted }
+pub six-files : (t : Table) → SixFiles t
+six-files t = record { stageA = among-A t; stageB = among-B t; stageC = among-C t; accepted = accepted t }

@@ -1,5 +1,5 @@
 -- Demand 3, another version: where stage A passes a file, its tree is the one that it spells, and one whose top object holds a version string other than 2.3
--- breaks a rule at field 1. So stage B names it or something ahead of it, unless stage A has named another.
+-- breaks a rule at field 1, by a table that asks for it. So stage B names it or something ahead of it, unless stage A has named another.
 use mathlib.Core.Bool.{false}
 use mathlib.Core.List.{List, [], _∷_, map, List·Memᴰ, List·Memᴰ·head, List·Memᴰ·not-nil}
 use mathlib.Core.Path.{_≡_, refl, sym, ap, subst, _∙_}
@@ -21,8 +21,9 @@ use Rattle.json.specs.Cases.{reading}
 use Rattle.json.specs.Grammar.{IsText}
 use Rattle.json.proofs.Passed.{grammar-reads}
 use Rattle.json.proofs.Spellings.{sound-spells}
-use Rattle.schema.specs.Shape.{fileShape}
-use Rattle.schema.specs.Table23.{table23}
+use Rattle.schema.specs.Shape.{Shape, Table, fileShape}
+use Rattle.schema.specs.Tables.{tableAt, sheetOf}
+use Rattle.schema.proofs.SheetShapes.{sheet-shape}
 use Rattle.fault.specs.declared.Fault.{Fault}
 use Rattle.fault.specs.declared.Least.{Least}
 use Rattle.fault.specs.declared.Least.the-variants.{None, Is}
@@ -42,7 +43,7 @@ use Rattle.cross.proofs.FromFile.{first-all}
 use Rattle.verdict.specs.Verdict.{syntaxRules, rulesA, stageA, stageBBy, stageC, orElse, brokenRulesBy, brokenRules, before, first, verdictOf}
 use Rattle.verdict.specs.declared.stages.Stage.the-variants as stage
 use Rattle.verdict.specs.inner.Stages.{faultsB, stageB, firstIn}
-use Rattle.verdict.specs.Demand3.{OtherVersion, OfStageA, Ahead, malformed, earlier, header, Refused}
+use Rattle.verdict.specs.Demand3.{AsksVersion, OtherVersion, OfStageA, Ahead, malformed, earlier, header, Refused}
 use Rattle.verdict.proofs.Passed.{syntax-kind, tree-spelled, faults-there}
 use Rattle.verdict.proofs.Every.{all-at, every-all, every-member}
 use Rattle.verdict.proofs.Order.{faultOf, same-file, not-before-file}
@@ -63,11 +64,12 @@ text-some [] t e = let g = grammar-reads t in no-text (g .0) (g .1) (g .2)
 text-some (b ∷ s) t e = omega arith
 
 -- a file of another version that stage A passes
-file-opens : (file : ℕ) → 1 ≤ file → file ≤ fileCount → (s : List ℕ) → OtherVersion s → syntaxOf s ≡ syntax.Sound → Opening (faultsB file s)
-file-opens file h i s o e =
+file-opens : (t : Table) → AsksVersion t → (file : ℕ) → 1 ≤ file → file ≤ fileCount → (s : List ℕ) → OtherVersion s → syntaxOf s ≡ syntax.Sound
+    → Opening (faultsB t file s)
+file-opens t asks file h i s o e =
     let p = sound-spells s e in
-    subst Opening (ap (fileFaults (fileShape table23 file)) (sym (tree-spelled s (p .1))) ∙ sym (faults-there file s e))
-    (opening file h i (p .0) (o .version (p .1)))
+    subst Opening (ap (fileFaults (fileShape t file)) (sym (tree-spelled s (p .1))) ∙ sym (faults-there t file s e))
+    (opening t asks file h i (p .0) (o .version (p .1)))
 
 -- what no fault at field 1 of the header comes before stands in the header, and at no later field
 module _ (k : ℕ) (f : Fault) (e : order.before (fault 0 1 0 k) f ≡ false) where
@@ -108,76 +110,82 @@ outcome-kind : (file : ℕ) (x : Least) → ((f : Fault) → x ≡ Is f → OfSt
 outcome-kind file None h = tt
 outcome-kind file (Is f) h = h f refl
 
-fault-kind : (file : ℕ) (s : List ℕ) (f : Fault) → least (faultsB file s) ≡ Is f → OfStageB (f .kind)
+fault-kind : (table file : ℕ) (s : List ℕ) (f : Fault) → least (faultsB (tableAt table) file s) ≡ Is f → OfStageB (f .kind)
 unfolding least
-fault-kind file [] f e = let z : _≡_ {A = ℕ} 0 1 = cc in absurd (omega arith)
-fault-kind file (b ∷ s) f e = first-fits file (treeOf (b ∷ s)) f e .kind
+fault-kind table file [] f e = let z : _≡_ {A = ℕ} 0 1 = cc in absurd (omega arith)
+fault-kind table file (b ∷ s) f e =
+    let same = ap (λ (σ : Shape). least (fileFaults σ (treeOf (b ∷ s)))) (sheet-shape table file) in
+    first-fits (sheetOf table file) (treeOf (b ∷ s)) f (same ∙ e) .kind
 
-stageB-kind : (s : Feeds) → OfB (firstIn stage.B s)
+stageB-kind : (table : ℕ) (s : Feeds) → OfB (firstIn (tableAt table) stage.B s)
 unfolding firstIn
-stageB-kind s = first-all OfB tt _ (λ file h i. outcome-kind file (least (faultsB file (bytesOf s file))) (fault-kind file (bytesOf s file)))
+stageB-kind table s =
+    first-all OfB tt _ (λ file h i. outcome-kind file (least (faultsB (tableAt table) file (bytesOf s file))) (fault-kind table file (bytesOf s file)))
 
 -- which rules count
-only-stageA : (s : Feeds) (p : Parts) (l : List Parts) → stageA s ≡ p ∷ l → brokenRules s ≡ stageA s
+only-stageA : (t : Table) (s : Feeds) (p : Parts) (l : List Parts) → stageA s ≡ p ∷ l → brokenRules t s ≡ stageA s
 unfolding brokenRulesBy
-only-stageA s p l e = ap (λ (m : List Parts). orElse m (orElse (stageB s) (stageC s))) e ∙ sym e
+only-stageA t s p l e = ap (λ (m : List Parts). orElse m (orElse (stageB t s) (stageC t s))) e ∙ sym e
 
 orElse-some : (l m : List Parts) (p : Parts) → List·Memᴰ p l → orElse l m ≡ l
 orElse-some [] m p h = absurd (List·Memᴰ·not-nil h)
 orElse-some (q ∷ l) m p h = refl
 
-module _ (s : Feeds) (file : ℕ) (h : 1 ≤ file) (i : file ≤ fileCount) (o : OtherVersion (bytesOf s file)) where
+module _ (table : ℕ) (asks : AsksVersion (tableAt table)) (s : Feeds) (file : ℕ) (h : 1 ≤ file) (i : file ≤ fileCount) (o : OtherVersion (bytesOf s file)) where
+  abbrev t : Table
+  t = tableAt table
+
   -- where stage A finds nothing
   module _ (a : stageA s ≡ []) where
     sound : syntaxOf (bytesOf s file) ≡ syntax.Sound
     unfolding first
-    sound = all-read s (sym (first-stageA s) ∙ ap first a) file h i (text-some (bytesOf s file) (o .json))
+    sound = all-read t s (sym (first-stageA t s) ∙ ap first a) file h i (text-some (bytesOf s file) (o .json))
 
-    opens : Opening (faultsB file (bytesOf s file))
-    opens = file-opens file h i (bytesOf s file) o sound
+    opens : Opening (faultsB t file (bytesOf s file))
+    opens = file-opens t asks file h i (bytesOf s file) o sound
 
     abbrev broken : Parts
     broken = faultParts file (fault 0 1 0 (opens .kind))
 
-    in-stageB : List·Memᴰ broken (stageB s)
+    in-stageB : List·Memᴰ broken (stageB t s)
     unfolding stageBBy
     in-stageB =
-        every-member (λ n. map (faultParts n) (faultsB n (bytesOf s n))) broken file h i
+        every-member (λ n. map (faultParts n) (faultsB t n (bytesOf s n))) broken file h i
         (subst (λ (l : List Fault). List·Memᴰ broken (map (faultParts file) l)) (sym (opens .is)) (List·Memᴰ·head refl))
 
-    only-stageB : brokenRules s ≡ stageB s
+    only-stageB : brokenRules t s ≡ stageB t s
     unfolding brokenRulesBy
-    only-stageB = ap (λ (l : List Parts). orElse l (orElse (stageB s) (stageC s))) a ∙ orElse-some (stageB s) (stageC s) broken in-stageB
+    only-stageB = ap (λ (l : List Parts). orElse l (orElse (stageB t s) (stageC t s))) a ∙ orElse-some (stageB t s) (stageC t s) broken in-stageB
 
     -- what no fault at field 1 comes before
     ahead : (p : Parts) → OfStageB (p .kind) → before broken p ≡ false → Ahead file p
     ahead p b e =
-        by-test (ltb (p .file) file) (λ t. earlier b (ltb-true (p .file) file t)) λ t.
-        let k : p .file ≤ file = not-before-file broken p e in let l : file ≤ p .file = ltb-false (p .file) file t in
+        by-test (ltb (p .file) file) (λ u. earlier b (ltb-true (p .file) file u)) λ u.
+        let k : p .file ≤ file = not-before-file broken p e in let l : file ≤ p .file = ltb-false (p .file) file u in
         let same : file ≡ p .file = omega arith in
-        let u = sym (same-file broken p same) ∙ e in
-        header b (sym same) (in-header (opens .kind) (faultOf p) u) (first-fields (opens .kind) (faultOf p) u)
+        let v = sym (same-file broken p same) ∙ e in
+        header b (sym same) (in-header (opens .kind) (faultOf p) v) (first-fields (opens .kind) (faultOf p) v)
 
-    refused-B : Refused s file
+    refused-B : Refused t s file
     unfolding verdictOf
     refused-B =
         let m = subst (List·Memᴰ broken) (sym only-stageB) in-stageB in
-        let n = first-named (brokenRules s) broken m in
-        let b : firstIn stage.B s ≡ Broken (n .parts) = sym (first-stageB s) ∙ ap first (sym only-stageB) ∙ n .is in
+        let n = first-named (brokenRules t s) broken m in
+        let b : firstIn t stage.B s ≡ Broken (n .parts) = sym (first-stageB t s) ∙ ap first (sym only-stageB) ∙ n .is in
         record {
           parts = n .parts;
-          ahead = ahead (n .parts) (subst OfB b (stageB-kind s)) (first-broken (brokenRules s) (n .parts) (n .is) .first broken m);
-          told = says s (Broken (n .parts)) (n .is);
+          ahead = ahead (n .parts) (subst OfB b (stageB-kind table s)) (first-broken (brokenRules t s) (n .parts) (n .is) .first broken m);
+          told = says table s (Broken (n .parts)) (n .is);
         }
 
-  pub refused : Refused s file
+  pub refused : Refused t s file
   unfolding verdictOf
   refused = go (stageA s) refl
     where
-      go : (l : List Parts) → stageA s ≡ l → Refused s file
+      go : (l : List Parts) → stageA s ≡ l → Refused t s file
       go [] e = refused-B e
       go (p ∷ l) e =
-          let r = only-stageA s p l e in
-          let n = first-named (brokenRules s) p (subst (List·Memᴰ p) (sym (r ∙ e)) (List·Memᴰ·head refl)) in
-          let m = subst (List·Memᴰ (n .parts)) r (first-broken (brokenRules s) (n .parts) (n .is) .among) in
-          record { parts = n .parts; ahead = malformed (all-at (stageA-kinds s) m); told = says s (Broken (n .parts)) (n .is) }
+          let r = only-stageA t s p l e in
+          let n = first-named (brokenRules t s) p (subst (List·Memᴰ p) (sym (r ∙ e)) (List·Memᴰ·head refl)) in
+          let m = subst (List·Memᴰ (n .parts)) r (first-broken (brokenRules t s) (n .parts) (n .is) .among) in
+          record { parts = n .parts; ahead = malformed (all-at (stageA-kinds s) m); told = says table s (Broken (n .parts)) (n .is) }

@@ -10,6 +10,7 @@ use native.Mathlib.Omega.{arith}
 use Rattle.notation.specs.Choice.{_⇒_else_, _and_}
 use Rattle.notation.proofs.Booleans.{by-test, true-false, and-left, and-right}
 use Rattle.word.specs.Word.{noParts}
+use Rattle.schema.specs.Shape.{Table}
 use Rattle.schema.specs.Pick.{Picked, elements}
 use Rattle.document.specs.Document.{Maybe, none, some, field, fieldItems, spelling, truth, given}
 use Rattle.geometry.specs.Ring.{Point}
@@ -277,62 +278,62 @@ module _ (q : Point) (type : List ℕ) (moment : ℕ) where
       )
       refl
 
-  module _ (s : List ℕ) where
+  module _ (t : Table) (s : List ℕ) where
     abbrev those : List Picked
-    those = rulesAt s q type moment
+    those = rulesAt t s q type moment
 
-    listed : Applying (rulesIn s) those
+    listed : Applying (rulesIn t s) those
     unfolding rulesAt
-    listed = applying (zonesOf s)
+    listed = applying (zonesOf t s)
 
-    in-order : rulingOf s q type moment ≡ asked (onMap q) (cleanOf 6 s) those
+    in-order : rulingOf t s q type moment ≡ asked (onMap q) (cleanOf t 6 s) those
     unfolding rulingOf
     in-order = refl
 
-    pub together-there : (r : ZoneRule) → List·Memᴰ r (rulesIn s) → Apply r → Together Apply (rulesIn s)
+    pub together-there : (r : ZoneRule) → List·Memᴰ r (rulesIn t s) → Apply r → Together Apply (rulesIn t s)
     together-there r m a = go those listed
       where
-        go : (k : List Picked) → Applying (rulesIn s) k → Together Apply (rulesIn s)
+        go : (k : List Picked) → Applying (rulesIn t s) k → Together Apply (rulesIn t s)
         go [] o = absurd (none-applies o r m a)
         go (x ∷ k) o = together o
 
-    answered : onMap q ≡ true → cleanOf 6 s ≡ Unbroken → rulingOf s q type moment ≡ ofRules those
+    answered : onMap q ≡ true → cleanOf t 6 s ≡ Unbroken → rulingOf t s q type moment ≡ ofRules those
     answered h c = in-order ∙ rw (h, c)
 
-    pub rule : onMap q ≡ true → cleanOf 6 s ≡ Unbroken → (g : Together Apply (rulesIn s))
-        → rulingOf s q type moment ≡ found (ruleOf (g .ride) (g .through) (g .speed) (g .parking))
+    pub rule : onMap q ≡ true → cleanOf t 6 s ≡ Unbroken → (g : Together Apply (rulesIn t s))
+        → rulingOf t s q type moment ≡ found (ruleOf (g .ride) (g .through) (g .speed) (g .parking))
     rule h c g = answered h c ∙ go those listed
       where
-        go : (k : List Picked) → Applying (rulesIn s) k → ofRules k ≡ found (ruleOf (g .ride) (g .through) (g .speed) (g .parking))
+        go : (k : List Picked) → Applying (rulesIn t s) k → ofRules k ≡ found (ruleOf (g .ride) (g .through) (g .speed) (g .parking))
         go [] o = absurd (none-applies o (g .one) (g .stands) (g .has))
         go (x ∷ k) o = ap found (together-only o g)
 
-    pub no-rule : onMap q ≡ true → cleanOf 6 s ≡ Unbroken → NoneWith Apply (rulesIn s) → rulingOf s q type moment ≡ refused 9 noParts
+    pub no-rule : onMap q ≡ true → cleanOf t 6 s ≡ Unbroken → NoneWith Apply (rulesIn t s) → rulingOf t s q type moment ≡ refused 9 noParts
     no-rule h c n = answered h c ∙ go those listed
       where
-        go : (k : List Picked) → Applying (rulesIn s) k → ofRules k ≡ refused 9 noParts
+        go : (k : List Picked) → Applying (rulesIn t s) k → ofRules k ≡ refused 9 noParts
         go [] o = refl
         go (x ∷ k) o = let r = one-applies o in absurd (n (r .0) (r .1) (r .2))
 
     -- the number by what was asked
-    numbered : {n : ℕ} → rulingOf s q type moment .number ≡ n → asked (onMap q) (cleanOf 6 s) those .number ≡ n
+    numbered : {n : ℕ} → rulingOf t s q type moment .number ≡ n → asked (onMap q) (cleanOf t 6 s) those .number ≡ n
     numbered e = ap (λ (a : Answer). a .number) (sym in-order) ∙ e
 
-    pub ruled : rulingOf s q type moment .number ≡ 0 → (onMap q ≡ true) × (cleanOf 6 s ≡ Unbroken) × Together Apply (rulesIn s)
-    ruled e = go (onMap q) (cleanOf 6 s) those listed (numbered e)
+    pub ruled : rulingOf t s q type moment .number ≡ 0 → (onMap q ≡ true) × (cleanOf t 6 s ≡ Unbroken) × Together Apply (rulesIn t s)
+    ruled e = go (onMap q) (cleanOf t 6 s) those listed (numbered e)
       where
-        go : (t : Bool) (c : Outcome) (k : List Picked) → Applying (rulesIn s) k → asked t c k .number ≡ 0
-            → (t ≡ true) × (c ≡ Unbroken) × Together Apply (rulesIn s)
+        go : (on : Bool) (c : Outcome) (k : List Picked) → Applying (rulesIn t s) k → asked on c k .number ≡ 0
+            → (on ≡ true) × (c ≡ Unbroken) × Together Apply (rulesIn t s)
         go false c k o i = absurd (omega arith)
         go true (Broken p) k o i = absurd (omega arith)
         go true Unbroken [] o i = absurd (omega arith)
         go true Unbroken (x ∷ k) o i = (refl, refl, together o)
 
-    pub unruled : rulingOf s q type moment .number ≡ 9 → (onMap q ≡ true) × (cleanOf 6 s ≡ Unbroken) × NoneWith Apply (rulesIn s)
-    unruled e = go (onMap q) (cleanOf 6 s) those listed (numbered e)
+    pub unruled : rulingOf t s q type moment .number ≡ 9 → (onMap q ≡ true) × (cleanOf t 6 s ≡ Unbroken) × NoneWith Apply (rulesIn t s)
+    unruled e = go (onMap q) (cleanOf t 6 s) those listed (numbered e)
       where
-        go : (t : Bool) (c : Outcome) (k : List Picked) → Applying (rulesIn s) k → asked t c k .number ≡ 9
-            → (t ≡ true) × (c ≡ Unbroken) × NoneWith Apply (rulesIn s)
+        go : (on : Bool) (c : Outcome) (k : List Picked) → Applying (rulesIn t s) k → asked on c k .number ≡ 9
+            → (on ≡ true) × (c ≡ Unbroken) × NoneWith Apply (rulesIn t s)
         go false c k o i = absurd (omega arith)
         go true (Broken p) k o i = absurd (omega arith)
         go true Unbroken [] o i = (refl, refl, none-applies o)

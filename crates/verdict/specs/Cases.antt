@@ -5,6 +5,7 @@ use Prim.Native.Nat.{ℕ}
 use Prim.Native.String.{String}
 use Rattle.notation.specs.Case.{Case, Answers, json}
 use Rattle.schema.specs.Records.{identified}
+use Rattle.schema.specs.Tables.{tableAt}
 use Rattle.schema.specs.Pick as pick
 use Rattle.document.specs.Document as document
 use Rattle.judge.specs.Cases.{judging, inData}
@@ -67,7 +68,7 @@ sets =
     ("neither a place nor a station", ([], [], listing "bikes" "{'bike_id':'a','is_reserved':false,'is_disabled':false}"), broken 4 14 41 1 0 0) ∷
     []
 
-sets-answered : Answers (λ c. verdictOf (withSystem (c .0) (c .1) (c .2))) sets
+sets-answered : Answers (λ c. verdictOf (tableAt 0) (withSystem (c .0) (c .1) (c .2))) sets
 unfolding judgingSets
 sets-answered = refl
 
@@ -95,6 +96,6 @@ regions =
     ("a region twice", withRegions (stationIn "r") twoAlike, broken 8 12 100 2 0 0) ∷
     []
 
-regions-answered : Answers verdictOf regions
+regions-answered : Answers (verdictOf (tableAt 0)) regions
 unfolding judgingSets
 regions-answered = refl

@@ -1,5 +1,5 @@
--- Demand 2: what the answers say. Each field of the record is one sentence of it, over the definitions of the verdict, the word, the quote and the zone
--- rule, with what it shuts out.
+-- Demand 2: what the answers say, by any field table t. Each field of the record is one sentence of it, over the definitions of the verdict, the word, the quote
+-- and the zone rule, with what it shuts out.
 use mathlib.Core.Bool.{Bool, true, false}
 use mathlib.Core.List.{List, [], _∷_, _++_, map, List·Memᴰ}
 use mathlib.Core.Path.{_≡_}
@@ -11,9 +11,8 @@ use Rattle.radix.specs.Fields.{Bytes}
 use Rattle.word.specs.declared.Parts.{Parts}
 use Rattle.word.specs.Form.{form1, writtenForm, wordSize}
 use Rattle.word.specs.Word.{noParts, wordOf, IsWord, readWord}
-use Rattle.schema.specs.Shape.{fileShape}
-use Rattle.schema.specs.Table23.{table23}
-use Rattle.schema.specs.Pick.{Picked, pick, elements}
+use Rattle.schema.specs.Shape.{Table, fileShape}
+use Rattle.schema.specs.Pick.{Picked, elements}
 use Rattle.document.specs.Document as document
 use Rattle.document.specs.Document.{Maybe, some, field, fieldItems, spelling, truth, given}
 use Rattle.decimal.specs.Exact.{tenThousandths}
@@ -22,8 +21,8 @@ use Rattle.fare.specs.Charges.{charge, charges, clamped, greatestEnd, past}
 use Rattle.geometry.specs.Ring.{Point}
 use Rattle.geometry.specs.Held.{onRing, odd, holds}
 use Rattle.fault.specs.declared.outcome.Outcome.the-variants.{Unbroken}
-use Rattle.clean.specs.Clean.{treeOf, cleanOf}
-use Rattle.quote.specs.Plan.{priceAt, perMinute, perKilometre, planOf, plans}
+use Rattle.clean.specs.Clean.{recordsIn, cleanOf}
+use Rattle.quote.specs.Plan.{priceAt, perMinute, perKilometre, planOf}
 use Rattle.quote.specs.Quote as quote
 use Rattle.quote.specs.Quote.{mostSeconds, mostMetres, quoteOf}
 use Rattle.zone.specs.Zone.{outline, counts, polygonsOf, applies, zonesOf}
@@ -38,10 +37,10 @@ pub record First (p : Parts) (l : List Parts) : Type 0 where
   pub first : (q : Parts) → List·Memᴰ q l → before q p ≡ false
 
 -- a call with room for a word gives this number, and leaves a word in the first eight bytes that reads back as these parts
-pub record Says (s : Feeds) (number : ℕ) (p : Parts) : Type 0 where
-  pub numbered : (b : List ℕ) → wordSize ≤ length b → verdictNumber s b ≡ number
-  pub written : (b : List ℕ) → wordSize ≤ length b → take wordSize (bufferOf s b) ≡ wordOf writtenForm p
-  pub readBack : (b : List ℕ) → wordSize ≤ length b → readWord (take wordSize (bufferOf s b)) ≡ record { number = 0; parts = p }
+pub record Says (t : Table) (s : Feeds) (number : ℕ) (p : Parts) : Type 0 where
+  pub numbered : (b : List ℕ) → wordSize ≤ length b → verdictNumber t s b ≡ number
+  pub written : (b : List ℕ) → wordSize ≤ length b → take wordSize (bufferOf t s b) ≡ wordOf writtenForm p
+  pub readBack : (b : List ℕ) → wordSize ≤ length b → readWord (take wordSize (bufferOf t s b)) ≡ record { number = 0; parts = p }
 
 -- The price: a segment charges a ride of this length at the moment t, which is its start or some intervals later, is no later than the ride's end, and comes
 -- before the segment's end where it has one.
@@ -65,8 +64,8 @@ pub record DueCharges (x : Segment) (ride : ℕ) : Type 0 where
   pub sum : charge x ride ≡ tenThousandths (x .rate) *ℤ pos (length moments)
 
 -- the plan of an id, of the bytes of file 5
-abbrev pub planIn : (s id : List ℕ) → Maybe Picked
-planIn s id = planOf (plans (pick (fileShape table23 5) (treeOf s))) id
+abbrev pub planIn : Table → (s id : List ℕ) → Maybe Picked
+planIn t s id = planOf (recordsIn (fileShape t 5) s) id
 
 -- a plan's price and the charges of its segments, by whole minutes and kilometres, and zero where that sum is negative; and whether the ride is past the
 -- ends
@@ -100,8 +99,8 @@ everyRule (z ∷ zs) =
       | some p ↦ map (λ r. record { zone = z; properties = p; rule = r }) (fieldItems 77 p) ++ everyRule zs
     ]
 
-abbrev pub rulesIn : List ℕ → List ZoneRule
-rulesIn s = everyRule (zonesOf s)
+abbrev pub rulesIn : Table → List ℕ → List ZoneRule
+rulesIn t s = everyRule (zonesOf t s)
 
 -- a polygon of these rings holds the point: it is on an edge of one of them; or the first of them holds it, and it is inside no further one
 pub data HeldBy (q : Point) : List Picked → Type 0 where
@@ -154,16 +153,16 @@ pub record Together (P : ZoneRule → Type 0) (l : List ZoneRule) : Type 0 where
   pub parkingBy : FirstValue (truth 82) P l parking
 
 -- the demand
-pub record Demand2 : Type 0 where
+pub record Demand2 (t : Table) : Type 0 where
   -- A set that breaks no rule is accepted, and its word says nothing else.
   -- Shut out: a verdict that refuses all sets; a call that writes nothing.
-  pub accepted : (s : Feeds) → brokenRules s ≡ [] → Says s 0 noParts
+  pub accepted : (s : Feeds) → brokenRules t s ≡ [] → Says t s 0 noParts
   -- Of the rules that a set breaks, there is one with none before it, and only one.
-  pub first : (s : Feeds) → (brokenRules s ≡ [] → ⊥) → (p : Parts) × First p (brokenRules s)
-  pub only : (s : Feeds) (p q : Parts) → First p (brokenRules s) → First q (brokenRules s) → p ≡ q
+  pub first : (s : Feeds) → (brokenRules t s ≡ [] → ⊥) → (p : Parts) × First p (brokenRules t s)
+  pub only : (s : Feeds) (p q : Parts) → First p (brokenRules t s) → First q (brokenRules t s) → p ≡ q
   -- The set is not accepted for that rule.
   -- Shut out: one word for everything; a record number or an offset made up; a later rule named.
-  pub notAccepted : (s : Feeds) (p : Parts) → First p (brokenRules s) → Says s 1 p
+  pub notAccepted : (s : Feeds) (p : Parts) → First p (brokenRules t s) → Says t s 1 p
   -- Reading answers 0 and parts exactly where the bytes are the word of these parts, and 3 with nothing else otherwise.
   -- Shut out: a reader that takes any eight bytes; one that refuses all.
   pub word : (s : List ℕ) (p : Parts) → IsWord form1 p s → readWord s ≡ record { number = 0; parts = p }
@@ -176,40 +175,40 @@ pub record Demand2 : Type 0 where
   -- no other quote gives a price.
   -- Shut out: one amount for everything; a ride rounded up to the next minute; a quote that always refuses, or refuses a large amount; a price out of a file
   -- that is not clean.
-  pub price : (s id : List ℕ) (seconds metres : ℕ) (plan : Picked) → seconds ≤ mostSeconds → metres ≤ mostMetres → cleanOf 5 s ≡ Unbroken
-      → planIn s id ≡ some plan → quoteOf s id seconds metres ≡ fare plan seconds metres
-  pub priced : (s id : List ℕ) (seconds metres : ℕ) → quoteOf s id seconds metres .number ≡ 0
-      → (seconds ≤ mostSeconds) × (metres ≤ mostMetres) × (cleanOf 5 s ≡ Unbroken)
-      × (plan : Picked) × (planIn s id ≡ some plan) × (quoteOf s id seconds metres ≡ fare plan seconds metres)
+  pub price : (s id : List ℕ) (seconds metres : ℕ) (plan : Picked) → seconds ≤ mostSeconds → metres ≤ mostMetres → cleanOf t 5 s ≡ Unbroken
+      → planIn t s id ≡ some plan → quoteOf t s id seconds metres ≡ fare plan seconds metres
+  pub priced : (s id : List ℕ) (seconds metres : ℕ) → quoteOf t s id seconds metres .number ≡ 0
+      → (seconds ≤ mostSeconds) × (metres ≤ mostMetres) × (cleanOf t 5 s ≡ Unbroken)
+      × (plan : Picked) × (planIn t s id ≡ some plan) × (quoteOf t s id seconds metres ≡ fare plan seconds metres)
   -- No amount is negative.
   -- Shut out: a credit where discounts outweigh the price.
-  pub noCredit : (s id : List ℕ) (seconds metres : ℕ) → leZ (pos 0) (quoteOf s id seconds metres .amount) ≡ true
+  pub noCredit : (s id : List ℕ) (seconds metres : ℕ) → leZ (pos 0) (quoteOf t s id seconds metres .amount) ≡ true
   -- At and past the greatest end of a plan's segments per minute, where all end, every ride costs what it costs at that end, and the mark says so;
   -- and likewise per kilometre.
   -- Shut out: a price that goes on rising past the ends, or has no mark there.
-  pub endedMinutes : (s id : List ℕ) (seconds metres : ℕ) (plan : Picked) → quoteOf s id seconds metres .number ≡ 0 → planIn s id ≡ some plan
+  pub endedMinutes : (s id : List ℕ) (seconds metres : ℕ) (plan : Picked) → quoteOf t s id seconds metres .number ≡ 0 → planIn t s id ≡ some plan
       → PastEnds (perMinute plan) (seconds / 60)
-      → (quoteOf s id seconds metres ≡ quoteOf s id (greatestEnd (perMinute plan) * 60) metres) × (quoteOf s id seconds metres .pastMinutes ≡ true)
-  pub endedKilometres : (s id : List ℕ) (seconds metres : ℕ) (plan : Picked) → quoteOf s id seconds metres .number ≡ 0 → planIn s id ≡ some plan
+      → (quoteOf t s id seconds metres ≡ quoteOf t s id (greatestEnd (perMinute plan) * 60) metres) × (quoteOf t s id seconds metres .pastMinutes ≡ true)
+  pub endedKilometres : (s id : List ℕ) (seconds metres : ℕ) (plan : Picked) → quoteOf t s id seconds metres .number ≡ 0 → planIn t s id ≡ some plan
       → PastEnds (perKilometre plan) (metres / 1000)
-      → (quoteOf s id seconds metres ≡ quoteOf s id seconds (greatestEnd (perKilometre plan) * 1000)) × (quoteOf s id seconds metres .pastKilometres ≡ true)
+      → (quoteOf t s id seconds metres ≡ quoteOf t s id seconds (greatestEnd (perKilometre plan) * 1000)) × (quoteOf t s id seconds metres .pastKilometres ≡ true)
   -- A mark is set for no other ride.
   -- Shut out: a mark from the first minute on.
-  pub markedMinutes : (s id : List ℕ) (seconds metres : ℕ) (plan : Picked) → planIn s id ≡ some plan
-      → quoteOf s id seconds metres .pastMinutes ≡ true → PastEnds (perMinute plan) (seconds / 60)
-  pub markedKilometres : (s id : List ℕ) (seconds metres : ℕ) (plan : Picked) → planIn s id ≡ some plan
-      → quoteOf s id seconds metres .pastKilometres ≡ true → PastEnds (perKilometre plan) (metres / 1000)
+  pub markedMinutes : (s id : List ℕ) (seconds metres : ℕ) (plan : Picked) → planIn t s id ≡ some plan
+      → quoteOf t s id seconds metres .pastMinutes ≡ true → PastEnds (perMinute plan) (seconds / 60)
+  pub markedKilometres : (s id : List ℕ) (seconds metres : ℕ) (plan : Picked) → planIn t s id ≡ some plan
+      → quoteOf t s id seconds metres .pastKilometres ≡ true → PastEnds (perKilometre plan) (metres / 1000)
   -- Where a rule applies, there is what the rules that apply give together.
-  pub together : (s : List ℕ) (q : Point) (type : List ℕ) (moment : ℕ) (r : ZoneRule) → List·Memᴰ r (rulesIn s) → Applies q type moment r
-      → Together (Applies q type moment) (rulesIn s)
+  pub together : (s : List ℕ) (q : Point) (type : List ℕ) (moment : ℕ) (r : ZoneRule) → List·Memᴰ r (rulesIn t s) → Applies q type moment r
+      → Together (Applies q type moment) (rulesIn t s)
   -- At a point in range where rules apply, a clean file answers with the values that they give together, and with 9 where none applies; and only there.
   -- Shut out: a zone's value outside of it, or inside one of its holes; a later rule's value, or none where a later rule gives one; 9 for everything.
-  pub rule : (s : List ℕ) (q : Point) (type : List ℕ) (moment : ℕ) → onMap q ≡ true → cleanOf 6 s ≡ Unbroken
-      → (g : Together (Applies q type moment) (rulesIn s))
-      → rulingOf s q type moment ≡ zone.found (ruleOf (g .ride) (g .through) (g .speed) (g .parking))
-  pub noRule : (s : List ℕ) (q : Point) (type : List ℕ) (moment : ℕ) → onMap q ≡ true → cleanOf 6 s ≡ Unbroken
-      → NoneWith (Applies q type moment) (rulesIn s) → rulingOf s q type moment ≡ zone.refused 9 noParts
-  pub ruled : (s : List ℕ) (q : Point) (type : List ℕ) (moment : ℕ) → rulingOf s q type moment .number ≡ 0
-      → (onMap q ≡ true) × (cleanOf 6 s ≡ Unbroken) × Together (Applies q type moment) (rulesIn s)
-  pub unruled : (s : List ℕ) (q : Point) (type : List ℕ) (moment : ℕ) → rulingOf s q type moment .number ≡ 9
-      → (onMap q ≡ true) × (cleanOf 6 s ≡ Unbroken) × NoneWith (Applies q type moment) (rulesIn s)
+  pub rule : (s : List ℕ) (q : Point) (type : List ℕ) (moment : ℕ) → onMap q ≡ true → cleanOf t 6 s ≡ Unbroken
+      → (g : Together (Applies q type moment) (rulesIn t s))
+      → rulingOf t s q type moment ≡ zone.found (ruleOf (g .ride) (g .through) (g .speed) (g .parking))
+  pub noRule : (s : List ℕ) (q : Point) (type : List ℕ) (moment : ℕ) → onMap q ≡ true → cleanOf t 6 s ≡ Unbroken
+      → NoneWith (Applies q type moment) (rulesIn t s) → rulingOf t s q type moment ≡ zone.refused 9 noParts
+  pub ruled : (s : List ℕ) (q : Point) (type : List ℕ) (moment : ℕ) → rulingOf t s q type moment .number ≡ 0
+      → (onMap q ≡ true) × (cleanOf t 6 s ≡ Unbroken) × Together (Applies q type moment) (rulesIn t s)
+  pub unruled : (s : List ℕ) (q : Point) (type : List ℕ) (moment : ℕ) → rulingOf t s q type moment .number ≡ 9
+      → (onMap q ≡ true) × (cleanOf t 6 s ≡ Unbroken) × NoneWith (Applies q type moment) (rulesIn t s)

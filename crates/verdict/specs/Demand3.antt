@@ -1,5 +1,5 @@
--- Demand 3: what may change in a feed set without changing an answer, and what another version string leads to. A file is known by what its bytes spell:
--- blanks between tokens and escapes in strings may stand wherever RFC 8259 has them.
+-- Demand 3: what may change in a feed set without changing an answer by any field table t, and what another version string leads to by a table that asks for one.
+-- A file is known by what its bytes spell: blanks between tokens and escapes in strings may stand wherever RFC 8259 has them.
 use mathlib.Core.List.{List, [], _∷_}
 use mathlib.Core.Path.{_≡_}
 use Prim.Native.Nat.{ℕ, _≤_, _<_}
@@ -13,8 +13,7 @@ use Rattle.json.specs.Spelling.{Spells}
 use Rattle.json.specs.Grammar.{IsText}
 use Rattle.word.specs.declared.Parts.{Parts}
 use Rattle.word.specs.Kinds.{tooLong, tooDeep}
-use Rattle.schema.specs.Shape.{fileShape}
-use Rattle.schema.specs.Table23.{table23}
+use Rattle.schema.specs.Shape.{Rows, Table, required, exactly, object, fileShape, _·_·_∶_▸_}
 use Rattle.schema.specs.Later.{Later}
 use Rattle.judge.specs.Bounds.{OfStageB}
 use Rattle.geometry.specs.Ring.{Point}
@@ -31,19 +30,23 @@ pub record WellFormed (s : List ℕ) (x : Json) : Type 0 where
   pub spells : Spells depth x s
 
 -- a file and a later one: both absent, or both well formed, and the tree that the later one spells is later
-pub data LaterFile (file : ℕ) : List ℕ → List ℕ → Type 0 where
-  absent : LaterFile file [] []
-  present : {s t : List ℕ} {x y : Json} → WellFormed s x → WellFormed t y → Later (fileShape table23 file ∷ []) x y → LaterFile file s t
+pub data LaterFile (t : Table) (file : ℕ) : List ℕ → List ℕ → Type 0 where
+  absent : LaterFile t file [] []
+  present : {s u : List ℕ} {x y : Json} → WellFormed s x → WellFormed u y → Later (fileShape t file ∷ []) x y → LaterFile t file s u
 
 -- a set and a later one, file by file
-abbrev pub LaterSet : Feeds → Feeds → Type 0
-LaterSet s t = (file : ℕ) → 1 ≤ file → file ≤ fileCount → LaterFile file (bytesOf s file) (bytesOf t file)
+abbrev pub LaterSet : Table → Feeds → Feeds → Type 0
+LaterSet t s u = (file : ℕ) → 1 ≤ file → file ≤ fileCount → LaterFile t file (bytesOf s file) (bytesOf u file)
 
 -- the answers of two sets agree: number and word of the verdict wherever there is room for a word, and all that quotes and zone rules return
-pub record Agree (s t : Feeds) : Type 0 where
-  pub verdicts : (b c : List ℕ) → wordSize ≤ length b → wordSize ≤ length c → (verdictNumber s b ≡ verdictNumber t c) × (take wordSize (bufferOf s b) ≡ take wordSize (bufferOf t c))
-  pub quotes : (id : List ℕ) (seconds metres : ℕ) → quoteOf (bytesOf s 5) id seconds metres ≡ quoteOf (bytesOf t 5) id seconds metres
-  pub zones : (q : Point) (type : List ℕ) (moment : ℕ) → rulingOf (bytesOf s 6) q type moment ≡ rulingOf (bytesOf t 6) q type moment
+pub record Agree (t : Table) (s u : Feeds) : Type 0 where
+  pub verdicts : (b c : List ℕ) → wordSize ≤ length b → wordSize ≤ length c → (verdictNumber t s b ≡ verdictNumber t u c) × (take wordSize (bufferOf t s b) ≡ take wordSize (bufferOf t u c))
+  pub quotes : (id : List ℕ) (seconds metres : ℕ) → quoteOf t (bytesOf s 5) id seconds metres ≡ quoteOf t (bytesOf u 5) id seconds metres
+  pub zones : (q : Point) (type : List ℕ) (moment : ℕ) → rulingOf t (bytesOf s 6) q type moment ≡ rulingOf t (bytesOf u 6) q type moment
+
+-- a table asks every file for version 2.3, by the first row of its shape
+abbrev pub AsksVersion : Table → Type 0
+AsksVersion t = (file : ℕ) → 1 ≤ file → file ≤ fileCount → (rows : Rows) × (fileShape t file ≡ object (1 · required · "version" ∶ exactly (bytes "2.3") ▸ rows))
 
 -- a member of this name holds this string
 pub data Holds (name value : List ℕ) : Members → Type 0 where
@@ -72,12 +75,12 @@ pub data Ahead (file : ℕ) (p : Parts) : Type 0 where
   header : OfStageB (p .kind) → p .file ≡ file → p .«record» ≡ 0 → p .field ≤ 1 → Ahead file p
 
 -- the call does not accept the set, and names one of these
-pub record Refused (s : Feeds) (file : ℕ) : Type 0 where
+pub record Refused (t : Table) (s : Feeds) (file : ℕ) : Type 0 where
   pub parts : Parts
   pub ahead : Ahead file parts
-  pub told : Says s 1 parts
+  pub told : Says t s 1 parts
 
--- the demand, undivided
-pub record Demand3 : Type 0 where
-  pub unmoved : (s t : Feeds) → LaterSet s t → Agree s t
-  pub otherVersion : (s : Feeds) (file : ℕ) → 1 ≤ file → file ≤ fileCount → OtherVersion (bytesOf s file) → Refused s file
+-- the demand, undivided; its last sentence is of tables that ask for the version, and `proofs/Demand3` has that table 0 does
+pub record Demand3 (t : Table) : Type 0 where
+  pub unmoved : (s u : Feeds) → LaterSet t s u → Agree t s u
+  pub otherVersion : AsksVersion t → (s : Feeds) (file : ℕ) → 1 ≤ file → file ≤ fileCount → OtherVersion (bytesOf s file) → Refused t s file

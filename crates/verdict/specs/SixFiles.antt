@@ -8,8 +8,7 @@ use Rattle.notation.specs.Choice.{_⇒_else_}
 use Rattle.word.specs.Kinds.{condition}
 use Rattle.word.specs.declared.Parts.{Parts}
 use Rattle.schema.specs.Shape as shape
-use Rattle.schema.specs.Shape.{Shape, Rows, fileShape}
-use Rattle.schema.specs.Table23.{table23}
+use Rattle.schema.specs.Shape.{Shape, Rows, Table, fileShape}
 use Rattle.schema.specs.Pick.{Picked}
 use Rattle.rings.specs.Rings.{coordinatesFound}
 use Rattle.fault.specs.declared.Fault.{Fault}
@@ -38,35 +37,35 @@ unfoldable mutual
   rowsWithout f (shape.row g need name σ rows) = eqb g f ⇒ rowsWithout f rows else shape.row g need name (without f σ) (rowsWithout f rows)
 
 -- stage B before W1: stations have no field 25
-abbrev pub faultsBOfSix : ℕ → List ℕ → List Fault
-faultsBOfSix file [] = []
-faultsBOfSix file (b ∷ s) = fileFaults (without 25 (fileShape table23 file)) (treeOf (b ∷ s))
+abbrev pub faultsBOfSix : Table → (file : ℕ) → List ℕ → List Fault
+faultsBOfSix t file [] = []
+faultsBOfSix t file (b ∷ s) = fileFaults (without 25 (fileShape t file)) (treeOf (b ∷ s))
 
 -- stage C before W1: a station refers to nothing
 abbrev pub faultsOfSix : Files → (file n : ℕ) → Picked → List Fault
 faultsOfSix s file n x = eqb file 2 ⇒ [] else faultsOf s file n x
 
-abbrev pub crossFaultsOfSix : Files → ℕ → List Fault
-crossFaultsOfSix s file =
+abbrev pub crossFaultsOfSix : Table → Files → ℕ → List Fault
+crossFaultsOfSix t s file =
     faulty top 0 (kindIf (missingFile s file) condition) ++
-    repeatsIn file (s file .records) ++
+    repeatsIn (fileShape t file) (s file .records) ++
     eachRecord (faultsOfSix s file) 1 (s file .records)
 
 -- the stages over the six older files, and the rules that then count
 abbrev pub stageAOfSix : Feeds → List Parts
 stageAOfSix s = eachFrom (λ file. rulesA file (bytesOf s file)) 1 6
 
-abbrev pub stageBOfSix : Feeds → List Parts
-stageBOfSix s = eachFrom (λ file. map (faultParts file) (faultsBOfSix file (bytesOf s file))) 1 6
+abbrev pub stageBOfSix : Table → Feeds → List Parts
+stageBOfSix t s = eachFrom (λ file. map (faultParts file) (faultsBOfSix t file (bytesOf s file))) 1 6
 
-abbrev pub stageCOfSix : Feeds → List Parts
-stageCOfSix s = eachFrom (λ file. map (faultParts file) (crossFaultsOfSix (picked s) file)) 1 6
+abbrev pub stageCOfSix : Table → Feeds → List Parts
+stageCOfSix t s = eachFrom (λ file. map (faultParts file) (crossFaultsOfSix t (picked t s) file)) 1 6
 
-abbrev pub brokenRulesOfSix : Feeds → List Parts
-brokenRulesOfSix s = orElse (stageAOfSix s) (orElse (stageBOfSix s) (stageCOfSix s))
+abbrev pub brokenRulesOfSix : Table → Feeds → List Parts
+brokenRulesOfSix t s = orElse (stageAOfSix s) (orElse (stageBOfSix t s) (stageCOfSix t s))
 
-pub record SixFiles : Type 0 where
+pub record SixFiles (t : Table) : Type 0 where
   pub stageA : (s : Feeds) (p : Parts) → List·Memᴰ p (stageAOfSix s) → List·Memᴰ p (stageA s)
-  pub stageB : (s : Feeds) (p : Parts) → List·Memᴰ p (stageBOfSix s) → List·Memᴰ p (stageBBy coordinatesFound s)
-  pub stageC : (s : Feeds) (p : Parts) → List·Memᴰ p (stageCOfSix s) → List·Memᴰ p (stageC s)
-  pub accepted : (s : Feeds) → brokenRules s ≡ [] → brokenRulesOfSix s ≡ []
+  pub stageB : (s : Feeds) (p : Parts) → List·Memᴰ p (stageBOfSix t s) → List·Memᴰ p (stageBBy coordinatesFound t s)
+  pub stageC : (s : Feeds) (p : Parts) → List·Memᴰ p (stageCOfSix t s) → List·Memᴰ p (stageC t s)
+  pub accepted : (s : Feeds) → brokenRules t s ≡ [] → brokenRulesOfSix t s ≡ []

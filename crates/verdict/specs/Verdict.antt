@@ -12,8 +12,7 @@ use Rattle.word.specs.Word.{noParts, wordOf}
 use Rattle.json.specs.declared.Syntax.{Syntax}
 use Rattle.json.specs.declared.Syntax.the-variants as syntax
 use Rattle.json.specs.Text.{syntaxOf}
-use Rattle.schema.specs.Shape.{fileShape}
-use Rattle.schema.specs.Table23.{table23}
+use Rattle.schema.specs.Shape.{Table, fileShape}
 use Rattle.schema.specs.Pick.{PickedItems}
 use Rattle.fault.specs.declared.Fault.{Fault}
 use Rattle.fault.specs.Fault as fault
@@ -28,7 +27,7 @@ use Rattle.cross.specs.Stage.{Feeds, bytesOf, picked}
 use Rattle.verdict.specs.declared.Acceptance.{Acceptance}
 use Rattle.verdict.specs.declared.Acceptance.the-variants.{NoRoom, Accepted, NotAccepted}
 
--- what a file breaks in stage A, B or C; an absent file breaks nothing in A and B
+-- what a file breaks in stage A, and by a table in stages B and C; an absent file breaks nothing in A and B
 abbrev pub syntaxRules : ℕ → Syntax → List Parts
 syntaxRules file syntax.Sound = []
 syntaxRules file (syntax.Fault kind offset) = syntaxParts file kind offset ∷ []
@@ -37,9 +36,9 @@ abbrev pub rulesA : ℕ → List ℕ → List Parts
 rulesA file [] = []
 rulesA file (b ∷ s) = syntaxRules file (syntaxOf (b ∷ s))
 
-abbrev pub faultsBBy : (coordinates : PickedItems → List Found) → ℕ → List ℕ → List Fault
-faultsBBy coordinates file [] = []
-faultsBBy coordinates file (b ∷ s) = fileFaultsBy coordinates (fileShape table23 file) (treeOf (b ∷ s))
+abbrev pub faultsBBy : (coordinates : PickedItems → List Found) → Table → (file : ℕ) → List ℕ → List Fault
+faultsBBy coordinates t file [] = []
+faultsBBy coordinates t file (b ∷ s) = fileFaultsBy coordinates (fileShape t file) (treeOf (b ∷ s))
 
 -- what is said of `left` files, from the number `file` on; and of all
 unfoldable pub eachFrom : {A : Type 0} → (ℕ → List A) → (file left : ℕ) → List A
@@ -52,22 +51,22 @@ everyFile f = eachFrom f 1 fileCount
 unfoldable pub stageA : Feeds → List Parts
 stageA s = everyFile (λ file. rulesA file (bytesOf s file))
 
-unfoldable pub stageBBy : (coordinates : PickedItems → List Found) → Feeds → List Parts
-stageBBy coordinates s = everyFile (λ file. map (faultParts file) (faultsBBy coordinates file (bytesOf s file)))
+unfoldable pub stageBBy : (coordinates : PickedItems → List Found) → Table → Feeds → List Parts
+stageBBy coordinates t s = everyFile (λ file. map (faultParts file) (faultsBBy coordinates t file (bytesOf s file)))
 
-unfoldable pub stageC : Feeds → List Parts
-stageC s = everyFile (λ file. map (faultParts file) (crossFaults (picked s) file))
+unfoldable pub stageC : Table → Feeds → List Parts
+stageC t s = everyFile (λ file. map (faultParts file) (crossFaults t (picked t s) file))
 
 -- the first stage that has any
 abbrev pub orElse : {A : Type 0} → List A → List A → List A
 orElse [] m = m
 orElse (x ∷ l) m = x ∷ l
 
--- the broken rules of a set; `coordinates` tells what is found in field 73
-unfoldable pub brokenRulesBy : (coordinates : PickedItems → List Found) → Feeds → List Parts
-brokenRulesBy coordinates s = orElse (stageA s) (orElse (stageBBy coordinates s) (stageC s))
+-- the broken rules of a set, by a table; `coordinates` tells what is found in field 73
+unfoldable pub brokenRulesBy : (coordinates : PickedItems → List Found) → Table → Feeds → List Parts
+brokenRulesBy coordinates t s = orElse (stageA s) (orElse (stageBBy coordinates t s) (stageC t s))
 
-abbrev pub brokenRules : Feeds → List Parts
+abbrev pub brokenRules : Table → Feeds → List Parts
 brokenRules = brokenRulesBy coordinatesFound
 
 -- their order: by file, then record, field, sub and kind
@@ -86,8 +85,8 @@ unfoldable pub first : List Parts → Outcome
 first [] = Unbroken
 first (p ∷ l) = earlier p (first l)
 
-unfoldable pub verdictOf : Feeds → Outcome
-verdictOf s = first (brokenRules s)
+unfoldable pub verdictOf : Table → Feeds → Outcome
+verdictOf t s = first (brokenRules t s)
 
 -- an accepting word says nothing else
 abbrev pub said : Outcome → Parts
@@ -99,11 +98,11 @@ accepts Unbroken = true
 accepts (Broken p) = false
 
 -- The question "verdict": its number in the order of checking, and the buffer after the call: as it was without room for a word, else the word in front of its rest.
-unfoldable pub verdictNumber : Feeds → (buffer : List ℕ) → ℕ
-verdictNumber s buffer = ltb (length buffer) wordSize ⇒ 2 else accepts (verdictOf s) ⇒ 0 else 1
+unfoldable pub verdictNumber : Table → Feeds → (buffer : List ℕ) → ℕ
+verdictNumber t s buffer = ltb (length buffer) wordSize ⇒ 2 else accepts (verdictOf t s) ⇒ 0 else 1
 
-unfoldable pub bufferOf : Feeds → (buffer : List ℕ) → List ℕ
-bufferOf s buffer = ltb (length buffer) wordSize ⇒ buffer else wordOf writtenForm (said (verdictOf s)) ++ drop wordSize buffer
+unfoldable pub bufferOf : Table → Feeds → (buffer : List ℕ) → List ℕ
+bufferOf t s buffer = ltb (length buffer) wordSize ⇒ buffer else wordOf writtenForm (said (verdictOf t s)) ++ drop wordSize buffer
 
 -- the number of each case of the answer
 abbrev pub number : Acceptance → ℕ

@@ -10,6 +10,7 @@ ghost use Prim.Native.Nat.{_≤_};
 ghost use lib.ListN.{length, drop};
 ghost use Rattle.word.specs.Form.{writtenForm, wordSize};
 ghost use Rattle.word.specs.Word.{Fits, wordOf};
+ghost use Rattle.schema.specs.Tables.{tableAt};
 ghost use Rattle.verdict.specs.Verdict.{said, number, verdictNumber, bufferOf};
 
 mod stages;
@@ -58,16 +59,17 @@ fn put(parts: Parts, buffer: &mut [u8])
     }
 }
 
-// The verdict on a set of eight files, of which one without bytes is absent. The word stands in the first eight bytes of the buffer, and the rest stays; in a buffer of
-// fewer bytes nothing is written.
+// By the table of a number, the verdict on a set of eight files, of which one without bytes is absent. The word stands in the first eight bytes of the buffer, and the
+// rest stays; in a buffer of fewer bytes nothing is written.
 // Shut out: a set refused that breaks no rule, or for another rule than its first; a word written anywhere else in the buffer.
-pub fn verdict<'a>(files: [&'a [u8]; FILES], buffer: &mut [u8]) -> Acceptance
-    ensures { λ r. ⌜ (number r ≡ verdictNumber (map now (files .entry)) (now (buffer .entry))) × (now (buffer .exit) ≡ bufferOf (map now (files .entry)) (now (buffer .entry))) ⌝ }
+pub fn verdict<'a>(table: u8, files: [&'a [u8]; FILES], buffer: &mut [u8]) -> Acceptance
+    ensures { λ r. ⌜ number r ≡ verdictNumber (tableAt table) (map now (files .entry)) (now (buffer .entry)) ⌝ }
+    ensures { λ _. ⌜ now (buffer .exit) ≡ bufferOf (tableAt table) (map now (files .entry)) (now (buffer .entry)) ⌝ }
 {
     if buffer.len() < Word::SIZE {
         return Acceptance::NoRoom;
     }
-    let c = judge(files);
+    let c = judge(table, files);
     put(parts_in(c), buffer);
     match c {
         Outcome::Unbroken => Acceptance::Accepted,

@@ -17,7 +17,7 @@ use Rattle.notation.proofs.Booleans.{by-test}
 use Rattle.notation.proofs.Lists.{at-cons}
 use Rattle.lexeme.specs.Numbers.{either}
 use Rattle.lexeme.proofs.Table.{table, every, at}
-use Rattle.walk.specs.inner.Mark.{packed, before, stringMark, bracketMark}
+use Rattle.walk.specs.inner.Mark.{packed, before, stringMark, bracketLike, bracketMark}
 
 abbrev Bytes : List ℕ → Type 0
 Bytes [] = Unit {0}
@@ -141,16 +141,16 @@ before-other mark b l h = rw (before, h)
 module _ (m v n u : ℕ) (m-low : m < 128) (v-low : v < 128) (n-low : n < 128) (u-low : u < 128) (mark : ℕ → Bool)
     (byte : (b : ℕ) → b < 256 → found 127 128 m v n u b ≡ (mark b ⇒ 128 else 0)) where
   -- what a word of k bytes makes of w
-  abbrev wordly : ℕ → ℕ → ℕ
-  wordly k w = found (each 127 k) (each 128 k) (each m k) (each v k) (each n k) (each u k) w
+  abbrev marks : ℕ → ℕ → ℕ
+  marks k w = found (each 127 k) (each 128 k) (each m k) (each v k) (each n k) (each u k) w
 
-  first-mark : (l : List ℕ) → Bytes l → trailingZeros (bits (length l)) (wordly (length l) (packed l)) / 8 ≡ before mark l
+  first-mark : (l : List ℕ) → Bytes l → trailingZeros (bits (length l)) (marks (length l) (packed l)) / 8 ≡ before mark l
   unfolding packed before trailingZeros
   first-mark [] h = refl
   first-mark (b ∷ l) h =
-      let k = length l in let x = wordly k (packed l) in
+      let k = length l in let x = marks k (packed l) in
       let ih : trailingZeros (bits k) x / 8 ≡ before mark l = first-mark l (h .1) in
-      let e : wordly (suc k) (packed (b ∷ l)) ≡ x * 256 + (mark b ⇒ 128 else 0) =
+      let e : marks (suc k) (packed (b ∷ l)) ≡ x * 256 + (mark b ⇒ 128 else 0) =
       found-block m v n u m-low v-low n-low u-low b (h .0) (each 127 k) (each 128 k) (packed l) (each m k) (each v k) (each n k) (each u k)
       ∙ ap (λ (i : ℕ). x * 256 + i) (byte b (h .0)) in
       ap (λ (i : ℕ). trailingZeros (bits (suc k)) i / 8) e
@@ -166,8 +166,8 @@ module _ (m v n u : ℕ) (m-low : m < 128) (v-low : v < 128) (n-low : n < 128) (
       → trailingZeros 64 (bitXor (bitAnd (bitOr (bitAnd x y) w) (each 128 8)) (each 128 8)) / 8 ≡ before mark l
   of-eight l h e w x y i j k =
       ap₂ (λ (p q : ℕ). trailingZeros 64 (bitXor (bitAnd (bitOr (bitAnd p q) w) (each 128 8)) (each 128 8)) / 8) j k
-      ∙ ap (λ (z : ℕ). trailingZeros 64 (wordly 8 z) / 8) i
-      ∙ ap (λ (z : ℕ). trailingZeros (bits z) (wordly z (packed l)) / 8) (sym e) ∙ first-mark l h
+      ∙ ap (λ (z : ℕ). trailingZeros 64 (marks 8 z) / 8) i
+      ∙ ap (λ (z : ℕ). trailingZeros (bits z) (marks z (packed l)) / 8) (sym e) ∙ first-mark l h
 
 -- what a word makes of a byte, computed for each
 abbrev makes : (m v n u : ℕ) → (ℕ → Bool) → ℕ → ℕ → Bool
@@ -191,7 +191,7 @@ module _ (s : List ℕ) (at : ℕ) (h : at + 8 ≤ length s) (known : (i : ℕ) 
 
   pub bracket-first : y ≡ unlike 0x7f7f7f7f7f7f7f7f 0x5959595959595959 0x5959595959595959 w
       → trailingZeros 64 (bitXor (bitAnd (bitOr (bitAnd x y) w) 0x8080808080808080) 0x8080808080808080) / 8 ≡ before bracketMark (take 8 (drop at s))
-  unfolding bracketMark
+  unfolding bracketLike bracketMark
   bracket-first =
       of-eight 0x7f 0x22 0x59 0x59 (omega arith) (omega arith) (omega arith) (omega arith) bracketMark (made 0x7f 0x22 0x59 0x59 bracketMark refl)
       (take 8 (drop at s)) (bytes-at 8 s at known) there w x y i j

@@ -4,13 +4,15 @@ use mathlib.Core.List.{List, [], _∷_}
 use mathlib.Core.Path.{_≡_, refl, sym, ap, _∙_}
 use Prim.Native.Nat.{ℕ, zero, suc, _+_, _≤_, _<_}
 use native.Mathlib.Omega.{arith}
+use lib.Bits.{bitAnd}
+use lib.Dec.{eqb}
 use lib.ListN.{length, take, drop, getD, length-take, length-drop}
 use lib.Seq.{drop-drop, getD-drop, getD-take}
 use borrow.Author.Tests.{eqb-true, ne-eqb}
 use Rattle.notation.proofs.Booleans.{by-test}
 use Rattle.lexeme.specs.Character.{byte}
 use Rattle.lexeme.specs.Numbers.{either}
-use Rattle.walk.specs.inner.Mark.{before, stringMark, bracketMark}
+use Rattle.walk.specs.inner.Mark.{before, stringMark, bracketLike, bracketMark}
 use Rattle.walk.specs.inner.Skip.{quoted, outside, enclosed}
 use Rattle.walk.proofs.Quotes.{itself, quoted-itself}
 use Rattle.walk.proofs.Skips.{between, enclosed-between}
@@ -67,5 +69,17 @@ unfolding stringMark either
 string-other b h n = eqb-true b 0x5c (rw (ne-eqb b 0x22 n) at h)
 
 pub bracket-passes : (n b : ℕ) (l : List ℕ) → bracketMark b ≡ false → enclosed (suc n) outside (b ∷ l) ≡ enclosed (suc n) outside l
-unfolding bracketMark
+unfolding bracketLike bracketMark
 bracket-passes n b l h = enclosed-between n b l (between (λ c. not (bracketMark c)) refl refl refl refl refl b (ap not h))
+
+-- what the code finds to be like a bracket, or no quotation mark
+pub like-unmarked : (b : ℕ) → bitAnd b 0xd9 ≡ 0x59 → eqb b 0x22 ≡ false
+like-unmarked b e = ne-eqb b 0x22 (λ i. omega (arith, e, ap (λ (c : ℕ). bitAnd c 0xd9) i))
+
+pub not-like : (b : ℕ) → (bitAnd b 0xd9 ≡ 0x59 → ⊥) → bracketLike b ≡ false
+unfolding bracketLike
+not-like b n = ne-eqb (bitAnd b 0xd9) 0x59 n
+
+pub mark-like : (b : ℕ) → bracketMark b ≡ true → (b ≡ 0x22 → ⊥) → bracketLike b ≡ true
+unfolding bracketMark
+mark-like b h n = rw (ne-eqb b 0x22 n) at h

@@ -15,12 +15,12 @@ use Rattle.walk.specs.declared.ValueKind.the-variants as kind
 use Rattle.walk.specs.Walk.{part, onward, memberIn, memberAt, membersFrom, membersOf, itemIn, itemAt, itemsFrom, itemsOf}
 use Rattle.walk.specs.Part.{partTree, inside}
 use Rattle.walk.specs.inner.Kind.{kindAt}
-use Rattle.walk.specs.inner.Mark.{packed, before, stringMark, bracketMark}
+use Rattle.walk.specs.inner.Mark.{packed, before, stringMark, bracketLike, bracketMark}
 use Rattle.walk.specs.inner.Skip.{quoted, enclosed, numbered, skipped}
 
 -- opens every definition of this layer
 unfoldable pub walking : Unit {0}
-unfolding reading onward memberIn memberAt membersFrom membersOf itemIn itemAt itemsFrom itemsOf partTree start kindAt quoted enclosed numbered skipped packed before stringMark bracketMark
+unfolding reading onward memberIn memberAt membersFrom membersOf itemIn itemAt itemsFrom itemsOf partTree start kindAt quoted enclosed numbered skipped packed before stringMark bracketLike bracketMark
 walking = tt
 
 abbrev at : ℕ → ℕ → ℕ → ℕ → ℕ → Member

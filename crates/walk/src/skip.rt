@@ -5,6 +5,7 @@ ghost use Prim.Native.Nat.{suc, _+_, _-_, _≤_};
 ghost use lib.Dec.{ltb};
 ghost use lib.ListN.{length, drop};
 ghost use Rattle.walk.specs.inner.Skip.{quoted, outside, enclosed, numbered, skipped};
+ghost use Rattle.walk.specs.inner.Mark.{Reaches};
 use crate::mark::before_bracket_mark;
 use crate::mark::before_string_mark;
 use lexeme::Scan;
@@ -38,7 +39,7 @@ fn string_end_bytewise(s: &[u8], at: usize) -> usize
     s.len()
 }
 
-// Just past the quotation mark that closes a string, whose text goes on at `at`: eight bytes at once as long as there are eight.
+// The same, eight bytes at once as long as there are eight.
 fn string_end_wordwise(s: &[u8], at: usize) -> usize
     ensures { λ r. ⌜ r ≡ length (now (s .entry)) - length (quoted false (drop at (now (s .entry)))) ⌝ }
 {
@@ -124,7 +125,31 @@ fn brackets_end_bytewise(s: &[u8], at: usize, more: usize) -> usize
     s.len()
 }
 
-// Just past the bracket that closes one which was opened before `at`, eight bytes at once as long as there are eight.
+// The first place from `at` on, outside strings, of what may be a bracket, eight bytes at once; where fewer are left, a place before it.
+fn to_bracket(s: &[u8], at: usize) -> usize
+    ensures { λ r. ⌜ Reaches (now (s .entry)) at r ⌝ }
+{
+    if s.len() < 8 {
+        return at;
+    }
+    let last = s.len() - 8;
+    let mut i = at;
+    while i <= last {
+        let n = before_bracket_mark(s, i);
+        if n == 8 {
+            i += 8;
+            continue;
+        }
+        let j = i + n;
+        if s[j] != b'"' {
+            return j;
+        }
+        i = string_end(s, j + 1);
+    }
+    i
+}
+
+// Just past the bracket that closes one which was opened before `at`. Brackets often stand side by side, so each is taken by itself.
 fn brackets_end(s: &[u8], at: usize) -> usize
     ensures { λ r. ⌜ r ≡ length (now (s .entry)) - length (enclosed 1 outside (drop at (now (s .entry)))) ⌝ }
 {
@@ -135,18 +160,12 @@ fn brackets_end(s: &[u8], at: usize) -> usize
     let mut inner: usize = 0;
     let mut i = at;
     while i <= last {
-        let n = before_bracket_mark(s, i);
-        if n == 8 {
-            i += 8;
+        let b = s[i];
+        if b & 0xd9 != 0x59 {
+            i = to_bracket(s, i);
             continue;
         }
-        let j = i + n;
-        let b = s[j];
-        if b == b'"' {
-            i = string_end(s, j + 1);
-            continue;
-        }
-        i = j + 1;
+        i += 1;
         if is_either(b, b'[', b'{') {
             inner += 1;
             continue;

@@ -5,6 +5,7 @@ use mathlib.Core.List.{List, [], _∷_, _++_, append-assoc}
 use mathlib.Core.Path.{_≡_, refl, sym, ap, _∙_}
 use Prim.Native.Nat.{ℕ}
 use native.Mathlib.Omega.{arith}
+use Rattle.schema.specs.Shape.{Table}
 use Rattle.schema.specs.Pick.{Picked}
 use Rattle.geometry.specs.Ring.{Point}
 use Rattle.document.specs.Document.{Maybe, none, some, spelling, truth, given}
@@ -104,10 +105,10 @@ any-order x l k n m h =
     ∙ ap values (sym (append-assoc (x ∷ l) n m))
     ∙ sym (values-out ((x ∷ l) ++ n) k m (nothing-new (x ∷ l) k n h)))
 
-answered : (s : List ℕ) (q : Point) (type : List ℕ) (moment : ℕ) → onMap q ≡ true → cleanOf 6 s ≡ Unbroken
-    → rulingOf s q type moment ≡ ofRules (rulesAt s q type moment)
+answered : (t : Table) (s : List ℕ) (q : Point) (type : List ℕ) (moment : ℕ) → onMap q ≡ true → cleanOf t 6 s ≡ Unbroken
+    → rulingOf t s q type moment ≡ ofRules (rulesAt t s q type moment)
 unfolding rulingOf
-answered s q type moment h c = rw (h, c)
+answered t s q type moment h c = rw (h, c)
 
-pub combining : Combining
-combining = record { answered = answered; oneRule = one-rule; wholeFirst = whole-first; leftOut = left-out; anyOrder = any-order }
+pub combining : (t : Table) → Combining t
+combining t = record { answered = answered t; oneRule = one-rule; wholeFirst = whole-first; leftOut = left-out; anyOrder = any-order }

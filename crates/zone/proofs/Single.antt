@@ -4,18 +4,23 @@ use mathlib.Core.Bool.{Bool, true, false}
 use mathlib.Core.List.{List, [], _∷_, _++_, List·Memᴰ, List·Memᴰ·head, List·Memᴰ·tail}
 use mathlib.Core.Path.{_≡_, refl, sym, ap, ap₂, subst, _∙_}
 use Prim.Native.Nat.{ℕ, zero, suc, _≤_}
+use native.Mathlib.Decide.{ℕ-discrete}
 use native.Mathlib.Omega.{arith}
-use lib.ListN.{length}
+use lib.ListN.{length, getD}
 use Rattle.limits.specs.Ceilings as ceiling
 use Rattle.notation.specs.Choice.{_⇒_else_, _and_}
+use Rattle.notation.proofs.Booleans.{and-left, and-right}
 use Rattle.word.specs.Word.{noParts}
 use Rattle.json.specs.Tree as tree
 use Rattle.json.specs.Tree.{Json}
 use Rattle.schema.specs.Shape as shape
-use Rattle.schema.specs.Shape.{fileShape}
-use Rattle.schema.specs.Table23.{table23, written23, coordinates, zone}
+use Rattle.schema.specs.Shape.{Shape, Table, fileShape}
+use Rattle.schema.specs.Table23.{coordinates, zone}
+use Rattle.schema.specs.Tables.{tableAt, written}
 use Rattle.schema.specs.Records.{located}
 use Rattle.schema.specs.Pick.{Picked, pick, elements}
+use Rattle.schema.proofs.Computed.{every, every-file}
+use Rattle.schema.proofs.SheetShapes.{at-tables}
 use Rattle.geometry.specs.Ring.{Point}
 use Rattle.geometry.specs.Held.{holds, polygonHolds}
 use Rattle.geometry.proofs.Polygon.{polygons}
@@ -75,7 +80,7 @@ module _ (q : Point) where
 
 -- What is found in a file.
 
-abbrev Alike : shape.Shape → Picked → Type 0
+abbrev Alike : Shape → Picked → Type 0
 Alike = Same coordinatesFound coordinatesOfOne
 
 coordinates-same : (x : Json) → OneRingAtMost (elements (pick coordinates x)) → Alike coordinates (pick coordinates x)
@@ -88,59 +93,77 @@ coordinates-same (tree.string s) one p φ = refl
 coordinates-same (tree.object ms) one p φ = refl
 
 to-polygons : Route zone (71 ∷ 73 ∷ []) coordinates
-unfolding written23 plain
+unfolding written plain
 to-polygons = into (below refl refl (here refl)) (into (below refl refl (here refl)) arrived)
 
-to-zones : Route (fileShape table23 6) (4 ∷ 5 ∷ 7 ∷ []) (shape.array shape.records ceiling.records zone)
-unfolding fileShape written23 plain
-to-zones = into (below refl refl (below refl refl (below refl refl (here refl)))) (into (here refl) (into (below refl refl (here refl)) arrived))
+to-zones : (table : ℕ) → Route (fileShape (tableAt table) 6) (4 ∷ 5 ∷ 7 ∷ []) (shape.array shape.records ceiling.records zone)
+unfolding fileShape written plain
+to-zones table =
+    at-tables (λ (t : Table). Route (fileShape t 6) (4 ∷ 5 ∷ 7 ∷ []) (shape.array shape.records ceiling.records zone))
+    (into (below refl refl (below refl refl (below refl refl (here refl)))) (into (here refl) (into (below refl refl (here refl)) arrived)))
+    table
 
-zones-along : (s : List ℕ) → zonesOf s ≡ elementsOf (along (4 ∷ 5 ∷ 7 ∷ []) (pick (fileShape table23 6) (treeOf s)))
+zones-along : (table : ℕ) (s : List ℕ) → zonesOf (tableAt table) s ≡ elementsOf (along (4 ∷ 5 ∷ 7 ∷ []) (pick (fileShape (tableAt table) 6) (treeOf s)))
 unfolding located recordsOf
-zones-along s = refl
+zones-along table s = at-tables (λ (t : Table). zonesOf t s ≡ elementsOf (along (4 ∷ 5 ∷ 7 ∷ []) (pick (fileShape t 6) (treeOf s)))) refl table
 
 zone-alike : (x : Json) → OneRingAtMost (polygonsOf (pick zone x)) → Alike zone (pick zone x)
 zone-alike x one = way-same _ _ to-polygons x (λ y e. coordinates-same y (subst OneRingAtMost (ap elementsOf e) one))
 
-zones-alike : (s : List ℕ) → WithoutHoles s → Alike (fileShape table23 6) (pick (fileShape table23 6) (treeOf s))
-zones-alike s one =
-    way-same _ _ to-zones (treeOf s)
-    (λ x e. records-same _ _ ceiling.records zone x (λ z i. zone-alike z (one _ (subst (List·Memᴰ (pick zone z)) (sym (zones-along s ∙ ap elementsOf e)) i))))
+-- all shapes of a list but the n-th are without coordinates
+unfoldable plainBut : ℕ → List Shape → Bool
+plainBut n [] = true
+plainBut zero (σ ∷ l) = every plain l
+plainBut (suc n) (σ ∷ l) = plain σ and plainBut n l
 
--- what stage B finds in a file
-abbrev SameFile : (file : ℕ) → (s : List ℕ) → Type 0
-SameFile file s =
-    fileFaultsBy coordinatesFound (fileShape table23 file) (treeOf s) ≡ fileFaultsBy coordinatesOfOne (fileShape table23 file) (treeOf s)
+plain-at : (n : ℕ) (l : List Shape) → plainBut n l ≡ true → (i : ℕ) → (i ≡ n → ⊥) → plain (getD l i shape.unlisted) ≡ true
+unfolding plainBut plain fileShape
+plain-at n [] e i h = refl
+plain-at zero (σ ∷ l) e zero h = absurd (h refl)
+plain-at zero (σ ∷ l) e (suc i) h = every-file plain l e refl (suc i)
+plain-at (suc n) (σ ∷ l) e zero h = and-left (plain σ) (plainBut n l) e
+plain-at (suc n) (σ ∷ l) e (suc i) h = plain-at n l (and-right (plain σ) (plainBut n l) e) i (λ k. h (ap suc k))
 
-others-same : (file : ℕ) (s : List ℕ) → plain (fileShape table23 file) ≡ true → SameFile file s
-unfolding fileFaultsBy
-others-same file s e = plain-same _ _ (fileShape table23 file) e (pick (fileShape table23 file) (treeOf s)) top 0
+-- so are all files of a table but the sixth
+others-plain : (table file : ℕ) → (file ≡ 6 → ⊥) → plain (fileShape (tableAt table) file) ≡ true
+unfolding fileShape written plain plainBut every
+others-plain table file h =
+    plain-at 6 (shape.unlisted ∷ tableAt table) (at-tables (λ (t : Table). plainBut 6 (shape.unlisted ∷ t) ≡ true) refl table) file h
 
-zones-file-same : (s : List ℕ) → WithoutHoles s → SameFile 6 s
-unfolding fileFaultsBy
-zones-file-same s one = zones-alike s one top 0
+-- by a table
+module _ (table : ℕ) where
+  abbrev t : Table
+  t = tableAt table
 
-pub faults-one : (file : ℕ) (s : List ℕ) → (file ≡ 6 → WithoutHoles s) → SameFile file s
-unfolding fileShape written23 plain
-faults-one zero s one = others-same 0 s refl
-faults-one (suc zero) s one = others-same 1 s refl
-faults-one (suc (suc zero)) s one = others-same 2 s refl
-faults-one (suc (suc (suc zero))) s one = others-same 3 s refl
-faults-one (suc (suc (suc (suc zero)))) s one = others-same 4 s refl
-faults-one (suc (suc (suc (suc (suc zero))))) s one = others-same 5 s refl
-faults-one (suc (suc (suc (suc (suc (suc zero)))))) s one = zones-file-same s (one refl)
-faults-one (suc (suc (suc (suc (suc (suc (suc zero))))))) s one = others-same 7 s refl
-faults-one (suc (suc (suc (suc (suc (suc (suc (suc zero)))))))) s one = others-same 8 s refl
-faults-one (suc (suc (suc (suc (suc (suc (suc (suc (suc file))))))))) s one = others-same (suc (suc (suc (suc (suc (suc (suc (suc (suc file))))))))) s refl
+  zones-alike : (s : List ℕ) → WithoutHoles t s → Alike (fileShape t 6) (pick (fileShape t 6) (treeOf s))
+  zones-alike s one =
+      way-same _ _ (to-zones table) (treeOf s)
+      (λ x e. records-same _ _ ceiling.records zone x (λ z i. zone-alike z (one _ (subst (List·Memᴰ (pick zone z)) (sym (zones-along table s ∙ ap elementsOf e)) i))))
 
-clean-one : (file : ℕ) (s : List ℕ) → (file ≡ 6 → WithoutHoles s) → cleanOf file s ≡ cleanOfOne file s
-clean-one file s one = clean-alike _ _ file s (faults-one file s one)
+  -- what stage B finds in a file
+  abbrev SameFile : (file : ℕ) → (s : List ℕ) → Type 0
+  SameFile file s = fileFaultsBy coordinatesFound (fileShape t file) (treeOf s) ≡ fileFaultsBy coordinatesOfOne (fileShape t file) (treeOf s)
 
-answered : (s : List ℕ) (q : Point) (type : List ℕ) (moment : ℕ) → WithoutHoles s → rulingOf s q type moment ≡ rulingOfOne s q type moment
-unfolding rulingOf rulesAt
-answered s q type moment one =
-    ap₂ (λ (c : Outcome) (l : List Picked). onMap q ⇒ ofClean c (ofRules (applicable l type)) else refused 8 noParts) (clean-one 6 s (λ e. one))
-    (zones-same q moment (zonesOf s) one)
+  others-same : (file : ℕ) (s : List ℕ) → (file ≡ 6 → ⊥) → SameFile file s
+  unfolding fileFaultsBy
+  others-same file s h = plain-same _ _ (fileShape t file) (others-plain table file h) (pick (fileShape t file) (treeOf s)) top 0
 
-pub single : Single
-single = record { polygon = λ p q e. one-polygon q p e; zone = λ z q one. one-ring-each q (polygonsOf z) one; clean = clean-one; answer = answered }
+  zones-file-same : (s : List ℕ) → WithoutHoles t s → SameFile 6 s
+  unfolding fileFaultsBy
+  zones-file-same s one = zones-alike s one top 0
+
+  pub faults-one : (file : ℕ) (s : List ℕ) → (file ≡ 6 → WithoutHoles t s) → SameFile file s
+  faults-one file s one =
+      elim (ℕ-discrete file 6) [ yes e ↦ subst (λ (n : ℕ). SameFile n s) (sym e) (zones-file-same s (one e)) | no h ↦ others-same file s h ]
+
+  clean-one : (file : ℕ) (s : List ℕ) → (file ≡ 6 → WithoutHoles t s) → cleanOf t file s ≡ cleanOfOne t file s
+  clean-one file s one = clean-alike _ _ (fileShape t file) file s (faults-one file s one)
+
+  answered : (s : List ℕ) (q : Point) (type : List ℕ) (moment : ℕ) → WithoutHoles t s → rulingOf t s q type moment ≡ rulingOfOne t s q type moment
+  unfolding rulingOf rulesAt
+  answered s q type moment one =
+      ap₂ (λ (c : Outcome) (l : List Picked). onMap q ⇒ ofClean c (ofRules (applicable l type)) else refused 8 noParts) (clean-one 6 s (λ e. one))
+      (zones-same q moment (zonesOf t s) one)
+
+  pub single : Single t
+  single = record { polygon = λ p q e. one-polygon q p e; zone = λ z q one. one-ring-each q (polygonsOf z) one; clean = clean-one; answer = answered }

@@ -8,6 +8,7 @@ use lib.Signed.{leZ}
 use Rattle.notation.specs.Choice.{_⇒_else_, _and_}
 use Rattle.word.specs.declared.Parts.{Parts}
 use Rattle.word.specs.Word.{noParts}
+use Rattle.schema.specs.Shape.{Table}
 use Rattle.schema.specs.Pick.{Picked}
 use Rattle.geometry.specs.Ring.{Point}
 use Rattle.document.specs.Document.{Maybe, none, some, spelling, truth, given}
@@ -80,6 +81,6 @@ abbrev pub ofClean : Outcome → Answer → Answer
 ofClean Unbroken next = next
 ofClean (Broken p) next = refused 5 p
 
--- of the bytes s of file 6, a point, a type and a moment
-unfoldable pub rulingOf : (s : List ℕ) → Point → (type : List ℕ) → (moment : ℕ) → Answer
-rulingOf s q type moment = onMap q ⇒ ofClean (cleanOf 6 s) (ofRules (rulesAt s q type moment)) else refused 8 noParts
+-- by a table, of the bytes s of file 6, a point, a type and a moment
+unfoldable pub rulingOf : Table → (s : List ℕ) → Point → (type : List ℕ) → (moment : ℕ) → Answer
+rulingOf t s q type moment = onMap q ⇒ ofClean (cleanOf t 6 s) (ofRules (rulesAt t s q type moment)) else refused 8 noParts

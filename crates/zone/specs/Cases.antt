@@ -8,6 +8,7 @@ use lib.Dec.{eqb}
 use lib.IntN.{ℤ, pos, negℤ}
 use Rattle.notation.specs.Ascii.{bytes}
 use Rattle.notation.specs.Case.{Case, Answers, json}
+use Rattle.schema.specs.Tables.{tableAt}
 use Rattle.schema.specs.Records.{identified}
 use Rattle.schema.specs.Pick as pick
 use Rattle.geometry.specs.Ring.{Point}
@@ -76,7 +77,7 @@ order =
     ("no file", ([], degrees 1 1, "t", 0), none) ∷
     []
 
-order-answered : Answers (λ c. rulingOf (c .0) (c .1) (bytes (c .2)) (c .3)) order
+order-answered : Answers (λ c. rulingOf (tableAt 0) (c .0) (c .1) (bytes (c .2)) (c .3)) order
 unfolding ruled
 order-answered = refl
 
@@ -140,13 +141,13 @@ rules =
     ("one that is over gives nothing", (over, degrees 1 1, "t", 9), limited true true 20) ∷
     []
 
-rules-answered : Answers (λ c. rulingOf (c .0) (c .1) (bytes (c .2)) (c .3)) rules
+rules-answered : Answers (λ c. rulingOf (tableAt 0) (c .0) (c .1) (bytes (c .2)) (c .3)) rules
 unfolding ruled
 rules-answered = refl
 
 -- what a zone of these polygons answers at a point; whether it holds the point
 abbrev pub ruling : String → Point → Answer
-ruling polygons q = rulingOf (file (zoneOf polygons "" forAll)) q (bytes "t") 0
+ruling polygons q = rulingOf (tableAt 0) (file (zoneOf polygons "" forAll)) q (bytes "t") 0
 
 abbrev held : String → Point → Bool
 held polygons q = eqb (ruling polygons q .number) 0

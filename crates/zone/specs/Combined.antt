@@ -4,6 +4,7 @@ use mathlib.Core.Bool.{true}
 use mathlib.Core.List.{List, [], _∷_, _++_}
 use mathlib.Core.Path.{_≡_}
 use Prim.Native.Nat.{ℕ}
+use Rattle.schema.specs.Shape.{Table}
 use Rattle.schema.specs.Pick.{Picked}
 use Rattle.geometry.specs.Ring.{Point}
 use Rattle.document.specs.Document.{Maybe, spelling, truth, given}
@@ -33,10 +34,10 @@ pub record NothingNew (l k : List Picked) : Type 0 where
   pub speed : Known (spelling 81) l k
   pub parking : Known (truth 82) l k
 
-pub record Combining : Type 0 where
+pub record Combining (t : Table) : Type 0 where
   -- a clean file answers with what the rules that apply give
-  pub answered : (s : List ℕ) (q : Point) (type : List ℕ) (moment : ℕ) → onMap q ≡ true → cleanOf 6 s ≡ Unbroken
-      → rulingOf s q type moment ≡ ofRules (rulesAt s q type moment)
+  pub answered : (s : List ℕ) (q : Point) (type : List ℕ) (moment : ℕ) → onMap q ≡ true → cleanOf t 6 s ≡ Unbroken
+      → rulingOf t s q type moment ≡ ofRules (rulesAt t s q type moment)
   -- of one rule alone the values are its own
   pub oneRule : (x : Picked) → ofRules (x ∷ []) ≡ found (own x)
   -- where the first rule gives all four values, the answer is document 01's, whatever follows

@@ -6,6 +6,7 @@ use mathlib.Core.Path.{_≡_}
 use Prim.Native.Nat.{ℕ, _≤_}
 use Rattle.notation.specs.Choice.{_⇒_else_}
 use Rattle.word.specs.Word.{noParts}
+use Rattle.schema.specs.Shape.{Table, fileShape}
 use Rattle.schema.specs.Pick.{Picked, elements}
 use Rattle.geometry.specs.Ring.{Point}
 use Rattle.geometry.specs.Held.{holds}
@@ -17,13 +18,13 @@ use Rattle.zone.specs.Zone.{outline, ringsHold, polygonsHoldBy, polygons
 use Rattle.zone.specs.Answer.{Answer, refused, onMap, ofRules, ofClean, rulingOf}
 
 -- no polygon of a file of zones has more than one ring
-abbrev pub WithoutHoles : (s : List ℕ) → Type 0
-WithoutHoles s = (zone : Picked) → List·Memᴰ zone (zonesOf s) → OneRingAtMost (polygonsOf zone)
+abbrev pub WithoutHoles : Table → (s : List ℕ) → Type 0
+WithoutHoles t s = (zone : Picked) → List·Memᴰ zone (zonesOf t s) → OneRingAtMost (polygonsOf zone)
 
 -- the rules before W13: a file is clean where polygons of one ring are asked for, a polygon holds what a ring of it does, a zone what a polygon of it does; and
 -- the answer by these
-abbrev pub cleanOfOne : ℕ → List ℕ → Outcome
-cleanOfOne = cleanBy coordinatesOfOne
+abbrev pub cleanOfOne : Table → (file : ℕ) → List ℕ → Outcome
+cleanOfOne t file s = cleanBy coordinatesOfOne (fileShape t file) file s
 
 unfoldable pub ringsHoldOfOne : List Picked → Point → Bool
 ringsHoldOfOne [] q = false
@@ -35,14 +36,14 @@ polygonsHoldOfOne = polygonsHoldBy ringsHoldOfOne
 abbrev pub zoneHoldsOfOne : Picked → Point → Bool
 zoneHoldsOfOne zone q = polygonsHoldOfOne (polygonsOf zone) q
 
-abbrev pub rulingOfOne : (s : List ℕ) → Point → (type : List ℕ) → (moment : ℕ) → Answer
-rulingOfOne s q type moment =
-    onMap q ⇒ ofClean (cleanOfOne 6 s) (ofRules (applicable (rulesBy zoneHoldsOfOne (zonesOf s) q moment) type)) else refused 8 noParts
+abbrev pub rulingOfOne : Table → (s : List ℕ) → Point → (type : List ℕ) → (moment : ℕ) → Answer
+rulingOfOne t s q type moment =
+    onMap q ⇒ ofClean (cleanOfOne t 6 s) (ofRules (applicable (rulesBy zoneHoldsOfOne (zonesOf t s) q moment) type)) else refused 8 noParts
 
-pub record Single : Type 0 where
+pub record Single (t : Table) : Type 0 where
   pub polygon : (p : Picked) (q : Point) → itemCount p ≤ 1 → ringsHold (elements p) q ≡ ringsHoldOfOne (elements p) q
   pub zone : (z : Picked) (q : Point) → OneRingAtMost (polygonsOf z) → zoneHolds z q ≡ zoneHoldsOfOne z q
   -- any file judged alone; only file 6 has polygons
-  pub clean : (file : ℕ) (s : List ℕ) → (file ≡ 6 → WithoutHoles s) → cleanOf file s ≡ cleanOfOne file s
+  pub clean : (file : ℕ) (s : List ℕ) → (file ≡ 6 → WithoutHoles t s) → cleanOf t file s ≡ cleanOfOne t file s
   -- at every point and moment and for every type, number 5 with its parts included
-  pub answer : (s : List ℕ) (q : Point) (type : List ℕ) (moment : ℕ) → WithoutHoles s → rulingOf s q type moment ≡ rulingOfOne s q type moment
+  pub answer : (s : List ℕ) (q : Point) (type : List ℕ) (moment : ℕ) → WithoutHoles t s → rulingOf t s q type moment ≡ rulingOfOne t s q type moment

@@ -5,15 +5,14 @@ use Prim.Native.Nat.{ℕ}
 use lib.Dec.{leb, ltb}
 use Rattle.notation.specs.Choice.{_⇒_else_, _and_}
 use Rattle.text.specs.Text.{same}
-use Rattle.schema.specs.Shape.{fileShape}
-use Rattle.schema.specs.Table23.{table23}
-use Rattle.schema.specs.Pick.{Picked, pick, elements}
+use Rattle.schema.specs.Shape.{Table, fileShape}
+use Rattle.schema.specs.Pick.{Picked, elements}
 use Rattle.geometry.specs.Ring.{Point}
 use Rattle.geometry.specs.Held.{sideOf, polygonHolds}
 use Rattle.rings.specs.Rings.{position}
 use Rattle.document.specs.Document.{Maybe, none, some, along, elementsOf, field, fieldItems, spelling, textIn}
 use Rattle.document.specs.Values.{integerIn}
-use Rattle.clean.specs.Clean.{treeOf, recordsOf}
+use Rattle.clean.specs.Clean.{recordsIn}
 
 -- an integer, where it is given
 abbrev pub integer : Maybe (List ℕ) → Maybe ℕ
@@ -84,12 +83,12 @@ unfoldable pub applicable : List Picked → List ℕ → List Picked
 applicable [] type = []
 applicable (r ∷ rs) type = applies r type ⇒ r ∷ applicable rs type else applicable rs type
 
--- the zones of a file, by its bytes, and the rules of it that apply
-abbrev pub zonesOf : List ℕ → List Picked
-zonesOf s = recordsOf 6 (pick (fileShape table23 6) (treeOf s))
+-- by a table, the zones of a file, by its bytes, and the rules of it that apply
+abbrev pub zonesOf : Table → List ℕ → List Picked
+zonesOf t s = recordsIn (fileShape t 6) s
 
-unfoldable pub rulesAt : (s : List ℕ) → Point → List ℕ → ℕ → List Picked
-rulesAt s q type moment = applicable (rulesBy zoneHolds (zonesOf s) q moment) type
+unfoldable pub rulesAt : Table → (s : List ℕ) → Point → List ℕ → ℕ → List Picked
+rulesAt t s q type moment = applicable (rulesBy zoneHolds (zonesOf t s) q moment) type
 
 -- a value as the first rule that gives it has it; one that is missing or "" is not given
 abbrev pub otherwise : {A : Type 0} → Maybe A → Maybe A → Maybe A

@@ -5,8 +5,10 @@ use crate::zones::rule_in;
 use clean::check_clean;
 use fault::outcome::Outcome;
 use geometry::Position;
+use schema::sheets::sheet_of;
 use word::Parts;
 ghost use mathlib.Core.Path.{_≡_};
+ghost use Rattle.schema.specs.Tables.{tableAt};
 ghost use Rattle.zone.specs.Answer.{answer, rulingOf};
 
 mod area;
@@ -83,21 +85,22 @@ impl Ruling {
     }
 }
 
-// The values at a point, in millionths of a degree, for a type at a moment, by the bytes of the file of zones: each by the first rule that applies and gives it.
+// The values at a point, in millionths of a degree, for a type at a moment, by a table and the bytes of the file of zones: each by the first rule that applies
+// and gives it.
 // Shut out: a zone that still counts at its end; an empty field 78 read as everybody; a later rule's value where an earlier one gives it.
-pub fn zone_rule(s: &[u8], lon: i64, lat: i64, type_id: &[u8], moment: u64) -> Ruling
-    ensures { λ r. ⌜ answer r ≡ rulingOf (now (s .entry)) (record { lon = lon; lat = lat }) (now («type_id» .entry)) moment ⌝ }
+pub fn zone_rule(table: u8, s: &[u8], lon: i64, lat: i64, type_id: &[u8], moment: u64) -> Ruling
+    ensures { λ r. ⌜ answer r ≡ rulingOf (tableAt table) (now (s .entry)) (record { lon = lon; lat = lat }) (now («type_id» .entry)) moment ⌝ }
 {
     if !on_map(lon, lat) {
         return Ruling::OffMap;
     }
-    match check_clean(Ruling::FILE, s) {
+    match check_clean(sheet_of(table, Ruling::FILE), Ruling::FILE, s) {
         Outcome::Unbroken => {
             let q = Position {
                 lon: raised(lon, 180_000_000),
                 lat: raised(lat, 90_000_000),
             };
-            return rule_in(s, q, type_id, moment);
+            return rule_in(table, s, q, type_id, moment);
         }
         Outcome::Broken(p) => {
             return Ruling::NotClean(p);

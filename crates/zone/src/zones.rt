@@ -8,12 +8,14 @@ use document::fields::array_in;
 use document::fields::member;
 use document::records_from;
 use geometry::Position;
+use schema::sheets::sheet_of;
 use walk::ItemStep;
 use walk::item_bytes;
 use walk::pass_item;
 ghost use mathlib.Core.Path.{_≡_};
 ghost use Rattle.walk.specs.Part.{partTree};
 ghost use Rattle.schema.specs.Table23.{zone};
+ghost use Rattle.schema.specs.Tables.{tableAt};
 ghost use Rattle.schema.specs.Pick.{pick};
 ghost use Rattle.geometry.specs.inner.Shifted.{OnMap, point};
 ghost use Rattle.fault.specs.declared.outcome.Outcome.the-variants.{Unbroken};
@@ -62,13 +64,14 @@ fn given_by_zones(p: &[u8], q: Position, type_id: &[u8], moment: u64) -> Given
     }
 }
 
-// The answer by a clean file; an absent one has no zones.
-pub fn rule_in(s: &[u8], q: Position, type_id: &[u8], moment: u64) -> Ruling
-    requires { ⌜ (cleanOf 6 (now s) ≡ Unbroken) × OnMap q ⌝ }
-    ensures { λ r. ⌜ answer r ≡ ofRules (rulesAt (now (s .entry)) (point q) (now («type_id» .entry)) moment) ⌝ }
+// The answer by a table and a clean file; an absent one has no zones.
+pub fn rule_in(table: u8, s: &[u8], q: Position, type_id: &[u8], moment: u64) -> Ruling
+    requires { ⌜ (cleanOf (tableAt table) 6 (now s) ≡ Unbroken) × OnMap q ⌝ }
+    ensures { λ r. ⌜ answer r ≡ ofRules (rulesAt (tableAt table) (now (s .entry)) (point q) (now («type_id» .entry)) moment) ⌝ }
 {
     if s.len() == 0 {
         return Ruling::NoRule;
     }
-    given_by_zones(records_from(Ruling::FILE, s), q, type_id, moment).ruling()
+    let records = records_from(sheet_of(table, Ruling::FILE), s);
+    given_by_zones(records, q, type_id, moment).ruling()
 }

@@ -14,18 +14,18 @@ use Rattle.clean.proofs.check_ids.Tie as tie
 
 returns : tie.Need-returns
 returns c =
-    let f = c .before in let file = f .before .before .args .file in let e : idField file ≡ 0 = sym (f .id-field .ensures) ∙ c .if1 .taken in
-    let none = no-ids file e in (ap (outcomeOf file) (sym (repeats-none file none _)), λ h i. true-false i none)
+    let f = c .before in let a = f .before .before .args in let e : idField (a .sheet) ≡ 0 = sym (f .id-field .ensures) ∙ c .if1 .taken in
+    let none = no-ids (a .sheet) e in (ap (outcomeOf (a .file)) (sym (repeats-none (a .sheet) none _)), λ h i. true-false i none)
 
 note-file-requires : tie.Need-note-file-requires
 note-file-requires c κs =
     let i = c .before in let f = i .before in let s = f .before .before in let x = s .pre in
-    (has-ids (s .args .file) (λ e. i .if1 .left (f .id-field .ensures ∙ e)), x .0, x .1, x .2)
+    (has-ids (s .args .sheet) (λ e. i .if1 .left (f .id-field .ensures ∙ e)), x .0, x .1, x .2)
 
 outcome-of-requires : tie.Need-outcome-of-requires
 outcome-of-requires c κs =
-    let r = c .before in let file = r .before .before .before .before .before .args .file in
-    subst Narrow (sym (c .blame .ensures)) (blamed-narrow (idField file) (r .note-file .result) (omega arith))
+    let r = c .before in let sheet = r .before .before .before .before .before .args .sheet in
+    subst Narrow (sym (c .blame .ensures)) (blamed-narrow (idField sheet) (r .note-file .result) (omega arith))
 
 returns-2 : tie.Need-returns-2
 returns-2 c =

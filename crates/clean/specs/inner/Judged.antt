@@ -3,8 +3,9 @@ use mathlib.Core.List.{List}
 use Prim.Native.Nat.{ℕ}
 use Rattle.json.specs.declared.Syntax.{Syntax}
 use Rattle.fault.specs.declared.outcome.Outcome.{Outcome}
+use Rattle.schema.specs.Shape.{Shape}
 use Rattle.rings.specs.Rings.{coordinatesFound}
 use Rattle.clean.specs.Clean.{judgedBy}
 
-abbrev pub judged : ℕ → List ℕ → Syntax → Outcome
+abbrev pub judged : Shape → (file : ℕ) → List ℕ → Syntax → Outcome
 judged = judgedBy coordinatesFound

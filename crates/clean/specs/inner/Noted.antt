@@ -8,6 +8,6 @@ use Rattle.schema.specs.Records.{hasIds}
 use Rattle.document.specs.inner.Spans.{RecordsFrom}
 use Rattle.ids.specs.inner.Notes.{Indexed}
 
--- the records of a file that is there, where they have ids, are noted, by the rest p of the file from its records on
-abbrev pub RecordsNoted : (file : ℕ) (s notes : List ℕ) → Type 0
-RecordsNoted file s notes = 0 < length s → hasIds file ≡ true → (p : List ℕ) → RecordsFrom file s p → Indexed file p notes
+-- the records of a file of a sheet that is there, where they have ids, are noted, by the rest p of the file from its records on
+abbrev pub RecordsNoted : (sheet : ℕ) (s notes : List ℕ) → Type 0
+RecordsNoted sheet s notes = 0 < length s → hasIds sheet ≡ true → (p : List ℕ) → RecordsFrom sheet s p → Indexed sheet p notes

@@ -1,11 +1,11 @@
 -- What the code answers of one record: the least of its broken rules, where the records that it may refer to are known.
-use mathlib.Core.Bool.{not}
+use mathlib.Core.Bool.{Bool, not}
 use mathlib.Core.List.{List, [], _∷_, _++_, List·Memᴰ}
 use mathlib.Core.Path.{_≡_}
-use Prim.Native.Nat.{ℕ, _≤_, _<_, _+_, _-_}
+use Prim.Native.Nat.{ℕ, _*_, _≤_, _<_}
 use lib.Dec.{eqb, ltb}
 use lib.ListN.{length, getD}
-use Rattle.notation.specs.Choice.{_and_}
+use Rattle.notation.specs.Choice.{_⇒_else_, _and_}
 use Rattle.word.specs.Kinds.{sumDiffers}
 use Rattle.json.specs.Tree as tree
 use Rattle.json.specs.Tree.{Members}
@@ -13,10 +13,9 @@ use Rattle.walk.specs.declared.Item.{Item}
 use Rattle.walk.specs.Walk.{itemsOf}
 use Rattle.walk.specs.Part.{Whole, partTree}
 use Rattle.walk.proofs.Parts.{itemOf}
-use Rattle.schema.specs.Shape.{Rows}
-use Rattle.schema.specs.Later.{rowsOf}
-use Rattle.schema.specs.inner.Line.{entries, fileLines}
-use Rattle.schema.specs.Table23.{available, table23}
+use Rattle.schema.specs.Tables.{sheets, sheetOf}
+use Rattle.schema.specs.inner.RecordLines.{recordLines}
+use Rattle.schema.specs.Table23.{available}
 use Rattle.schema.specs.Records.{recordShape}
 use Rattle.schema.specs.Pick.{Picked, pick}
 use Rattle.slots.specs.declared.Slots.{Slots}
@@ -28,7 +27,7 @@ use Rattle.fault.specs.declared.Place.{Place}
 use Rattle.document.specs.inner.Items.{pickedItems}
 use Rattle.document.specs.Values.{integerIn}
 use Rattle.document.specs.inner.Values.{FoundWhole, foundBytes, textBy, thereBy, arrayBy, spelledBy}
-use Rattle.ids.specs.References.{kindIf, hasCapacity, motorized, named, refers, demanded}
+use Rattle.ids.specs.References.{kindIf, any, hasCapacity, motorized, named, refers, demanded}
 use Rattle.ids.specs.inner.Known.{Searchable}
 use Rattle.cross.specs.Cross.{File, Files, recordPlace, sumOf, availableFaults}
 use Rattle.cross.specs.Stage.{Feeds, bytesOf}
@@ -41,12 +40,20 @@ Objects p = (m : Item) → List·Memᴰ m (itemsOf p) → (ms : Members) × (par
 abbrev pub Object : List ℕ → Type 0
 Object p = (ms : Members) × Whole p (tree.object ms)
 
--- a file by the bytes from its records on: without any it is not there
-abbrev pub fileBy : ℕ → List ℕ → File
-fileBy file p = record { here = ltb 0 (length p); records = pickedItems (recordShape file) p }
+-- a file of a sheet by the bytes from its records on: without any it is not there; and all files, by the table of a number
+abbrev pub fileBy : (sheet : ℕ) → List ℕ → File
+fileBy sheet p = record { here = ltb 0 (length p); records = pickedItems (recordShape sheet) p }
 
-abbrev pub filesBy : Feeds → Files
-filesBy rs file = fileBy file (bytesOf rs file)
+abbrev pub filesBy : (table : ℕ) → Feeds → Files
+filesBy table rs file = fileBy (sheetOf table file) (bytesOf rs file)
+
+-- the field of the ids of a file whose records have any, in every table
+abbrev pub idNumber : (file : ℕ) → ℕ
+idNumber file = eqb file 8 ⇒ 100 else 10 * file
+
+-- what is asked of a record that a reference names
+abbrev pub askedOf : (file : ℕ) → Picked → Bool
+askedOf file = eqb file 1 ⇒ motorized else eqb file 2 ⇒ hasCapacity else any
 
 -- how many files' notes are lent to those who judge records
 abbrev pub lentCount : ℕ
@@ -54,11 +61,11 @@ lentCount = 3
 
 -- What is known when the records of a file are judged: those that they may name are noted. The notes of types, stations and plans stand in this order;
 -- types name plans alone, and stations regions alone, whose notes stand first.
-pub record Known (file : ℕ) (rs notes : Feeds) : Type 0 where
-  pub types : 2 < file → Searchable 1 (bytesOf rs 1) (getD notes 0 [])
-  pub stations : 2 < file → Searchable 2 (bytesOf rs 2) (getD notes 1 [])
-  pub plans : (file ≡ 2 → ⊥) → Searchable 5 (bytesOf rs 5) (getD notes 2 [])
-  pub regions : file ≡ 2 → Searchable 8 (bytesOf rs 8) (getD notes 0 [])
+pub record Known (table file : ℕ) (rs notes : Feeds) : Type 0 where
+  pub types : 2 < file → Searchable (sheetOf table 1) (bytesOf rs 1) (getD notes 0 [])
+  pub stations : 2 < file → Searchable (sheetOf table 2) (bytesOf rs 2) (getD notes 1 [])
+  pub plans : (file ≡ 2 → ⊥) → Searchable (sheetOf table 5) (bytesOf rs 5) (getD notes 2 [])
+  pub regions : file ≡ 2 → Searchable (sheetOf table 8) (bytesOf rs 8) (getD notes 0 [])
 
 -- the notes of one file at every place
 abbrev pub alone : List ℕ → Feeds
@@ -69,20 +76,9 @@ pub record Referring (file : ℕ) : Type 0 where
   pub least : 1 ≤ file
   pub most : file ≤ 4
 
--- the rows of its records
-abbrev pub recordRows : ℕ → Rows
-recordRows file = rowsOf (recordShape file)
-
--- the lines of the table at which they stand, the last of the file's: how many, and the first of them
-unfoldable pub recordCount : ℕ → ℕ
-recordCount file = length (entries (recordRows file))
-
-unfoldable pub recordFirst : ℕ → ℕ
-recordFirst file = fileLines table23 file .first + fileLines table23 file .count - recordCount file
-
--- the slots of a record of the file
-abbrev pub Slotted : ℕ → List ℕ → Slots → Type 0
-Slotted file p s = Gathered p (recordFirst file) (recordCount file) s
+-- the slots of a record of a sheet, for the lines of its rows
+abbrev pub Slotted : (sheet : ℕ) → List ℕ → Slots → Type 0
+Slotted sheet p s = Gathered p (recordLines sheets sheet .first) (recordLines sheets sheet .count) s
 
 -- q is the value that is read at a slot
 abbrev pub Reads : (p : List ℕ) (s : Slots) (row : ℕ) (q : List ℕ) → Type 0
@@ -109,6 +105,6 @@ countsBy n types counts bikes =
     faulty (recordPlace n 0) 37 (demanded (types .here) (thereBy counts) ++ kindIf (thereBy counts and not (eqb (sumOf items) (integerIn (spelledBy bikes)))) sumDiffers) ++
     availableFaults (types .records) n 1 items
 
--- p is an object, and r the least of the rules that it breaks as a record of a file
-abbrev pub Judges : (file : ℕ) (breaks : Picked → List Fault) (p : List ℕ) (r : Least) → Type 0
-Judges file breaks p r = (ms : Members) → Whole p (tree.object ms) → r ≡ least (breaks (pick (recordShape file) (tree.object ms)))
+-- p is an object, and r the least of the rules that it breaks as a record of a sheet
+abbrev pub Judges : (sheet : ℕ) (breaks : Picked → List Fault) (p : List ℕ) (r : Least) → Type 0
+Judges sheet breaks p r = (ms : Members) → Whole p (tree.object ms) → r ≡ least (breaks (pick (recordShape sheet) (tree.object ms)))

@@ -5,8 +5,8 @@ use Prim.Native.Nat.{ℕ, zero, suc, _+_, _≤_}
 use lib.ListN.{length}
 use Rattle.json.specs.declared.Syntax.the-variants.{Sound}
 use Rattle.json.specs.Text.{syntaxOf}
-use Rattle.schema.specs.Shape.{fileShape}
-use Rattle.schema.specs.Table23.{table23}
+use Rattle.schema.specs.Shape.{Table}
+use Rattle.schema.specs.Tables.{sheetShape, sheetOf}
 use Rattle.fault.specs.Fault.{least}
 use Rattle.fault.specs.Outcome.{fileCount, outcomeOf, orNext}
 use Rattle.judge.specs.Faults.{fileFaults}
@@ -24,15 +24,15 @@ fromFile told file (suc left) = orNext (told file) (fromFile told (file + 1) lef
 abbrev pub firstOf : (ℕ → Outcome) → Outcome
 firstOf told = fromFile told 1 fileCount
 
--- stage C
-unfoldable pub firstC : Files → Outcome
-firstC s = firstOf (λ file. outcomeOf file (least (crossFaults s file)))
+-- stage C, by a table
+unfoldable pub firstC : Table → Files → Outcome
+firstC t s = firstOf (λ file. outcomeOf file (least (crossFaults t s file)))
 
--- a file is through stages A and B
-pub record PassesAB (n : ℕ) (s : List ℕ) : Type 0 where
+-- a file of a sheet is through stages A and B
+pub record PassesAB (sheet : ℕ) (s : List ℕ) : Type 0 where
   pub reads : (length s ≡ 0 → ⊥) → syntaxOf s ≡ Sound
-  pub faultless : (length s ≡ 0 → ⊥) → fileFaults (fileShape table23 n) (treeOf s) ≡ []
+  pub faultless : (length s ≡ 0 → ⊥) → fileFaults (sheetShape sheet) (treeOf s) ≡ []
 
--- all files of a set are through stages A and B
-abbrev pub AllPassAB : Feeds → Type 0
-AllPassAB s = (file : ℕ) → 1 ≤ file → file ≤ fileCount → PassesAB file (bytesOf s file)
+-- all files of a set are, by the table of a number
+abbrev pub AllPassAB : (table : ℕ) → Feeds → Type 0
+AllPassAB table s = (file : ℕ) → 1 ≤ file → file ≤ fileCount → PassesAB (sheetOf table file) (bytesOf s file)

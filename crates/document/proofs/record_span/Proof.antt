@@ -9,7 +9,7 @@ use Rattle.document.proofs.record_span.Tie as tie
 returns : tie.Need-returns
 returns c h =
     let r = c .before in let a = r .before .before .args in
-    record-absent (a .file) (a .s .now) (r .records-from .result .now) (a .n) (r .records-from .ensures) (c .if1 .taken) h
+    record-absent (a .sheet) (a .s .now) (r .records-from .result .now) (a .n) (r .records-from .ensures) (c .if1 .taken) h
 
 sub-nth-span : tie.Need-sub-nth-span
 sub-nth-span c = let i = c .before .records-from .ensures .inside in omega arith
@@ -20,7 +20,7 @@ nth-span-requires c κs = let i = c .before .records-from .ensures .inside in om
 returns-2 : tie.Need-returns-2
 returns-2 c h =
     let i = c .before in let r = i .before in let a = r .before .before .args in
-    let t = record-there (a .file) (a .s .now) (r .records-from .result .now) (a .n) (r .records-from .ensures) (i .if1 .left) h in
+    let t = record-there (a .sheet) (a .s .now) (r .records-from .result .now) (a .n) (r .records-from .ensures) (i .if1 .left) h in
     c .nth-span .ensures (t .0) ∙ t .1
 
 pub record-span-spec : {M : Type 1} → statement M

@@ -23,21 +23,21 @@ use Rattle.ids.specs.References.{any, hasCapacity, motorized}
 
 -- the test of a file's records, by what is picked of one
 abbrev pub testOf : ℕ → Picked → Bool
-testOf file = eqb file 1 ⇒ motorized else eqb file 2 ⇒ hasCapacity else any
+testOf sheet = eqb sheet 1 ⇒ motorized else eqb sheet 2 ⇒ hasCapacity else any
 
 abbrev pub testedOf : ℕ → Bool → Picked → Bool
-testedOf file tested = tested ⇒ testOf file else any
+testedOf sheet tested = tested ⇒ testOf sheet else any
 
 -- the records p of a file, which have ids, are noted
-pub record Searchable (file : ℕ) (p notes : List ℕ) : Type 0 where
-  pub ids : hasIds file ≡ true
-  pub noted : Indexed file p notes
+pub record Searchable (sheet : ℕ) (p notes : List ℕ) : Type 0 where
+  pub ids : hasIds sheet ≡ true
+  pub noted : Indexed sheet p notes
 
 -- how the record at a place of the order stands to an id, by what is noted
-abbrev pub probe : (file : ℕ) (p notes id : List ℕ) → ℕ → Order
-probe file p notes id = byKeys (idInOrder file p) notes id (keyOf (drop (skipIn notes) id))
+abbrev pub probe : (sheet : ℕ) (p notes id : List ℕ) → ℕ → Order
+probe sheet p notes id = byKeys (idInOrder sheet p) notes id (keyOf (drop (skipIn notes) id))
 
 -- a record of p that has the id starts there, or none has it
-abbrev pub RecordOf : (file : ℕ) (p id : List ℕ) → Start → Type 0
-RecordOf file p id (At start) = (m : Item) × List·Memᴰ m (itemsOf p) × (m .value ≡ start) × (hasId file id (itemOf p m) ≡ true)
-RecordOf file p id Nowhere = (m : Item) → List·Memᴰ m (itemsOf p) → hasId file id (itemOf p m) ≡ false
+abbrev pub RecordOf : (sheet : ℕ) (p id : List ℕ) → Start → Type 0
+RecordOf sheet p id (At start) = (m : Item) × List·Memᴰ m (itemsOf p) × (m .value ≡ start) × (hasId sheet id (itemOf p m) ≡ true)
+RecordOf sheet p id Nowhere = (m : Item) → List·Memᴰ m (itemsOf p) → hasId sheet id (itemOf p m) ≡ false

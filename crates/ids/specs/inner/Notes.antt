@@ -49,50 +49,50 @@ unfoldable pub entered : (notes : List ℕ) → (n place start member pass : ℕ
 entered notes n place start member pass = set (set (set notes n place) (records + n) start) (2 * records + n) (2 * member + pass)
 
 -- the places tell where the record q of p starts, and where the member of its id is looked for; nothing of p is there where it has none
-pub data Entry (file : ℕ) (p q : List ℕ) (start member : ℕ) : Type 0 where
-  without : idOf file q ≡ none → length p ≤ start → Entry file p q start member
-  within : {id : List ℕ} → idOf file q ≡ some id → (m : Item) → List·Memᴰ m (itemsOf p) → itemOf p m ≡ q → m .value ≡ start → NoIdBefore file q member
-      → Entry file p q start member
+pub data Entry (sheet : ℕ) (p q : List ℕ) (start member : ℕ) : Type 0 where
+  without : idOf sheet q ≡ none → length p ≤ start → Entry sheet p q start member
+  within : {id : List ℕ} → idOf sheet q ≡ some id → (m : Item) → List·Memᴰ m (itemsOf p) → itemOf p m ≡ q → m .value ≡ start → NoIdBefore sheet q member
+      → Entry sheet p q start member
 
 -- m is the item of p behind n others: an object in which the name of the file's ids stands once at most
-pub record Next (file : ℕ) (p : List ℕ) (n : ℕ) (m : Item) : Type 0 where
+pub record Next (sheet : ℕ) (p : List ℕ) (n : ℕ) (m : Item) : Type 0 where
   pub room : n < records
   pub short : length p ≤ fileBytes
   pub starts : m .value ≤ m .«value_end»
   pub ends : m .«value_end» ≤ length p
   pub among : List·Memᴰ m (itemsOf p)
   pub whole : Whole (itemOf p m) (partTree (itemOf p m))
-  pub single : IdOnce file (itemOf p m)
+  pub single : IdOnce sheet (itemOf p m)
   pub is : itemOf p m ≡ getD (recordBytes p) n []
 
 -- the first n records of p are entered
-pub record Noted (file : ℕ) (p : List ℕ) (n : ℕ) (notes : List ℕ) : Type 0 where
+pub record Noted (sheet : ℕ) (p : List ℕ) (n : ℕ) (notes : List ℕ) : Type 0 where
   pub long : length notes ≡ size
   pub few : n ≤ records
-  pub entries : (j : ℕ) → j < n → Entry file p (getD (recordBytes p) j []) (startAt notes j) (memberStart notes j)
-  pub texts : (j : ℕ) → j < n → idAt p notes j ≡ idsOf file p j
-  pub tests : (j : ℕ) → j < n → passAt notes j ≡ bit (passing file (getD (recordBytes p) j []))
+  pub entries : (j : ℕ) → j < n → Entry sheet p (getD (recordBytes p) j []) (startAt notes j) (memberStart notes j)
+  pub texts : (j : ℕ) → j < n → idAt p notes j ≡ idsOf sheet p j
+  pub tests : (j : ℕ) → j < n → passAt notes j ≡ bit (passing sheet (getD (recordBytes p) j []))
 
 -- the records of p in the order of their ids, and the one at the place i
 unfoldable pub inOrder : ℕ → List ℕ → List ℕ
-inOrder file p = sorted (notAfter (idsOf file p)) (numbers 0 (length (itemsOf p)))
+inOrder sheet p = sorted (notAfter (idsOf sheet p)) (numbers 0 (length (itemsOf p)))
 
 abbrev pub recordAt : ℕ → List ℕ → ℕ → ℕ
-recordAt file p i = getD (inOrder file p) i 0
+recordAt sheet p i = getD (inOrder sheet p) i 0
 
 -- the text of its id
 abbrev pub idInOrder : ℕ → List ℕ → ℕ → List ℕ
-idInOrder file p i = idsOf file p (recordAt file p i)
+idInOrder sheet p i = idsOf sheet p (recordAt sheet p i)
 
 -- the mark tells whether some record with the id of the record k passes
-abbrev pub Spread : (file : ℕ) (p : List ℕ) (mark k : ℕ) → Type 0
-Spread file p mark k = 0 < length (idsOf file p k) → mark ≡ bit (anyMeets file true (idsOf file p k) (recordBytes p) (length (itemsOf p)))
+abbrev pub Spread : (sheet : ℕ) (p : List ℕ) (mark k : ℕ) → Type 0
+Spread sheet p mark k = 0 < length (idsOf sheet p k) → mark ≡ bit (anyMeets sheet true (idsOf sheet p k) (recordBytes p) (length (itemsOf p)))
 
 -- all records of p are noted, and in order
-pub record Indexed (file : ℕ) (p notes : List ℕ) : Type 0 where
+pub record Indexed (sheet : ℕ) (p notes : List ℕ) : Type 0 where
   pub long : length notes ≡ size
   pub few : length (itemsOf p) ≤ records
   pub count : countIn notes ≡ length (itemsOf p)
-  pub keyed : Keyed (idInOrder file p) (length (itemsOf p)) (skipIn notes) notes
-  pub entries : (i : ℕ) → i < length (itemsOf p) → Entry file p (getD (recordBytes p) (recordAt file p i) []) (startAt notes i) (memberStart notes i)
-  pub spread : (i : ℕ) → i < length (itemsOf p) → Spread file p (passAt notes i) (recordAt file p i)
+  pub keyed : Keyed (idInOrder sheet p) (length (itemsOf p)) (skipIn notes) notes
+  pub entries : (i : ℕ) → i < length (itemsOf p) → Entry sheet p (getD (recordBytes p) (recordAt sheet p i) []) (startAt notes i) (memberStart notes i)
+  pub spread : (i : ℕ) → i < length (itemsOf p) → Spread sheet p (passAt notes i) (recordAt sheet p i)

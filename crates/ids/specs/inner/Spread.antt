@@ -74,4 +74,4 @@ SortedBy p n first notes r = (r ≡ repeatIn (idAt p first) n) × Sorted p n fir
 
 -- of any file whose n records are entered and all: r tells the first that repeats an id, and all are noted
 abbrev pub Orders : (p : List ℕ) (n : ℕ) (first notes : List ℕ) (r : ℕ) → Type 0
-Orders p n first notes r = (file : ℕ) → Noted file p n first → n ≡ length (itemsOf p) → (r ≡ firstRepeat file (recordBytes p)) × Indexed file p notes
+Orders p n first notes r = (sheet : ℕ) → Noted sheet p n first → n ≡ length (itemsOf p) → (r ≡ firstRepeat sheet (recordBytes p)) × Indexed sheet p notes

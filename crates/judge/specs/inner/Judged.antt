@@ -19,7 +19,7 @@ use Rattle.schema.specs.Shape.{Shape, Rows, Need, Numbering}
 use Rattle.schema.specs.inner.Line.{inside, valueLetter, shapeWords, wordsAt, lineAt}
 use Rattle.schema.specs.Pick.{Slot, missing, once, twice, unlessEmpty, pick, pickRows}
 use Rattle.schema.specs.inner.Sound.{distinctRows}
-use Rattle.schema.specs.Table23.{table23}
+use Rattle.schema.specs.Tables.{sheets}
 use Rattle.schema.proofs.Walk.{Laid, LaidIn, linesIn}
 use Rattle.slots.specs.declared.Found.the-variants.{Once}
 use Rattle.slots.specs.declared.Slots.{Slots}
@@ -62,9 +62,9 @@ memberFaults need σ q field twice = faulty q field (nameTwice ∷ [])
 pub record LineTells (i letter : ℕ) (σ : Shape) : Type 0 where
   pub there : i < lineCount
   pub lettered : valueLetter σ ≡ letter
-  pub words : wordsAt table23 i ≡ shapeWords σ
-  pub inner : LaidIn table23 (i + 1) σ
-  pub lines : lineAt table23 i .inside ≡ length (inside σ)
+  pub words : wordsAt sheets i ≡ shapeWords σ
+  pub inner : LaidIn sheets (i + 1) σ
+  pub lines : lineAt sheets i .inside ≡ length (inside σ)
 
 -- the row that line i is of
 pub record RowAt (i : ℕ) : Type 0 where
@@ -73,7 +73,7 @@ pub record RowAt (i : ℕ) : Type 0 where
   pub name : List ℕ
   pub value : Shape
   pub below : Rows
-  pub laid : Laid table23 i (shape.row field need name value below)
+  pub laid : Laid sheets i (shape.row field need name value below)
 
 -- the array that the row of line i holds
 pub record ArrayAt (i : ℕ) : Type 0 where
@@ -86,7 +86,7 @@ pub record ArrayAt (i : ℕ) : Type 0 where
 -- a value that is no array
 pub record Single (p : List ℕ) (letter i : ℕ) (q : Place) (level : ℕ) (r : Least) : Type 0 where
   pub is : (σ : Shape) → LineTells i letter σ → (letter ≡ code "[" → ⊥) → judgeable σ level ≡ true → (x : Json) → Whole p x →
-      r ≡ least (faults σ q (lineAt table23 i .field) (pick σ x))
+      r ≡ least (faults σ q (lineAt sheets i .field) (pick σ x))
 
 pub record Array (p : List ℕ) (i : ℕ) (q : Place) (level : ℕ) (r : Least) : Type 0 where
   pub is : (a : ArrayAt i) → let σ = shape.array (a .numbering) (a .most) (a .item) in judgeable σ level ≡ true → (x : Json) → Whole p x →
@@ -105,11 +105,11 @@ rowLeast met value line q =
 
 -- the columns of rows that begin at line `first`: each row that is met once in the object p has the least of its member
 pub record Kept (p : List ℕ) (first : ℕ) (q : Place) (level : ℕ) (s : Slots) (leasts : List Least) : Type 0 where
-  pub is : (j from upto : ℕ) → j < mostRows → slotAt s j ≡ Once from upto → Member (part p from upto) (rowLine table23 first j) q level (getD leasts j None)
+  pub is : (j from upto : ℕ) → j < mostRows → slotAt s j ≡ Once from upto → Member (part p from upto) (rowLine sheets first j) q level (getD leasts j None)
 
 -- rows that the judge can go by, at these lines
 pub record Listed (first count level : ℕ) (rows : Rows) : Type 0 where
-  pub laid : Laid table23 first rows
+  pub laid : Laid sheets first rows
   pub lines : linesIn rows ≡ count
   pub distinct : distinctRows rows ≡ true
   pub few : length (namesIn rows) ≤ mostRows
@@ -126,5 +126,5 @@ pub record MembersJudged (p : List ℕ) (first count : ℕ) (q : Place) (level :
   pub is : (rows : Rows) → Listed first count level rows → (ms : Members) → Whole p (Json.object ms) → r ≡ least (rowFaults rows q (pickRows rows ms))
 
 pub record Object (p : List ℕ) (first count field : ℕ) (q : Place) (level : ℕ) (r : Least) : Type 0 where
-  pub is : (rows : Rows) → Laid table23 first rows → linesIn rows ≡ count → judgeable (shape.object rows) level ≡ true → (x : Json) → Whole p x →
+  pub is : (rows : Rows) → Laid sheets first rows → linesIn rows ≡ count → judgeable (shape.object rows) level ≡ true → (x : Json) → Whole p x →
       r ≡ least (faults (shape.object rows) q field (pick (shape.object rows) x))

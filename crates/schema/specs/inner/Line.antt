@@ -7,6 +7,7 @@ use lib.ListN.{length, getD}
 use Rattle.schema.specs.Shape as shape
 use Rattle.schema.specs.Shape.{Shape, Rows, Table, Sort, Need, Numbering}
 use Rattle.schema.specs.Later.{itemShape}
+use Rattle.schema.specs.inner.Names.{numberIn, onceEach, placeCount, placesOf}
 use Rattle.schema.specs.declared.Line.{Line}
 use Rattle.schema.specs.declared.Range.{Range}
 
@@ -126,32 +127,64 @@ namesOf t = map (λ e. e .name) (entriesOf t)
 abbrev pub nameAt : Table → ℕ → List ℕ
 nameAt t i = getD (namesOf t) i []
 
--- The bytes of the table: the same number for each line, and behind the last line all names one after the other.
+-- Names by number: each of them once, the first with the number 1; the number of a text, 0 where it is no name; and the number of each line's name.
+unfoldable pub eachName : Table → List (List ℕ)
+eachName t = onceEach [] (namesOf t)
 
--- how many bytes a line has
+abbrev pub numberOf : Table → List ℕ → ℕ
+numberOf t x = numberIn (eachName t) x
+
+unfoldable pub numbersOf : Table → List ℕ
+numbersOf t = map (numberIn (eachName t)) (namesOf t)
+
+abbrev pub numberAt : Table → ℕ → ℕ
+numberAt t i = getD (numbersOf t) i 0
+
+-- The bytes of the table: the same number for each line; where each name stands, by number; the places; and all names one after the other. A number that may pass
+-- 255 has two bytes, the lower one first.
+
+-- how many bytes a line has, and the range of a name
 abbrev pub lineBytes : ℕ
-lineBytes = 11
+lineBytes = 9
 
--- A line's bytes: what it says, and where its name stands in the table's bytes. A number that may pass 255 has two bytes, the lower one first.
-abbrev pub bytesIn : Line → Range → List ℕ
-bytesIn line name =
-    line .field ∷ line .need ∷ line .value ∷ line .item ∷ line .numbering ∷ line .most % 256 ∷ line .most / 256 ∷ line .inside ∷
-    name .first % 256 ∷ name .first / 256 ∷ name .count ∷ []
+abbrev pub rangeBytes : ℕ
+rangeBytes = 3
 
-unfoldable pub lineRows : List Line → List Range → List (List ℕ)
-lineRows [] names = []
+-- a line's bytes: what it says, and the number of its name
+abbrev pub bytesIn : Line → ℕ → List ℕ
+bytesIn line number =
+    line .field ∷ line .need ∷ line .value ∷ line .item ∷ line .numbering ∷ line .most % 256 ∷ line .most / 256 ∷ line .inside ∷ number ∷ []
+
+unfoldable pub lineRows : List Line → List ℕ → List (List ℕ)
+lineRows [] numbers = []
 lineRows (line ∷ lines) [] = []
-lineRows (line ∷ lines) (name ∷ names) = bytesIn line name ∷ lineRows lines names
+lineRows (line ∷ lines) (number ∷ numbers) = bytesIn line number ∷ lineRows lines numbers
 
--- where the names stand: the first of them behind the last line
+abbrev pub rangeIn : Range → List ℕ
+rangeIn r = r .first % 256 ∷ r .first / 256 ∷ r .count ∷ []
+
+-- where the ranges, the places and the names begin
+abbrev pub rangesAt : Table → ℕ
+rangesAt t = lineBytes * length (linesOf t)
+
+abbrev pub placesAt : Table → ℕ
+placesAt t = rangesAt t + rangeBytes * (length (eachName t) + 1)
+
+abbrev pub namesFrom : Table → ℕ
+namesFrom t = placesAt t + placeCount
+
+-- where each name stands; the number 0, which no name has, stands for no bytes
 abbrev pub nameRanges : Table → List Range
-nameRanges t = rangesFrom (lineBytes * length (linesOf t)) (namesOf t)
+nameRanges t = rangesFrom (namesFrom t) ([] ∷ eachName t)
 
-abbrev pub nameRangeAt : Table → ℕ → Range
-nameRangeAt t i = getD (nameRanges t) i nowhere
+abbrev pub nameRangeBy : Table → ℕ → Range
+nameRangeBy t number = getD (nameRanges t) number nowhere
 
 unfoldable pub bytesOf : Table → List ℕ
-bytesOf t = flatten (lineRows (linesOf t) (nameRanges t)) ++ flatten (namesOf t)
+bytesOf t =
+    flatten (lineRows (linesOf t) (numbersOf t)) ++
+    (flatten (map rangeIn (nameRanges t)) ++
+    (placesOf (eachName t) ++ flatten ([] ∷ eachName t)))
 
 -- the words that a line's value is held to: all of an enum's, or the one text
 abbrev pub sortWords : Sort → List (List ℕ)
@@ -200,5 +233,5 @@ fileLines t file = getD (fileRanges t) file nowhere
 
 -- names all that lines, names and words are computed with
 unfoldable pub laidOut : Unit {0}
-unfolding fileRanges rangesFrom flatten linesOf namesOf lineRows bytesOf lineWords wordsOf entriesOf fileEntries inside itemShape
+unfolding fileRanges rangesFrom flatten linesOf namesOf eachName numbersOf lineRows bytesOf lineWords wordsOf entriesOf fileEntries inside itemShape
 laidOut = tt

@@ -10,7 +10,7 @@ use Rattle.text.specs.Text.{same}
 use Rattle.schema.specs.Shape as shape
 use Rattle.schema.specs.Shape.{Shape, Rows, Table}
 use Rattle.schema.specs.inner.Line.{lineAt, nameAt}
-use Rattle.schema.specs.Table23.{table23}
+use Rattle.schema.specs.Tables.{sheets}
 use Rattle.slots.specs.declared.Row.{Row}
 
 -- how many lines the 2.3 table has
@@ -33,7 +33,7 @@ namesAt t end (suc most) i = ltb i end ⇒ nameAt t i ∷ namesAt t end most (i 
 
 -- those of the 2.3 table, from `first` on; its last line ends them at the latest
 abbrev pub lineNames : (first count : ℕ) → List (List ℕ)
-lineNames first count = namesAt table23 (min lineCount (first + count)) mostRows first
+lineNames first count = namesAt sheets (min lineCount (first + count)) mostRows first
 
 -- the number of the first of these names that is x, counted from k on; `mostRows` where none is
 unfoldable pub rowNamed : List ℕ → List (List ℕ) → ℕ → ℕ
@@ -49,7 +49,7 @@ rowLine t i (suc j) = rowLine t i j + 1 + lineAt t (rowLine t i j) .inside
 pub record RowOf (x : List ℕ) (first count : ℕ) (r : Row) : Type 0 where
   pub named : r .row ≡ rowNamed x (lineNames first count) 0
   pub few : r .row ≤ mostRows
-  pub line : r .row < mostRows → r .line ≡ rowLine table23 first (r .row)
+  pub line : r .row < mostRows → r .line ≡ rowLine sheets first (r .row)
 
 -- every object in a shape has a slot for each of its rows
 unfoldable mutual

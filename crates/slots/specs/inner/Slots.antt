@@ -13,7 +13,7 @@ use Rattle.walk.specs.Walk.{part, membersOf}
 use Rattle.walk.specs.Part.{Whole}
 use Rattle.schema.specs.Shape.{Rows}
 use Rattle.schema.specs.inner.Sound.{distinctRows}
-use Rattle.schema.specs.Table23.{table23}
+use Rattle.schema.specs.Tables.{sheets}
 use Rattle.schema.proofs.Walk.{Laid, linesIn}
 use Rattle.slots.specs.declared.Found.{Found}
 use Rattle.slots.specs.declared.Found.the-variants.{Missing, Once, Twice}
@@ -64,7 +64,7 @@ gathered p names = foldl (absorbed p names) empty (membersOf p)
 -- `first` and `count` are lines of the table, r the slots that are filled for them from the object p
 pub record Gathered (p : List ℕ) (first count : ℕ) (r : Slots) : Type 0 where
   -- whatever rows are laid out there, each slot is what the whole object p holds under its row's name
-  pub slot : {ms : Members} → Whole p (Json.object ms) → (rows : Rows) → Laid table23 first rows → linesIn rows ≡ count → distinctRows rows ≡ true → length (namesIn rows) ≤ mostRows →
+  pub slot : {ms : Members} → Whole p (Json.object ms) → (rows : Rows) → Laid sheets first rows → linesIn rows ≡ count → distinctRows rows ≡ true → length (namesIn rows) ≤ mostRows →
       (j : ℕ) → j < length (namesIn rows) → slotAt r j ≡ foundIn p (getD (namesIn rows) j [])
   -- and whatever lines and bytes there are, its places are in p
   pub inside : (j : ℕ) → Within (length p) (slotAt r j)

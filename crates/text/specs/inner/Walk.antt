@@ -2,9 +2,9 @@
 use mathlib.Core.Bool.{Bool, true, false}
 use mathlib.Core.List.{List, [], _∷_, _++_, map}
 use mathlib.Core.Path.{_≡_}
-use Prim.Native.Nat.{ℕ, _+_, _<_}
+use Prim.Native.Nat.{ℕ, _+_, _≤_, _<_}
 use lib.Dec.{eqb, ltb}
-use lib.ListN.{length, take, drop}
+use lib.ListN.{length, take, drop, getD}
 use Rattle.notation.specs.Choice.{_⇒_else_, _and_}
 use Rattle.lexeme.specs.Character.{bytesOf, paired, char1, next}
 use Rattle.text.specs.declared.Cursor.{Cursor}
@@ -58,6 +58,14 @@ seen false (b ∷ l) = eqb b 0x22 ⇒ 0 else alone b ⇒ b + 1 else 257
 -- an escape of six bytes at the front stands for the byte b of ASCII; any other number says nothing
 abbrev pub Escapes : List ℕ → ℕ → Type 0
 Escapes l b = b < 128 → next paired l ≡ char1 b 5
+
+-- an escape \u00 begins at a place, with room for two digits more
+pub record LowEscape (s : List ℕ) (at : ℕ) : Type 0 where
+  pub room : at + 6 ≤ length s
+  pub backslash : getD s at 0 ≡ 0x5c
+  pub letter : getD s (at + 1) 0 ≡ 0x75
+  pub third : getD s (at + 2) 0 ≡ 0x30
+  pub fourth : getD s (at + 3) 0 ≡ 0x30
 
 -- two spellings begin with the same byte, and it stands for itself
 unfoldable pub samePlain : List ℕ → List ℕ → Bool

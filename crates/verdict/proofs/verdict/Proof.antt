@@ -11,22 +11,22 @@ use Rattle.verdict.proofs.verdict.Statement.{statement}
 use Rattle.verdict.proofs.verdict.Tie as tie
 
 returns : tie.Need-returns
-returns c = answer-short _ _ (omega arith)
+returns c = answer-short _ _ _ (omega arith)
 
 put-requires : tie.Need-put-requires
 put-requires c κs =
     let p = c .before in let j = p .before in
-    (subst (Fits writtenForm) (sym (p .parts-in .ensures ∙ ap said (j .judge .ensures))) (verdict-fits _), omega arith)
+    (subst (Fits writtenForm) (sym (p .parts-in .ensures ∙ ap said (j .judge .ensures))) (verdict-fits _ _), omega arith)
 
 returns-2 : tie.Need-returns-2
 returns-2 c =
     let u = c .before .before .before .before in let p = u .before .before in let j = p .before in
-    answer-room _ _ (omega arith) (j .judge .ensures) (p .parts-in .ensures) (u .put .ensures) (c .enum-told .given .1)
+    answer-room _ _ _ (omega arith) (j .judge .ensures) (p .parts-in .ensures) (u .put .ensures) (c .enum-told .given .1)
 
 returns-3 : tie.Need-returns-3
 returns-3 c =
     let u = c .before .before .before .before in let p = u .before .before in let j = p .before in
-    answer-room _ _ (omega arith) (j .judge .ensures) (p .parts-in .ensures) (u .put .ensures) (c .enum-told2 .given .1)
+    answer-room _ _ _ (omega arith) (j .judge .ensures) (p .parts-in .ensures) (u .put .ensures) (c .enum-told2 .given .1)
 
 pub verdict-spec : {M : Type 1} → statement M
 verdict-spec =

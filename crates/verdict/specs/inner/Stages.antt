@@ -3,6 +3,7 @@ use mathlib.Core.List.{List, [], _∷_}
 use Prim.Native.Nat.{ℕ}
 use Rattle.word.specs.declared.Parts.{Parts}
 use Rattle.json.specs.Text.{syntaxOf}
+use Rattle.schema.specs.Shape.{Table}
 use Rattle.fault.specs.declared.Fault.{Fault}
 use Rattle.fault.specs.declared.outcome.Outcome.{Outcome}
 use Rattle.fault.specs.declared.outcome.Outcome.the-variants.{Unbroken}
@@ -17,10 +18,10 @@ use Rattle.verdict.specs.declared.stages.Stage.the-variants as stage
 use Rattle.verdict.specs.Verdict.{faultsBBy, stageBBy}
 
 -- stage B by the rules on coordinates that hold: what a file breaks, and all that a set does
-abbrev pub faultsB : ℕ → List ℕ → List Fault
+abbrev pub faultsB : Table → (file : ℕ) → List ℕ → List Fault
 faultsB = faultsBBy coordinatesFound
 
-abbrev pub stageB : Feeds → List Parts
+abbrev pub stageB : Table → Feeds → List Parts
 stageB = stageBBy coordinatesFound
 
 -- what stage A tells of a file; nothing of an absent one
@@ -28,15 +29,15 @@ abbrev pub outcomeA : ℕ → List ℕ → Outcome
 outcomeA file [] = Unbroken
 outcomeA file (b ∷ s) = syntaxOutcome file (syntaxOf (b ∷ s))
 
--- what a stage tells of a file that it judges alone
-abbrev pub outcomeIn : Stage → ℕ → List ℕ → Outcome
-outcomeIn stage.A file s = outcomeA file s
-outcomeIn stage.B file s = outcomeOf file (least (faultsB file s))
+-- by a table, what a stage tells of a file that it judges alone
+abbrev pub outcomeIn : Table → Stage → (file : ℕ) → List ℕ → Outcome
+outcomeIn t stage.A file s = outcomeA file s
+outcomeIn t stage.B file s = outcomeOf file (least (faultsB t file s))
 
 -- and of the first file that breaks one of its rules
-unfoldable pub firstIn : Stage → Feeds → Outcome
-firstIn x s = firstOf (λ file. outcomeIn x file (bytesOf s file))
+unfoldable pub firstIn : Table → Stage → Feeds → Outcome
+firstIn t x s = firstOf (λ file. outcomeIn t x file (bytesOf s file))
 
 -- the first stage in which a file breaks one
-unfoldable pub staged : Feeds → Outcome
-staged s = orNext (firstIn stage.A s) (orNext (firstIn stage.B s) (firstC (picked s)))
+unfoldable pub staged : Table → Feeds → Outcome
+staged t s = orNext (firstIn t stage.A s) (orNext (firstIn t stage.B s) (firstC t (picked t s)))

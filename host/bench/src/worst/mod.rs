@@ -7,7 +7,7 @@ mod records;
 use crate::questions::Question::{self, Quote, Verdict, Zone};
 use feeds::questions::{Ride, Where};
 use feeds::Set;
-use records::{escaped, file, plain, stuffed, File, Spelling};
+use records::{escaped, file, plain, slashed, stuffed, File, Spelling};
 use reference::ceiling;
 
 /// A set by its name, and the questions that it is made for.
@@ -24,15 +24,20 @@ pub struct Made {
     pub place: Where,
 }
 
-pub const ALL: [Worst; 27] = [
+pub const ALL: [Worst; 30] = [
     // Ids that differ and share a digest which the library once took, of 8 bytes and of 100 bytes, 92 of which they share.
     Worst { name: "digests", questions: &[Verdict, Quote], make: || referring(&digests::colliding(""), plain) },
     Worst { name: "digests-long", questions: &[Verdict, Quote], make: || referring(&digests::colliding(PREFIX), plain) },
     // Ids of which all but one differ in the last two of 100 bytes, and that one in its first, so that the others have one key: plain; spelled
     // with escapes, as all else is; and spelled with escapes where types have them, but plain where zones name these.
-    Worst { name: "keys", questions: &[Verdict, Quote], make: || referring(&one_key(), plain) },
-    Worst { name: "keys-escaped", questions: &[Verdict, Quote], make: || referring(&one_key(), escaped) },
-    Worst { name: "keys-spelled", questions: &[Verdict], make: || zones(&one_key(), escaped) },
+    Worst { name: "keys", questions: &[Verdict, Quote], make: || referring(&one_key(PREFIX), plain) },
+    Worst { name: "keys-escaped", questions: &[Verdict, Quote], make: || referring(&one_key(PREFIX), escaped) },
+    Worst { name: "keys-spelled", questions: &[Verdict], make: || zones(&one_key(PREFIX), escaped) },
+    // The same with ids of slashes, which types have with a backslash before each, and with ids of characters of three bytes: plain; and
+    // spelled with escapes where types have them.
+    Worst { name: "keys-slashed", questions: &[Verdict], make: || zones(&one_key(&"/".repeat(98)), slashed) },
+    Worst { name: "keys-wide", questions: &[Verdict], make: || zones(&one_key(&"€".repeat(32)), plain) },
+    Worst { name: "keys-wide-spelled", questions: &[Verdict], make: || zones(&one_key(&"€".repeat(32)), escaped) },
     // Ids of 100 bytes that differ in the last two: plain; spelled with escapes, as all else is; and spelled with escapes where types have
     // them, but plain where zones name these.
     Worst { name: "prefixes", questions: &[Verdict, Quote, Zone], make: || referring(&alike(), plain) },
@@ -100,14 +105,19 @@ fn short() -> Vec<String> {
     (0..IDS).map(|number| numbered(number, 2)).collect()
 }
 
-/// Ids of 100 bytes that differ in the last two.
-fn alike() -> Vec<String> {
-    short().iter().map(|id| format!("{PREFIX}{id}")).collect()
+/// Ids that differ in the two bytes behind a front.
+fn behind(front: &str) -> Vec<String> {
+    short().iter().map(|id| format!("{front}{id}")).collect()
 }
 
-/// Ids of 100 bytes that differ in the last two, but for the first, which begins otherwise: so no front is common to all, and the others have one key.
-fn one_key() -> Vec<String> {
-    std::iter::once("-".into()).chain(alike().into_iter().skip(1)).collect()
+/// Ids of 100 bytes that differ in the last two.
+fn alike() -> Vec<String> {
+    behind(PREFIX)
+}
+
+/// Ids that differ behind a front, but for the first, which begins otherwise: so no front is common to all, and the others have one key.
+fn one_key(front: &str) -> Vec<String> {
+    std::iter::once("-".into()).chain(behind(front).into_iter().skip(1)).collect()
 }
 
 /// A set of files 1 to 6 and the file of the system, without regions; a ride by a plan, and a place in the zone of `records::zone`.

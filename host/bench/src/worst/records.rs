@@ -9,17 +9,22 @@ pub fn plain(text: &str) -> String {
     text.into()
 }
 
-/// Every byte of every string as an escape. The text has none yet, and no byte past ASCII.
+/// Every character of every string as an escape. The text has none yet, and no character that takes two.
 pub fn escaped(text: &str) -> String {
     let mut within = false;
-    let spell = |byte| {
-        within ^= byte == b'"';
-        match within && byte != b'"' {
-            true => format!("\\u{byte:04x}"),
-            false => char::from(byte).into(),
+    let spell = |character: char| {
+        within ^= character == '"';
+        match within && character != '"' {
+            true => format!("\\u{:04x}", u32::from(character)),
+            false => character.into(),
         }
     };
-    text.bytes().map(spell).collect()
+    text.chars().map(spell).collect()
+}
+
+/// Every slash as an escape.
+pub fn slashed(text: &str) -> String {
+    text.replace('/', "\\/")
 }
 
 /// The bytes of a file, and how many records it has.

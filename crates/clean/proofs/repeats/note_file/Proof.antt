@@ -10,11 +10,11 @@ use Rattle.clean.proofs.Repeated.{Repeats, repeats-are, records-same}
 use Rattle.clean.proofs.repeats.note_file.Statement.{statement}
 use Rattle.clean.proofs.repeats.note_file.Tie as tie
 
-indexed-as : {file : ℕ} {p q notes : List ℕ} → p ≡ q → Indexed file p notes → Indexed file q notes
-indexed-as {file} {notes = notes} e = subst (λ (l : List ℕ). Indexed file l notes) e
+indexed-as : {sheet : ℕ} {p q notes : List ℕ} → p ≡ q → Indexed sheet p notes → Indexed sheet q notes
+indexed-as {sheet} {notes = notes} e = subst (λ (l : List ℕ). Indexed sheet l notes) e
 
 -- by the records that were found
-by-records : (c : tie.After-records-from) → let a = c .before .before .args in Repeats (a .file) (a .s .now) (c .records-from .result .now)
+by-records : (c : tie.After-records-from) → let a = c .before .before .args in Repeats (a .sheet) (a .s .now) (c .records-from .result .now)
 by-records c = let x = c .before .before .pre in repeats-are _ _ (x .1) (x .2) (x .0) (c .records-from .ensures)
 
 note-requires : tie.Need-note-requires
@@ -23,8 +23,8 @@ note-requires c κs =
 
 returns : tie.Need-returns
 returns c =
-    let r = c .before .before in let s = r .before .before in let x = s .pre in let file = s .args .file in (
-      by-records r .names ∙ ap (blamed (idField file)) (sym (c .note .ensures .0)),
+    let r = c .before .before in let s = r .before .before in let x = s .pre in let sheet = s .args .sheet in (
+      by-records r .names ∙ ap (blamed (idField sheet)) (sym (c .note .ensures .0)),
       λ h j p f. indexed-as (records-same _ _ (x .1) (x .2) (x .0) (r .records-from .ensures) f) (c .note .ensures .1),
     )
 

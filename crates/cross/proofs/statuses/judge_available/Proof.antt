@@ -9,12 +9,12 @@ use lib.ListN.{length}
 use Rattle.walk.specs.inner.Along.{ItemPlaced}
 use Rattle.walk.proofs.Left.{nearer}
 use Rattle.schema.specs.Table23.{available}
-use Rattle.schema.specs.Records.{recordShape, identified}
+use Rattle.schema.specs.Tables.{sheetOf}
+use Rattle.schema.specs.Records.{recordShape}
 use Rattle.fault.specs.Fault.{least as leastOf}
 use Rattle.document.specs.inner.Items.{pickedItems}
 use Rattle.document.specs.Values.{integerIn}
 use Rattle.document.specs.inner.Values.{textBy, spelledBy}
-use Rattle.ids.specs.inner.Ids.{idField}
 use Rattle.ids.specs.References.{refers as refersTo}
 use Rattle.cross.specs.Cross.{recordPlace as placeAt}
 use Rattle.cross.proofs.Joined.{breaks}
@@ -24,11 +24,11 @@ use Rattle.cross.proofs.statuses.judge_available.Statement.{statement}
 use Rattle.cross.proofs.statuses.judge_available.Tie as tie
 
 abbrev Inv-loop : tie.InvT-loop
-Inv-loop p n types typeNotes sum₀ least₀ sub₀ at₀ t15 t16 sum least sub at =
-    (sum ≤ at * 10 ^ 12) × Sums p sum at × Judging (availableItem (pickedItems (recordShape 1) types) n) available p sub at least
+Inv-loop table p n types typeNotes sum₀ least₀ sub₀ at₀ t15 t16 sum least sub at =
+    (sum ≤ at * 10 ^ 12) × Sums p sum at × Judging (availableItem (pickedItems (recordShape (sheetOf table 1)) types) n) available p sub at least
 
 abbrev μ-loop : tie.MeasureT-loop
-μ-loop p n types typeNotes sum₀ least₀ sub₀ at₀ t15 t16 sum least sub at = length p - at
+μ-loop table p n types typeNotes sum₀ least₀ sub₀ at₀ t15 t16 sum least sub at = length p - at
 
 loop-holds : tie.Need-loop-holds Inv-loop μ-loop
 loop-holds c = let a = c .before .before .pre .2 in (omega arith, sums-start _ a, judging-start _ _ _ a)
@@ -64,18 +64,17 @@ loop-less : tie.Need-loop-less Inv-loop μ-loop
 loop-less c = let d = met c .before in nearer (d .before .before .pass-item .ensures) (d .item .given .1)
 
 loop-again : tie.Need-loop-again Inv-loop μ-loop
-unfolding identified idField
 loop-again c =
     let q₂ = c .before in let l = q₂ .before .before in let b = l .before in let r = b .before in let q = r .before in
     let d = met c .before in let t = d .before .before in let k = t .before in let a = k .before .before .before .args in
     let e = d .item .given .1 in let s = t .pass-item .ensures in let i = placed (met c) in
-    let whole = judging-whole (k .loop .inv .2) s e in let types = pickedItems (recordShape 1) (a .types .now) in (
+    let whole = judging-whole (k .loop .inv .2) s e in let types = pickedItems (recordShape (sheetOf (a .table) 1)) (a .types .now) in (
       omega (arith, k .loop .inv .0, c .integer-in .ensures, count-small (q₂ .member2 .result .now)),
       sums-more (a .p .now) (k .loop .sum) (k .loop .at) (k .loop .inv .1) s e
           (c .integer-in .ensures ∙ ap integerIn (ap spelledBy (q₂ .member2 .ensures _ whole) ∙ available-count whole)),
       judging-more (k .loop .inv .2) s e
-          (breaks (placeAt (a .n) (k .loop .sub + 1)) 38 (r .refers .result) (b .broken .ensures)
-          (r .refers .ensures ∙ ap (λ z. refersTo z 10 types) (ap textBy (q .member .ensures _ whole) ∙ available-text whole)))
+          (breaks (placeAt (a .n) (k .loop .sub + 1)) 38 (r .refers-in .result) (b .broken .ensures)
+          (r .refers-in .ensures ∙ ap (λ z. refersTo z 10 types) (ap textBy (q .member .ensures _ whole) ∙ available-text whole)))
           (l .lesser .ensures),
     )
 

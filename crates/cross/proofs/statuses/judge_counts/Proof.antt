@@ -11,6 +11,7 @@ use Rattle.notation.specs.Choice.{_and_}
 use Rattle.word.specs.Kinds.{sumDiffers}
 use Rattle.walk.specs.inner.Along.{AlongItems}
 use Rattle.schema.specs.Table23.{available}
+use Rattle.schema.specs.Tables.{sheetOf}
 use Rattle.schema.specs.Records.{recordShape}
 use Rattle.fault.specs.Fault.{least}
 use Rattle.document.specs.inner.Items.{pickedItems}
@@ -35,7 +36,7 @@ returns : tie.Need-returns
 returns c =
     let l = c .before in let b = l .before in let k = b .before in let b₁ = k .before in let d = b₁ .before in let j = d .before in let r = j .before in
     let a = r .before .before .before .before .args in
-    let types = pickedItems (recordShape 1) (a .types .now) in let place = recordPlace (a .n) 0 in
+    let types = pickedItems (recordShape (sheetOf (a .table) 1)) (a .types .now) in let place = recordPlace (a .n) 0 in
     let sum : j .judge-available .result .sum ≡ sumOf (pickedItems available (arrayBy (a .available .now))) =
     j .judge-available .ensures .sums ∙ ap (λ q. sumOf (pickedItems available q)) (r .array-in .ensures) in
     both _ _ (c .lesser2 .ensures)

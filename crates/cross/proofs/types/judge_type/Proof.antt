@@ -6,11 +6,11 @@ use Prim.Native.Nat.{ℕ}
 use native.Mathlib.Omega.{arith}
 use lib.Dec.{ltb}
 use lib.ListN.{length}
-use Rattle.schema.specs.Records.{recordShape, identified}
+use Rattle.schema.specs.Tables.{sheetOf}
+use Rattle.schema.specs.Records.{recordShape}
 use Rattle.fault.specs.Fault.{least}
 use Rattle.document.specs.inner.Items.{pickedItems}
 use Rattle.document.specs.inner.Values.{textBy, thereBy}
-use Rattle.ids.specs.inner.Ids.{idField}
 use Rattle.ids.specs.References.{demanded as demandedOf, refers as refersTo}
 use Rattle.cross.specs.Cross.{recordPlace}
 use Rattle.cross.specs.inner.Judged.{filesBy}
@@ -20,13 +20,12 @@ use Rattle.cross.proofs.Gathering.{type-is}
 use Rattle.cross.proofs.types.judge_type.Statement.{statement}
 use Rattle.cross.proofs.types.judge_type.Tie as tie
 
-refers-requires : tie.Need-refers-requires
-refers-requires c κs =
+refers-in-requires : tie.Need-refers-in-requires
+refers-in-requires c κs =
     let f = c .before .before .before .before .before .before .before .before .before in
     searchable-by (f .file-in .ensures) (c .notes-in .ensures) (f .before .before .pre .1 .plans (λ e. omega arith))
 
 returns : tie.Need-returns
-unfolding identified idField
 returns c ms w =
     let l = c .before in let b₃ = l .before in let r = b₃ .before in let b₂ = r .before .before in let d₂ = b₂ .before in let b = d₂ .before in let d = b .before in
     let v₃ = d .before in let v₂ = v₃ .before in let i = v₂ .before in let v = i .before in let f = v .before in
@@ -37,14 +36,14 @@ returns c ms w =
     (joined place 14 _ _ (l .lesser .ensures)
     (breaks place 14 (d₂ .demanded2 .result) (b₂ .broken2 .ensures)
     (d₂ .demanded2 .ensures ∙ ap (λ (q : List ℕ). demandedOf (ltb 0 (length q)) (thereBy plan)) (f .file-in .ensures)))
-    (breaks place 14 (r .refers .result) (b₃ .broken3 .ensures)
-    (r .refers .ensures ∙ ap (λ (q : List ℕ). refersTo (textBy plan) 50 (pickedItems (recordShape 5) q)) (f .file-in .ensures))))
+    (breaks place 14 (r .refers-in .result) (b₃ .broken3 .ensures)
+    (r .refers-in .ensures ∙ ap (λ (q : List ℕ). refersTo (textBy plan) 50 (pickedItems (recordShape (sheetOf (a .table) 5)) q)) (f .file-in .ensures))))
     ∙ ap least
-    (type-is (filesBy (map (λ p. p .now) (a .records))) (a .n) (s .pre .0) (v .value-in .ensures .0) (v₃ .value-in3 .ensures .0) (v₂ .value-in2 .ensures .0) w)
+    (type-is (a .table) (filesBy (a .table) (map (λ p. p .now) (a .records))) (a .n) (s .pre .0) (v .value-in .ensures .0) (v₃ .value-in3 .ensures .0) (v₂ .value-in2 .ensures .0) w)
 
 pub judge-type-spec : {M : Type 1} → statement M
 judge-type-spec =
     tie.close
     (tie.spec (λ c κs. search needs) (λ c κs. search needs) (λ c κs. search needs) (λ c κs. search needs) (λ c κs. search needs) (λ c κs. search needs)
-    (λ c κs. search needs) (λ c κs. search needs) (λ c κs. search needs) (λ c κs. search needs) refers-requires (λ c κs. search needs) (λ c κs. search needs)
+    (λ c κs. search needs) (λ c κs. search needs) (λ c κs. search needs) (λ c κs. search needs) refers-in-requires (λ c κs. search needs) (λ c κs. search needs)
     (λ c κs. search needs) returns)

@@ -8,10 +8,10 @@ use lib.ListN.{length}
 use Rattle.walk.specs.inner.Along.{ItemPlaced}
 use Rattle.walk.proofs.Left.{nearer}
 use Rattle.schema.specs.Shape.{Sort, scalar}
-use Rattle.schema.specs.Records.{recordShape, identified}
+use Rattle.schema.specs.Tables.{sheetOf}
+use Rattle.schema.specs.Records.{recordShape}
 use Rattle.fault.specs.Fault.{least as leastOf}
 use Rattle.document.specs.inner.Items.{pickedItems}
-use Rattle.ids.specs.inner.Ids.{idField}
 use Rattle.ids.specs.References.{refers as refersTo}
 use Rattle.cross.proofs.Joined.{breaks}
 use Rattle.cross.proofs.Walked.{Judging, judging-start, judging-end, judging-whole, judging-more}
@@ -20,11 +20,11 @@ use Rattle.cross.proofs.zones.judge_named.Statement.{statement}
 use Rattle.cross.proofs.zones.judge_named.Tie as tie
 
 abbrev Inv-loop : tie.InvT-loop
-Inv-loop p place types typeNotes least₀ at₀ least at =
-    (k : ℕ) × Judging (idItem (pickedItems (recordShape 1) types) (place .«record») (place .sub)) (scalar Sort.id) p k at least
+Inv-loop table p place types typeNotes least₀ at₀ least at =
+    (k : ℕ) × Judging (idItem (pickedItems (recordShape (sheetOf table 1)) types) (place .«record») (place .sub)) (scalar Sort.id) p k at least
 
 abbrev μ-loop : tie.MeasureT-loop
-μ-loop p place types typeNotes least₀ at₀ least at = length p - at
+μ-loop table p place types typeNotes least₀ at₀ least at = length p - at
 
 loop-holds : tie.Need-loop-holds Inv-loop μ-loop
 loop-holds c = (0, judging-start _ _ _ (c .before .before .pre .1))
@@ -45,15 +45,14 @@ loop-less : tie.Need-loop-less Inv-loop μ-loop
 loop-less c = let d = c .before .before .before .before .before in nearer (d .before .before .pass-item .ensures) (d .item .given .1)
 
 loop-again : tie.Need-loop-again Inv-loop μ-loop
-unfolding identified idField
 loop-again c =
     let b = c .before in let r = b .before in let d = r .before .before .before in let t = d .before .before in let k = t .before in
     let a = k .before .before .before .args in let e = d .item .given .1 in
-    let types = pickedItems (recordShape 1) (a .types .now) in let w = k .loop .inv .1 in (
+    let types = pickedItems (recordShape (sheetOf (a .table) 1)) (a .types .now) in let w = k .loop .inv .1 in (
       k .loop .inv .0 + 1,
       judging-more w (t .pass-item .ensures) e
-          (breaks (a .place) 78 (r .refers .result) (b .broken .ensures)
-          (r .refers .ensures ∙ ap (λ z. refersTo z 10 types) (id-text (judging-whole w (t .pass-item .ensures) e))))
+          (breaks (a .place) 78 (r .refers-in .result) (b .broken .ensures)
+          (r .refers-in .ensures ∙ ap (λ z. refersTo z 10 types) (id-text (judging-whole w (t .pass-item .ensures) e))))
           (c .lesser .ensures),
     )
 

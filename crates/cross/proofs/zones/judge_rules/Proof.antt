@@ -13,6 +13,7 @@ use Rattle.walk.proofs.Left.{nearer}
 use Rattle.walk.proofs.Parts.{itemOf}
 use Rattle.schema.specs.Shape.{Sort, scalar}
 use Rattle.schema.specs.Table23.{rule}
+use Rattle.schema.specs.Tables.{sheetOf}
 use Rattle.schema.specs.Records.{recordShape}
 use Rattle.fault.specs.Fault.{least as leastOf}
 use Rattle.document.specs.inner.Items.{pickedItems}
@@ -25,11 +26,11 @@ use Rattle.cross.proofs.zones.judge_rules.Statement.{statement}
 use Rattle.cross.proofs.zones.judge_rules.Tie as tie
 
 abbrev Inv-loop : tie.InvT-loop
-Inv-loop p n types typeNotes least₀ sub₀ at₀ t18 least sub at =
-    Judging (ruleItem (pickedItems (recordShape 1) types) n) rule p sub at least
+Inv-loop table p n types typeNotes least₀ sub₀ at₀ t18 least sub at =
+    Judging (ruleItem (pickedItems (recordShape (sheetOf table 1)) types) n) rule p sub at least
 
 abbrev μ-loop : tie.MeasureT-loop
-μ-loop p n types typeNotes least₀ sub₀ at₀ t18 least sub at = length p - at
+μ-loop table p n types typeNotes least₀ sub₀ at₀ t18 least sub at = length p - at
 
 loop-holds : tie.Need-loop-holds Inv-loop μ-loop
 loop-holds c = judging-start _ _ _ (c .before .before .pre .2)
@@ -70,7 +71,7 @@ loop-less c = let d = c .before .before .before .before .before .before .before 
 loop-again : tie.Need-loop-again Inv-loop μ-loop
 loop-again c =
     let j = c .before in let i = j .before in let d = i .before .before .before .before .before in let t = d .before .before in let k = t .before in
-    let a = k .before .before .before .args in let types = pickedItems (recordShape 1) (a .types .now) in
+    let a = k .before .before .before .args in let types = pickedItems (recordShape (sheetOf (a .table) 1)) (a .types .now) in
     judging-more (k .loop .inv) (t .pass-item .ensures) (d .item .given .1)
     (j .judge-named .ensures
     ∙ ap (λ l. leastOf (idFaults types (a .n) (k .loop .sub + 1) l)) (ap (pickedItems (scalar Sort.id)) (ids-are i) ∙ rule-ids (whole d)))

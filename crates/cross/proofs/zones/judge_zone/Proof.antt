@@ -6,17 +6,23 @@ use Prim.Native.Nat.{ℕ, _<_}
 use native.Mathlib.Omega.{arith}
 use lib.ListN.{length}
 use Rattle.notation.specs.Ascii.{bytes}
+use Rattle.json.specs.Tree as tree
+use Rattle.json.specs.Tree.{Members}
 use Rattle.walk.specs.Part.{Whole}
 use Rattle.walk.specs.inner.Along.{AlongItems}
-use Rattle.schema.specs.Table23.{rule}
-use Rattle.schema.specs.Records.{recordShape, located}
+use Rattle.schema.specs.Shape.{Shape}
+use Rattle.schema.specs.Table23.{rule, zone}
+use Rattle.schema.specs.Tables.{sheetOf}
+use Rattle.schema.specs.Records.{recordShape}
+use Rattle.schema.specs.Pick.{pick}
 use Rattle.fault.specs.Fault.{least}
 use Rattle.fault.proofs.Leasts.{none-least}
 use Rattle.document.specs.inner.Items.{pickedItems}
 use Rattle.document.specs.inner.Values.{memberOf, arrayBy}
-use Rattle.cross.specs.Cross.{ruleFaults}
+use Rattle.cross.specs.Cross.{ruleFaults, zoneFaults}
 use Rattle.document.proofs.Arrays.{member-along}
 use Rattle.document.proofs.Sizes.{member-short, array-short}
+use Rattle.cross.proofs.Tabled.{zone-shape}
 use Rattle.cross.proofs.Fielded.{no-bytes, properties-whole, zone-rules, zone-bare}
 use Rattle.cross.proofs.zones.judge_zone.Statement.{statement}
 use Rattle.cross.proofs.zones.judge_zone.Tie as tie
@@ -54,16 +60,22 @@ judge-rules-requires c κs =
       subst (λ (l : List ℕ). 0 < length l → AlongItems l 1) (sym (rules-are c)) (member-along _ _),
     )
 
+-- a zone of the sheet
+zone-is : (s : tie.Start) (ms : Members) → let a = s .args in let types = pickedItems (recordShape (sheetOf (a .table) 1)) (a .types .now) in
+    zoneFaults types (a .n) (pick zone (tree.object ms)) ≡ zoneFaults types (a .n) (pick (recordShape (sheetOf (a .table) 6)) (tree.object ms))
+zone-is s ms =
+    let a = s .args in let types = pickedItems (recordShape (sheetOf (a .table) 1)) (a .types .now) in
+    ap (λ (σ : Shape). zoneFaults types (a .n) (pick σ (tree.object ms))) (sym (zone-shape (a .table)))
+
 returns : tie.Need-returns
-unfolding located
 returns c ms w =
-    let k = c .before in sym (none-least _ (zone-bare _ _ w (sym (properties-are k) ∙ no-bytes _ (c .if1 .taken))))
+    let k = c .before in
+    sym (none-least _ (sym (zone-is (start k) ms) ∙ zone-bare _ _ w (sym (properties-are k) ∙ no-bytes _ (c .if1 .taken))))
 
 returns-2 : tie.Need-returns-2
-unfolding located
 returns-2 c ms w =
-    let r = c .before in let a = start (looked r) .args in let types = pickedItems (recordShape 1) (a .types .now) in
-    c .judge-rules .ensures ∙ ap (λ q. least (ruleFaults types (a .n) 1 (pickedItems rule q))) (rules-are r) ∙ ap least (zone-rules types (a .n) w)
+    let r = c .before in let a = start (looked r) .args in let types = pickedItems (recordShape (sheetOf (a .table) 1)) (a .types .now) in
+    c .judge-rules .ensures ∙ ap (λ q. least (ruleFaults types (a .n) 1 (pickedItems rule q))) (rules-are r) ∙ ap least (zone-rules types (a .n) w ∙ zone-is (start (looked r)) ms)
 
 pub judge-zone-spec : {M : Type 1} → statement M
 judge-zone-spec =

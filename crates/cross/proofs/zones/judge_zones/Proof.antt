@@ -9,6 +9,7 @@ use Rattle.walk.specs.Part.{Whole, partTree}
 use Rattle.walk.specs.inner.Along.{ItemPlaced}
 use Rattle.walk.proofs.Left.{nearer}
 use Rattle.walk.proofs.Parts.{itemOf}
+use Rattle.schema.specs.Tables.{sheetOf}
 use Rattle.schema.specs.Records.{recordShape}
 use Rattle.schema.specs.Pick.{pick}
 use Rattle.fault.specs.Fault.{least as leastOf}
@@ -20,10 +21,10 @@ use Rattle.cross.proofs.zones.judge_zones.Statement.{statement}
 use Rattle.cross.proofs.zones.judge_zones.Tie as tie
 
 abbrev Inv-loop : tie.InvT-loop
-Inv-loop p types typeNotes least₀ n₀ at₀ least n at = Judging (zoneFaults (pickedItems (recordShape 1) types)) (recordShape 6) p n at least
+Inv-loop table p types typeNotes least₀ n₀ at₀ least n at = Judging (zoneFaults (pickedItems (recordShape (sheetOf table 1)) types)) (recordShape (sheetOf table 6)) p n at least
 
 abbrev μ-loop : tie.MeasureT-loop
-μ-loop p types typeNotes least₀ n₀ at₀ least n at = length p - at
+μ-loop table p types typeNotes least₀ n₀ at₀ least n at = length p - at
 
 loop-holds : tie.Need-loop-holds Inv-loop μ-loop
 loop-holds c = judging-start _ _ _ (c .before .before .pre .1 .along)
@@ -60,10 +61,10 @@ loop-again : tie.Need-loop-again Inv-loop μ-loop
 loop-again c =
     let j = c .before in let d = j .before .before .before in let t = d .before .before in let k = t .before in
     let s = start d in let p = s .args .p .now in let m = d .item .given .0 .0 in let e = d .item .given .1 in
-    let faults = zoneFaults (pickedItems (recordShape 1) (s .args .types .now)) in
+    let faults = zoneFaults (pickedItems (recordShape (sheetOf (s .args .table) 1)) (s .args .types .now)) in
     let o = s .pre .1 .objects m (judging-among (k .loop .inv) (t .pass-item .ensures) e) in
     judging-more (k .loop .inv) (t .pass-item .ensures) e
-    (j .judge-zone .ensures (o .0) (subst (Whole (itemOf p m)) (o .1) (whole d)) ∙ ap (λ x. leastOf (faults (k .loop .n + 1) (pick (recordShape 6) x))) (sym (o .1)))
+    (j .judge-zone .ensures (o .0) (subst (Whole (itemOf p m)) (o .1) (whole d)) ∙ ap (λ x. leastOf (faults (k .loop .n + 1) (pick (recordShape (sheetOf (s .args .table) 6)) x))) (sym (o .1)))
     (c .lesser .ensures)
 
 pub judge-zones-spec : {M : Type 1} → statement M

@@ -18,10 +18,10 @@ use Rattle.ids.proofs.id.id_text.Statement.{statement}
 use Rattle.ids.proofs.id.id_text.Tie as tie
 
 abbrev Inv-loop : tie.InvT-loop
-Inv-loop file q at₀ at = (at ≤ fileBytes) × ((ms : Members) → Whole q (tree.object ms) → NoIdBefore file q at)
+Inv-loop sheet q at₀ at = (at ≤ fileBytes) × ((ms : Members) → Whole q (tree.object ms) → NoIdBefore sheet q at)
 
 abbrev μ-loop : tie.MeasureT-loop
-μ-loop file q at₀ at = length q - at
+μ-loop sheet q at₀ at = length q - at
 
 loop-holds : tie.Need-loop-holds Inv-loop μ-loop
 loop-holds c = (omega arith, λ ms w. unmet-start _ w)

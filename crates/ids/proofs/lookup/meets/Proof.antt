@@ -25,24 +25,24 @@ use Rattle.ids.proofs.lookup.meets.Tie as tie
 
 -- some record is met in bytes just where one is among what is picked, where that is tested or not
 picked : (s : tie.Start) {t : Bool} → s .args .tested ≡ t → let a = s .args in
-    anyMeets (a .file) t (textOf (a .id .now)) (recordBytes (a .p .now)) (length (itemsOf (a .p .now)))
-    ≡ anyWith (testedOf (a .file) (a .tested)) (idField (a .file)) (pickedItems (recordShape (a .file)) (a .p .now)) (textOf (a .id .now))
+    anyMeets (a .sheet) t (textOf (a .id .now)) (recordBytes (a .p .now)) (length (itemsOf (a .p .now)))
+    ≡ anyWith (testedOf (a .sheet) (a .tested)) (idField (a .sheet)) (pickedItems (recordShape (a .sheet)) (a .p .now)) (textOf (a .id .now))
 picked s e =
     let a = s .args in
-    ap (λ (t : Bool). anyMeets (a .file) t (textOf (a .id .now)) (recordBytes (a .p .now)) (length (itemsOf (a .p .now)))) (sym e)
-    ∙ meets-picked (a .file) (s .pre .ids) (a .tested) (textOf (a .id .now)) (a .p .now)
+    ap (λ (t : Bool). anyMeets (a .sheet) t (textOf (a .id .now)) (recordBytes (a .p .now)) (length (itemsOf (a .p .now)))) (sym e)
+    ∙ meets-picked (a .sheet) (s .pre .ids) (a .tested) (textOf (a .id .now)) (a .p .now)
 
 given : (c : tie.Else1) → 0 < length (textOf (c .before .before .before .before .before .args .id .now))
 given c = ltb-true 0 _ (some-given _ (sym (c .before .text-is .ensures) ∙ c .if1 .left))
 
 met-is : (c : tie.After-search) → let a = c .before .before .before .before .before .before .args in
-    c .search .result .met ≡ foundBy (probe (a .file) (a .p .now) (a .notes .now) (textOf (a .id .now))) 14 0 (length (itemsOf (a .p .now))) .met
+    c .search .result .met ≡ foundBy (probe (a .sheet) (a .p .now) (a .notes .now) (textOf (a .id .now))) 14 0 (length (itemsOf (a .p .now))) .met
 met-is c = ap (λ (f : Lookup). f .met) (c .search .ensures)
 
 returns : tie.Need-returns
 returns c =
     let t = c .before in let s = t .before .before .before .before in let a = s .args in
-    none-met (a .file) (a .tested) (textOf (a .id .now)) (recordBytes (a .p .now)) (length (itemsOf (a .p .now))) (same-true _ [] (sym (t .text-is .ensures) ∙ c .if1 .taken))
+    none-met (a .sheet) (a .tested) (textOf (a .id .now)) (recordBytes (a .p .now)) (length (itemsOf (a .p .now))) (same-true _ [] (sym (t .text-is .ensures) ∙ c .if1 .taken))
     ∙ picked s refl
 
 returns-2 : tie.Need-returns-2

@@ -9,10 +9,10 @@ use Rattle.ids.proofs.note.note.Statement.{statement}
 use Rattle.ids.proofs.note.note.Tie as tie
 
 abbrev Inv-loop : tie.InvT-loop
-Inv-loop file p notes₀ n₀ at₀ notes n at = Noting file p notes n at
+Inv-loop sheet p notes₀ n₀ at₀ notes n at = Noting sheet p notes n at
 
 abbrev μ-loop : tie.MeasureT-loop
-μ-loop file p notes₀ n₀ at₀ notes n at = length p - at
+μ-loop sheet p notes₀ n₀ at₀ notes n at = length p - at
 
 loop-holds : tie.Need-loop-holds Inv-loop μ-loop
 loop-holds c = let x = c .before .pre in noting-start (x .4) (x .2)
@@ -23,7 +23,7 @@ order-notes-requires c κs = let w = c .before .before .before .before .loop .in
 returns : tie.Need-returns Inv-loop μ-loop
 returns c =
     let e = c .before .before in let t = e .before .before in let l = t .before in let a = l .before .before .args in
-    c .order-notes .ensures (a .file) (l .loop .inv .noted) (noting-end (l .loop .inv) (t .pass-item .ensures) (e .enum-told .given .1))
+    c .order-notes .ensures (a .sheet) (l .loop .inv .noted) (noting-end (l .loop .inv) (t .pass-item .ensures) (e .enum-told .given .1))
 
 note-record-requires : tie.Need-note-record-requires Inv-loop μ-loop
 note-record-requires c κs =

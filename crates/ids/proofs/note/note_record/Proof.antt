@@ -21,20 +21,20 @@ short c =
     let s = c .before .before in let a = s .args in
     omega (arith, s .pre .0 .short, ap length (c .item-bytes .ensures), part-short (a .p .now) (a .m .value) (a .m .«value_end»))
 
-passes : (c : tie.After-passes) → let a = c .before .before .before .args in c .passes .result ≡ passing (a .file) (itemOf (a .p .now) (a .m))
-passes c = let b = c .before in c .passes .ensures ∙ ap (passing (b .before .before .args .file)) (b .item-bytes .ensures)
+passes : (c : tie.After-passes) → let a = c .before .before .before .args in c .passes .result ≡ passing (a .sheet) (itemOf (a .p .now) (a .m))
+passes c = let b = c .before in c .passes .ensures ∙ ap (passing (b .before .before .args .sheet)) (b .item-bytes .ensures)
 
 -- where the id of the record is
 told : (c : tie.After-id-text) → let a = c .before .before .before .before .args in let q = itemOf (a .p .now) (a .m) in
-    NoIdBefore (a .file) q (c .id-text .result .member) × TextPlace q (idOf (a .file) q) (c .id-text .result .text)
+    NoIdBefore (a .sheet) q (c .id-text .result .member) × TextPlace q (idOf (a .sheet) q) (c .id-text .result .text)
 told c =
     let b = c .before .before in let s = b .before .before in let a = s .args in let x = s .pre .0 in let o = x .single .object in
-    subst (λ (q : List ℕ). IdTold (a .file) q (c .id-text .result)) (b .item-bytes .ensures) (c .id-text .ensures) .told (o .0) (subst (Whole (itemOf (a .p .now) (a .m))) (o .1) (x .whole)) (x .single .once)
+    subst (λ (q : List ℕ). IdTold (a .sheet) q (c .id-text .result)) (b .item-bytes .ensures) (c .id-text .ensures) .told (o .0) (subst (Whole (itemOf (a .p .now) (a .m))) (o .1) (x .whole)) (x .single .once)
 
 returns : tie.Need-returns
 returns c =
     let f = c .before .before in let t = f .before .before in let k = t .before in let s = k .before .before .before in let a = s .args in
-    subst (λ (x : List ℕ). Noted (a .file) (a .p .now) (a .n + 1) x) (sym (c .enter .ensures)) (enter-none (s .pre .1) (s .pre .0) (passes k) (told t .1 .none (f .if1 .taken)))
+    subst (λ (x : List ℕ). Noted (a .sheet) (a .p .now) (a .n + 1) x) (sym (c .enter .ensures)) (enter-none (s .pre .1) (s .pre .0) (passes k) (told t .1 .none (f .if1 .taken)))
 
 enter-requires-2 : tie.Need-enter-requires-2
 enter-requires-2 c κs =
@@ -45,7 +45,7 @@ enter-requires-2 c κs =
 returns-2 : tie.Need-returns-2
 returns-2 c =
     let f = c .before .before .before .before in let t = f .before .before in let k = t .before in let s = k .before .before .before in let a = s .args in let h = f .if1 .left in
-    subst (λ (x : List ℕ). Noted (a .file) (a .p .now) (a .n + 1) x) (sym (c .enter2 .ensures))
+    subst (λ (x : List ℕ). Noted (a .sheet) (a .p .now) (a .n + 1) x) (sym (c .enter2 .ensures))
     (enter-some (s .pre .1) (s .pre .0) (passes k) (t .id-text .result .text) (t .id-text .result .member) (told t .1) (omega (arith, h)) (told t .0))
 
 pub note-record-spec : {M : Type 1} → statement M

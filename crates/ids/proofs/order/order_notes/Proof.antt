@@ -33,7 +33,7 @@ cast-result c =
     omega (arith, result-is b, first-most (idAt (a .p .now) (a .notes .now)) (a .n), s .pre .0)
 
 returns : tie.Need-returns
-returns c file w all =
+returns c sheet w all =
     let b = c .before .before .before in let s = b .before .before .before .before .before .before in let a = s .args in
     let t = by-number (lent (a .n) (s .pre .0)) (b .order-by .ensures .1) in
     (result-is b ∙ first-is w all t, indexed w all t)

@@ -23,7 +23,7 @@ returns : tie.Need-returns
 returns c =
     let a = c .before .before .before .before .args in
     demanded-given
-    (named (testOf (a .file)) (idField (a .file)) (pickedItems (recordShape (a .file)) (a .p .now)) (textBy (a .reference .now)))
+    (named (testOf (a .sheet)) (idField (a .sheet)) (pickedItems (recordShape (a .sheet)) (a .p .now)) (textBy (a .reference .now)))
     (a .value .now) (c .if1 .taken)
 
 returns-2 : tie.Need-returns-2

@@ -13,16 +13,16 @@ use Rattle.ids.proofs.references.named.Tie as tie
 
 returns : tie.Need-returns
 returns c =
-    let k = c .before in let a = k .before .before .before .args in let l = pickedItems (recordShape (a .file)) (a .p .now) in
-    sym (ap (named (testOf (a .file)) (idField (a .file)) l) (text-none (a .value .now) _ (k .code-of .ensures) (c .if1 .taken)))
+    let k = c .before in let a = k .before .before .before .args in let l = pickedItems (recordShape (a .sheet)) (a .p .now) in
+    sym (ap (named (testOf (a .sheet)) (idField (a .sheet)) l) (text-none (a .value .now) _ (k .code-of .ensures) (c .if1 .taken)))
 
 returns-2 : tie.Need-returns-2
 returns-2 c =
     let u = c .before in let i = u .before in let k = i .before in let a = k .before .before .before .args in
-    let l = pickedItems (recordShape (a .file)) (a .p .now) in
+    let l = pickedItems (recordShape (a .sheet)) (a .p .now) in
     c .meets .ensures
-    ∙ ap (λ q. anyWith (testOf (a .file)) (idField (a .file)) l (textOf q)) (u .unquoted .ensures)
-    ∙ sym (ap (named (testOf (a .file)) (idField (a .file)) l) (text-some (a .value .now) _ (k .code-of .ensures) (i .if1 .left)))
+    ∙ ap (λ q. anyWith (testOf (a .sheet)) (idField (a .sheet)) l (textOf q)) (u .unquoted .ensures)
+    ∙ sym (ap (named (testOf (a .sheet)) (idField (a .sheet)) l) (text-some (a .value .now) _ (k .code-of .ensures) (i .if1 .left)))
 
 pub named-spec : {M : Type 1} → statement M
 named-spec =

@@ -15,18 +15,18 @@ use Rattle.ids.proofs.references.refers.Tie as tie
 
 returns : tie.Need-returns
 returns c =
-    let k = c .before in let a = k .before .before .before .args in let l = pickedItems (recordShape (a .file)) (a .p .now) in
-    sym (ap (λ o. refers o (idField (a .file)) l) (text-none (a .value .now) _ (k .code-of .ensures) (c .if1 .taken)))
+    let k = c .before in let a = k .before .before .before .args in let l = pickedItems (recordShape (a .sheet)) (a .p .now) in
+    sym (ap (λ o. refers o (idField (a .sheet)) l) (text-none (a .value .now) _ (k .code-of .ensures) (c .if1 .taken)))
 
 -- where the record was searched for
 searched : (c : tie.After-meets) →
     let a = c .before .before .before .before .before .before .args in
-    kindIf (not (c .meets .result)) dangling ≡ refers (textBy (a .value .now)) (idField (a .file)) (pickedItems (recordShape (a .file)) (a .p .now))
+    kindIf (not (c .meets .result)) dangling ≡ refers (textBy (a .value .now)) (idField (a .sheet)) (pickedItems (recordShape (a .sheet)) (a .p .now))
 searched c =
     let u = c .before in let i = u .before in let k = i .before in let a = k .before .before .before .args in
-    let l = pickedItems (recordShape (a .file)) (a .p .now) in
-    ap (λ (t : Bool). kindIf (not t) dangling) (c .meets .ensures ∙ ap (λ q. anyWith any (idField (a .file)) l (textOf q)) (u .unquoted .ensures))
-    ∙ sym (ap (λ o. refers o (idField (a .file)) l) (text-some (a .value .now) _ (k .code-of .ensures) (i .if1 .left)))
+    let l = pickedItems (recordShape (a .sheet)) (a .p .now) in
+    ap (λ (t : Bool). kindIf (not t) dangling) (c .meets .ensures ∙ ap (λ q. anyWith any (idField (a .sheet)) l (textOf q)) (u .unquoted .ensures))
+    ∙ sym (ap (λ o. refers o (idField (a .sheet)) l) (text-some (a .value .now) _ (k .code-of .ensures) (i .if1 .left)))
 
 returns-2 : tie.Need-returns-2
 returns-2 c = sym (ap (λ (t : Bool). kindIf (not t) dangling) (c .if2 .taken)) ∙ searched (c .before)

@@ -21,11 +21,11 @@ given : (c : tie.Else1) → 0 < length (c .before .before .before .args .id .now
 given c = let h = c .if1 .left in omega (arith, h)
 
 met-is : (c : tie.After-search) → let a = c .before .before .before .before .args in
-    c .search .result .met ≡ foundBy (probe (a .file) (a .p .now) (a .notes .now) (a .id .now)) 14 0 (length (itemsOf (a .p .now))) .met
+    c .search .result .met ≡ foundBy (probe (a .sheet) (a .p .now) (a .notes .now) (a .id .now)) 14 0 (length (itemsOf (a .p .now))) .met
 met-is c = ap (λ (f : Lookup). f .met) (c .search .ensures)
 
 returns : tie.Need-returns
-returns c = let a = c .before .before .before .args in none-nowhere (a .file) (a .p .now) (no-bytes (a .id .now) (c .if1 .taken))
+returns c = let a = c .before .before .before .args in none-nowhere (a .sheet) (a .p .now) (no-bytes (a .id .now) (c .if1 .taken))
 
 returns-2 : tie.Need-returns-2
 returns-2 c = let f = c .before .before in let s = f .before .before .before .before in found-nowhere (s .pre .noted) _ _ (met-is f) (c .if2 .taken)

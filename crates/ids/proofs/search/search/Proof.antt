@@ -25,17 +25,17 @@ use Rattle.ids.proofs.search.search.Statement.{statement}
 use Rattle.ids.proofs.search.search.Tie as tie
 
 abbrev Inv-loop : tie.InvT-loop
-Inv-loop file p notes id raw wanted met₀ left lo₀ hi₀ middle key «record» at₀ met lo hi at =
-    (met ≡ 0) × (lo ≡ lo₀) × (hi ≡ hi₀) × Reading file (getD (recordBytes p) (recordAt file p middle) []) «record» at
+Inv-loop sheet p notes id raw wanted met₀ left lo₀ hi₀ middle key «record» at₀ met lo hi at =
+    (met ≡ 0) × (lo ≡ lo₀) × (hi ≡ hi₀) × Reading sheet (getD (recordBytes p) (recordAt sheet p middle) []) «record» at
 
 abbrev μ-loop : tie.MeasureT-loop
-μ-loop file p notes id raw wanted met₀ left lo₀ hi₀ middle key «record» at₀ met lo hi at = length «record» - at
+μ-loop sheet p notes id raw wanted met₀ left lo₀ hi₀ middle key «record» at₀ met lo hi at = length «record» - at
 
 abbrev Inv-search : tie.InvT-search
-Inv-search file p notes id raw wanted met₀ left₀ lo₀ hi₀ met left lo hi = (met ≡ 0) × Halving (probe file p notes (meant raw id)) (length (itemsOf p)) left lo hi
+Inv-search sheet p notes id raw wanted met₀ left₀ lo₀ hi₀ met left lo hi = (met ≡ 0) × Halving (probe sheet p notes (meant raw id)) (length (itemsOf p)) left lo hi
 
 abbrev μ-search : tie.MeasureT-search
-μ-search file p notes id raw wanted met₀ left₀ lo₀ hi₀ met left lo hi = hi - lo
+μ-search sheet p notes id raw wanted met₀ left₀ lo₀ hi₀ met left lo hi = hi - lo
 
 abbrev In : Type 0
 In = tie.In-search Inv-loop μ-loop Inv-search μ-search
@@ -45,7 +45,7 @@ start c = c .before .before .before .before .before .before .before
 
 -- how the record at a place stands to the id
 abbrev stands : In → ℕ → Order
-stands c = let a = start c .args in probe (a .file) (a .p .now) (a .notes .now) (meant (a .raw) (a .id .now))
+stands c = let a = start c .args in probe (a .sheet) (a .p .now) (a .notes .now) (meant (a .raw) (a .id .now))
 
 abbrev count : In → ℕ
 count c = length (itemsOf (start c .args .p .now))
@@ -64,8 +64,8 @@ search-holds : tie.Need-search-holds Inv-loop μ-loop Inv-search μ-search
 search-holds c =
     let s = c .before .before .before .before .before in let a = s .args in let w = s .pre .0 in let f = w .few in (
       refl,
-      subst (Halving (probe (a .file) (a .p .now) (a .notes .now) (meant (a .raw) (a .id .now))) (length (itemsOf (a .p .now))) 14 0) (sym (w .count) ∙ sym (c .count .ensures))
-          (halving-start (probe (a .file) (a .p .now) (a .notes .now) (meant (a .raw) (a .id .now))) (length (itemsOf (a .p .now))) (omega arith)),
+      subst (Halving (probe (a .sheet) (a .p .now) (a .notes .now) (meant (a .raw) (a .id .now))) (length (itemsOf (a .p .now))) 14 0) (sym (w .count) ∙ sym (c .count .ensures))
+          (halving-start (probe (a .sheet) (a .p .now) (a .notes .now) (meant (a .raw) (a .id .now))) (length (itemsOf (a .p .now))) (omega arith)),
     )
 
 -- the key that is wanted
@@ -84,19 +84,19 @@ greater c e = let s = c .before .search in halving-greater (stands c) (count c) 
 search-again : tie.Need-search-again Inv-loop μ-loop Inv-search μ-search
 search-again c =
     let k = c .before in let i = k .before in let a = start i .args in
-    (i .before .search .inv .0, less i (probe-less (a .file) (a .p .now) (a .notes .now) (meant (a .raw) (a .id .now)) (half i) (k .key-at .ensures) (wanted-is i) (c .if1 .taken)))
+    (i .before .search .inv .0, less i (probe-less (a .sheet) (a .p .now) (a .notes .now) (meant (a .raw) (a .id .now)) (half i) (k .key-at .ensures) (wanted-is i) (c .if1 .taken)))
 
 search-again-2 : tie.Need-search-again-2 Inv-loop μ-loop Inv-search μ-search
 search-again-2 c =
     let k = c .before .before in let i = k .before in let a = start i .args in
-    (i .before .search .inv .0, greater i (probe-greater (a .file) (a .p .now) (a .notes .now) (meant (a .raw) (a .id .now)) (half i) (k .key-at .ensures) (wanted-is i) (c .if2 .taken)))
+    (i .before .search .inv .0, greater i (probe-greater (a .sheet) (a .p .now) (a .notes .now) (meant (a .raw) (a .id .now)) (half i) (k .key-at .ensures) (wanted-is i) (c .if2 .taken)))
 
 -- or are the same
 alike : (c : tie.Else2 Inv-loop μ-loop Inv-search μ-search) {o : Order} → let i = c .before .before .before in let a = start i .args in
-    orderOf (idInOrder (a .file) (a .p .now) (half i)) (meant (a .raw) (a .id .now)) ≡ o → stands i (half i) ≡ o
+    orderOf (idInOrder (a .sheet) (a .p .now) (half i)) (meant (a .raw) (a .id .now)) ≡ o → stands i (half i) ≡ o
 alike c e =
     let f = c .before in let k = f .before in let i = k .before in let a = start i .args in
-    probe-same (a .file) (a .p .now) (a .notes .now) (meant (a .raw) (a .id .now)) (half i) (k .key-at .ensures) (wanted-is i) (f .if1 .left) (c .if2 .left) e
+    probe-same (a .sheet) (a .p .now) (a .notes .now) (meant (a .raw) (a .id .now)) (half i) (k .key-at .ensures) (wanted-is i) (f .if1 .left) (c .if2 .left) e
 
 loop-holds : tie.Need-loop-holds Inv-loop μ-loop Inv-search μ-search
 loop-holds c =
@@ -159,7 +159,7 @@ loop-again c =
 returns : tie.Need-returns Inv-loop μ-loop Inv-search μ-search
 returns c =
     let s = c .before .search in let a = c .before .before .before .before .before .before .before .args in
-    halving-end (probe (a .file) (a .p .now) (a .notes .now) (meant (a .raw) (a .id .now))) (length (itemsOf (a .p .now))) (s .left) (s .lo) (s .hi) (s .inv .1) (s .met) (s .inv .0) (c .search-test .left)
+    halving-end (probe (a .sheet) (a .p .now) (a .notes .now) (meant (a .raw) (a .id .now))) (length (itemsOf (a .p .now))) (s .left) (s .lo) (s .hi) (s .inv .1) (s .met) (s .inv .0) (c .search-test .left)
 
 -- met
 returns-2 : tie.Need-returns-2 Inv-loop μ-loop Inv-search μ-search

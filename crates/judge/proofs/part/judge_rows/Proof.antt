@@ -5,7 +5,7 @@ use Prim.Native.Nat.{_+_, _-_, _<_}
 use native.Mathlib.Omega.{arith}
 use Rattle.schema.specs.inner.Line.{lineAt}
 use Rattle.schema.specs.declared.Line.{Line}
-use Rattle.schema.specs.Table23.{table23}
+use Rattle.schema.specs.Tables.{sheets}
 use Rattle.slots.specs.inner.Rows.{mostRows, rowLine}
 use Rattle.slots.proofs.Named.{row-line-first, row-line-next}
 use Rattle.judge.proofs.Going.{RowsGo, rows-start, rows-next, rows-end, rows-full}
@@ -14,7 +14,7 @@ use Rattle.judge.proofs.part.judge_rows.Tie as tie
 
 abbrev Inv-loop : tie.InvT-loop
 Inv-loop table state first count place leasts least₀ i₀ row₀ least i row =
-    (i ≡ rowLine table23 first row) × RowsGo state leasts first count place i row least
+    (i ≡ rowLine sheets first row) × RowsGo state leasts first count place i row least
 
 abbrev μ-loop : tie.MeasureT-loop
 μ-loop table state first count place leasts least₀ i₀ row₀ least i row = mostRows - row
@@ -22,7 +22,7 @@ abbrev μ-loop : tie.MeasureT-loop
 loop-holds : tie.Need-loop-holds Inv-loop μ-loop
 loop-holds c =
     let a = c .args in
-    (sym (row-line-first table23 (a .first)), rows-start (a .state .now) (a .t3) (a .first) (a .count) (a .place))
+    (sym (row-line-first sheets (a .first)), rows-start (a .state .now) (a .t3) (a .first) (a .count) (a .place))
 
 returns : tie.Need-returns Inv-loop μ-loop
 returns c =
@@ -35,8 +35,8 @@ loop-again c =
     let i = l .loop .i in let row = l .loop .row in let line = n .line-at .result in
     let e : c .wide .result ≡ line .inside = c .wide .ensures in
     let here : i < a .first + a .count = omega (arith, n .before .if1 .left) in (
-      ap (λ j. i + 1 + j) (e ∙ ap (λ (m : Line). m .inside) (n .line-at .ensures)) ∙ ap (λ j. j + 1 + lineAt table23 j .inside) (l .loop .inv .0)
-          ∙ sym (row-line-next table23 (a .first) row),
+      ap (λ j. i + 1 + j) (e ∙ ap (λ (m : Line). m .inside) (n .line-at .ensures)) ∙ ap (λ j. j + 1 + lineAt sheets j .inside) (l .loop .inv .0)
+          ∙ sym (row-line-next sheets (a .first) row),
       rw (c .before .lesser .ensures, e)
           (rows-next (a .state .now) (a .t3) (a .first) (a .count) (a .place) i row (l .loop .least) (n .line-at .ensures) here (n .before .before .loop-test .taken)
           (l .loop .inv .0) (k .judge-row .ensures) (l .loop .inv .1)),

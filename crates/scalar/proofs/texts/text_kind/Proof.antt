@@ -4,7 +4,7 @@ use mathlib.Core.Bool.{Bool, not}
 use mathlib.Core.Path.{_≡_, refl, sym, ap, _∙_}
 use borrow.Author.Needs.{needs}
 use Rattle.word.specs.Kinds.{outOfRange}
-use Rattle.schema.specs.Table23.{table23}
+use Rattle.schema.specs.Tables.{sheets}
 use Rattle.schema.proofs.Letters.{sortFrom}
 use Rattle.scalar.specs.Scalars.{unless, textKinds, sortKinds}
 use Rattle.scalar.proofs.Sorts.{by-letter, text-exactly, text-word, no-text}
@@ -19,7 +19,7 @@ tested e = ap (λ (b : Bool). unless b outOfRange) (sym e)
 returns-6 : tie.Need-returns-6
 returns-6 c σ e h =
     let m = c .before .before in
-    text-exactly σ _ _ e (m .match .keys6) h (only-word table23 (m .before .before .args .line)) ∙ tested (c .before .is-the-word .ensures) ∙ c .range-kind4 .ensures
+    text-exactly σ _ _ e (m .match .keys6) h (only-word sheets (m .before .before .args .line)) ∙ tested (c .before .is-the-word .ensures) ∙ c .range-kind4 .ensures
 
 returns-7 : tie.Need-returns-7
 returns-7 c σ e h =

@@ -3,23 +3,23 @@ use mathlib.Core.Path.{_≡_, refl, sym}
 use native.Mathlib.Omega.{arith}
 use lib.ListN.{length, List·getD-eq-default}
 use borrow.Author.Needs.{needs}
-use Rattle.schema.specs.Table23.{table23, written23}
+use Rattle.schema.specs.Tables.{sheets, written}
 use Rattle.schema.specs.inner.Line.{fileRanges, nowhere, laidOut}
 use Rattle.schema.proofs.Columns.{range-columns}
 use Rattle.schema.proofs.lines.file_lines.Statement.{statement}
 use Rattle.schema.proofs.lines.file_lines.Tie as tie
 
-how-many : length (fileRanges table23) ≡ 9
-unfolding laidOut written23
+how-many : length (fileRanges sheets) ≡ 9
+unfolding laidOut written
 how-many = refl
 
 returns : tie.Need-returns
-returns c = sym (List·getD-eq-default (fileRanges table23) nowhere {n = c .before .args .file} (omega (arith, how-many)))
+returns c = sym (List·getD-eq-default (fileRanges sheets) nowhere {n = c .before .args .file} (omega (arith, how-many)))
 
 returns-2 : tie.Need-returns-2
-unfolding laidOut written23
+unfolding laidOut written
 returns-2 c =
-    range-columns (fileRanges table23) (c .before .before .before .args .file) (c .before .from-u8 .ensures) (c .from-u82 .ensures)
+    range-columns (fileRanges sheets) (c .before .before .before .args .file) (c .before .from-u8 .ensures) (c .from-u82 .ensures)
 
 pub file-lines-spec : {M : Type 1} → statement M
 file-lines-spec =

@@ -3,7 +3,7 @@ use mathlib.Core.Path.{ap, _∙_}
 use native.Mathlib.Omega.{arith}
 use borrow.Author.Needs.{needs}
 use Rattle.text.specs.Text.{textOf, sameWord}
-use Rattle.schema.specs.Table23.{table23, written23}
+use Rattle.schema.specs.Tables.{sheets, written}
 use Rattle.schema.specs.inner.Line.{wordsOf, laidOut}
 use Rattle.schema.proofs.Computed.{words-length}
 use Rattle.schema.proofs.Walk.{read-fits, read-part}
@@ -13,19 +13,19 @@ use Rattle.schema.proofs.words.word_is.Tie as tie
 add-end : tie.Need-add-end
 add-end c =
     let a = c .before .before .before .args in
-    omega (arith, read-fits (wordsOf table23) (a .k) (c .before .word-at .ensures), words-length)
+    omega (arith, read-fits (wordsOf sheets) (a .k) (c .before .word-at .ensures), words-length)
 
 part-word-is-end : tie.Need-part-word-is-end
 part-word-is-end c =
     let a = c .before .before .before .before .args in
-    omega (arith, read-fits (wordsOf table23) (a .k) (c .before .before .word-at .ensures), words-length)
+    omega (arith, read-fits (wordsOf sheets) (a .k) (c .before .before .word-at .ensures), words-length)
 
 returns : tie.Need-returns
-unfolding laidOut written23
+unfolding laidOut written
 returns c =
     let a = c .before .before .before .before .before .before .args in
     c .word-is .ensures
-    ∙ ap (sameWord (textOf (a .spelled .now))) (read-part (wordsOf table23) (a .k) (c .before .before .before .before .word-at .ensures))
+    ∙ ap (sameWord (textOf (a .spelled .now))) (read-part (wordsOf sheets) (a .k) (c .before .before .before .before .word-at .ensures))
 
 pub word-is-spec : {M : Type 1} → statement M
 word-is-spec =

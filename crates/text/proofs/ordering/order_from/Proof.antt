@@ -1,69 +1,29 @@
--- What is left of both texts is in order as the whole is; each turn takes a byte off both, and the first two that differ decide.
+-- Of raw bytes those at the place are left at a cursor there; a spelling means its text.
+use mathlib.Core.Bool.{Bool}
 use mathlib.Core.Path.{_≡_, sym, ap, _∙_}
-use lib.ListN.{length, drop}
+use lib.ListN.{drop}
 use Rattle.text.specs.Text.{textOf, meant}
 use Rattle.text.specs.Ordering.{orderOf}
-use Rattle.text.specs.inner.Walk.{left, leftBy}
-use Rattle.text.proofs.Decoding.{left-at, no-byte, one-byte}
-use Rattle.text.proofs.Ordered.{order-ended, order-long, order-less, order-greater, order-next}
-use Rattle.text.proofs.Seeing.{left-meant, no-meant, one-meant}
+use Rattle.text.specs.inner.Walk.{leftBy}
+use Rattle.text.proofs.Decoding.{left-at}
+use Rattle.text.proofs.Seeing.{left-meant}
 use borrow.Author.Needs.{needs}
-use native.Mathlib.Omega.{arith}
 use Rattle.text.proofs.ordering.order_from.Statement.{statement}
 use Rattle.text.proofs.ordering.order_from.Tie as tie
 
-abbrev Inv-loop : tie.InvT-loop
-Inv-loop a b at raw c₀ d₀ c d = orderOf (left a c) (leftBy raw b d) ≡ orderOf (textOf (drop at a)) (meant raw (drop at b))
-
-abbrev μ-loop : tie.MeasureT-loop
-μ-loop a b at raw c₀ d₀ c d = length (left a c)
-
-loop-holds : tie.Need-loop-holds Inv-loop μ-loop
-loop-holds c =
-    let q = c .before .before .before .before .args in
-    ap (λ x. orderOf x (leftBy (q .raw) (q .b .now) (c .cursor-at2 .result))) (left-at (q .a .now) (q .at) _ (c .before .cursor-at .ensures))
-    ∙ ap (orderOf (textOf (drop (q .at) (q .a .now)))) (left-meant (q .b .now) (q .raw) (q .at) _ (c .cursor-at2 .ensures))
-
-returns : tie.Need-returns Inv-loop μ-loop
+returns : tie.Need-returns
 returns c =
-    let t = c .before in let u = t .before .before in let v = u .before in
-    c .order-at-end .ensures ∙ order-ended _ (no-byte _ _ (u .next-byte .ensures) (t .enum-told .given .1)) ∙ v .loop .inv
+    let e = c .before in let f = e .before in let q = f .before .before .before .before .args in
+    c .order-left .ensures
+    ∙ ap (λ x. orderOf x (leftBy (q .raw) (q .b .now) (e .cursor-at2 .result))) (left-at (q .a .now) (q .at) _ (f .cursor-at .ensures))
+    ∙ ap (orderOf (textOf (drop (q .at) (q .a .now)))) (left-meant (q .b .now) (q .raw) (q .at) _ (e .cursor-at2 .ensures))
 
-returns-2 : tie.Need-returns-2 Inv-loop μ-loop
+returns-2 : tie.Need-returns-2
 returns-2 c =
-    let t = c .before .before in let u = t .before .before in let v = u .before .before in let m = v .before in
-    sym (order-long (one-byte _ _ _ _ (v .next-byte .ensures) (u .x .given .1)) (no-meant _ _ _ (t .next-meant .ensures) (c .enum-told2 .given .1)))
-    ∙ m .loop .inv
-
-returns-3 : tie.Need-returns-3 Inv-loop μ-loop
-returns-3 c =
-    let t = c .before .before in let u = t .before .before in let v = u .before .before in let m = v .before .before in let n = m .before in
-    sym (order-less (one-byte _ _ _ _ (m .next-byte .ensures) (v .x .given .1))
-    (one-meant _ _ _ _ _ (u .next-meant .ensures) (t .y .given .1)) (c .if1 .taken))
-    ∙ n .loop .inv
-
-returns-4 : tie.Need-returns-4 Inv-loop μ-loop
-returns-4 c =
-    let t = c .before .before .before in let u = t .before .before in let v = u .before .before in let m = v .before .before in let n = m .before in
-    sym (order-greater (one-byte _ _ _ _ (m .next-byte .ensures) (v .x .given .1))
-    (one-meant _ _ _ _ _ (u .next-meant .ensures) (t .y .given .1)) (c .if2 .taken))
-    ∙ n .loop .inv
-
-loop-less : tie.Need-loop-less Inv-loop μ-loop
-loop-less c =
-    let t = c .before .before .before .before .before .before .before in let u = t .before .before in
-    omega (arith, ap length (one-byte _ _ _ _ (u .next-byte .ensures) (t .x .given .1)))
-
-loop-again : tie.Need-loop-again Inv-loop μ-loop
-loop-again c =
-    let t = c .before in let u = t .before .before in let v = u .before .before in let m = v .before .before in let n = m .before .before in
-    let o = n .before in
-    sym (order-next (one-byte _ _ _ _ (n .next-byte .ensures) (m .x .given .1))
-    (one-meant _ _ _ _ _ (v .next-meant .ensures) (u .y .given .1)) (omega (arith, t .if1 .left, c .if2 .left)))
-    ∙ o .loop .inv
+    let q = c .before .before .before .before .args in
+    c .order-spelled .ensures ∙ ap (λ (r : Bool). orderOf (textOf (drop (q .at) (q .a .now))) (meant r (drop (q .at) (q .b .now)))) (sym (c .before .if1 .left))
 
 pub order-from-spec : {M : Type 1} → statement M
 order-from-spec =
     tie.close
-    (tie.spec Inv-loop μ-loop (λ c κs. search needs) (λ c κs. search needs) loop-holds (λ c κs. search needs) (λ c. search needs) (λ c κs. search needs) returns
-    (λ c. search needs) (λ c κs. search needs) (λ c. search needs) returns-2 (λ c. search needs) returns-3 returns-4 loop-less loop-again)
+    (tie.spec (λ c κs. search needs) (λ c κs. search needs) (λ c κs. search needs) returns (λ c κs. search needs) returns-2)

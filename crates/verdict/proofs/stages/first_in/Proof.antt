@@ -4,6 +4,7 @@ use mathlib.Core.List.{List, map}
 use mathlib.Core.Path.{_≡_, ap, _∙_}
 use Prim.Native.Nat.{ℕ, _+_, _-_}
 use native.Mathlib.Omega.{arith}
+use Rattle.schema.specs.Tables.{tableAt}
 use Rattle.fault.specs.declared.outcome.Outcome.{Outcome}
 use Rattle.fault.specs.Outcome.{fileCount}
 use Rattle.cross.specs.Stage.{Feeds, bytesOf}
@@ -15,14 +16,14 @@ use Rattle.verdict.proofs.stages.first_in.Statement.{statement}
 use Rattle.verdict.proofs.stages.first_in.Tie as tie
 
 -- what the stage tells of each file
-abbrev told : Stage → Feeds → ℕ → Outcome
-told stage s file = outcomeIn stage file (bytesOf s file)
+abbrev told : (table : ℕ) → Stage → Feeds → ℕ → Outcome
+told table stage s file = outcomeIn (tableAt table) stage file (bytesOf s file)
 
 abbrev Inv-loop : tie.InvT-loop
-Inv-loop stage files file₀ file = Reached (told stage (map (λ p. p .now) files)) file
+Inv-loop table stage files file₀ file = Reached (told table stage (map (λ p. p .now) files)) file
 
 abbrev μ-loop : tie.MeasureT-loop
-μ-loop stage files file₀ file = fileCount + 1 - file
+μ-loop table stage files file₀ file = fileCount + 1 - file
 
 file-in-requires : tie.Need-file-in-requires Inv-loop μ-loop
 file-in-requires c κs = (c .before .loop .inv .least, omega (arith, c .loop-test .taken))
@@ -30,14 +31,15 @@ file-in-requires c κs = (c .before .loop .inv .least, omega (arith, c .loop-tes
 judge-alone-requires : tie.Need-judge-alone-requires Inv-loop μ-loop
 judge-alone-requires c κs e =
     let t = c .before in let l = t .before in
-    rw (c .file-in .ensures) (all-read _ (l .before .pre e) (l .loop .file) (l .loop .inv .least) (omega (arith, t .loop-test .taken)))
+    rw (c .file-in .ensures) (all-read _ _ (l .before .pre e) (l .loop .file) (l .loop .inv .least) (omega (arith, t .loop-test .taken)))
 
 -- what is told of the file
 is-told : (c : tie.After-judge-alone Inv-loop μ-loop) →
-    let l = c .before .before .before in let a = l .before .args in c .judge-alone .result ≡ told (a .stage) (map (λ p. p .now) (a .files)) (l .loop .file)
+    let l = c .before .before .before in let a = l .before .args in c .judge-alone .result ≡ told (a .table) (a .stage) (map (λ p. p .now) (a .files)) (l .loop .file)
 is-told c =
     let f = c .before in let l = f .before .before in
-    c .judge-alone .ensures ∙ ap (λ (q : List ℕ). outcomeIn (l .before .args .stage) (l .loop .file) q) (f .file-in .ensures)
+    let a = l .before .args in
+    c .judge-alone .ensures ∙ ap (λ (q : List ℕ). outcomeIn (tableAt (a .table)) (a .stage) (l .loop .file) q) (f .file-in .ensures)
 
 returns : tie.Need-returns Inv-loop μ-loop
 unfolding firstIn

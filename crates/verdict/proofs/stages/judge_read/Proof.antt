@@ -6,7 +6,7 @@ use Rattle.verdict.proofs.stages.judge_read.Statement.{statement}
 use Rattle.verdict.proofs.stages.judge_read.Tie as tie
 
 judge-set-requires : tie.Need-judge-set-requires
-judge-set-requires c κs = let k = c .before .before in all-through _ (k .before .pre) (sym (k .first-in .ensures) ∙ c .enum-told .given .1)
+judge-set-requires c κs = let k = c .before .before in all-through _ _ (k .before .pre) (sym (k .first-in .ensures) ∙ c .enum-told .given .1)
 
 returns : tie.Need-returns
 returns c = let d = c .before in rw (sym (d .before .before .first-in .ensures) ∙ d .p .given .1)

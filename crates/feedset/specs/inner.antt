@@ -1,0 +1,2 @@
+-- Definitions that follow the code. Contracts of inner functions cite them; nobody has to believe them.
+pub mod Staged

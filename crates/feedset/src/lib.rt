@@ -1,0 +1,3 @@
+// Stage C of a set of files, judged one after another.
+mod records;
+pub mod stage;
