@@ -54,7 +54,7 @@ pub fn quad(s: &[u8], at: usize) -> Quad
     return Quad::Value(a * 4096 + b * 256 + c * 16 + d);
 }
 
-// The value of the four digits from `at` on, or 10000.
+// The value of the four digits from `at` on, or 0x10000 where one is none.
 pub fn quad_value(s: &[u8], at: usize) -> u32
     ensures { λ r. ⌜ (r < 0x10000 → spec.quad (drop at (now (s .entry))) ≡ Value r) ⌝ }
 {

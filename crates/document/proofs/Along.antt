@@ -26,7 +26,7 @@ use Rattle.schema.specs.inner.Ways.{wayNames}
 use Rattle.schema.proofs.Recorded.{no-way}
 use Rattle.schema.specs.Tables.{sheetShape}
 use Rattle.document.specs.declared.Span.the-variants.{None, Is}
-use Rattle.document.specs.Spans.{memberSpan, membersAlong, topSpan, recordsSpan, nth}
+use Rattle.document.specs.Spans.{membersAlong, topSpan, recordsSpan, nth}
 use Rattle.document.specs.inner.Spans.{Readable}
 
 -- the top value, where it was read

@@ -43,7 +43,7 @@ pub record Recorded (n : ℕ) : Type 0 where
   pub object : recordShape n ≡ shape.object rows
 
 -- The test.
-abbrev pub isRequired : Need → Bool
+abbrev isRequired : Need → Bool
 isRequired shape.required = true
 isRequired shape.optional = false
 isRequired shape.conditional = false
@@ -60,19 +60,19 @@ apart g none = true
 apart g (some w) = elim (w .keys) [ [] ↦ true | k ∷ ks ↦ not (eqb (k .field) g) ]
 
 unfoldable mutual
-  sure : Shape → Bool
-  sure shape.unlisted = true
-  sure (shape.scalar sort) = true
-  sure (shape.array shape.records most σ) = eqb most ceiling.records and isObject σ
-  sure (shape.array shape.subs most σ) = true
-  sure (shape.array shape.outer most σ) = true
-  sure (shape.array shape.positions most σ) = true
-  sure (shape.object rows) = sureRows rows
+  requiredWay : Shape → Bool
+  requiredWay shape.unlisted = true
+  requiredWay (shape.scalar sort) = true
+  requiredWay (shape.array shape.records most σ) = eqb most ceiling.records and isObject σ
+  requiredWay (shape.array shape.subs most σ) = true
+  requiredWay (shape.array shape.outer most σ) = true
+  requiredWay (shape.array shape.positions most σ) = true
+  requiredWay (shape.object rows) = requiredRows rows
 
-  sureRows : Rows → Bool
-  sureRows shape.noRow = true
-  sureRows (shape.row field need name σ rows) =
-      elim (wayIn σ) [ none ↦ apart field (wayThrough rows) and sureRows rows | some w ↦ isRequired need and sure σ ]
+  requiredRows : Rows → Bool
+  requiredRows shape.noRow = true
+  requiredRows (shape.row field need name σ rows) =
+      elim (wayIn σ) [ none ↦ apart field (wayThrough rows) and requiredRows rows | some w ↦ isRequired need and requiredWay σ ]
 
 -- What it says of a way.
 abbrev records : Shape → Shape
@@ -117,26 +117,26 @@ at-records most σ w e t =
     (record { leads = subst (λ (n : ℕ). Leads (shape.array shape.records most σ) [] (shape.array shape.records n σ)) m arrived; rows = r .0; object = r .1 })
 
 -- a row that leads on, or one before it; what holds of its value and of the rows below is handed over
-module _ (field : ℕ) (need : Need) (name : List ℕ) (σ : Shape) (rows : Rows) (value : (v : Way) → wayIn σ ≡ some v → sure σ ≡ true → Led σ v)
-    (others : (v : Way) → wayThrough rows ≡ some v → sureRows rows ≡ true → LedRows rows v) (w : Way) where
-  through : (v : Way) → wayIn σ ≡ some v → isRequired need and sure σ ≡ true → LedRows (shape.row field need name σ rows) (record { keys = record { field = field; name = name } ∷ v .keys; item = v .item })
+module _ (field : ℕ) (need : Need) (name : List ℕ) (σ : Shape) (rows : Rows) (value : (v : Way) → wayIn σ ≡ some v → requiredWay σ ≡ true → Led σ v)
+    (others : (v : Way) → wayThrough rows ≡ some v → requiredRows rows ≡ true → LedRows rows v) (w : Way) where
+  through : (v : Way) → wayIn σ ≡ some v → isRequired need and requiredWay σ ≡ true → LedRows (shape.row field need name σ rows) (record { keys = record { field = field; name = name } ∷ v .keys; item = v .item })
   through v i t =
-      let l = value v i (and-right (isRequired need) (sure σ) t) in
+      let l = value v i (and-right (isRequired need) (requiredWay σ) t) in
       record {
         first = record { field = field; name = name };
         rest = v .keys;
         keys = refl;
         value = σ;
-        row = subst (λ (n : Need). Requires field name σ (shape.row field n name σ rows)) (sym (required need (and-left (isRequired need) (sure σ) t))) here;
+        row = subst (λ (n : Need). Requires field name σ (shape.row field n name σ rows)) (sym (required need (and-left (isRequired need) (requiredWay σ) t))) here;
         leads = l .leads;
         inner = l .rows;
         object = l .object;
       }
 
-  past : wayThrough rows ≡ some w → apart field (wayThrough rows) and sureRows rows ≡ true → LedRows (shape.row field need name σ rows) w
+  past : wayThrough rows ≡ some w → apart field (wayThrough rows) and requiredRows rows ≡ true → LedRows (shape.row field need name σ rows) w
   past e t =
-      let r = others w e (and-right (apart field (wayThrough rows)) (sureRows rows) t) in
-      let a : apart field (some w) ≡ true = ap (apart field) (sym e) ∙ and-left (apart field (wayThrough rows)) (sureRows rows) t in
+      let r = others w e (and-right (apart field (wayThrough rows)) (requiredRows rows) t) in
+      let a : apart field (some w) ≡ true = ap (apart field) (sym e) ∙ and-left (apart field (wayThrough rows)) (requiredRows rows) t in
       let b : not (eqb (r .first .field) field) ≡ true = rw (r .keys) at a in
       record {
         first = r .first;
@@ -154,16 +154,16 @@ module _ (field : ℕ) (need : Need) (name : List ℕ) (σ : Shape) (rows : Rows
   ways o = elim o [ none ↦ wayThrough rows | some v ↦ some (record { keys = record { field = field; name = name } ∷ v .keys; item = v .item }) ]
 
   abbrev tests : Maybe Way → Bool
-  tests o = elim o [ none ↦ apart field (wayThrough rows) and sureRows rows | some v ↦ isRequired need and sure σ ]
+  tests o = elim o [ none ↦ apart field (wayThrough rows) and requiredRows rows | some v ↦ isRequired need and requiredWay σ ]
 
   by-value : (o : Maybe Way) → wayIn σ ≡ o → ways (wayIn σ) ≡ some w → tests (wayIn σ) ≡ true → LedRows (shape.row field need name σ rows) w
   by-value none i e t = past (ap ways (sym i) ∙ e) (ap tests (sym i) ∙ t)
   by-value (some v) i e t = subst (LedRows (shape.row field need name σ rows)) (some-some (ap ways (sym i) ∙ e)) (through v i (ap tests (sym i) ∙ t))
 
 mutual
-  unfolding wayIn sure
+  unfolding wayIn requiredWay
 
-  led : (σ : Shape) (w : Way) → wayIn σ ≡ some w → sure σ ≡ true → Led σ w
+  led : (σ : Shape) (w : Way) → wayIn σ ≡ some w → requiredWay σ ≡ true → Led σ w
   led shape.unlisted w e t = none-some e
   led (shape.scalar sort) w e t = none-some e
   led (shape.array shape.records most σ) w e t = at-records most σ w (some-some e) t
@@ -174,13 +174,13 @@ mutual
       let r = led-rows rows w e t in
       record { leads = subst (λ (ks : List Key). Leads (shape.object rows) ks (records (w .item))) (sym (r .keys)) (into (r .row) (r .leads)); rows = r .inner; object = r .object }
 
-  led-rows : (rows : Rows) (w : Way) → wayThrough rows ≡ some w → sureRows rows ≡ true → LedRows rows w
+  led-rows : (rows : Rows) (w : Way) → wayThrough rows ≡ some w → requiredRows rows ≡ true → LedRows rows w
   led-rows shape.noRow w e t = none-some e
   led-rows (shape.row field need name σ rows) w e t = by-value field need name σ rows (λ v i u. led σ v i u) (λ v i u. led-rows rows v i u) w (wayIn σ) refl e t
 
-sheet-sure : (n : ℕ) → sure (sheetShape n) ≡ true
-unfolding every sure wayIn written
-sheet-sure n = every-file sure sheets refl refl n
+sheet-required : (n : ℕ) → requiredWay (sheetShape n) ≡ true
+unfolding every requiredWay wayIn written
+sheet-required n = every-file requiredWay sheets refl refl n
 
 given-some : {A : Type 0} (o : Maybe A) → given o ≡ true → (x : A) × (o ≡ some x)
 given-some none e = true-false e refl
@@ -193,7 +193,7 @@ item-is n w e = rw (recordIn, e)
 pub records-of : (n : ℕ) → hasRecords n ≡ true → Recorded n
 records-of n h =
     let g = given-some (wayTo n) h in
-    let l = led (sheetShape n) (g .0) (g .1) (sheet-sure n) in
+    let l = led (sheetShape n) (g .0) (g .1) (sheet-required n) in
     let item : recordShape n ≡ g .0 .item = item-is n (g .0) (g .1) in
     record {
       way = g .0;

@@ -1,6 +1,6 @@
 -- The text of an id is the same with all that follows it, since it ends at its quotation mark; and it is never empty, since the text with nothing in it
 -- counts as no value.
-use mathlib.Core.Bool.{Bool, true, false}
+use mathlib.Core.Bool.{Bool, false}
 use mathlib.Core.List.{List, [], _∷_, _++_, append-assoc}
 use mathlib.Core.Path.{_≡_, refl, sym, ap, _∙_}
 use Prim.Native.Nat.{ℕ, zero, suc, _+_, _-_, _≤_, _<_}

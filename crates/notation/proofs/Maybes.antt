@@ -1,5 +1,5 @@
 -- Laws of values that need not be there: by the two constructors, which are apart, and one of which keeps its value.
-use mathlib.Core.Bool.{true, false}
+use mathlib.Core.Bool.{false}
 use mathlib.Core.Path.{_≡_, refl}
 use Prim.Native.Nat.{ℕ}
 use native.Mathlib.Omega.{arith}

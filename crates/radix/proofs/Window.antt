@@ -10,7 +10,7 @@ use lib.ListN.{length, take, drop, getD, length-drop, length-append, take-append
 use lib.Seq.{length-take-le, drop-drop}
 use lib.Pow.{pow-add, pow-pos}
 use Rattle.radix.specs.Radix.{weight, number}
-use Rattle.radix.specs.Fields.{bases, octets, bits, bytesNumber, Bytes}
+use Rattle.radix.specs.Fields.{bases, octets, bytesNumber, Bytes}
 use Rattle.radix.proofs.Digits.{number-below}
 use Rattle.radix.proofs.Packing.{weight-bases, octets-bits}
 use Rattle.radix.proofs.Split.{number-split}

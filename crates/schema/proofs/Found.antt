@@ -2,13 +2,13 @@
 use mathlib.Core.Bool.{true, false}
 use mathlib.Core.List.{List, [], _∷_, map}
 use mathlib.Core.Path.{_≡_, refl, sym, ap, _∙_}
-use Prim.Native.Nat.{ℕ, zero, suc, _<_, _≤_}
+use Prim.Native.Nat.{ℕ, zero, suc, _<_}
 use native.Mathlib.Omega.{arith}
 use lib.Dec.{eqb, leb, ltb}
 use lib.ListN.{length, getD, List·getD-eq-default, length-map}
 use borrow.Author.Tests.{leb-true, leb-false, ltb-true}
 use Rattle.notation.proofs.Booleans.{by-test}
-use Rattle.text.specs.Text.{textOf, same}
+use Rattle.text.specs.Text.{same}
 use Rattle.text.specs.Cases.{comparing}
 use Rattle.schema.specs.Tables.{sheets, written}
 use Rattle.schema.specs.inner.Names.{numberIn, nameBy, placesOf, naming}

@@ -10,5 +10,4 @@ pub mod Bytes
 pub mod Numbers
 pub mod Found
 pub mod Prefixes
-pub mod Escaped
 pub mod Letters

@@ -1,7 +1,7 @@
 -- A number stands for one name: a text has a number where it is a name, and its number's name is the text. At the place of each name its own number stands, by a test
 -- that is computed; so what is at a text's place is its number where its name is the text, and else the text is no name.
 use mathlib.Core.Bool.{Bool, true, false}
-use mathlib.Core.List.{List, [], _∷_, map}
+use mathlib.Core.List.{List, [], _∷_}
 use mathlib.Core.Path.{_≡_, refl, sym, ap, _∙_}
 use Prim.Native.Nat.{ℕ, zero, suc, _+_, _-_, _≤_, _<_}
 use native.Mathlib.Decide.{ℕ-discrete}
@@ -9,11 +9,11 @@ use native.Mathlib.Omega.{arith}
 use lib.Dec.{eqb, leb, ltb}
 use lib.ListN.{length, getD, take, length-take}
 use lib.Seq.{take-all}
-use borrow.Author.Tests.{eq-eqb, ne-eqb, eqb-true, eqb-false, leb-true, leb-false, ltb-true}
+use borrow.Author.Tests.{eq-eqb, ne-eqb, eqb-true, leb-true, leb-false, ltb-true}
 use Rattle.notation.specs.Choice.{_and_}
-use Rattle.notation.proofs.Booleans.{by-test, true-false, and-left, and-right}
+use Rattle.notation.proofs.Booleans.{by-test, and-left, and-right}
 use Rattle.text.specs.Text.{textOf, same}
-use Rattle.text.proofs.Laws.{same-refl, same-true, same-false}
+use Rattle.text.proofs.Laws.{same-true, same-false}
 use Rattle.schema.specs.inner.Names.{numberFrom, numberIn, nameBy, placeOf}
 
 -- A test that every name passes.

@@ -1,7 +1,7 @@
 -- The first bytes of a text in an array: where the bytes in the array and those that are left are the text, the array has the text's first 32 bytes once it is full,
 -- or all of them once none is left.
 use mathlib.Core.List.{List, [], _∷_, _++_, append-nil}
-use mathlib.Core.Path.{_≡_, refl, sym, ap, _∙_}
+use mathlib.Core.Path.{_≡_, sym, ap, _∙_}
 use Prim.Native.Nat.{ℕ, _+_, _≤_, _<_}
 use native.Mathlib.Omega.{arith}
 use lib.ListN.{length, take, drop, length-take}
@@ -9,10 +9,9 @@ use lib.Seq.{take-at, take-all}
 use Rattle.text.specs.Text.{textOf}
 use Rattle.text.specs.declared.Cursor.{Cursor}
 use Rattle.text.specs.declared.Front.{Front}
-use Rattle.text.specs.inner.Walk.{cursorAt, left, Fronted, Escapes}
+use Rattle.text.specs.inner.Walk.{cursorAt, Fronted, Escapes}
 use Rattle.text.proofs.Decoding.{text-character, left-at}
 use Rattle.text.proofs.Filling.{Filled, ended-length, front-count}
-use Rattle.schema.specs.declared.Prefix.{Prefix}
 use Rattle.schema.specs.inner.Spelling.{Reads}
 
 module _ {whole bytes rest : List ℕ} {n : ℕ} (f : Filled whole bytes rest n) where

@@ -1,4 +1,4 @@
--- Which files have records, and records ids, by numbers: the table has a way to records for 1 to 6 and 8, and a record's first field is no id in file 6.
+-- Which sheets have records, and records ids, by numbers: there is a way to records for 1 to 6 and 8, and in 6 a record's first field is no id.
 use mathlib.Core.Bool.{true, false}
 use mathlib.Core.Path.{_≡_, ap}
 use Prim.Native.Nat.{ℕ, _≤_}
@@ -28,7 +28,7 @@ pub ids-recorded : (n : ℕ) → hasIds n ≡ true → hasRecords n ≡ true
 ids-recorded n h = by-test (hasRecords n) (λ t. t) (λ t. true-false h (no-ids n t))
 
 -- other numbers
-pub other-records : (n : ℕ) → (1 ≤ n → n ≤ 6 → ⊥) → (n ≡ 8 → ⊥) → hasRecords n ≡ false
+other-records : (n : ℕ) → (1 ≤ n → n ≤ 6 → ⊥) → (n ≡ 8 → ⊥) → hasRecords n ≡ false
 unfolding located
 other-records n h e =
     elim (ℕ-discrete n 7) [ yes i ↦ ap hasRecords i | no i ↦ ap (λ (σ : Shape). given (wayIn σ)) (no-file sheets n (λ j k. h j (omega arith))) ]

@@ -1,22 +1,23 @@
--- A sheet has the shape of its file in its table: all tables have as many files, so those of the k-th table stand behind k times as many.
-use mathlib.Core.Bool.{Bool, true, false}
+-- A sheet has the shape of its file in its table. Each table has the same number of files, so that counting a table's number of them off leads from one table to
+-- the next.
+use mathlib.Core.Bool.{Bool, true}
 use mathlib.Core.List.{List, [], _∷_, _++_, flatten}
 use mathlib.Core.Path.{_≡_, refl, sym, ap, _∙_}
 use Prim.Native.Nat.{ℕ, zero, suc, _+_, _*_, _≤_, _<_}
 use native.Mathlib.Nat.{zero-mul, suc-mul}
 use native.Mathlib.Omega.{arith}
-use lib.Dec.{eqb, ltb, leb}
+use lib.Dec.{eqb, leb}
 use lib.ListN.{length, getD, List·getD-append, List·getD-eq-default}
 use lib.Seq.{getD-append-add}
 use borrow.Author.Tests.{eqb-true, leb-true, leb-false, eq-eqb, ne-eqb, lt-ltb, le-ltb, le-leb, lt-leb}
-use Rattle.notation.specs.Choice.{_⇒_else_, _and_}
+use Rattle.notation.specs.Choice.{_and_}
 use Rattle.notation.proofs.Booleans.{and-left, and-right, by-test}
-use Rattle.schema.specs.Shape.{Shape, Table, unlisted, fileShape}
+use Rattle.schema.specs.Shape.{Table, unlisted, fileShape}
 use Rattle.schema.specs.Table23.{table23}
 use Rattle.schema.specs.Tables.{tables, tableAt, sheets, tableFiles, sheetOf, written}
 use Rattle.schema.proofs.Computed.{no-file}
 
--- what holds of each table holds of the one that a number stands for
+-- whatever is shown of every table there is, one after the other, is shown of the table of any number
 pub at-tables : (P : Table → Type 0) → P table23 → (table : ℕ) → P (tableAt table)
 unfolding tableAt tables
 at-tables P p zero = p
@@ -27,7 +28,7 @@ unfoldable allHave : ℕ → List Table → Bool
 allHave n [] = true
 allHave n (t ∷ ts) = eqb (length t) n and allHave n ts
 
--- so the i-th file of the k-th of them stands behind k times n files
+-- then the i-th file of the k-th table is found among all files by counting k times n files off, and i more
 among : (n : ℕ) (ts : List Table) → allHave n ts ≡ true → (k i : ℕ) → k < length ts → i < n →
     getD (flatten ts) (k * n + i) unlisted ≡ getD (getD ts k table23) i unlisted
 unfolding allHave flatten
@@ -50,12 +51,12 @@ pub files-each : (table : ℕ) → length (tableAt table) ≡ tableFiles
 unfolding written
 files-each table = at-tables (λ (t : Table). length t ≡ tableFiles) refl table
 
--- how many there are
+-- how many tables there are
 pub table-count : length tables ≡ 1
 unfolding tables
 table-count = refl
 
--- the number of a sheet, by the tests of the definition
+-- the number of a sheet, as each test of the definition gives it
 module _ (table file : ℕ) where
   pub sheet-none : file ≡ 0 → sheetOf table file ≡ 0
   unfolding sheetOf

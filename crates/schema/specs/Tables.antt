@@ -35,7 +35,7 @@ sheetOf table file =
     ltb tableFiles file ⇒ 0 else
     leb (length tables) table ⇒ file else table * tableFiles + file
 
--- names all that the tables are written with
+-- opens everything by which tables and sheets are computed
 unfoldable pub written : Unit {0}
 unfolding tables tableAt sheets flatten written23
 written = tt

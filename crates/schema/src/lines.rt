@@ -58,11 +58,11 @@ pub fn inside_at(table: &[u8; Line::TABLE_BYTES], i: usize) -> u8
     table[i * Line::BYTES + 7]
 }
 
-// The lines of a file, by its number from 1 on; none of another number.
-pub fn file_lines(file: u8) -> Range
-    ensures { λ r. ⌜ r ≡ fileLines sheets file ⌝ }
+// The lines of a sheet, by its number from 1 on; none of another number.
+pub fn file_lines(sheet: u8) -> Range
+    ensures { λ r. ⌜ r ≡ fileLines sheets sheet ⌝ }
 {
-    let i = file as usize;
+    let i = sheet as usize;
     if FILE_FIRSTS.len() <= i {
         return Range { first: 0, count: 0 };
     }

@@ -1,5 +1,5 @@
 -- Records whose ids are the same by two accounts are in the same order by both: a sort asks of the order only how the numbers of its list compare.
-use mathlib.Core.Bool.{Bool, true, false}
+use mathlib.Core.Bool.{Bool}
 use mathlib.Core.List.{List, [], _∷_}
 use mathlib.Core.Logic.{inl, inr}
 use mathlib.Core.Path.{_≡_, refl, sym, ap, _∙_}

@@ -1,8 +1,8 @@
 -- The search by keys finds an id among ids that are in order. An id that is met is compared in full. Where some position has the wanted id, that begins as all
 -- ids do, so every key tells the order to it; and where none has it, nothing can be met, wherever the keys lead.
 use mathlib.Core.List.{List}
-use mathlib.Core.Path.{_≡_, refl, sym, ap, subst, _∙_}
-use Prim.Native.Nat.{ℕ, _+_, _^_, _≤_, _<_}
+use mathlib.Core.Path.{_≡_, sym, ap, subst, _∙_}
+use Prim.Native.Nat.{ℕ, _^_, _<_}
 use native.Mathlib.Omega.{arith}
 use lib.Dec.{ltb}
 use lib.ListN.{drop, getD}
@@ -11,7 +11,7 @@ use Rattle.notation.proofs.Booleans.{by-test}
 use Rattle.text.specs.declared.Order.the-variants.{Less, Equal, Greater}
 use Rattle.text.specs.Ordering.{orderOf}
 use Rattle.text.specs.inner.Key.{keyOf}
-use Rattle.text.proofs.Ordered.{turned, less-equal, greater-equal, order-equal, order-refl, order-turned}
+use Rattle.text.proofs.Ordered.{turned, less-equal, greater-equal, order-equal, order-turned}
 use Rattle.sorting.specs.Search.{Finds}
 use Rattle.sorting.specs.inner.Keys.{Keyed, byKeys}
 use Rattle.sorting.specs.inner.Halves.{foundBy, Ascending}

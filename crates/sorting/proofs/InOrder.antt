@@ -1,6 +1,6 @@
 -- A sorted list is in order and holds the same numbers: what is put into it comes after those before it and before those after it, since the order is total and
 -- transitive.
-use mathlib.Core.Bool.{Bool, true, false}
+use mathlib.Core.Bool.{Bool, true}
 use mathlib.Core.List.{List, [], _∷_}
 use mathlib.Core.Logic.{_⊎_, inl, inr, ⊎-elim}
 use mathlib.Core.Path.{_≡_, refl, sym, subst}

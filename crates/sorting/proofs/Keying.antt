@@ -1,20 +1,19 @@
 -- Keys behind a front that all ids have in common tell the order of two ids where they differ. That holds of the ids in any order, so the keys may be moved
 -- with them.
 use mathlib.Core.List.{List}
-use mathlib.Core.Path.{_≡_, refl, sym, ap, subst, _∙_}
+use mathlib.Core.Path.{_≡_, sym, ap, subst, _∙_}
 use Prim.Native.Nat.{ℕ, _≤_, _<_}
 use native.Mathlib.Omega.{arith}
 use lib.Dec.{leb, ltb}
 use lib.ListN.{length, take, drop, getD}
 use borrow.Author.Tests.{lt-ltb, le-ltb, le-leb, lt-leb, leb-true, leb-false, ltb-true, ltb-false}
 use Rattle.notation.proofs.Booleans.{by-test}
-use Rattle.text.specs.declared.Order.{Order}
 use Rattle.text.specs.declared.Order.the-variants.{Less, Equal, Greater}
 use Rattle.text.specs.Ordering.{orderOf}
 use Rattle.text.specs.inner.Key.{keyOf, Bytes}
 use Rattle.text.proofs.Keys.{key-less}
 use Rattle.text.proofs.Ordered.{turned, equal-less, greater-less, less-greater, equal-greater, order-turned}
-use Rattle.sorting.specs.inner.Keys.{SameFront, Keyed, Telling, keyOrder, byKeys}
+use Rattle.sorting.specs.inner.Keys.{Keyed, Telling, keyOrder, byKeys}
 
 module _ {ids : ℕ → List ℕ} {n skip : ℕ} {keys : List ℕ} (w : Keyed ids n skip keys) where
   pub keyed-telling : Telling ids n keys

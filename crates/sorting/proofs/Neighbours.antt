@@ -5,17 +5,16 @@ use mathlib.Core.List.{List, [], _∷_}
 use mathlib.Core.Path.{_≡_, refl, sym, ap, subst, _∙_}
 use Prim.Native.Nat.{ℕ, zero, suc, _+_, _≤_, _<_}
 use native.Mathlib.Omega.{arith}
-use lib.Dec.{leb, ltb}
+use lib.Dec.{ltb}
 use lib.ListN.{length, getD}
-use borrow.Author.Tests.{lt-ltb, le-ltb, leb-true, leb-false, ltb-true, ltb-false}
-use Rattle.notation.specs.Choice.{_and_}
+use borrow.Author.Tests.{lt-ltb, le-ltb, leb-true, ltb-true, ltb-false}
 use Rattle.notation.proofs.Booleans.{by-test, true-false}
 use Rattle.text.specs.declared.Order.the-variants.{Less, Equal, Greater}
 use Rattle.text.specs.Text.{same}
 use Rattle.text.specs.Ordering.{orderOf}
 use Rattle.text.proofs.Laws.{same-true, same-refl}
 use Rattle.text.proofs.Ordered.{turned, less-equal, greater-equal, order-equal, order-refl, order-turned}
-use Rattle.sorting.specs.Ids.{notAfter, Ordered}
+use Rattle.sorting.specs.Ids.{Ordered}
 use Rattle.sorting.specs.Repeats.{sameId, usedBefore}
 use Rattle.sorting.proofs.Records.{by-cases, after-equal}
 use Rattle.sorting.proofs.Orders.{stands, is-record, two-records, places-order, no-greater}

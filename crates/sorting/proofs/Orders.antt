@@ -11,7 +11,7 @@ use Rattle.notation.proofs.Booleans.{by-test, true-false}
 use Rattle.text.specs.declared.Order.the-variants.{Greater}
 use Rattle.text.specs.Ordering.{orderOf}
 use Rattle.text.proofs.Ordered.{greater-equal, order-refl}
-use Rattle.sorting.specs.Sorting.{sorted, numbers}
+use Rattle.sorting.specs.Sorting.{numbers}
 use Rattle.sorting.specs.Ids.{notAfter, Ordered}
 use Rattle.sorting.specs.inner.Halves.{Ascending}
 use Rattle.sorting.proofs.InOrder.{Has, has-at, at-has, numbers-has, has-numbers, Apart, numbers-apart, apart-at, has-sorted, sorted-has, sorted-apart, InOrder, sorted-order, order-at}

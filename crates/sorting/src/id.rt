@@ -3,7 +3,7 @@
 use text::Order;
 use text::ordering::order_of;
 ghost use mathlib.Core.Path.{_≡_};
-ghost use lib.ListN.{length, drop, getD};
+ghost use lib.ListN.{drop, getD};
 ghost use Rattle.text.specs.Ordering.{orderOf};
 ghost use Rattle.sorting.specs.Ids.{idAt, notAfter};
 ghost use Rattle.sorting.specs.inner.Keys.{Tells, keyOrder};

@@ -2,7 +2,6 @@
 use crate::id::id_from;
 use text::key::key_of;
 use text::ordering::shared;
-ghost use mathlib.Core.Path.{_≡_};
 ghost use Prim.Native.Nat.{_≤_};
 ghost use lib.ListN.{length};
 ghost use Rattle.sorting.specs.Ids.{idAt};

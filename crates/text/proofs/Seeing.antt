@@ -8,11 +8,9 @@ use native.Mathlib.Omega.{arith}
 use lib.Dec.{eqb, ltb}
 use lib.ListN.{length, drop, getD, length-drop, drop-of-length-le}
 use borrow.Author.Tests.{eq-eqb, ne-eqb, eqb-true, ltb-true, ltb-false}
-use Rattle.notation.specs.Choice.{_and_}
 use Rattle.notation.proofs.Booleans.{by-test, true-false, and-both}
 use Rattle.notation.proofs.Lists.{at-cons}
 use Rattle.lexeme.specs.Character.Surrogates.{paired}
-use Rattle.lexeme.specs.Character.{next}
 use Rattle.lexeme.specs.inner.Lead.{Lead, lead, nextBy}
 use Rattle.lexeme.specs.Strings.{decoded}
 use Rattle.lexeme.proofs.Leads.{next-led}

@@ -8,12 +8,12 @@ use native.Mathlib.Omega.{arith}
 use lib.Dec.{eqb, ltb}
 use lib.ListN.{length, getD}
 use lib.Seq.{ext-getD}
-use borrow.Author.Tests.{eq-eqb, eqb-true, eqb-false, ltb-true, ltb-false}
-use Rattle.notation.proofs.Booleans.{by-test, true-false}
+use borrow.Author.Tests.{eqb-true, eqb-false, ltb-true, ltb-false}
+use Rattle.notation.proofs.Booleans.{by-test}
 use Rattle.text.specs.Text.{same}
 use Rattle.text.specs.inner.Key.{Bytes}
 use Rattle.text.specs.inner.Packed.{four, eight, SameAt}
-use Rattle.text.proofs.Laws.{same-refl, same-true, same-false}
+use Rattle.text.proofs.Laws.{same-refl, same-true}
 
 -- what holds at four places in a row
 each-of-four : (P : ℕ → Type 0) (at : ℕ) → P at → P (at + 1) → P (at + 2) → P (at + 3) → (k : ℕ) → at ≤ k → k < at + 4 → P k

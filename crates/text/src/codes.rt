@@ -16,7 +16,7 @@ ghost use lib.ListN.{length, getD};
 ghost use Rattle.lexeme.specs.Character.{encoded};
 ghost use Rattle.text.specs.inner.Code.{charOf, widthOf, Packs, Coded, CodedAs, SameCodes, SameRun, SharedAt};
 
-// The number of a character; 0 where it has more bytes than any has, or its spelling.
+// The number of a character; 0 where it would have more than four bytes, or a spelling of more than twelve.
 fn pack(b0: u8, b1: u8, b2: u8, b3: u8, len: usize, more: usize) -> u64
     ensures { λ r. ⌜ (0 < r → Packs (charOf b0 b1 b2 b3 len more) r) ⌝ }
 {
@@ -141,7 +141,7 @@ pub fn ascii_at(s: &[u8], at: usize) -> u64
     0
 }
 
-// The character at a place that is not plain ASCII; 0 where there is none.
+// The character at a place, spelled by an escape \u or past ASCII as it stands; 0 where there is none.
 pub fn code_at(s: &[u8], at: usize) -> u64
     ensures { λ r. ⌜ (0 < r → Coded (now (s .entry)) at r) ⌝ }
 {

@@ -102,7 +102,7 @@ fn wide(b: u8) -> u64
 }
 
 // The four bytes at `at` as one number.
-pub fn four_at(s: &[u8], at: usize) -> u64
+fn four_at(s: &[u8], at: usize) -> u64
     requires { ⌜ at + 4 ≤ length (now s) ⌝ }
     ensures { λ r. ⌜ (r ≡ four (now (s .entry)) at) × (r < 2 ^ 32) ⌝ }
 {

@@ -18,5 +18,6 @@ pub mod Unchanged
 pub mod Opening
 pub mod Version
 pub mod Demand3
+pub mod Demands
 pub mod OneRing
 pub mod SixFiles

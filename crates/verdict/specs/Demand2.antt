@@ -42,13 +42,13 @@ pub record Says (t : Table) (s : Feeds) (number : ℕ) (p : Parts) : Type 0 wher
   pub written : (b : List ℕ) → wordSize ≤ length b → take wordSize (bufferOf t s b) ≡ wordOf writtenForm p
   pub readBack : (b : List ℕ) → wordSize ≤ length b → readWord (take wordSize (bufferOf t s b)) ≡ record { number = 0; parts = p }
 
--- The price: a segment charges a ride of this length at the moment t, which is its start or some intervals later, is no later than the ride's end, and comes
+-- The price: a segment charges a ride of this length at the moment m, which is its start or some intervals later, is no later than the ride's end, and comes
 -- before the segment's end where it has one.
-pub record Due (x : Segment) (ride t : ℕ) : Type 0 where
+pub record Due (x : Segment) (ride m : ℕ) : Type 0 where
   pub intervals : ℕ
-  pub at : t ≡ x .start + intervals * x .interval
-  pub within : t ≤ ride
-  pub unended : x .ended ≡ true → t < x .end
+  pub at : m ≡ x .start + intervals * x .interval
+  pub within : m ≤ ride
+  pub unended : x .ended ≡ true → m < x .end
 
 -- each is less than all after it
 pub data Rising : List ℕ → Type 0 where

@@ -80,7 +80,7 @@ pub record Refused (t : Table) (s : Feeds) (file : ℕ) : Type 0 where
   pub ahead : Ahead file parts
   pub told : Says t s 1 parts
 
--- the demand, undivided; its last sentence is of tables that ask for the version, and `proofs/Demand3` has that table 0 does
+-- the demand, undivided; its last sentence is of tables that ask for the version, as that of 2.3 does (`Demands`)
 pub record Demand3 (t : Table) : Type 0 where
   pub unmoved : (s u : Feeds) → LaterSet t s u → Agree t s u
   pub otherVersion : AsksVersion t → (s : Feeds) (file : ℕ) → 1 ≤ file → file ≤ fileCount → OtherVersion (bytesOf s file) → Refused t s file

@@ -1,6 +1,7 @@
 pub mod Verdict
 pub mod Demand2
 pub mod Demand3
+pub mod Demands
 pub mod OneRing
 pub mod SixFiles
 pub mod Cases

@@ -39,7 +39,7 @@ fn string_end_bytewise(s: &[u8], at: usize) -> usize
     s.len()
 }
 
-// The same, eight bytes at once as long as there are eight.
+// Just past the quotation mark that closes a string, whose text goes on at `at`, eight bytes at once as long as there are eight.
 fn string_end_wordwise(s: &[u8], at: usize) -> usize
     ensures { λ r. ⌜ r ≡ length (now (s .entry)) - length (quoted false (drop at (now (s .entry)))) ⌝ }
 {

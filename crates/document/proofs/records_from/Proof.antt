@@ -10,7 +10,7 @@ use Rattle.schema.specs.declared.ways.Steps.{Steps}
 use Rattle.schema.specs.inner.Line.{nameAt}
 use Rattle.schema.specs.inner.Ways.{wayNames, LeadTo}
 use Rattle.document.specs.declared.Span.{Span}
-use Rattle.document.specs.Spans.{memberSpan, membersAlong, topSpan, recordsSpan}
+use Rattle.document.specs.Spans.{memberSpan, membersAlong, topSpan}
 use Rattle.document.specs.inner.Spans.{ValueFrom, RecordsFrom}
 use Rattle.document.proofs.Along.{along-names, names-given}
 use Rattle.document.proofs.Rests.{Begins, begins-top, begins-member, records-begin, no-records}

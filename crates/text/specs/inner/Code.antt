@@ -20,7 +20,7 @@ charOf b0 b1 b2 b3 len more = record { b0 = b0; b1 = b1; b2 = b2; b3 = b3; len =
 abbrev pub packed : Char → ℕ
 packed x = x .b0 + 0x100 * (x .b1 + 0x100 * (x .b2 + 0x100 * (x .b3 + 0x100 * (x .len + 0x100 * (x .more + 1)))))
 
--- all but the last have room
+-- the bytes of a character, and how many they are, are each below 256
 pub record Small (x : Char) : Type 0 where
   pub b0 : x .b0 < 256
   pub b1 : x .b1 < 256

@@ -29,11 +29,12 @@ stringMark b = either 0x22 0x5c b
 unfoldable pub bracketLike : ℕ → Bool
 bracketLike b = eqb (bitAnd b 0xd9) 0x59
 
--- it, or a quotation mark
+-- such a byte, or a quotation mark
 unfoldable pub bracketMark : ℕ → Bool
 bracketMark b = eqb b 0x22 ⇒ true else bracketLike b
 
--- brackets are closed from r on as they are from `at` on, which stands before it but for what may be a bracket itself, or near the end
+-- Outside strings no bracket stands between the places `at` and r, so that what closes one that is open is found from either. With eight bytes ahead, r is the
+-- later place unless a bracket may stand at `at` itself.
 pub record Reaches (s : List ℕ) (at r : ℕ) : Type 0 where
   pub same : (n : ℕ) → enclosed (suc n) outside (drop at s) ≡ enclosed (suc n) outside (drop r s)
   pub from : at ≤ r

@@ -55,8 +55,8 @@ pub const ALL: [Worst; 30] = [
     Worst { name: "statuses", questions: &[Verdict], make: statuses },
     // One record a file, with as many unlisted members as fit before the listed ones.
     Worst { name: "members", questions: &[Verdict, Quote, Zone], make: || single(UNLISTED, plain) },
-    // A status and a bike, which have the most listed names, with as many unlisted members as fit. Their names are compared with each of
-    // the listed ones, by their length or by bytes that are decoded.
+    // A status and a bike, which have the most listed names, with as many unlisted members as fit: plain, and with names that are
+    // decoded before they are known to be none of the table's.
     Worst { name: "rows", questions: &[Verdict], make: || two(UNLISTED) },
     Worst { name: "rows-escaped", questions: &[Verdict], make: || two(r#""\u0069\u0073\u005f":0,"#) },
     // One record a file, with an unlisted member that holds arrays in arrays, or as many of the least arrays as fit.

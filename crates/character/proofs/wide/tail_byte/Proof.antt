@@ -1,5 +1,5 @@
 -- The test is that of the definition.
-use mathlib.Core.Path.{sym, _∙_}
+use mathlib.Core.Path.{_∙_}
 use borrow.Author.Needs.{needs}
 use borrow.Author.Tests.{lt-ltb, le-ltb}
 use Rattle.character.proofs.wide.tail_byte.Statement.{statement}

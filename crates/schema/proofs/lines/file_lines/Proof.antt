@@ -14,12 +14,12 @@ unfolding laidOut written
 how-many = refl
 
 returns : tie.Need-returns
-returns c = sym (List·getD-eq-default (fileRanges sheets) nowhere {n = c .before .args .file} (omega (arith, how-many)))
+returns c = sym (List·getD-eq-default (fileRanges sheets) nowhere {n = c .before .args .sheet} (omega (arith, how-many)))
 
 returns-2 : tie.Need-returns-2
 unfolding laidOut written
 returns-2 c =
-    range-columns (fileRanges sheets) (c .before .before .before .args .file) (c .before .from-u8 .ensures) (c .from-u82 .ensures)
+    range-columns (fileRanges sheets) (c .before .before .before .args .sheet) (c .before .from-u8 .ensures) (c .from-u82 .ensures)
 
 pub file-lines-spec : {M : Type 1} → statement M
 file-lines-spec =

@@ -1,6 +1,5 @@
 -- The byte that is read is that of the line.
 use native.Mathlib.Omega.{arith}
-use borrow.Author.Needs.{needs}
 use Rattle.schema.specs.Tables.{sheets}
 use Rattle.schema.proofs.Bytes.{inside-read}
 use Rattle.schema.proofs.Computed.{line-count}

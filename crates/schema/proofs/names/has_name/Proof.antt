@@ -2,7 +2,6 @@
 use mathlib.Core.Path.{ap}
 use native.Mathlib.Omega.{arith}
 use lib.Dec.{eqb}
-use borrow.Author.Needs.{needs}
 use Rattle.schema.specs.Tables.{sheets}
 use Rattle.schema.proofs.Bytes.{number-read}
 use Rattle.schema.proofs.Computed.{line-count}

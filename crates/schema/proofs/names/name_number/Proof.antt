@@ -1,5 +1,5 @@
 -- A spelling that is a name stands for that name. Any other is decoded, and the first 32 bytes of a text tell whether it is a name.
-use mathlib.Core.Path.{_≡_, ap, _∙_}
+use mathlib.Core.Path.{ap, _∙_}
 use native.Mathlib.Omega.{arith}
 use lib.ListN.{length-take}
 use borrow.Author.Needs.{needs}

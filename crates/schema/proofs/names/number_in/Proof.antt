@@ -1,6 +1,6 @@
 -- What is at the place of these bytes is their number where its name is these bytes; else they are no name, and so where they are none or more than 31.
 use mathlib.Core.List.{List}
-use mathlib.Core.Path.{_≡_, sym, ap, _∙_}
+use mathlib.Core.Path.{sym, ap, _∙_}
 use Prim.Native.Nat.{ℕ}
 use native.Mathlib.Omega.{arith}
 use lib.ListN.{getD}

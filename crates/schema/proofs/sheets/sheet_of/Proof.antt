@@ -1,7 +1,6 @@
 -- The tests of the code are those of the definition, in its order; the last sheet's number has room in a byte.
 use mathlib.Core.Path.{sym}
 use native.Mathlib.Omega.{arith}
-use borrow.Author.Needs.{needs}
 use Rattle.schema.proofs.SheetShapes.{table-count, sheet-none, sheet-past, sheet-first, sheet-inside}
 use Rattle.schema.proofs.sheets.sheet_of.Statement.{statement}
 use Rattle.schema.proofs.sheets.sheet_of.Tie as tie

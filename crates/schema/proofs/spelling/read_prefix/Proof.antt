@@ -1,10 +1,10 @@
 -- The bytes in the array and those that are left stay the whole text.
 use mathlib.Core.Logic.{⊎-elim}
 use mathlib.Core.Path.{refl, sym, _∙_}
-use Prim.Native.Nat.{_-_, _≤_}
+use Prim.Native.Nat.{_-_}
 use native.Mathlib.Omega.{arith}
 use borrow.Author.Needs.{needs}
-use lib.ListN.{length, take, drop}
+use lib.ListN.{drop}
 use Rattle.text.specs.Text.{textOf}
 use Rattle.text.proofs.Decoding.{text-end, text-plain}
 use Rattle.text.proofs.Filling.{Filled, filled-none, filled-next}

@@ -1,5 +1,5 @@
 -- Each turn puts the first of what is left of both runs behind what stands there, so that the whole stays the merge of the runs.
-use mathlib.Core.Path.{_≡_, sym, _∙_}
+use mathlib.Core.Path.{sym, _∙_}
 use Prim.Native.Nat.{_+_, _-_, _<_}
 use lib.ListN.{length, getD, length-set}
 use Rattle.sorting.specs.Ids.{idAt, notAfter}

@@ -1,7 +1,7 @@
 -- Both halves are the runs, and as long as the whole.
-use mathlib.Core.Path.{_≡_, ap, _∙_}
-use Prim.Native.Nat.{_+_, _-_}
-use lib.ListN.{length, take, drop, length-take, length-drop}
+use mathlib.Core.Path.{ap, _∙_}
+use Prim.Native.Nat.{_-_}
+use lib.ListN.{length, take, length-take, length-drop}
 use Rattle.sorting.specs.Ids.{idAt, notAfter}
 use Rattle.sorting.specs.inner.Merge.{merge}
 use Rattle.sorting.proofs.Rests.{to-end}

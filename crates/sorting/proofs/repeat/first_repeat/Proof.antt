@@ -1,5 +1,4 @@
 -- The number so far is that of the least record that repeats an id, among those at the places passed.
-use mathlib.Core.Path.{refl}
 use Prim.Native.Nat.{_-_, _≤_}
 use lib.ListN.{length}
 use Rattle.sorting.specs.Ids.{idAt}

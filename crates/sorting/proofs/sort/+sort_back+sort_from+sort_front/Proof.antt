@@ -1,14 +1,13 @@
 -- Each half is sorted into the other list, and their merge is the whole, sorted. The measure is twice the number of records that are to be sorted, and one
 -- more where they are only a part of the list: it falls with each call.
 use mathlib.Core.List.{_++_}
-use mathlib.Core.Path.{_≡_, refl, sym, ap, _∙_}
+use mathlib.Core.Path.{_≡_, sym, ap, _∙_}
 use Prim.Native.Nat.{ℕ, _+_, _-_, _*_, _/_, _≤_, _<_}
 use native.Mathlib.Omega.{arith}
-use borrow.Author.Needs.{needs}
 use borrow.Fn.Kinds.{In}
 use borrow.Fn.PlainCycle.{Measures, is, falls, and}
 use borrow.Rule.Slice.PartMut.{same-len-mid}
-use lib.ListN.{length, take, drop, length-set}
+use lib.ListN.{length, drop, length-set}
 use lib.Seq.{length-front, length-take-le}
 use Rattle.sorting.specs.Sorting.{sorted, numbers}
 use Rattle.sorting.specs.Ids.{idAt, notAfter}

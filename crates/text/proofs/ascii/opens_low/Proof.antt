@@ -1,7 +1,6 @@
 -- The tests are the parts of what is said.
 use mathlib.Core.Path.{refl}
 use native.Mathlib.Omega.{arith}
-use borrow.Author.Needs.{needs}
 use borrow.Author.Tests.{eqb-true}
 use Rattle.notation.proofs.Booleans.{true-false}
 use Rattle.text.proofs.ascii.opens_low.Statement.{statement}

@@ -1,5 +1,4 @@
 -- An escape \u of ASCII, or one by two bytes that stands for a byte.
-use mathlib.Core.Path.{_∙_}
 use borrow.Author.Needs.{needs}
 use native.Mathlib.Omega.{arith}
 use Rattle.text.proofs.Packed.{char-coded, short-coded}

@@ -1,6 +1,5 @@
 -- The sum of the parts; each has room below the next.
 use native.Mathlib.Omega.{arith}
-use borrow.Author.Needs.{needs}
 use Rattle.text.proofs.codes.pack.Statement.{statement}
 use Rattle.text.proofs.codes.pack.Tie as tie
 

@@ -1,6 +1,6 @@
 -- Of raw bytes those at the place are left at a cursor there; a spelling means its text.
 use mathlib.Core.Bool.{Bool}
-use mathlib.Core.Path.{_≡_, sym, ap, _∙_}
+use mathlib.Core.Path.{sym, ap, _∙_}
 use lib.ListN.{drop}
 use Rattle.text.specs.Text.{textOf, meant}
 use Rattle.text.specs.Ordering.{orderOf}

@@ -1,7 +1,7 @@
 -- What follows in both is in order as the whole is; each turn passes a character that is the same in both.
 use mathlib.Core.Bool.{false}
-use mathlib.Core.Path.{_≡_, refl, sym, ap, _∙_}
-use Prim.Native.Nat.{_+_, _-_, _<_}
+use mathlib.Core.Path.{_≡_, refl, ap, _∙_}
+use Prim.Native.Nat.{_-_}
 use lib.ListN.{length, drop}
 use borrow.Author.Tests.{not-false}
 use Rattle.text.specs.Text.{textOf}
