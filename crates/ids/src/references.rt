@@ -48,7 +48,8 @@ pub fn demanded_by(
     notes: &[u32; Notes::SIZE],
 ) -> u8
     requires { ⌜ Searchable sheet (now p) (now notes) ⌝ }
-    ensures { λ r. ⌜ listed r ≡ demandedOf (namedBy (testOf sheet) (idField sheet) (pickedItems (recordShape sheet) (now (p .entry))) (textBy (now (reference .entry)))) (thereBy (now (value .entry))) ⌝ }
+    ensures { λ r. ⌜ listed r ≡ demandedOf (namedBy (testOf sheet) (idField sheet) (pickedItems (recordShape sheet) (now (p .entry)))
+        (textBy (now (reference .entry)))) (thereBy (now (value .entry))) ⌝ }
 {
     if 0 < value.len() {
         return 0;
