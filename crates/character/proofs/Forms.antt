@@ -1,7 +1,7 @@
 -- The ways through the definitions of UTF-8, one equation for each. Every test's outcome is given with its equation to the definition's test.
-use mathlib.Core.Bool.{Bool, true, false, not}
+use mathlib.Core.Bool.{Bool, true, false}
 use mathlib.Core.List.{List}
-use mathlib.Core.Path.{◌≡◌, sym, ap, ◌∙◌}
+use mathlib.Core.Path.{◌≡◌, sym, ◌∙◌}
 use Prim.Native.Nat.{ℕ, ◌≤◌, ◌<◌, ◌+◌, ◌/◌, ◌%◌}
 use borrow.Author.Tests.{lt-ltb, le-ltb}
 use Rattle.word.specs.Kinds.{not_json}
@@ -18,36 +18,36 @@ module _ (l : List ℕ) {t : Bool} (e : t ≡ within 0x80 0xbf (byte l 1)) where
   utf2-whole h p q = rw (p, q, sym e ∙ h, utf2)
 
 module _ (lo hi : ℕ) (l : List ℕ) {t : Bool} (e : t ≡ within lo hi (byte l 1)) where
-  pub utf3-first : not t ≡ true → Fault not_json 1 ≡ utf3 lo hi l
+  pub utf3-first : t ≡ false → Fault not_json 1 ≡ utf3 lo hi l
   unfolding utf3
-  utf3-first h = rw (ap not (sym e) ∙ h, utf3)
+  utf3-first h = rw (sym e ∙ h, utf3)
 
-  pub utf4-first : not t ≡ true → Fault not_json 1 ≡ utf4 lo hi l
+  pub utf4-first : t ≡ false → Fault not_json 1 ≡ utf4 lo hi l
   unfolding utf4
-  utf4-first h = rw (ap not (sym e) ∙ h, utf4)
+  utf4-first h = rw (sym e ∙ h, utf4)
 
-  module _ (h : not t ≡ false) {u : Bool} (f : u ≡ within 0x80 0xbf (byte l 2)) where
-    pub utf3-second : not u ≡ true → Fault not_json 2 ≡ utf3 lo hi l
+  module _ (h : t ≡ true) {u : Bool} (f : u ≡ within 0x80 0xbf (byte l 2)) where
+    pub utf3-second : u ≡ false → Fault not_json 2 ≡ utf3 lo hi l
     unfolding utf3
-    utf3-second i = rw (ap not (sym e) ∙ h, ap not (sym f) ∙ i, utf3)
+    utf3-second i = rw (sym e ∙ h, sym f ∙ i, utf3)
 
-    pub utf4-second : not u ≡ true → Fault not_json 2 ≡ utf4 lo hi l
+    pub utf4-second : u ≡ false → Fault not_json 2 ≡ utf4 lo hi l
     unfolding utf4
-    utf4-second i = rw (ap not (sym e) ∙ h, ap not (sym f) ∙ i, utf4)
+    utf4-second i = rw (sym e ∙ h, sym f ∙ i, utf4)
 
-    module _ (i : not u ≡ false) where
+    module _ (i : u ≡ true) where
       pub utf3-whole : {a b c : ℕ} → a ≡ byte l 0 → b ≡ byte l 1 → c ≡ byte l 2 → char3 a b c 2 ≡ utf3 lo hi l
       unfolding utf3
-      utf3-whole p q r = rw (p, q, r, ap not (sym e) ∙ h, ap not (sym f) ∙ i, utf3)
+      utf3-whole p q r = rw (p, q, r, sym e ∙ h, sym f ∙ i, utf3)
 
       module _ {v : Bool} (g : v ≡ within 0x80 0xbf (byte l 3)) where
-        pub utf4-third : not v ≡ true → Fault not_json 3 ≡ utf4 lo hi l
+        pub utf4-third : v ≡ false → Fault not_json 3 ≡ utf4 lo hi l
         unfolding utf4
-        utf4-third j = rw (ap not (sym e) ∙ h, ap not (sym f) ∙ i, ap not (sym g) ∙ j, utf4)
+        utf4-third j = rw (sym e ∙ h, sym f ∙ i, sym g ∙ j, utf4)
 
-        pub utf4-whole : {a b c d : ℕ} → not v ≡ false → a ≡ byte l 0 → b ≡ byte l 1 → c ≡ byte l 2 → d ≡ byte l 3 → char4 a b c d 3 ≡ utf4 lo hi l
+        pub utf4-whole : {a b c d : ℕ} → v ≡ true → a ≡ byte l 0 → b ≡ byte l 1 → c ≡ byte l 2 → d ≡ byte l 3 → char4 a b c d 3 ≡ utf4 lo hi l
         unfolding utf4
-        utf4-whole j p q r z = rw (p, q, r, z, ap not (sym e) ∙ h, ap not (sym f) ∙ i, ap not (sym g) ∙ j, utf4)
+        utf4-whole j p q r z = rw (p, q, r, z, sym e ∙ h, sym f ∙ i, sym g ∙ j, utf4)
 
 -- a code point's UTF-8
 module _ (v more : ℕ) where

@@ -1,5 +1,7 @@
 // One character of a string, found by looking ahead from a place.
 // Past the end every byte reads as 0, which no place of a string admits, so every function is total.
+#![tactic(auto)]
+
 pub mod escape;
 pub mod hex;
 pub mod length;

@@ -1,4 +1,6 @@
 // Broken rules of one file and their order.
+#![tactic(auto)]
+
 ghost use Rattle.std.specs.Prelude.{◌≡◌};
 ghost use Rattle.word.specs.inner.Listed.{listed};
 ghost use Rattle.fault.specs.Fault as spec;
@@ -6,7 +8,7 @@ ghost use Rattle.fault.specs.Fault as spec;
 pub mod outcome;
 
 // A broken rule: the record, the field, the sub and the kind. Record 0 is the header.
-#[derive(Drop)]
+#[derive(Clone, Copy)]
 pub struct Fault {
     pub record: u32,
     pub field: u8,
@@ -15,7 +17,7 @@ pub struct Fault {
 }
 
 // The first of some broken rules, or none.
-#[derive(Drop)]
+#[derive(Clone, Copy)]
 pub enum Least {
     None,
     Is(Fault),
@@ -40,7 +42,7 @@ impl Fault {
 }
 
 // Where a value stands: in a record, and in an item of it. Record 0 is the header.
-#[derive(Drop)]
+#[derive(Clone, Copy)]
 pub struct Place {
     pub record: u32,
     pub sub: u32,

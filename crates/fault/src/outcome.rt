@@ -7,7 +7,7 @@ use crate::{Fault, Least};
 use word::Parts;
 
 // No rule is broken, or the first that is, as a word's parts.
-#[derive(Drop)]
+#[derive(Clone, Copy)]
 pub enum Outcome {
     Unbroken,
     Broken(Parts),

@@ -1,5 +1,7 @@
 // Rings and points on a flat plane, exactly. Coordinates are millionths of a degree, each moved up by half its range so that none is negative: by 180 and by
 // 90 degrees. A ring is taken point by point, and what is kept of it is its outline.
+#![tactic(auto)]
+
 pub mod edge;
 pub mod held;
 pub mod points;
@@ -7,14 +9,14 @@ pub mod ring;
 pub mod sums;
 
 // A point, moved up.
-#[derive(Drop)]
+#[derive(Clone, Copy)]
 pub struct Position {
     pub lon: u64,
     pub lat: u64,
 }
 
 // A number that may be negative: what is added less what is taken away.
-#[derive(Drop)]
+#[derive(Clone, Copy)]
 pub struct Balance {
     pub plus: u64,
     pub minus: u64,
@@ -22,7 +24,7 @@ pub struct Balance {
 
 // What is kept of a ring whose points are taken one after the other: how many were taken, the first, the last, and the area sum of a line from the origin over
 // them, as far as the ceiling of positions.
-#[derive(Drop)]
+#[derive(Clone, Copy)]
 pub struct Outline {
     pub count: u32,
     pub first: Position,
@@ -31,7 +33,7 @@ pub struct Outline {
 }
 
 // Where a point stands to those rings of a polygon that were asked: on an edge of one, or held by them or not.
-#[derive(Drop)]
+#[derive(Clone, Copy)]
 pub enum Standing {
     Edge,
     Is(bool),

@@ -1,12 +1,12 @@
 -- The parts of a number at places of a text, one equation for each way that the code goes. The byte at a place decides, and a byte past
 -- the end is 0, with which no part begins, so that a text which ends there is told by the same test.
-use mathlib.Core.Bool.{Bool, true, false, not}
+use mathlib.Core.Bool.{Bool, true, false}
 use mathlib.Core.List.{List, [], ◌∷◌, ◌++◌}
 use mathlib.Core.Path.{◌≡◌, refl, sym, ap, ◌∙◌}
 use Prim.Native.Nat.{ℕ, ◌+◌, ◌<◌}
 use lib.Dec.{eqb}
 use lib.ListN.{length, drop}
-use borrow.Author.Tests.{eq-eqb, ne_eqb, not-true, not-false}
+use borrow.Author.Tests.{eq-eqb, ne_eqb}
 use Rattle.notation.proofs.Booleans.{by_test}
 use Rattle.word.specs.Kinds.{not_json}
 use Rattle.lexeme.specs.Read.{Read, made, placed}
@@ -31,20 +31,20 @@ equal-inside x e s i h = inside (λ b. eqb b x) e s i (eq-eqb _ _ h)
 
 -- Digits, one at least, by the code's test of the byte b at the place.
 module _ (s : List ℕ) (at : ℕ) {b : ℕ} {t : Bool} (f : b ≡ byte (drop at s) 0) (g : t ≡ digit b) where
-  pub digits-inside : not t ≡ false → at < length s
-  digits-inside n = digit-inside s at (ap digit (sym f) ∙ sym g ∙ not-false _ n)
+  pub digits-inside : t ≡ true → at < length s
+  digits-inside n = digit-inside s at (ap digit (sym f) ∙ sym g ∙ n)
 
-  pub digits-none : not t ≡ true → some_digits (drop at s) ≡ bad not_json (drop at s)
-  digits-none n = go (drop at s) (ap digit (sym f) ∙ sym g ∙ not-true _ n)
+  pub digits-none : t ≡ false → some_digits (drop at s) ≡ bad not_json (drop at s)
+  digits-none n = go (drop at s) (ap digit (sym f) ∙ sym g ∙ n)
     where
       go : (l : List ℕ) → digit (byte l 0) ≡ false → some_digits l ≡ bad not_json l
       go [] h = unfold some_digits in refl
       go (c ∷ r) h = some_digits-none c r h
 
-  pub digits-first : not t ≡ false → placed s (some_digits (drop at s)) ≡ placed s (digits (drop (at + 1) s))
+  pub digits-first : t ≡ true → placed s (some_digits (drop at s)) ≡ placed s (digits (drop (at + 1) s))
   unfolding digit within
   digits-first n =
-      let h = ap digit (sym f) ∙ sym g ∙ not-false _ n in
+      let h = ap digit (sym f) ∙ sym g ∙ n in
       ap (placed s) (ap some_digits (shows digit refl (drop at s) h) ∙ some_digits-more _ _ h)
       ∙ placed-made s _ (digits (drop 1 (drop at s)))
       ∙ ap (λ (l : List ℕ). placed s (digits l)) (next-drop s at)
@@ -87,13 +87,13 @@ integer-some (b ∷ r) h = rw (ne_eqb _ _ h)
 
 -- An exponent, by the code's test of the byte b at the place for its letter, and of the byte after it for a sign.
 module _ (s : List ℕ) (at : ℕ) {b : ℕ} {t : Bool} (f : b ≡ byte (drop at s) 0) (g : t ≡ either 0x65 0x45 b) where
-  pub exponent-none : not t ≡ true → exponent (drop at s) ≡ done [] (drop at s)
+  pub exponent-none : t ≡ false → exponent (drop at s) ≡ done [] (drop at s)
   unfolding exponent
-  exponent-none n = optional-none (either 0x65 0x45) _ (drop at s) (ap (either 0x65 0x45) (sym f) ∙ sym g ∙ not-true _ n)
+  exponent-none n = optional-none (either 0x65 0x45) _ (drop at s) (ap (either 0x65 0x45) (sym f) ∙ sym g ∙ n)
 
-  module _ (n : not t ≡ false) where
+  module _ (n : t ≡ true) where
     letter : either 0x65 0x45 (byte (drop at s) 0) ≡ true
-    letter = ap (either 0x65 0x45) (sym f) ∙ sym g ∙ not-false _ n
+    letter = ap (either 0x65 0x45) (sym f) ∙ sym g ∙ n
 
     pub exponent-inside : at < length s
     unfolding either

@@ -1,6 +1,6 @@
 -- A run of bytes that a test admits, and the text past it. Blanks and digits are such runs, so their loops share one argument:
 -- what is past the run is the same from each of its bytes on.
-use mathlib.Core.Bool.{Bool, true, false, not}
+use mathlib.Core.Bool.{Bool, true, false}
 use mathlib.Core.List.{List, [], ◌∷◌, ◌++◌}
 use mathlib.Core.Path.{◌≡◌, refl, sym, ap, ◌∙◌}
 use Prim.Native.Nat.{ℕ, ◌+◌, ◌-◌, ◌≤◌, ◌<◌}
@@ -8,7 +8,6 @@ use native.Mathlib.Omega.{arith}
 use lib.ListN.{length, drop, get_or, drop_of_length-le}
 use Rattle.notation.proofs.Booleans.{by_test}
 use Rattle.notation.proofs.Lists.{at_cons}
-use borrow.Author.Tests.{not-true, not-false}
 use Rattle.lexeme.specs.declared.Scan.TheVariants.{End}
 use Rattle.lexeme.specs.Read.{made, placed}
 use Rattle.lexeme.specs.Read.Read.{done}
@@ -35,16 +34,16 @@ module _ (test : ℕ → Bool) (s : List ℕ) (i : ℕ) {x : List ℕ} (left : p
   run_ends h = let w : past test (drop i s) ≡ [] = rw (drop_of_length-le s h) in rw (sym left ∙ w) (omega arith)
 
   module _ (h : i < length s) {t : Bool} (e : t ≡ test (get_or s i 0)) where
-    pub run_next : not t ≡ false → past test (drop (i + 1) s) ≡ x
+    pub run_next : t ≡ true → past test (drop (i + 1) s) ≡ x
     unfolding past
     run_next n =
-        let w : past test (drop i s) ≡ past test (drop (i + 1) s) = rw (at_cons s i h, sym e ∙ not-false _ n, past) in
+        let w : past test (drop i s) ≡ past test (drop (i + 1) s) = rw (at_cons s i h, sym e ∙ n, past) in
         sym w ∙ left
 
-    pub run_stops : not t ≡ true → i ≡ length s - length x
+    pub run_stops : t ≡ false → i ≡ length s - length x
     unfolding past
     run_stops n =
-        let w : past test (drop i s) ≡ drop i s = rw (at_cons s i h, sym e ∙ not-true _ n, past) in
+        let w : past test (drop i s) ≡ drop i s = rw (at_cons s i h, sym e ∙ n, past) in
         rw (sym left ∙ w) (place_at s i (omega arith))
 
 -- blanks

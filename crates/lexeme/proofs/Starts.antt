@@ -81,9 +81,9 @@ Byte b Start.string = b ≡ 0x22
 Byte b Start.number = Unit {0}
 Byte b Start.array = b ≡ 0x5b
 Byte b Start.object = b ≡ 0x7b
-Byte b Start.letterT = Unit {0}
-Byte b Start.letterF = Unit {0}
-Byte b Start.letterN = Unit {0}
+Byte b Start.letter_t = Unit {0}
+Byte b Start.letter_f = Unit {0}
+Byte b Start.letter_n = Unit {0}
 Byte b Start.other = Unit {0}
 
 starts-byte : (b : ℕ) → Byte b (start b)

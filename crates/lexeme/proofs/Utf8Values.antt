@@ -17,7 +17,7 @@ use Rattle.lexeme.specs.inner.Lead.{Lead, lead, next_by}
 use Rattle.lexeme.specs.inner.Lead.Lead.{plain, quote, backslash, wrong, two, three_e0, three, three_ed, four_f0, four, four_f4}
 use Rattle.lexeme.specs.Utf8.{Scalar, Unescaped, bytes_in, utf8, code_point, Stands}
 use Rattle.lexeme.proofs.Leads.{next-by}
-use Rattle.lexeme.proofs.Rows.{here, front, front_splits}
+use Rattle.lexeme.proofs.Rows.{here, front_splits}
 use Rattle.lexeme.proofs.Utf8Reads.{bounds, below, above}
 
 -- an encoding's bytes hold its value

@@ -2,7 +2,7 @@
 use Rattle.std.specs.Prelude.{List, [], ◌∷◌, refl, ℕ}
 use Prim.Native.String.{String}
 use Rattle.notation.specs.Case.{Case, Answers}
-use Rattle.lexeme.specs.Character.{paired, encoded, next}
+use Rattle.lexeme.specs.Character.{paired, next}
 use Rattle.lexeme.specs.Utf8.{bytes_in, utf8, code_point}
 use Rattle.lexeme.specs.Cases.{lexing}
 

@@ -4,7 +4,7 @@ ghost use Rattle.lexeme.specs.inner.Class.{blank_of, Classed, Classifies};
 
 // The classes, numbered so that one test tells what a scanner asks most: those below QUOTE stand for themselves inside a string, and the odd ones
 // are blanks.
-#[derive(Drop)]
+#[derive(Clone, Copy)]
 pub struct Class {
     pub number: u8,
 }

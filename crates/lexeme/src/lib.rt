@@ -1,4 +1,6 @@
 // The lexemes of a JSON text.
+#![tactic(auto)]
+
 pub mod ascii;
 pub mod blank;
 pub mod class;
@@ -7,14 +9,14 @@ pub mod literal;
 pub mod number;
 
 // Where reading ended: just past what was read, or at the first fault, with its kind.
-#[derive(Drop)]
+#[derive(Clone, Copy)]
 pub enum Scan {
     End(usize),
     Fault(u8, usize),
 }
 
 // A character of a string: its UTF-8 bytes, of which the first `len` count, and how many bytes its spelling has after the first.
-#[derive(Drop)]
+#[derive(Clone, Copy)]
 pub struct Char {
     pub b0: u8,
     pub b1: u8,
@@ -25,7 +27,7 @@ pub struct Char {
 }
 
 // What stands at a place inside a string: the closing quote, a character, or a fault with its kind and its distance from the place.
-#[derive(Drop)]
+#[derive(Clone, Copy)]
 pub enum Next {
     Quote,
     Character(Char),
@@ -33,14 +35,14 @@ pub enum Next {
 }
 
 // Four hexadecimal digits: their value, or how many stand before the first byte that is none.
-#[derive(Drop)]
+#[derive(Clone, Copy)]
 pub enum Quad {
     Value(u32),
     Short(usize),
 }
 
 // What follows a high surrogate escape: a low one, or anything else.
-#[derive(Drop)]
+#[derive(Clone, Copy)]
 pub enum Trail {
     Low(u32),
     Other,

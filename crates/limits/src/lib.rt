@@ -1,8 +1,10 @@
 // The ceilings of a feed set. Every layer above takes them from here.
+#![tactic(auto)]
+
 ghost use Rattle.std.specs.Prelude.{◌≡◌};
 ghost use Rattle.limits.specs.inner.Constants.{ceilings};
 
-#[derive(Drop)]
+#[derive(Clone, Copy)]
 pub struct Limits {
     pub file_bytes: usize,
     pub depth: u8,

@@ -1,1 +1,2 @@
 // Notation of the definitions in every crate's specs/. There is no code here.
+#![tactic(auto)]

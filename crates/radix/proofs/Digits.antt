@@ -15,18 +15,24 @@ unfolding number_from number weight
 number-from [] [] acc h = sym (add-zero (acc * 1) ∙ mul-one acc)
 number-from (m ∷ ms) (v ∷ vs) acc h =
     rw (number-from ms vs (acc * m + v) h.1, number-from ms vs (0 * m + v) h.1, zero-mul, zero-add, add-mul, mul_assoc, add_assoc)
+number-from [] (v ∷ vs) acc h = elim h [ ]
+number-from (m ∷ ms) [] acc h = elim h [ ]
 
 pub number-below : (ms vs : List ℕ) → Fit ms vs → number ms vs < weight ms
 unfolding number_from number weight
 number-below [] [] h = omega arith
 number-below (m ∷ ms) (v ∷ vs) h =
     rw (number-from ms vs (0 * m + v) h.1, zero-mul, zero-add) (digits_lt h.0 (number-below ms vs h.1))
+number-below [] (v ∷ vs) h = elim h [ ]
+number-below (m ∷ ms) [] h = elim h [ ]
 
 digits-number_from : (ms vs : List ℕ) (acc : ℕ) → Fit ms vs → digits ms (number_from acc ms vs) ≡ vs
 unfolding number_from digits
 digits-number_from [] [] acc h = refl
 digits-number_from (m ∷ ms) (v ∷ vs) acc h =
     rw (digits-number_from ms vs (acc * m + v) h.1, number-from ms vs (acc * m + v) h.1, digits_div (acc * m + v) (number-below ms vs h.1), digits_mod acc h.0)
+digits-number_from [] (v ∷ vs) acc h = elim h [ ]
+digits-number_from (m ∷ ms) [] acc h = elim h [ ]
 
 number_from-digits : (ms : List ℕ) (n : ℕ) → number_from (n / weight ms) ms (digits ms n) ≡ n
 unfolding number_from digits weight

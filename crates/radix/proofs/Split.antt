@@ -42,6 +42,8 @@ number-onward : (acc : ℕ) (ms us ns vs : List ℕ) → Fit ms us → number_fr
 unfolding number_from
 number-onward acc [] [] ns vs f = refl
 number-onward acc (m ∷ ms) (u ∷ us) ns vs f = number-onward (acc * m + u) ms us ns vs f.1
+number-onward acc [] (u ∷ us) ns vs f = elim f [ ]
+number-onward acc (m ∷ ms) [] ns vs f = elim f [ ]
 
 pub number_split : (ms us ns vs : List ℕ) → Fit ms us → Fit ns vs → number (ms ++ ns) (us ++ vs) ≡ number ms us * weight ns + number ns vs
 unfolding number

@@ -1,4 +1,6 @@
 // Numbers as digits over any bases, and the digits that are bytes.
+#![tactic(auto)]
+
 ghost use Rattle.std.specs.Prelude.{◌≡◌, ◌+◌, ◌*◌, ◌/◌, ◌%◌, ◌^◌, ◌≤◌, ◌<◌, length};
 ghost use Rattle.radix.specs.Fields.{bytes_number};
 

@@ -1,5 +1,5 @@
 // The kinds of broken rules, by their numbers; written by scripts/table from specs/Kinds.antt. What each one means stands beside its definition.
-#[derive(Drop)]
+#[derive(Clone, Copy)]
 pub struct Kind {
     pub number: u8,
 }

@@ -1,4 +1,6 @@
 // The verdict word: where a feed set breaks a rule first, packed into 64 bits and read back.
+#![tactic(auto)]
+
 ghost use Rattle.std.specs.Prelude.{◌≡◌};
 ghost use Rattle.radix.specs.Radix.{number as number_of, digits};
 ghost use Rattle.radix.specs.Fields.{bases};
@@ -8,7 +10,7 @@ ghost use Rattle.word.specs.Word.{Fits, values_of, parts_of, word_of, keeps as k
 pub mod kind;
 
 // What a word says. All parts of an accepting word are zero.
-#[derive(Drop)]
+#[derive(Clone, Copy)]
 pub struct Parts {
     pub file: u8,
     pub kind: u8,
@@ -19,13 +21,13 @@ pub struct Parts {
 }
 
 // What bytes say that are read as a word.
-#[derive(Drop)]
+#[derive(Clone, Copy)]
 pub enum Reading {
     NoWord,
     Word(Parts),
 }
 
-#[derive(Drop)]
+#[derive(Clone, Copy)]
 pub struct Word {
     pub bytes: [u8; 8],
 }

@@ -1,0 +1,31 @@
+-- `read_integer` reads a 0 alone or digits, and leaves the rest to `read_fraction`.
+use mathlib.Core.Path.{refl, sym, ◌∙◌}
+use native.Mathlib.Omega.{arith}
+use lib.ListN.{drop}
+use Rattle.lexeme.specs.Numbers.{some_digits, both, integer, fraction, exponent}
+use Rattle.lexeme.proofs.Placed.{passes, lands}
+use Rattle.lexeme.proofs.Steps.{both_fails}
+use Rattle.lexeme.proofs.NumberParts.{equal-inside, some_leaves, both-second, integer-zero, integer-some}
+use Rattle.lexeme.proofs.number.read_integer.Goals as goal
+
+pub returns-in-Fault : goal.returns-in-Fault
+returns-in-Fault c =
+    let a = c.args in let s = a.s.now in let l = drop a.at s in
+    let e = integer-some l (λ z. c.if-first-eq48.false (c.first.ensures ∙ z)) in
+    passes s _ _ (some_digits l) _ (sym c.in-Fault.is ∙ c.read_digits.ensures)
+    (λ q h. both_fails integer (both fraction exponent) l (e ∙ h))
+
+pub returns-in-End : goal.returns-in-End
+returns-in-End c =
+    let a = c.args in let s = a.s.now in let l = drop a.at s in
+    let e = integer-some l (λ z. c.if-first-eq48.false (c.first.ensures ∙ z)) in
+    let d = lands some_digits s a.at _ some_leaves (sym c.in-End.is ∙ c.read_digits.ensures) in
+    c.read_fraction-in-End.ensures ∙ sym (both-second integer (both fraction exponent) l _ _ (e ∙ d.reads) s)
+
+pub overflow_add-at : goal.overflow_add-at
+overflow_add-at c = let a = c.args in
+    omega (arith, equal-inside 0x30 refl a.s.now a.at (sym c.first.ensures ∙ c.if-first-eq48.true))
+
+pub returns-then-first-eq48 : goal.returns-then-first-eq48
+returns-then-first-eq48 c = let a = c.args in
+    c.read_fraction.ensures ∙ sym (integer-zero a.s.now a.at (sym c.first.ensures ∙ c.if-first-eq48.true) (both fraction exponent))
