@@ -179,15 +179,15 @@ module _ (a : ℕ) (h : Mute a) where
 char-within : {s : List ℕ} → Char s → Within s
 char-within (Char.utf1 {a} h) = let p = unescaped_bounds a h in alone a (mute a p.2 p.3)
 char-within (Char.utf2 {a} {b} h i) = within2 a (range_mute 0xc2 0xdf a (omega arith) h) b (tail_mute b i)
-char-within (Char.utf3-e0 {b} {c} i j) = within3 0xe0 (mute 0xe0 (λ i. omega arith) (λ i. omega arith)) b c (range_mute 0xa0 0xbf b (omega arith) i) (tail_mute c j)
-char-within (Char.utf3-e1 {a} {b} {c} h i j) = within3 a (range_mute 0xe1 0xec a (omega arith) h) b c (tail_mute b i) (tail_mute c j)
-char-within (Char.utf3-ed {b} {c} i j) = within3 0xed (mute 0xed (λ i. omega arith) (λ i. omega arith)) b c (range_mute 0x80 0x9f b (omega arith) i) (tail_mute c j)
-char-within (Char.utf3-ee {a} {b} {c} h i j) = within3 a (range_mute 0xee 0xef a (omega arith) h) b c (tail_mute b i) (tail_mute c j)
-char-within (Char.utf4-f0 {b} {c} {d} i j k) =
+char-within (Char.utf3_e0 {b} {c} i j) = within3 0xe0 (mute 0xe0 (λ i. omega arith) (λ i. omega arith)) b c (range_mute 0xa0 0xbf b (omega arith) i) (tail_mute c j)
+char-within (Char.utf3_e1 {a} {b} {c} h i j) = within3 a (range_mute 0xe1 0xec a (omega arith) h) b c (tail_mute b i) (tail_mute c j)
+char-within (Char.utf3_ed {b} {c} i j) = within3 0xed (mute 0xed (λ i. omega arith) (λ i. omega arith)) b c (range_mute 0x80 0x9f b (omega arith) i) (tail_mute c j)
+char-within (Char.utf3_ee {a} {b} {c} h i j) = within3 a (range_mute 0xee 0xef a (omega arith) h) b c (tail_mute b i) (tail_mute c j)
+char-within (Char.utf4_f0 {b} {c} {d} i j k) =
     within4 0xf0 (mute 0xf0 (λ i. omega arith) (λ i. omega arith)) b c d (range_mute 0x90 0xbf b (omega arith) i) (tail_mute c j) (tail_mute d k)
-char-within (Char.utf4-f1 {a} {b} {c} {d} h i j k) =
+char-within (Char.utf4_f1 {a} {b} {c} {d} h i j k) =
     within4 a (range_mute 0xf1 0xf3 a (omega arith) h) b c d (tail_mute b i) (tail_mute c j) (tail_mute d k)
-char-within (Char.utf4-f4 {b} {c} {d} i j k) =
+char-within (Char.utf4_f4 {b} {c} {d} i j k) =
     within4 0xf4 (mute 0xf4 (λ i. omega arith) (λ i. omega arith)) b c d (range_mute 0x80 0x8f b (omega arith) i) (tail_mute c j) (tail_mute d k)
 char-within (Char.short {b} h) = escape-within b [] within_none
 char-within (Char.unicode {a} {b} {c} {d} h i j k) =

@@ -86,7 +86,7 @@ module _ {A : Type 0} (close : ℕ) (element : List ℕ → Read A) (consumes : 
   run_reads {l} (last {r = r} {q = q} {x = x} e i) (suc most) h = elements-closed close most element l x r q e i
   run_reads {l} (broken {r = r} {q = q} {x = x} e i) (suc most) h = elements-wrong close most element l x r q e i
   run_reads {l} (next {r = r} {q = q} {x = x} e i u) (suc most) h =
-      elements-more close most element l x r q e i ∙ ap (made (λ xs. x ∷ xs)) (run_reads u most (omega (arith, consumes l r x e, after_less close r i)))
+      elements-more close most element l x r q e i ∙ ap (made (λ xs. x ∷ xs)) (run_reads {l = q} u most (omega (arith, consumes l r x e, after_less close r i)))
 
   pub elements_bound : (most other : ℕ) (l : List ℕ) → length l < most → length l < other → elements_up_to close most element l ≡ elements_up_to close other element l
   elements_bound most other l h k = run_reads (run other l k) most h

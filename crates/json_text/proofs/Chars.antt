@@ -9,7 +9,6 @@ use lib.Dec.{eqb}
 use lib.ListN.{drop}
 use borrow.Author.Tests.{eqb-true, lt-ltb}
 use Rattle.notation.proofs.Booleans.{by_test, true-false}
-use Rattle.lexeme.specs.declared.Char.{Char}
 use Rattle.lexeme.specs.declared.Quad.TheVariants.{Value}
 use Rattle.lexeme.specs.Read.{made}
 use Rattle.lexeme.specs.Read.Read.{done}

@@ -329,9 +329,9 @@ module _ (k : ℕ) (P : List ℕ → Type 0) (z : ℕ) (W : ℕ → Place) (L : 
           go Start.number h = plain-none other (number-plain (b ∷ l)) (made-bad Json.number (Numbers.number (b ∷ l)) k r (rw (h, value_at) at f))
           go Start.array h = array b l r h (rw (h, value_at) at f)
           go Start.object h = object b l r h (rw (h, value_at) at f)
-          go Start.letterT h = word _ _ (Json.boolean true) (rw (h, value_at) at f)
-          go Start.letterF h = word _ _ (Json.boolean false) (rw (h, value_at) at f)
-          go Start.letterN h = word _ _ Json.null (rw (h, value_at) at f)
+          go Start.letter_t h = word _ _ (Json.boolean true) (rw (h, value_at) at f)
+          go Start.letter_f h = word _ _ (Json.boolean false) (rw (h, value_at) at f)
+          go Start.letter_n h = word _ _ Json.null (rw (h, value_at) at f)
           go Start.other h = no-fault other (rw (h, value_at) at f)
 
       value-places : (d : ℕ) → FaultPlaces outside (value paired d) d

@@ -23,7 +23,7 @@ use Rattle.lexeme.proofs.Spans.{skipped}
 use Rattle.json_text.specs.declared.element.Turn.TheVariants.{Stop, Next}
 use Rattle.json_text.specs.inner.Turns.{turn}
 use Rattle.json_text.specs.Text.{After, after, contents, bracketed, member, value}
-use Rattle.json_text.specs.Text.After.{closed, wrong}
+use Rattle.json_text.specs.Text.After.{closed, more, wrong}
 use Rattle.json_text.proofs.Steps.{elements-bad, elements-closed, elements-wrong, contents-end, contents-none, contents-some}
 use Rattle.json_text.proofs.Bound.{all, after_less, elements-next}
 use Rattle.json_text.proofs.StrongPrefixes.{continues, member_consumes, member_takes, value_consumes, value_takes}
@@ -89,6 +89,7 @@ module _ {A : Type 0} {close : ℕ} {element : List ℕ → Read A} (a : Element
       go : (x : After) → after close (drop j s) ≡ x → Stops s w x → w ≡ placed s (all close element (drop i s))
       go (closed q) g (at_bracket z) = z ∙ ends s q _ _ refl _ (elements-closed close _ element _ _ _ _ d.reads g)
       go (wrong q) g (at-fault z) = z ∙ faults s q _ _ refl _ (elements-wrong close _ element _ _ _ _ d.reads g)
+      go (more _) g x6 = elim x6 [ ]
 
   pub pending_next : (o : Scan) (n : ℕ) → o ≡ placed s (element (drop i s)) → Next n ≡ turn s close o → (i < n) × Pending close element s at n
   unfolding turn

@@ -87,9 +87,9 @@ module _ (D : ℕ → Type 0) where
         go Start.number h = rw (h, value_at) same
         go Start.array h = rw (h, value_at) (arrays b r)
         go Start.object h = rw (h, value_at) (objects b r)
-        go Start.letterT h = rw (h, value_at) same
-        go Start.letterF h = rw (h, value_at) same
-        go Start.letterN h = rw (h, value_at) same
+        go Start.letter_t h = rw (h, value_at) same
+        go Start.letter_f h = rw (h, value_at) same
+        go Start.letter_n h = rw (h, value_at) same
         go Start.other h = rw (h, value_at) same
 
     -- what opens one level too many is read by laxer rules

@@ -209,9 +209,9 @@ module _ (ρ : Surrogates) (arrays objects : List ℕ → Read Json) (S : Json �
       go Start.object h f =
           let i : objects (b ∷ l) ≡ done x r = rw (value_at, h) at f in
           rw (object-byte b h) (object l r x (rw (object-byte b h) at i))
-      go Start.letterT h f = word-front (bytes "true") (Json.boolean true) (b ∷ l) r x yes (rw (value_at, h) at f)
-      go Start.letterF h f = word-front (bytes "false") (Json.boolean false) (b ∷ l) r x no (rw (value_at, h) at f)
-      go Start.letterN h f = word-front (bytes "null") Json.null (b ∷ l) r x null (rw (value_at, h) at f)
+      go Start.letter_t h f = word-front (bytes "true") (Json.boolean true) (b ∷ l) r x yes (rw (value_at, h) at f)
+      go Start.letter_f h f = word-front (bytes "false") (Json.boolean false) (b ∷ l) r x no (rw (value_at, h) at f)
+      go Start.letter_n h f = word-front (bytes "null") Json.null (b ∷ l) r x null (rw (value_at, h) at f)
       go Start.other h f = bad-done (rw (value_at, h) at f)
 
 -- a string as a value

@@ -128,9 +128,9 @@ value_at ρ arrays objects b r =
       | Start.number ↦ made Json.number (Numbers.number (b ∷ r))
       | Start.array ↦ arrays (b ∷ r)
       | Start.object ↦ objects (b ∷ r)
-      | Start.letterT ↦ literal (bytes "true") (Json.boolean true) (b ∷ r)
-      | Start.letterF ↦ literal (bytes "false") (Json.boolean false) (b ∷ r)
-      | Start.letterN ↦ literal (bytes "null") Json.null (b ∷ r)
+      | Start.letter_t ↦ literal (bytes "true") (Json.boolean true) (b ∷ r)
+      | Start.letter_f ↦ literal (bytes "false") (Json.boolean false) (b ∷ r)
+      | Start.letter_n ↦ literal (bytes "null") Json.null (b ∷ r)
       | Start.other ↦ bad not_json (b ∷ r)
     ]
 
@@ -185,7 +185,7 @@ module _ (ρ : Surrogates) (arrays objects : List ℕ → Read Json) where
         go Start.number h = record { reader = _; holds = number; reads = λ r. rw (value-start ρ arrays objects b r, value_at, h) }
         go Start.array h = record { reader = _; holds = array; reads = λ r. rw (value-start ρ arrays objects b r, value_at, h) }
         go Start.object h = record { reader = _; holds = object; reads = λ r. rw (value-start ρ arrays objects b r, value_at, h) }
-        go Start.letterT h = record { reader = literal (bytes "true") (Json.boolean true); holds = word _ _ _; reads = λ r. rw (value-start ρ arrays objects b r, value_at, h) }
-        go Start.letterF h = record { reader = literal (bytes "false") (Json.boolean false); holds = word _ _ _; reads = λ r. rw (value-start ρ arrays objects b r, value_at, h) }
-        go Start.letterN h = record { reader = literal (bytes "null") Json.null; holds = word _ _ _; reads = λ r. rw (value-start ρ arrays objects b r, value_at, h) }
+        go Start.letter_t h = record { reader = literal (bytes "true") (Json.boolean true); holds = word _ _ _; reads = λ r. rw (value-start ρ arrays objects b r, value_at, h) }
+        go Start.letter_f h = record { reader = literal (bytes "false") (Json.boolean false); holds = word _ _ _; reads = λ r. rw (value-start ρ arrays objects b r, value_at, h) }
+        go Start.letter_n h = record { reader = literal (bytes "null") Json.null; holds = word _ _ _; reads = λ r. rw (value-start ρ arrays objects b r, value_at, h) }
         go Start.other h = record { reader = _; holds = none; reads = λ r. rw (value-start ρ arrays objects b r, value_at, h) }

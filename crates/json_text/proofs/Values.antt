@@ -68,9 +68,9 @@ begun Start.string = true
 begun Start.number = true
 begun Start.array = true
 begun Start.object = true
-begun Start.letterT = true
-begun Start.letterF = true
-begun Start.letterN = true
+begun Start.letter_t = true
+begun Start.letter_f = true
+begun Start.letter_n = true
 begun Start.other = false
 
 -- where it does, it stands in the text
@@ -144,15 +144,15 @@ module _ {s : List ℕ} {at : ℕ} (d : ℕ) where
   unfolding objects
   object_opened k n = ap (placed s) (value-object k) ∙ nested_opened _ 0x7d (λ m. member paired (value paired m)) d s at n
 
-  pub value-true : Begins s at Start.letterT → placed s (value paired d (drop at s)) ≡ placed s (literal (bytes "true") (tt {0}) (drop at s))
+  pub value-true : Begins s at Start.letter_t → placed s (value paired d (drop at s)) ≡ placed s (literal (bytes "true") (tt {0}) (drop at s))
   unfolding value_at
   value-true k = ap (placed s) (read_by k refl d (literal _ (Json.boolean true)) (rw (value_at, k.says))) ∙ literal-placed _ _ tt (drop at s) s
 
-  pub value-false : Begins s at Start.letterF → placed s (value paired d (drop at s)) ≡ placed s (literal (bytes "false") (tt {0}) (drop at s))
+  pub value-false : Begins s at Start.letter_f → placed s (value paired d (drop at s)) ≡ placed s (literal (bytes "false") (tt {0}) (drop at s))
   unfolding value_at
   value-false k = ap (placed s) (read_by k refl d (literal _ (Json.boolean false)) (rw (value_at, k.says))) ∙ literal-placed _ _ tt (drop at s) s
 
-  pub value-null : Begins s at Start.letterN → placed s (value paired d (drop at s)) ≡ placed s (literal (bytes "null") (tt {0}) (drop at s))
+  pub value-null : Begins s at Start.letter_n → placed s (value paired d (drop at s)) ≡ placed s (literal (bytes "null") (tt {0}) (drop at s))
   unfolding value_at
   value-null k = ap (placed s) (read_by k refl d (literal _ Json.null) (rw (value_at, k.says))) ∙ literal-placed _ _ tt (drop at s) s
 

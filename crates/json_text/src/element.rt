@@ -8,7 +8,7 @@ use lexeme::blank::skip_blanks_by;
 use word::kind::Kind;
 
 // The whole array or object ends so, or the next element begins there.
-#[derive(Drop)]
+#[derive(Clone, Copy)]
 pub enum Turn {
     Stop(Scan),
     Next(usize),

@@ -1,4 +1,6 @@
 // JSON texts: stage A.
+#![tactic(auto)]
+
 ghost use Rattle.std.specs.Prelude.{◌≡◌};
 ghost use Rattle.json_text.specs.Text.{syntax_of};
 
@@ -12,7 +14,7 @@ use reader::read_text;
 use word::kind::Kind;
 
 // Stage A's verdict on one file: it passes, or its first fault, by kind and offset.
-#[derive(Drop)]
+#[derive(Clone, Copy)]
 pub enum Syntax {
     Sound,
     Fault(u8, usize),

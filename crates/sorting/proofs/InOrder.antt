@@ -22,6 +22,7 @@ Has k (x ∷ l) = (k ≡ x) ⊎ Has k l
 pub has-at : (k : ℕ) (l : List ℕ) → Has k l → (i : ℕ) × (i < length l) × (get_or l i 0 ≡ k)
 has-at k (x ∷ l) (inl e) = (0, omega arith, sym e)
 has-at k (x ∷ l) (inr h) = let w = has-at k l h in let n = w.1 in (suc w.0, omega arith, w.2)
+has-at k [] x' = elim x' [ ]
 
 pub at_has : (l : List ℕ) (i : ℕ) → i < length l → Has (get_or l i 0) l
 at_has [] i h = absurd (omega arith)
@@ -86,6 +87,7 @@ module _ (le : ℕ → ℕ → Bool) where
   unfolding sorted
   has-sorted k (x ∷ l) (inl e) = has-insert k x (sorted le l) (inl e)
   has-sorted k (x ∷ l) (inr h) = has-insert k x (sorted le l) (inr (has-sorted k l h))
+  has-sorted k [] x' = elim x' [ ]
 
   pub sorted-has : (k : ℕ) (l : List ℕ) → Has k (sorted le l) → Has k l
   unfolding sorted

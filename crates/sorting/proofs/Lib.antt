@@ -10,5 +10,6 @@ pub mod Making
 pub mod Halving
 pub mod Finding
 pub mod Neighbours
+pub mod Lesser
 pub mod Repeated
 pub mod Alike

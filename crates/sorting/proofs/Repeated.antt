@@ -5,38 +5,17 @@ use mathlib.Core.List.{List}
 use mathlib.Core.Path.{◌≡◌, refl, sym, ap, subst, ◌∙◌}
 use Prim.Native.Nat.{ℕ, zero, suc, ◌+◌, ◌-◌, ◌≤◌, ◌<◌}
 use native.Mathlib.Omega.{arith}
-use lib.Dec.{eqb, ltb}
+use lib.Dec.{ltb}
 use lib.ListN.{length, get_or}
-use borrow.Author.Tests.{eq-eqb, ne_eqb, lt-ltb, le-ltb, ltb-true, ltb-false}
+use borrow.Author.Tests.{ltb-true, ltb-false}
 use Rattle.notation.specs.Choice.{◌⇒◌else◌}
 use Rattle.notation.proofs.Booleans.{by_test, true-false}
 use Rattle.sorting.specs.Ids.{Ordered}
 use Rattle.sorting.specs.Repeats.{same_id, used_before, repeat_from, first_repeat}
 use Rattle.sorting.specs.inner.Lesser.{lesser}
 use Rattle.sorting.proofs.Orders.{stands, is_record}
+use Rattle.sorting.proofs.Lesser.{lesser-none, lesser-only, lesser-second, lesser-first}
 use Rattle.sorting.proofs.Neighbours.{first-place, neighbour}
-
--- the lesser of two numbers
-pub lesser-none : (a b : ℕ) → b ≡ 0 → lesser a b ≡ a
-unfolding lesser
-lesser-none a b e = rw (lesser, eq-eqb b 0 e)
-
-module _ (a b : ℕ) (g : 0 < b) where
-  some : eqb b 0 ≡ false
-  some = ne_eqb b 0 (λ (e : b ≡ 0). omega arith)
-
-  pub lesser-only : a ≡ 0 → lesser a b ≡ b
-  unfolding lesser
-  lesser-only e = rw (lesser, some, eq-eqb a 0 e)
-
-  module _ (h : 0 < a) where
-    pub lesser-second : b < a → lesser a b ≡ b
-    unfolding lesser
-    lesser-second l = rw (lesser, some, ne_eqb a 0 (λ (e : a ≡ 0). omega arith), lt-ltb b a l)
-
-    pub lesser-first : a ≤ b → lesser a b ≡ a
-    unfolding lesser
-    lesser-first l = rw (lesser, some, ne_eqb a 0 (λ (e : a ≡ 0). omega arith), le-ltb b a l)
 
 -- of the records at the first i places of an order, the least that repeats an id has the number `first`, counted from 1; 0 where there is none
 pub record LeastRepeat (ids : ℕ → List ℕ) (order : List ℕ) (i first : ℕ) : Type 0 where

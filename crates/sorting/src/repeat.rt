@@ -41,6 +41,7 @@ fn repeat_at(p: &[u8], places: &[u32], keys: &[u32], i: u16, j: u16) -> usize
 }
 
 // The lesser of two numbers, of which 0 is none.
+#[tactic(auto, using(crate::proofs::Lesser::lessers))]
 fn lesser(a: usize, b: usize) -> usize
     ensures { result ≡ lesserOf a b }
 {

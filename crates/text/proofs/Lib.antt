@@ -13,3 +13,4 @@ pub mod Fronts
 pub mod Quoted
 pub mod Escapes
 pub mod Packed
+pub mod Plain

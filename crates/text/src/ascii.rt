@@ -26,6 +26,7 @@ pub fn lower(b: u8) -> u8
 
 // The byte stands for itself in a string. By plain tests: the table of classes would be laid out for each text. Most bytes are letters, and those are
 // above the backslash.
+#[tactic(auto, using(crate::proofs::Plain::above, crate::proofs::Plain::backslash, crate::proofs::Plain::control, crate::proofs::Plain::below))]
 pub fn is_plain(b: u8) -> bool
     ensures { result ≡ alone b }
 {

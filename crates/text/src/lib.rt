@@ -1,4 +1,6 @@
 // Texts as a file spells them, compared by the bytes that they stand for. Only what is read by places, as a date is, is decoded into an array.
+#![tactic(auto)]
+
 use lexeme::Char;
 
 pub mod ascii;
@@ -10,21 +12,21 @@ pub mod ordering;
 pub mod walk;
 
 // A place among the bytes that a text stands for: what is left of a character that was begun, and where the spelling goes on.
-#[derive(Drop)]
+#[derive(Clone, Copy)]
 pub struct Cursor {
     pub begun: Char,
     pub at: usize,
 }
 
 // The byte at a cursor and the cursor after it; or the end of the text, where its spelling ends or has a fault.
-#[derive(Drop)]
+#[derive(Clone, Copy)]
 pub enum Step {
     End,
     Byte(u8, Cursor),
 }
 
 // The first bytes that a text stands for from a cursor on, `count` of them, and the cursor behind them.
-#[derive(Drop)]
+#[derive(Clone, Copy)]
 pub struct Front {
     pub bytes: [u8; 32],
     pub count: usize,
@@ -32,7 +34,7 @@ pub struct Front {
 }
 
 // How one text stands to another: before it, the same, or after it.
-#[derive(Drop)]
+#[derive(Clone, Copy)]
 pub enum Order {
     Less,
     Equal,

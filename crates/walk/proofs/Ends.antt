@@ -54,6 +54,13 @@ module _ (s : List ℕ) (i : ℕ) where
   pub escape-later : (j : ℕ) → i < length s → drop j s ≡ drop 2 (drop i s) → i < j
   escape-later j h e = omega (arith, ap length e, length-drop j s, length-drop 2 (drop i s), length-drop i s)
 
+-- an escape is passed whole
+pub escape_falls : (s : List ℕ) (i j : ℕ) → i < length s → drop j s ≡ drop 2 (drop i s) → length s - j < length s - i
+escape_falls s i j h e = omega (arith, escape-later s i j h e)
+
+pub escape_on : (s : List ℕ) (i j : ℕ) → byte s i ≡ 0x5c → drop j s ≡ drop 2 (drop i s) → quoted false (drop j s) ≡ quoted false (drop i s)
+escape_on s i j e h = sym (string_escapes s i j e h)
+
 quoted_splits : (e : Bool) (l : List ℕ) → (p : List ℕ) × (l ≡ p ++ quoted e l)
 unfolding quoted
 quoted_splits e [] = ([], refl)

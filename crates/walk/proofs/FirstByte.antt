@@ -29,19 +29,19 @@ module _ (p : List ℕ) {b : ℕ} (first : b ≡ byte p 0) where
     kind-digit d = kind-by Start.number (rw (ne_eqb b 0x22 n1, ne_eqb b 0x5b n2, ne_eqb b 0x7b n3, ne_eqb b 0x2d n4, d, start))
 
     module _ (d : digit b ≡ false) where
-      letters : start b ≡ (eqb b 0x74 ⇒ Start.letterT else eqb b 0x66 ⇒ Start.letterF else eqb b 0x6e ⇒ Start.letterN else Start.other)
+      letters : start b ≡ (eqb b 0x74 ⇒ Start.letter_t else eqb b 0x66 ⇒ Start.letter_f else eqb b 0x6e ⇒ Start.letter_n else Start.other)
       unfolding start
       letters = rw (ne_eqb b 0x22 n1, ne_eqb b 0x5b n2, ne_eqb b 0x7b n3, ne_eqb b 0x2d n4, d, start)
 
       pub kind-truth : either 0x74 0x66 b ≡ true → kind.Boolean ≡ kind_at p
       unfolding either
       kind-truth e =
-          by_test (eqb b 0x74) (λ t. kind-by Start.letterT (rw (letters, t))) λ t.
-          kind-by Start.letterF (let f : eqb b 0x66 ≡ true = rw (t, either) at e in rw (letters, t, f))
+          by_test (eqb b 0x74) (λ t. kind-by Start.letter_t (rw (letters, t))) λ t.
+          kind-by Start.letter_f (let f : eqb b 0x66 ≡ true = rw (t, either) at e in rw (letters, t, f))
 
       pub kind-null : either 0x74 0x66 b ≡ false → kind.Null ≡ kind_at p
       unfolding either
       kind-null e =
           by_test (eqb b 0x74) (λ t. true-false {A = kind.Null ≡ kind_at p} refl (rw (t, either) at e)) λ t.
           let f : eqb b 0x66 ≡ false = rw (t, either) at e in
-          by_test (eqb b 0x6e) (λ n. kind-by Start.letterN (rw (letters, t, f, n))) λ n. kind-by Start.other (rw (letters, t, f, n))
+          by_test (eqb b 0x6e) (λ n. kind-by Start.letter_n (rw (letters, t, f, n))) λ n. kind-by Start.other (rw (letters, t, f, n))

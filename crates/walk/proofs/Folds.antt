@@ -10,7 +10,9 @@ use native.Mathlib.Omega.{arith}
 use lib.ListN.{length}
 use Rattle.walk.specs.declared.Member.{Member}
 use Rattle.walk.specs.declared.Item.{Item}
+use Rattle.walk.specs.declared.MemberStep.{MemberStep}
 use Rattle.walk.specs.declared.MemberStep.TheVariants as members
+use Rattle.walk.specs.declared.ItemStep.{ItemStep}
 use Rattle.walk.specs.declared.ItemStep.TheVariants as items
 use Rattle.walk.specs.Walk.{member_at, member_then, members_from, members_of, item_at, item_then, items_from}
 use Rattle.walk.proofs.Places.{member-placed, item-placed}
@@ -84,6 +86,10 @@ module _ {n : ℕ} {M S : Type 0} (look : ℕ → S) (end : S) (found : M → S)
       }
 
 -- members
+abbrev members-either : (s : MemberStep) → (s ≡ members.End) ⊎ ((m : Member) × (s ≡ members.Found m))
+members-either members.End = inl refl
+members-either (members.Found m) = inr (m, refl)
+
 module _ (p : List ℕ) where
   pub members-none : (at : ℕ) → members_from zero p at ≡ []
   unfolding members_from
@@ -95,7 +101,7 @@ module _ (p : List ℕ) where
 
   abbrev pub member_steps : Steps (length p) Member
   member_steps =
-      steps_by (member_at p) members.End members.Found (λ m. m.next) (λ s. elim s [ members.End ↦ inl refl | members.Found m ↦ inr (m, refl) ])
+      steps_by (member_at p) members.End members.Found (λ m. m.next) members-either
       (λ at m e. let i = member-placed p at m e in (omega arith, i.inside)) (λ k at. members_from k p at) member_then (λ rest. refl) (λ rest m. refl) members-none members-some
 
   pub members-start : {A : Type 0} (g : A → Member → A) (s : A) → Walk member_steps g s 1 (foldl g s (members_of p))
@@ -103,6 +109,10 @@ module _ (p : List ℕ) where
   members-start g s = walk_start member_steps g s 1
 
 -- items
+abbrev items-either : (s : ItemStep) → (s ≡ items.End) ⊎ ((m : Item) × (s ≡ items.Found m))
+items-either items.End = inl refl
+items-either (items.Found m) = inr (m, refl)
+
 module _ (p : List ℕ) where
   pub items-none : (at : ℕ) → items_from zero p at ≡ []
   unfolding items_from
@@ -114,7 +124,7 @@ module _ (p : List ℕ) where
 
   abbrev pub item_steps : Steps (length p) Item
   item_steps =
-      steps_by (item_at p) items.End items.Found (λ m. m.next) (λ s. elim s [ items.End ↦ inl refl | items.Found m ↦ inr (m, refl) ])
+      steps_by (item_at p) items.End items.Found (λ m. m.next) items-either
       (λ at m e. let i = item-placed p at m e in (omega arith, i.inside)) (λ k at. items_from k p at) item_then (λ rest. refl) (λ rest m. refl) items-none items-some
 
   pub items-end : (k at : ℕ) → item_at p at ≡ items.End → items_from k p at ≡ []

@@ -243,15 +243,15 @@ module _ (b : ℕ) (l : List ℕ) where
   unfolding skipped
   skipped-object h = rw (skipped, h)
 
-  pub skipped-true : start b ≡ Start.letterT → skipped (b ∷ l) ≡ drop 4 (b ∷ l)
+  pub skipped-true : start b ≡ Start.letter_t → skipped (b ∷ l) ≡ drop 4 (b ∷ l)
   unfolding skipped
   skipped-true h = rw (skipped, h)
 
-  pub skipped-false : start b ≡ Start.letterF → skipped (b ∷ l) ≡ drop 5 (b ∷ l)
+  pub skipped-false : start b ≡ Start.letter_f → skipped (b ∷ l) ≡ drop 5 (b ∷ l)
   unfolding skipped
   skipped-false h = rw (skipped, h)
 
-  pub skipped-null : start b ≡ Start.letterN → skipped (b ∷ l) ≡ drop 4 (b ∷ l)
+  pub skipped-null : start b ≡ Start.letter_n → skipped (b ∷ l) ≡ drop 4 (b ∷ l)
   unfolding skipped
   skipped-null h = rw (skipped, h)
 
@@ -310,9 +310,9 @@ module _ (arrays objects : List ℕ → Read Json)
             skips = skipped-object b l h ∙ k 0 ∙ enclosed-all r;
             across = λ n. ap (λ (c : ℕ). enclosed (suc n) outside (c ∷ l)) (object-byte b h) ∙ enclosed_opens n 0x7b l refl refl ∙ k (suc n);
           }
-      go Start.letterT h = word (bytes "true") (Json.boolean true) (rw (value_at, h) at f) (skipped-true b l h) refl (λ n. refl)
-      go Start.letterF h = word (bytes "false") (Json.boolean false) (rw (value_at, h) at f) (skipped-false b l h) refl (λ n. refl)
-      go Start.letterN h = word (bytes "null") Json.null (rw (value_at, h) at f) (skipped-null b l h) refl (λ n. refl)
+      go Start.letter_t h = word (bytes "true") (Json.boolean true) (rw (value_at, h) at f) (skipped-true b l h) refl (λ n. refl)
+      go Start.letter_f h = word (bytes "false") (Json.boolean false) (rw (value_at, h) at f) (skipped-false b l h) refl (λ n. refl)
+      go Start.letter_n h = word (bytes "null") Json.null (rw (value_at, h) at f) (skipped-null b l h) refl (λ n. refl)
       go Start.other h = bad-done (rw (value_at, h) at f)
 
 value_passes : (d : ℕ) (l r : List ℕ) (x : Json) → value paired d l ≡ done x r → Passes l r

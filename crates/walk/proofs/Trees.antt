@@ -154,11 +154,11 @@ module _ (p : List ℕ) where
         stops = item_stops;
       }
 
-  pub array_parts : {is : Tree.Items} → Whole p (Json.array is) → is ≡ Tree.asItems (map (λ m. part_tree (item_of p m)) (items_of p))
+  pub array_parts : {is : Tree.Items} → Whole p (Json.array is) → is ≡ Tree.as_items (map (λ m. part_tree (item_of p m)) (items_of p))
   unfolding items_of
   array_parts w =
       let o = whole-array w in
-      sym (ap Tree.asItems (bracketed_met (items_within o.levels (omega (arith, o.less))) 1 o.elements [] o.reads) ∙ o.is)
+      sym (ap Tree.as_items (bracketed_met (items_within o.levels (omega (arith, o.less))) 1 o.elements [] o.reads) ∙ o.is)
 
 -- members
 module _ (p : List ℕ) where
@@ -213,8 +213,8 @@ module _ (p : List ℕ) where
         stops = member_stops;
       }
 
-  pub object-parts : {ms : Tree.Members} → Whole p (Json.object ms) → ms ≡ Tree.asMembers (map member_tree (members_of p))
+  pub object-parts : {ms : Tree.Members} → Whole p (Json.object ms) → ms ≡ Tree.as_members (map member_tree (members_of p))
   unfolding members_of
   object-parts w =
       let o = whole-object w in
-      sym (ap Tree.asMembers (bracketed_met (members_within o.levels (omega (arith, o.less))) 1 o.elements [] o.reads) ∙ o.is)
+      sym (ap Tree.as_members (bracketed_met (members_within o.levels (omega (arith, o.less))) 1 o.elements [] o.reads) ∙ o.is)

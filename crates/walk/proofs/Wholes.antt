@@ -36,10 +36,10 @@ pub record Opened {A B : Type 0} (d close : ℕ) (element : ℕ → List ℕ →
   pub is : of elements ≡ x
 
 abbrev pub OpenedArray : ℕ → List ℕ → List ℕ → Tree.Items → Type 0
-OpenedArray d p r is = Opened d 0x5d (value paired) Tree.asItems p r is
+OpenedArray d p r is = Opened d 0x5d (value paired) Tree.as_items p r is
 
 abbrev pub OpenedObject : ℕ → List ℕ → List ℕ → Tree.Members → Type 0
-OpenedObject d p r ms = Opened d 0x7d (λ e. member paired (value paired e)) Tree.asMembers p r ms
+OpenedObject d p r ms = Opened d 0x7d (λ e. member paired (value paired e)) Tree.as_members p r ms
 
 -- the words of the two truths
 abbrev pub word_of : Bool → List ℕ
@@ -72,15 +72,15 @@ unfolding value
 brackets zero = record { arrays = bad _; objects = bad _; by = λ l. refl; array = λ p r x e. bad-done e; object = λ p r x e. bad-done e }
 brackets (suc d) =
     record {
-      arrays = λ t. made (λ xs. Json.array (Tree.asItems xs)) (bracketed 0x5d (value paired d) (drop 1 t));
-      objects = λ t. made (λ ms. Json.object (Tree.asMembers ms)) (bracketed 0x7d (member paired (value paired d)) (drop 1 t));
+      arrays = λ t. made (λ xs. Json.array (Tree.as_items xs)) (bracketed 0x5d (value paired d) (drop 1 t));
+      objects = λ t. made (λ ms. Json.object (Tree.as_members ms)) (bracketed 0x7d (member paired (value paired d)) (drop 1 t));
       by = λ l. refl;
       array = λ p r x e.
-          let k = made-done (λ xs. Json.array (Tree.asItems xs)) (bracketed 0x5d (value paired d) (drop 1 p)) x r e in
-          (Tree.asItems k.0, record { levels = d; less = refl; elements = k.0; reads = k.1; is = refl }, k.2);
+          let k = made-done (λ xs. Json.array (Tree.as_items xs)) (bracketed 0x5d (value paired d) (drop 1 p)) x r e in
+          (Tree.as_items k.0, record { levels = d; less = refl; elements = k.0; reads = k.1; is = refl }, k.2);
       object = λ p r x e.
-          let k = made-done (λ ms. Json.object (Tree.asMembers ms)) (bracketed 0x7d (member paired (value paired d)) (drop 1 p)) x r e in
-          (Tree.asMembers k.0, record { levels = d; less = refl; elements = k.0; reads = k.1; is = refl }, k.2);
+          let k = made-done (λ ms. Json.object (Tree.as_members ms)) (bracketed 0x7d (member paired (value paired d)) (drop 1 p)) x r e in
+          (Tree.as_members k.0, record { levels = d; less = refl; elements = k.0; reads = k.1; is = refl }, k.2);
     }
 
 origin : (d : ℕ) (p r : List ℕ) (x : Json) → value paired d p ≡ done x r → Origin d p r x
@@ -102,13 +102,13 @@ origin d (b ∷ l) r x e = go (start b) refl
     go Start.number h = let m = made-done Json.number (Numbers.number (b ∷ l)) x r (rw (value_at, h) at reads) in told h refl m.1 m.2
     go Start.array h = let m = k.array (b ∷ l) r x (rw (value_at, h) at reads) in told h refl m.1 m.2
     go Start.object h = let m = k.object (b ∷ l) r x (rw (value_at, h) at reads) in told h refl m.1 m.2
-    go Start.letterT h =
+    go Start.letter_t h =
         let f = literal-spells (bytes "true") (Json.boolean true) (b ∷ l) r x (rw (value_at, h) at reads) in
         told {y = Json.boolean true} h refl f.0 f.1
-    go Start.letterF h =
+    go Start.letter_f h =
         let f = literal-spells (bytes "false") (Json.boolean false) (b ∷ l) r x (rw (value_at, h) at reads) in
         told {y = Json.boolean false} h refl f.0 f.1
-    go Start.letterN h =
+    go Start.letter_n h =
         let f = literal-spells (bytes "null") Json.null (b ∷ l) r x (rw (value_at, h) at reads) in
         told {y = Json.null} h refl f.0 f.1
     go Start.other h = bad-done (rw (value_at, h) at reads)

@@ -1,4 +1,6 @@
 // One level of a JSON value's bytes at a time: the members of an object, the items of an array, the kind of a value.
+#![tactic(auto)]
+
 ghost use Rattle.std.specs.Prelude.{◌≡◌, ℕ, ◌-◌, length, drop};
 ghost use Rattle.lexeme.specs.Tokens.{blanks};
 ghost use Rattle.walk.specs.Walk.{part, onward};
@@ -16,7 +18,7 @@ pub mod skip;
 pub mod tail;
 
 // A member of an object: where the text of its name stands, without the quotation marks; where its value stands; where the next member is looked for.
-#[derive(Drop)]
+#[derive(Clone, Copy)]
 pub struct Member {
     pub name: usize,
     pub name_end: usize,
@@ -26,41 +28,41 @@ pub struct Member {
 }
 
 // Its front: where the text of its name stands, and where its value begins.
-#[derive(Drop)]
+#[derive(Clone, Copy)]
 pub struct Named {
     pub name: usize,
     pub name_end: usize,
     pub value: usize,
 }
 
-#[derive(Drop)]
+#[derive(Clone, Copy)]
 pub enum NameStep {
     End,
     Found(Named),
 }
 
-#[derive(Drop)]
+#[derive(Clone, Copy)]
 pub enum MemberStep {
     End,
     Found(Member),
 }
 
 // An item of an array: where it stands, and where the next one is looked for.
-#[derive(Drop)]
+#[derive(Clone, Copy)]
 pub struct Item {
     pub value: usize,
     pub value_end: usize,
     pub next: usize,
 }
 
-#[derive(Drop)]
+#[derive(Clone, Copy)]
 pub enum ItemStep {
     End,
     Found(Item),
 }
 
 // What kind of value stands somewhere.
-#[derive(Drop)]
+#[derive(Clone, Copy)]
 pub enum ValueKind {
     Null,
     Boolean,

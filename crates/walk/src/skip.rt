@@ -10,6 +10,7 @@ use lexeme::front::{ahead, first, place};
 use lexeme::number::read_number;
 
 // Just past the quotation mark that closes a string, whose text goes on at `at`, byte by byte. Most of its bytes are letters, and those are above the backslash.
+#[tactic(auto, using(crate::proofs::Ends::escape_falls, crate::proofs::Ends::escape_on))]
 fn string_end_bytewise(s: &[u8], at: usize) -> usize
     ensures { result ≡ length s.now - length (quoted false (drop at s.now)) }
 {

@@ -9,9 +9,9 @@ kind_from Start.string = kind.String
 kind_from Start.number = kind.Number
 kind_from Start.array = kind.Array
 kind_from Start.object = kind.Object
-kind_from Start.letterT = kind.Boolean
-kind_from Start.letterF = kind.Boolean
-kind_from Start.letterN = kind.Null
+kind_from Start.letter_t = kind.Boolean
+kind_from Start.letter_f = kind.Boolean
+kind_from Start.letter_n = kind.Null
 kind_from Start.other = kind.Null
 
 unfoldable pub kind_at : List ℕ → ValueKind

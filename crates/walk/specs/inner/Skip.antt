@@ -44,8 +44,8 @@ skipped (b ∷ l) =
       | Start.number ↦ numbered (b ∷ l)
       | Start.array ↦ enclosed 1 outside l
       | Start.object ↦ enclosed 1 outside l
-      | Start.letterT ↦ drop 4 (b ∷ l)
-      | Start.letterF ↦ drop 5 (b ∷ l)
-      | Start.letterN ↦ drop 4 (b ∷ l)
+      | Start.letter_t ↦ drop 4 (b ∷ l)
+      | Start.letter_f ↦ drop 5 (b ∷ l)
+      | Start.letter_n ↦ drop 4 (b ∷ l)
       | Start.other ↦ b ∷ l
     ]

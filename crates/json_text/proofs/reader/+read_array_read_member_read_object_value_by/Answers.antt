@@ -1,0 +1,173 @@
+-- The cycle of `value_by`, `read_array`, `read_object` and `read_member`: each meets its contract if those that it calls do. An element that is
+-- left decides where the array or object ends; the class of the byte at its place decides how a value is read, and behind the colon the value
+-- decides a member. The table is lent on as it came.
+use borrow.Author.Rules.{rules}
+use mathlib.Core.Path.{refl, sym, ◌∙◌}
+use native.Mathlib.Omega.{arith}
+use lib.ListN.{drop}
+use Rattle.lexeme.specs.inner.Class.{start_of}
+use Rattle.lexeme.specs.Character.{paired}
+use Rattle.lexeme.specs.Strings.{string}
+use Rattle.lexeme.proofs.Placed.{faults, faults-at, passes}
+use Rattle.lexeme.proofs.NumberParts.{equal-inside}
+use Rattle.json_text.specs.Text.{expect, value}
+use Rattle.json_text.proofs.Loops.{items, members, opened_closed, opened_pending, pending_stops, pending_next}
+use Rattle.json_text.proofs.Values.{begins, begins-inside, no_start, value-quoted, value-string, value-number, array-deep, object-deep, array_opened, object_opened, value-true, value-false, value-null, value_none, member_unnamed, member-wrong, member-value}
+use Rattle.json_text.proofs.reader.+read_array_read_member_read_object_value_by.Goals as goal
+
+-- arrays
+
+pub read_array-overflow_add-result : goal.read_array-overflow_add-result
+read_array-overflow_add-result t c = omega (arith, equal-inside 0x5d refl c.args.s.now c.skip_blanks_by-i.result (sym c.first.ensures ∙ c.if-first-eq93.true))
+
+pub read_array-returns-then-first-eq93 : goal.read_array-returns-then-first-eq93
+read_array-returns-then-first-eq93 t c = opened_closed 0x5d _ c.args.s.now c.args.at c.skip_blanks_by-i.ensures c.first.ensures refl c.if-first-eq93.true
+
+pub read_array-loop-whole-init : goal.read_array-loop-whole-init
+read_array-loop-whole-init t c = opened_pending 0x5d _ c.args.s.now c.args.at c.skip_blanks_by-i.ensures c.first.ensures (items c.args.levels) c.if-first-eq93.false
+
+pub read_array-value_by-requires : goal.read_array-value_by-requires
+read_array-value_by-requires t c = (omega arith, search rules)
+
+pub read_array-returns-in-Stop : goal.read_array-returns-in-Stop
+read_array-returns-in-Stop t c =
+    pending_stops (items _) c.loop-whole.invariant _ _ c.value_by.ensures (sym c.in-Stop.is ∙ c.after_element.ensures)
+
+pub read_array-loop-whole-smaller : goal.read_array-loop-whole-smaller
+read_array-loop-whole-smaller t c =
+    let o = pending_next (items _) c.loop-whole.invariant _ _ c.value_by.ensures (sym c.in-Next.is ∙ c.after_element.ensures) in
+    omega (arith, o.0, o.1.upto)
+
+pub read_array-loop-whole-preserved : goal.read_array-loop-whole-preserved
+read_array-loop-whole-preserved t c = (pending_next (items _) c.loop-whole.invariant _ _ c.value_by.ensures (sym c.in-Next.is ∙ c.after_element.ensures)).1
+
+-- objects
+
+pub read_object-overflow_add-result : goal.read_object-overflow_add-result
+read_object-overflow_add-result t c = omega (arith, equal-inside 0x7d refl c.args.s.now c.skip_blanks_by-i.result (sym c.first.ensures ∙ c.if-first-eq125.true))
+
+pub read_object-returns-then-first-eq125 : goal.read_object-returns-then-first-eq125
+read_object-returns-then-first-eq125 t c = opened_closed 0x7d _ c.args.s.now c.args.at c.skip_blanks_by-i.ensures c.first.ensures refl c.if-first-eq125.true
+
+pub read_object-loop-whole-init : goal.read_object-loop-whole-init
+read_object-loop-whole-init t c = opened_pending 0x7d _ c.args.s.now c.args.at c.skip_blanks_by-i.ensures c.first.ensures (members c.args.levels) c.if-first-eq125.false
+
+pub read_object-read_member-requires : goal.read_object-read_member-requires
+read_object-read_member-requires t c = (omega arith, search rules)
+
+pub read_object-returns-in-Stop : goal.read_object-returns-in-Stop
+read_object-returns-in-Stop t c =
+    pending_stops (members _) c.loop-whole.invariant _ _ c.read_member.ensures (sym c.in-Stop.is ∙ c.after_element.ensures)
+
+pub read_object-loop-whole-smaller : goal.read_object-loop-whole-smaller
+read_object-loop-whole-smaller t c =
+    let o = pending_next (members _) c.loop-whole.invariant _ _ c.read_member.ensures (sym c.in-Next.is ∙ c.after_element.ensures) in
+    omega (arith, o.0, o.1.upto)
+
+pub read_object-loop-whole-preserved : goal.read_object-loop-whole-preserved
+read_object-loop-whole-preserved t c = (pending_next (members _) c.loop-whole.invariant _ _ c.read_member.ensures (sym c.in-Next.is ∙ c.after_element.ensures)).1
+
+-- a member: behind the colon the value decides it
+
+pub read_member-returns-in-Fault : goal.read_member-returns-in-Fault
+read_member-returns-in-Fault t c =
+    let a = c.args in let s = a.s.now in
+    passes s _ _ (expect 0x22 (string paired 0) (drop a.at s)) _ (sym c.in-Fault.is ∙ c.string_by.ensures)
+    (member_unnamed (value paired a.levels) (drop a.at s) _)
+
+pub read_member-returns-then-first-ne58 : goal.read_member-returns-then-first-ne58
+read_member-returns-then-first-ne58 t c =
+    member-wrong _ c.args.s.now c.args.at (sym c.in-End.is ∙ c.string_by.ensures) c.skip_blanks_by-i.ensures c.first.ensures c.if-first-ne58.true
+
+pub read_member-overflow_add-i : goal.read_member-overflow_add-i
+read_member-overflow_add-i t c = omega (arith, equal-inside 0x3a refl c.args.s.now c.skip_blanks_by-i.result (sym c.first.ensures ∙ c.if-first-ne58.false))
+
+pub read_member-returns-then-class-eq-QUOTE : goal.read_member-returns-then-class-eq-QUOTE
+unfolding start_of
+read_member-returns-then-class-eq-QUOTE t c =
+    c.string_by-then-class-eq-QUOTE.ensures
+    ∙ value-quoted _ (begins c.args.s.now c.skip_blanks_by-value.result c.first-in-End.ensures c.class_by-class.ensures c.if-class-eq-QUOTE.true)
+    ∙ member-value _ c.args.s.now c.args.at (sym c.in-End.is ∙ c.string_by.ensures) c.skip_blanks_by-i.ensures c.first.ensures c.if-first-ne58.false c.skip_blanks_by-value.ensures
+
+pub read_member-returns-then-class-eq-NUMBER : goal.read_member-returns-then-class-eq-NUMBER
+unfolding start_of
+read_member-returns-then-class-eq-NUMBER t c =
+    c.read_number.ensures
+    ∙ sym (value-number _ (begins c.args.s.now c.skip_blanks_by-value.result c.first-in-End.ensures c.class_by-class.ensures c.if-class-eq-NUMBER.true))
+    ∙ member-value _ c.args.s.now c.args.at (sym c.in-End.is ∙ c.string_by.ensures) c.skip_blanks_by-i.ensures c.first.ensures c.if-first-ne58.false c.skip_blanks_by-value.ensures
+
+pub read_member-value_by-requires : goal.read_member-value_by-requires
+read_member-value_by-requires t c = (omega arith, search rules)
+
+pub read_member-returns-in-End : goal.read_member-returns-in-End
+read_member-returns-in-End t c =
+    c.value_by.ensures
+    ∙ member-value _ c.args.s.now c.args.at (sym c.in-End.is ∙ c.string_by.ensures) c.skip_blanks_by-i.ensures c.first.ensures c.if-first-ne58.false c.skip_blanks_by-value.ensures
+
+-- a value, by the class of the byte at its place
+
+pub value_by-returns-in-2 : goal.value_by-returns-in-2
+unfolding start_of
+value_by-returns-in-2 t c = c.read_number.ensures ∙ sym (value-number _ (begins c.args.s.now c.args.at c.first.ensures c.class_by.ensures c.in-2.is))
+
+pub value_by-returns-then-levels-eq0 : goal.value_by-returns-then-levels-eq0
+unfolding start_of
+value_by-returns-then-levels-eq0 t c =
+    let b = begins c.args.s.now c.args.at c.first.ensures c.class_by.ensures c.in-4.is in
+    faults-at c.args.s.now c.args.at _ (omega (arith, begins-inside b refl)) _ (array-deep c.args.levels b c.if-levels-eq0.true)
+
+pub value_by-overflow_add-at : goal.value_by-overflow_add-at
+unfolding start_of
+value_by-overflow_add-at t c = omega (arith, begins-inside (begins c.args.s.now c.args.at c.first.ensures c.class_by.ensures c.in-4.is) refl)
+
+pub value_by-read_array-requires : goal.value_by-read_array-requires
+value_by-read_array-requires t c = (omega arith, search rules)
+
+pub value_by-returns-in-4 : goal.value_by-returns-in-4
+unfolding start_of
+value_by-returns-in-4 t c = c.read_array.ensures ∙ sym (array_opened _ (begins c.args.s.now c.args.at c.first.ensures c.class_by.ensures c.in-4.is) c.if-levels-eq0.false)
+
+pub value_by-returns-then-levels-eq0-2 : goal.value_by-returns-then-levels-eq0-2
+unfolding start_of
+value_by-returns-then-levels-eq0-2 t c =
+    let b = begins c.args.s.now c.args.at c.first.ensures c.class_by.ensures c.in-6.is in
+    faults-at c.args.s.now c.args.at _ (omega (arith, begins-inside b refl)) _ (object-deep c.args.levels b c.if-levels-eq0-2.true)
+
+pub value_by-overflow_add-at-in-6 : goal.value_by-overflow_add-at-in-6
+unfolding start_of
+value_by-overflow_add-at-in-6 t c = omega (arith, begins-inside (begins c.args.s.now c.args.at c.first.ensures c.class_by.ensures c.in-6.is) refl)
+
+pub value_by-read_object-requires : goal.value_by-read_object-requires
+value_by-read_object-requires t c = (omega arith, search rules)
+
+pub value_by-returns-in-6 : goal.value_by-returns-in-6
+unfolding start_of
+value_by-returns-in-6 t c = c.read_object.ensures ∙ sym (object_opened _ (begins c.args.s.now c.args.at c.first.ensures c.class_by.ensures c.in-6.is) c.if-levels-eq0-2.false)
+
+pub value_by-returns-in-8 : goal.value_by-returns-in-8
+unfolding start_of
+value_by-returns-in-8 t c = c.read_literal.ensures ∙ sym (value-true _ (begins c.args.s.now c.args.at c.first.ensures c.class_by.ensures c.in-8.is))
+
+pub value_by-returns-in-10 : goal.value_by-returns-in-10
+unfolding start_of
+value_by-returns-in-10 t c = c.read_literal-in-10.ensures ∙ sym (value-false _ (begins c.args.s.now c.args.at c.first.ensures c.class_by.ensures c.in-10.is))
+
+pub value_by-returns-in-12 : goal.value_by-returns-in-12
+unfolding start_of
+value_by-returns-in-12 t c = c.read_literal-in-12.ensures ∙ sym (value-null _ (begins c.args.s.now c.args.at c.first.ensures c.class_by.ensures c.in-12.is))
+
+pub value_by-overflow_add-at-in-14 : goal.value_by-overflow_add-at-in-14
+unfolding start_of
+value_by-overflow_add-at-in-14 t c = omega (arith, begins-inside (begins c.args.s.now c.args.at c.first.ensures c.class_by.ensures c.in-14.is) refl)
+
+pub value_by-returns-in-14 : goal.value_by-returns-in-14
+unfolding start_of
+value_by-returns-in-14 t c = c.read_string.ensures ∙ sym (value-string _ (begins c.args.s.now c.args.at c.first.ensures c.class_by.ensures c.in-14.is))
+
+pub value_by-returns-in_default : goal.value_by-returns-in_default
+value_by-returns-in_default t c =
+    let a = c.args in let s = a.s.now in
+    faults s (drop a.at s) _ _ c.place.ensures _
+    (value_none a.levels (drop a.at s)
+    ((begins s a.at c.first.ensures c.class_by.ensures refl).says
+    ∙ no_start c.class_by.result (search rules) (search rules) (search rules) (search rules) (search rules) (search rules) (search rules)))
