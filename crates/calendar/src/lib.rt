@@ -1,11 +1,13 @@
 // The Gregorian calendar, years 0000 to 9999: which dates are real, and how many days come before a year.
+#![tactic(auto)]
+
 ghost use Rattle.std.specs.Prelude.{◌≡◌};
 ghost use Rattle.calendar.specs.Calendar.{leap, month_days, real_date, days_before};
 
 pub mod written;
 
 // A year, a month and a day, whether there is such a day or not.
-#[derive(Drop)]
+#[derive(Clone, Copy)]
 pub struct Date {
     pub year: u16,
     pub month: u8,

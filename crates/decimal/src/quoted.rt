@@ -14,7 +14,7 @@ use text::Step;
 use text::walk::{cursor_at, next_byte};
 
 // How far a text is a number: nothing yet, a single 0, whole digits, a point and what follows it; or it is none.
-#[derive(Drop)]
+#[derive(Clone, Copy)]
 pub enum Phase {
     Start,
     Zero,
@@ -24,7 +24,7 @@ pub enum Phase {
 }
 
 // A text's phase, and its digits before and after the point.
-#[derive(Drop)]
+#[derive(Clone, Copy)]
 pub struct Progress {
     pub phase: Phase,
     pub whole: Run,

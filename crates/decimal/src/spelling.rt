@@ -10,7 +10,7 @@ ghost use Rattle.decimal.specs.inner.Formed.{IsNumber};
 use crate::{Decimal, Number};
 
 // Digits in a row: the number that they spell, and how many they are.
-#[derive(Drop)]
+#[derive(Clone, Copy)]
 pub struct Run {
     pub value: u64,
     pub count: usize,

@@ -47,7 +47,7 @@ fn no_bytes(q: &[u8]) -> &[u8]
 
 // A value as it stands, and of "" nothing.
 fn unless_blank(q: &[u8]) -> &[u8]
-    ensures { ((x : Json) → Whole q.now x → result.now ≡ (blank_text x ⇒ [] else (λ x. x.now) q.entry)) × (length result.now ≤ length q.now) }
+    ensures { ((x : Json) → Whole q.now x → result.now ≡ (blank_text x ⇒ [] else q.now)) × (length result.now ≤ length q.now) }
 {
     if is_blank_text(q) {
         return no_bytes(q);

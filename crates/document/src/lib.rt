@@ -1,5 +1,7 @@
 // Where the records of a file stand in its bytes: along the names that lead to them, and then item by item. The file is one that stage A read, so
 // values are passed over and not read again.
+#![tactic(auto)]
+
 ghost use Rattle.std.specs.Prelude.{◌≡◌, ◌+◌, ◌<◌, length};
 ghost use Rattle.notation.specs.Choice.{◌⇒◌else◌};
 ghost use Rattle.json_text.specs.Tree.{Json};
@@ -24,7 +26,7 @@ use walk::{ItemStep, MemberStep, NameStep, cut, pass_item, pass_member, pass_nam
 pub mod fields;
 
 // A part of a file's bytes, from one place up to another; or none.
-#[derive(Drop)]
+#[derive(Clone, Copy)]
 pub enum Span {
     None,
     Is(usize, usize),

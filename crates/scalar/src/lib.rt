@@ -1,5 +1,7 @@
 // A single value against what its row says: the kind that it breaks, 0 for none. A sort is given by its letter, and where it has words by
 // the line that has them.
+#![tactic(auto)]
+
 ghost use Rattle.std.specs.Prelude.{◌≡◌, ◌≤◌, length};
 ghost use Rattle.json_text.specs.Tree.{Json};
 ghost use Rattle.text.specs.Text.{text_of};

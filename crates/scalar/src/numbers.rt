@@ -17,7 +17,7 @@ use schema::Line;
 use word::kind::Kind;
 
 // What the exact value of a number is held to: at least 0; from 0 to 1; so many degrees either way; an amount of money; one that is at least 0.
-#[derive(Drop)]
+#[derive(Clone, Copy)]
 pub enum Bounds {
     Natural,
     Portion,

@@ -7,7 +7,7 @@ use Prim.Native.Nat.{ℕ}
 use borrow.Author.Tests.{not-true}
 use Rattle.notation.specs.Choice.{◌⇒◌else◌, ◌and◌}
 use Rattle.notation.proofs.Booleans.{true-false, and_left, and_right}
-use Rattle.json_text.specs.Tree.{Json, Items, Members, array, object, item, member}
+use Rattle.json_text.specs.Tree.{Json, Items, Members, array, object, member}
 use Rattle.text.specs.Text.{same}
 use Rattle.text.proofs.Laws.{same_refl, same_true}
 use Rattle.schema.specs.Shape as shape

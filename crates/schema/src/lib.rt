@@ -1,4 +1,6 @@
 // The field table in lines: the rows of all files in one list, each with the rows of the object inside it right behind it.
+#![tactic(auto)]
+
 ghost use Rattle.std.specs.Prelude.{◌≡◌, ◌+◌, ◌*◌};
 
 pub mod lines;
@@ -10,14 +12,14 @@ pub mod ways;
 pub mod words;
 
 // Part of a list: its first place, and how many places.
-#[derive(Drop)]
+#[derive(Clone, Copy)]
 pub struct Range {
     pub first: usize,
     pub count: usize,
 }
 
 // The first bytes of a text: as many of the array as `count` tells.
-#[derive(Drop)]
+#[derive(Clone, Copy)]
 pub struct Prefix {
     pub bytes: [u8; 32],
     pub count: usize,
@@ -25,7 +27,7 @@ pub struct Prefix {
 
 // What the table says of one member: its number in the word, whether it must be there, what it may be, what the items of an array may be and
 // how they are numbered and how many there may be, and how many lines stand inside.
-#[derive(Drop)]
+#[derive(Clone, Copy)]
 pub struct Line {
     pub field: u8,
     pub need: u8,

@@ -5,7 +5,7 @@ use crate::from_u8;
 use crate::table::{WAY_COUNTS, WAY_FIRSTS, WAY_SECONDS, WAY_THIRDS};
 
 // How many members there are, three at most, and the line of each; 0 for a line that there is not.
-#[derive(Drop)]
+#[derive(Clone, Copy)]
 pub struct Steps {
     pub count: usize,
     pub first: usize,

@@ -43,9 +43,9 @@ string-start Start.string e = refl
 string-start Start.number e = absurd (let z : ◌≡◌ {A = ℕ} 0 1 = cc in omega arith)
 string-start Start.array e = absurd (let z : ◌≡◌ {A = ℕ} 0 1 = cc in omega arith)
 string-start Start.object e = absurd (let z : ◌≡◌ {A = ℕ} 0 1 = cc in omega arith)
-string-start Start.letterT e = absurd (let z : ◌≡◌ {A = ℕ} 0 1 = cc in omega arith)
-string-start Start.letterF e = absurd (let z : ◌≡◌ {A = ℕ} 0 1 = cc in omega arith)
-string-start Start.letterN e = absurd (let z : ◌≡◌ {A = ℕ} 0 1 = cc in omega arith)
+string-start Start.letter_t e = absurd (let z : ◌≡◌ {A = ℕ} 0 1 = cc in omega arith)
+string-start Start.letter_f e = absurd (let z : ◌≡◌ {A = ℕ} 0 1 = cc in omega arith)
+string-start Start.letter_n e = absurd (let z : ◌≡◌ {A = ℕ} 0 1 = cc in omega arith)
 string-start Start.other e = absurd (let z : ◌≡◌ {A = ℕ} 0 1 = cc in omega arith)
 
 start-quote : (b : ℕ) → eqb b 0x22 ≡ true → start b ≡ Start.string

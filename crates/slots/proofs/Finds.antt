@@ -54,14 +54,14 @@ module _ (p : List ℕ) where
 
   module _ (name : List ℕ) where
     fold_found : (ms : List Member) (o : Found)
-        → tree_in p (foldl (noted p name) o ms) ≡ joined (tree_in p o) (find name (Tree.asMembers (map (member_tree p) ms)))
-    unfolding find Tree.asMembers
+        → tree_in p (foldl (noted p name) o ms) ≡ joined (tree_in p o) (find name (Tree.as_members (map (member_tree p) ms)))
+    unfolding find Tree.as_members
     fold_found [] o = sym (joined-missing (tree_in p o))
     fold_found (m ∷ ms) o =
         fold_found ms (noted p name o m)
-        ∙ joined-member (same (name_of p m) name) m.value m.value_end o (find name (Tree.asMembers (map (member_tree p) ms)))
-        ∙ ap (λ (t : Bool). joined (tree_in p o) (t ⇒ again (part_tree (value_of p m)) (find name (Tree.asMembers (map (member_tree p) ms)))
-        else find name (Tree.asMembers (map (member_tree p) ms)))) (same-sym (name_of p m) name)
+        ∙ joined-member (same (name_of p m) name) m.value m.value_end o (find name (Tree.as_members (map (member_tree p) ms)))
+        ∙ ap (λ (t : Bool). joined (tree_in p o) (t ⇒ again (part_tree (value_of p m)) (find name (Tree.as_members (map (member_tree p) ms)))
+        else find name (Tree.as_members (map (member_tree p) ms)))) (same-sym (name_of p m) name)
 
     pub find-found : {ms : Tree.Members} → Whole p (Json.object ms) → find name ms ≡ tree_in p (found_in p name)
     unfolding found_in joined

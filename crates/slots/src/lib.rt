@@ -1,4 +1,6 @@
 // The members of an object that its rows list: one pass over its bytes fills a slot for each row.
+#![tactic(auto)]
+
 ghost use Rattle.std.specs.Prelude.{◌≡◌, ◌+◌, min, eqb};
 ghost use Rattle.notation.specs.Choice.{◌⇒◌else◌};
 ghost use Rattle.json_text.specs.Tree.{Json};
@@ -17,7 +19,7 @@ use schema::names::{has_name, name_number};
 use walk::{MemberStep, pass_member};
 
 // What an object holds under a name: nothing, a value from one place up to another, or more than one.
-#[derive(Drop)]
+#[derive(Clone, Copy)]
 pub enum Found {
     Missing,
     Once(usize, usize),
@@ -25,7 +27,7 @@ pub enum Found {
 }
 
 // A slot for each row of an object, in the rows' order: how often the row's name was met, and where the first value stands.
-#[derive(Drop)]
+#[derive(Clone, Copy)]
 pub struct Slots {
     pub state: [u8; Slots::ROWS],
     pub from: [usize; Slots::ROWS],
@@ -103,7 +105,7 @@ fn lines_end(first: usize, count: usize) -> usize
 }
 
 // A row of an object: its number, and its line in the table.
-#[derive(Drop)]
+#[derive(Clone, Copy)]
 pub struct Row {
     pub row: usize,
     pub line: usize,
@@ -223,12 +225,15 @@ fn once_more(met: u8) -> u8
     Slots::TWICE
 }
 
+// How many bytes the text with nothing in it has: its two quotation marks.
+const BLANK_BYTES: usize = 2;
+
 // The value `p` is the text with nothing in it: two quotation marks.
 // Shut out: a member that holds "" taken as there.
 pub fn is_blank_text(p: &[u8]) -> bool
     ensures { (x : Json) → Whole p.now x → result ≡ blank_text x }
 {
-    if p.len() != 2 {
+    if p.len() != BLANK_BYTES {
         return false;
     }
     p[0] == b'"'

@@ -11,8 +11,8 @@ at_place c = two_at c.args.s.now c.args.at c.requires
 returns : tie.Need-returns
 returns c = sym (at_place c.before.before).value
 
-pub two-digits_spec : {M : Type 1} → statement M
-two-digits_spec =
+pub two_digits_spec : {M : Type 1} → statement M
+two_digits_spec =
     tie.close
     (tie.spec (λ c. let d = at_place c.before in omega arith) (λ c. let d = at_place c.before in omega arith)
     (λ c. let d = at_place c.before in omega arith) (λ c. let d = at_place c.before in omega arith)

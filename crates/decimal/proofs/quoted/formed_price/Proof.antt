@@ -11,17 +11,17 @@ use Rattle.decimal.proofs.quoted.formed_price.Statement.{statement}
 use Rattle.decimal.proofs.quoted.formed_price.Tie as tie
 
 -- what the text came to is a price
-finishes : (c : tie.After-progress-of) → let p = c.progress-of.result in finished p p.phase ≡ Value c.before.before.requires.0
-finishes c = ap (λ (p : Progress). finished p p.phase) c.progress-of.ensures ∙ priced (text_of c.before.before.args.spelled.now) ∙ c.before.before.requires.1
+finishes : (c : tie.After-progress_of) → let p = c.progress_of.result in finished p p.phase ≡ Value c.before.before.requires.0
+finishes c = ap (λ (p : Progress). finished p p.phase) c.progress_of.ensures ∙ priced (text_of c.before.before.args.spelled.now) ∙ c.before.before.requires.1
 
 value_requires : tie.Need-value-requires
 value_requires c κs = (
-  subst Held (sym c.progress-of.ensures) (steps-held (text_of c.before.before.args.spelled.now) start start-held),
-  (price-digits c.progress-of.result _ (finishes c)).0,
+  subst Held (sym c.progress_of.ensures) (steps-held (text_of c.before.before.args.spelled.now) start start-held),
+  (price-digits c.progress_of.result _ (finishes c)).0,
 )
 
 returns : tie.Need-returns
-returns c = let g = c.before in ap Value (c.value.ensures ∙ (price-digits g.progress-of.result _ (finishes g)).1) ∙ sym g.before.before.requires.1
+returns c = let g = c.before in ap Value (c.value.ensures ∙ (price-digits g.progress_of.result _ (finishes g)).1) ∙ sym g.before.before.requires.1
 
-pub formed-price_spec : {M : Type 1} → statement M
-formed-price_spec = tie.close (tie.spec (λ c κs. search rules) value_requires returns)
+pub formed_price_spec : {M : Type 1} → statement M
+formed_price_spec = tie.close (tie.spec (λ c κs. search rules) value_requires returns)

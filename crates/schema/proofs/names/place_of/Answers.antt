@@ -1,0 +1,9 @@
+-- The sum is that of the definition; no part of it passes what a length below 32 and three bytes can give.
+use native.Mathlib.Omega.{arith}
+use Rattle.schema.specs.inner.Names.{place_of}
+use Rattle.schema.proofs.names.place_of.Goals as goal
+
+pub returns : goal.returns
+unfolding place_of
+returns c =
+    (rw (c.byte_value.ensures.0, c.byte_value-2.ensures.0, c.byte_value-3.ensures.0), omega arith)
