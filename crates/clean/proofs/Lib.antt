@@ -2,6 +2,7 @@ pub mod Faultless
 pub mod IdsOnce
 pub mod Repeated
 pub mod Judged
+pub mod Refusals
 pub mod Cleans
 pub mod Apart
 pub mod Shows

@@ -1,4 +1,6 @@
 // Whether one file is clean, judged alone; and the record that a question asks to see.
+#![tactic(auto)]
+
 ghost use Rattle.std.specs.Prelude.{◌≡◌, length};
 ghost use Rattle.json_text.specs.declared.Syntax.TheVariants.{Sound};
 ghost use Rattle.json_text.specs.Text.{syntax_of};
@@ -31,7 +33,7 @@ use word::{Parts, Word};
 pub mod repeats;
 
 // The answer to "show record n of file f", without the bytes: there is no such file or record, the file is not clean, or where the record stands.
-#[derive(Drop)]
+#[derive(Clone, Copy)]
 pub enum Shown {
     NoFile,
     NotClean(Parts),
@@ -123,6 +125,7 @@ fn judge_passed(sheet: u8, file: u8, s: &[u8], notes: &mut [u32; Notes::SIZE]) -
 // Whether a file is clean, by its sheet, its number and its bytes; where nothing is there it is. Under a number that no sheet has stage A alone counts. Where it
 // is clean, its records are left noted.
 // Shut out: a repeated id named where stage B finds a fault; an absent file refused as no JSON text.
+#[tactic(auto, using(crate::proofs::Refusals::absent))]
 pub fn check_noted(sheet: u8, file: u8, s: &[u8], notes: &mut [u32; Notes::SIZE]) -> Outcome
     requires { length notes.old ≡ size }
     ensures { (result ≡ clean_in (sheet_shape sheet) file s.now) × (result ≡ Unbroken → RecordsNoted sheet s.now notes.new) }
@@ -146,6 +149,7 @@ pub fn check_clean(sheet: u8, file: u8, s: &[u8]) -> Outcome
 
 // By the table of a number, the record of a number, counted from 1, of a file, of which s are the bytes. Every number of a file or of a record may be asked for.
 // Shut out: a record of a file that is not clean; file 257 taken for file 1.
+#[tactic(auto, using(crate::proofs::Refusals::past_last))]
 pub fn show_record(table: u8, file: u64, record: u64, s: &[u8]) -> Shown
     ensures { answer result ≡ shown_of (table_at table) file «record» s.now }
 {

@@ -1,4 +1,6 @@
 // The ids of a file's own records: noted once and put in order, so that the record of an id is found by looking at a handful of them.
+#![tactic(auto)]
+
 use limits::Limits;
 
 pub mod columns;
@@ -12,20 +14,20 @@ pub mod search;
 
 // The notes of a file are an array of `SIZE` numbers: three columns with an entry for each record, how many records there are, and how many bytes all their
 // ids begin with alike. Records are entered by their numbers; once they are in order, the columns stand in the order of the ids.
-#[derive(Drop)]
+#[derive(Clone, Copy)]
 pub struct Notes {
     pub entries: u16,
 }
 
 // Where the id of a record is: the place in the record where its member is looked for, and the one where its text begins, 0 where it has none.
-#[derive(Drop)]
+#[derive(Clone, Copy)]
 pub struct IdText {
     pub member: usize,
     pub text: usize,
 }
 
 // Where the record of an id starts.
-#[derive(Drop)]
+#[derive(Clone, Copy)]
 pub enum Start {
     At(usize),
     Nowhere,

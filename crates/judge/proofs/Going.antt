@@ -5,7 +5,6 @@ use mathlib.Core.Path.{◌≡◌, refl, sym, ap, subst, ◌∙◌}
 use Prim.Native.Nat.{ℕ, ◌+◌, ◌≤◌, ◌<◌}
 use native.Mathlib.Omega.{arith}
 use lib.ListN.{length, get_or}
-use Rattle.notation.specs.Choice.{◌and◌}
 use Rattle.notation.proofs.Booleans.{and_left, and_right}
 use Rattle.json_text.specs.Tree.{Json, Members}
 use Rattle.walk.specs.Walk.{part}

@@ -1,4 +1,6 @@
 // Stage B of one file: its first broken rule, by the field table.
+#![tactic(auto)]
+
 ghost use Rattle.std.specs.Prelude.{◌≡◌, ◌≤◌, leb, length};
 ghost use Rattle.limits.specs.Ceilings.{file_bytes};
 ghost use Rattle.json_text.specs.Tree.{Json};
@@ -65,7 +67,7 @@ fn wide(x: u16) -> u32
 }
 
 // What the value at the front of some bytes breaks first, and where it ends; 0 where none stands there.
-#[derive(Drop)]
+#[derive(Clone, Copy)]
 pub struct Judged {
     pub least: Least,
     pub end: usize,

@@ -35,8 +35,8 @@ module _ (id : List ℕ) where
       go (some t) h e = rw (plan_of, h, e)
 
   pub plan-is : {l : List Picked} → Apart 50 l → (x : Picked) → Memᴰ x l → is_id id (text 50 x) ≡ true → plan_of l id ≡ some x
-  plan-is Apart.noRecord x i e = absurd (Memᴰ.not-nil i)
-  plan-is (Apart.oneRecord {z} {l} apart a) x i e =
+  plan-is Apart.no_record x i e = absurd (Memᴰ.not-nil i)
+  plan-is (Apart.one_record {z} {l} apart a) x i e =
       let ih = plan-is a x in
       ⊎_elim (λ k. ap (λ (y : Picked). plan_of (y ∷ l) id) (sym k) ∙ first-is x l e)
       (λ k. by_test (is_id id (text 50 z))

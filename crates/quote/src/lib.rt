@@ -1,4 +1,6 @@
 // What a trip costs by a plan of a file of plans.
+#![tactic(auto)]
+
 ghost use Rattle.std.specs.Prelude.{◌≡◌, ◌≤◌};
 ghost use Rattle.schema.specs.Shape.{file_shape};
 ghost use Rattle.schema.specs.Tables.{table_at, sheet_of};
@@ -23,7 +25,7 @@ mod segment;
 mod trip;
 
 // The answer to "quote": the ride is too long, the file is not clean, there is no such plan, or the amount in ten-thousandths with its two marks.
-#[derive(Drop)]
+#[derive(Clone, Copy)]
 pub enum Quote {
     TooLong,
     NotClean(Parts),

@@ -20,7 +20,7 @@ use Rattle.walk.specs.inner.Along.{ItemPassed}
 use Rattle.walk.proofs.Left.{Left, left_end, left-whole, left-more}
 use Rattle.walk.proofs.Parts.{item_of}
 use Rattle.geometry.specs.Ring.{Point}
-use Rattle.geometry.specs.inner.Shifted.{OnMap, point, origin}
+use Rattle.geometry.specs.inner.Shifted.{OnMap, origin}
 use Rattle.geometry.specs.declared.Position.{Position}
 use Rattle.schema.specs.Shape as shape
 use Rattle.schema.specs.Pick.{Picked, pick}

@@ -1,4 +1,6 @@
 // Field 73: polygons, rings and positions, each judged by its own bytes. Faults stand at positions, which are numbered over the whole zone.
+#![tactic(auto)]
+
 ghost use Rattle.std.specs.Prelude.{◌≡◌};
 ghost use Rattle.scalar.specs.Scalars.{unless as unlessOf};
 ghost use Rattle.rings.specs.Rings.{found_at};
@@ -12,7 +14,7 @@ pub mod ring;
 pub mod zone;
 
 // The field that has the coordinates for its value, and its record: the same for every fault.
-#[derive(Drop)]
+#[derive(Clone, Copy)]
 pub struct Field {
     pub record: u32,
     pub field: u8,
@@ -43,28 +45,28 @@ impl Field {
 }
 
 // A number of a position: its first fault, or its value in millionths, moved up by half of its range.
-#[derive(Drop)]
+#[derive(Clone, Copy)]
 pub struct CoordinateFound {
     pub least: Least,
     pub value: u64,
 }
 
 // A position: its first fault, or its point.
-#[derive(Drop)]
+#[derive(Clone, Copy)]
 pub struct PositionFound {
     pub least: Least,
     pub point: Position,
 }
 
 // The positions of a ring: their first fault, and the outline of their points as far as a ring may have positions.
-#[derive(Drop)]
+#[derive(Clone, Copy)]
 pub struct RingFound {
     pub least: Least,
     pub outline: Outline,
 }
 
 // A ring or a polygon: how many items it has, how many positions, and its first fault.
-#[derive(Drop)]
+#[derive(Clone, Copy)]
 pub struct Judged {
     pub items: u32,
     pub positions: u32,
@@ -72,7 +74,7 @@ pub struct Judged {
 }
 
 // The rings of a polygon or the polygons of a zone: how many they are, how many items and positions they have in all, and their first fault.
-#[derive(Drop)]
+#[derive(Clone, Copy)]
 pub struct Tally {
     pub count: u32,
     pub items: u32,

@@ -37,7 +37,7 @@ fn judge_rings(p: &[u8], field: Field, n: u32) -> Tally
     }
 }
 
-// Whether a polygon may have this many rings.
+// Whether a polygon may have this many rings: one at least, and then the ceiling.
 fn is_ring_count(rings: u32) -> bool
     ensures { result ≡ is_ring_count rings }
 {

@@ -1,4 +1,6 @@
 // What the rules of a file of zones say together at a point and a moment for a type of vehicle.
+#![tactic(auto)]
+
 ghost use Rattle.std.specs.Prelude.{◌≡◌};
 ghost use Rattle.schema.specs.Tables.{table_at};
 ghost use Rattle.zone.specs.Answer.{answer, ruling_of};
@@ -19,7 +21,7 @@ mod window;
 mod zones;
 
 // The four values of an answer: a speed, and whether parking needs a station, each count where they are given.
-#[derive(Drop)]
+#[derive(Clone, Copy)]
 pub struct Rule {
     pub ride: bool,
     pub through: bool,
@@ -30,20 +32,20 @@ pub struct Rule {
 }
 
 // A boolean, and a speed, that a rule may give.
-#[derive(Drop)]
+#[derive(Clone, Copy)]
 pub enum Flag {
     Missing,
     Is(bool),
 }
 
-#[derive(Drop)]
+#[derive(Clone, Copy)]
 pub enum Limit {
     Missing,
     Is(u64),
 }
 
 // What the rules so far give, each value by the first that gives it; `any` where there is a rule at all.
-#[derive(Drop)]
+#[derive(Clone, Copy)]
 pub struct Given {
     pub any: bool,
     pub ride: Flag,
@@ -53,7 +55,7 @@ pub struct Given {
 }
 
 // The answer to "zone rule": the point is off the map, the file is not clean, no rule applies, or the values of those that do.
-#[derive(Drop)]
+#[derive(Clone, Copy)]
 pub enum Ruling {
     OffMap,
     NotClean(Parts),

@@ -1,0 +1,11 @@
+-- What is given, or else the later one.
+use Rattle.zone.specs.inner.Values.{or_limit}
+use Rattle.zone.proofs.Limit.or.Goals as goal
+
+pub returns-in-Missing : goal.returns-in-Missing
+unfolding or_limit
+returns-in-Missing c = rw c.in-Missing.is
+
+pub returns-in-Is : goal.returns-in-Is
+unfolding or_limit
+returns-in-Is c = rw c.in-Is.is
