@@ -1,4 +1,6 @@
 // What each record demands of its own fields and of other files, for stage C.
+#![tactic(auto)]
+
 pub mod bikes;
 mod references;
 pub mod set;

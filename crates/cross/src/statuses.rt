@@ -30,7 +30,7 @@ use walk::{ItemStep, pass_item};
 use word::kind::Kind;
 
 // What the types tell that are available: the sum of their counts, and the first rule that one breaks.
-#[derive(Drop)]
+#[derive(Clone, Copy)]
 pub struct Tally {
     pub sum: u64,
     pub least: Least,

@@ -24,7 +24,7 @@ use slots::gather;
 use walk::{ItemStep, pass_item};
 
 // What is found of a file's records: the number of the first whose id one before it has, or 0, and the first rule that one breaks otherwise.
-#[derive(Drop)]
+#[derive(Clone, Copy)]
 pub struct Findings {
     pub repeat: u16,
     pub least: Least,

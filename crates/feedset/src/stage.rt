@@ -34,7 +34,7 @@ use word::Word;
 use word::kind::Kind;
 
 // What is found of the records of each file that references name.
-#[derive(Drop)]
+#[derive(Clone, Copy)]
 pub struct Named {
     pub types: Findings,
     pub stations: Findings,

@@ -12,18 +12,21 @@ use Rattle.word.specs.Word.{word_of}
 use Rattle.word.proofs.Laws.{written-full, word-length}
 use Rattle.schema.specs.Shape.{Table}
 use Rattle.fault.specs.declared.outcome.Outcome.{Outcome}
-use Rattle.verdict.specs.declared.Acceptance.TheVariants.{NoRoom}
 use Rattle.cross.specs.Stage.{Feeds}
-use Rattle.verdict.specs.Verdict.{verdict_of, said, accepts, verdict_number, buffer_of, number}
+use Rattle.verdict.specs.Verdict.{verdict_of, said, accepts, verdict_number, buffer_of}
 
 -- the number where there is room
 abbrev pub told : Outcome → ℕ
 told x = accepts x ⇒ 0 else 1
 
 module _ (t : Table) (s : Feeds) (b : List ℕ) where
-  pub answer-short : length b < word_size → (number NoRoom ≡ verdict_number t s b) × (b ≡ buffer_of t s b)
-  unfolding verdict_number buffer_of
-  answer-short h = (rw (lt-ltb (length b) word_size h), rw (lt-ltb (length b) word_size h))
+  pub number-short : length b < word_size → verdict_number t s b ≡ 2
+  unfolding verdict_number
+  number-short h = rw (lt-ltb (length b) word_size h)
+
+  pub buffer-short : length b < word_size → buffer_of t s b ≡ b
+  unfolding buffer_of
+  buffer-short h = rw (lt-ltb (length b) word_size h)
 
   pub answer-room : {x y : Outcome} {p : Parts} {after : List ℕ} → word_size ≤ length b → x ≡ verdict_of t s → p ≡ said x → after ≡ word_of written_form p ++ drop word_size b → x ≡ y
       → (told y ≡ verdict_number t s b) × (after ≡ buffer_of t s b)
@@ -41,3 +44,5 @@ module _ (t : Table) (s : Feeds) (b : List ℕ) (room : word_size ≤ length b) 
   word_room =
       ap (λ x. take word_size (x ⇒ b else word_of written_form (said (verdict_of t s)) ++ drop word_size b)) (le-ltb (length b) word_size room)
       ∙ take_at (word_of written_form (said (verdict_of t s))) (drop word_size b) word_size (word-length written_form written-full _)
+
+pub ruleset shorts = (number-short, buffer-short)

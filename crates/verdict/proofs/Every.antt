@@ -14,6 +14,7 @@ module _ {A : Type 0} where
   pub all-at : {P : A → Type 0} {l : List A} {x : A} → All P l → Memᴰ x l → P x
   all-at {P} (more h hs) (Memᴰ.head e) = subst P (sym e) h
   all-at (more h hs) (Memᴰ.tail m) = all-at hs m
+  all-at {P = P} none m = elim m [ ]
 
   pub all_of : {P : A → Type 0} (l : List A) → ((x : A) → Memᴰ x l → P x) → All P l
   all_of [] h = none

@@ -1,4 +1,6 @@
 // The verdict on a feed set: whether it is accepted, and the word that says why not.
+#![tactic(auto)]
+
 ghost use Rattle.std.specs.Prelude.{◌++◌, map, ◌≡◌, ◌≤◌, length, drop};
 ghost use Rattle.word.specs.Form.{written_form, word_size};
 ghost use Rattle.word.specs.Word.{Fits, word_of};
@@ -13,7 +15,7 @@ use word::{Parts, Word};
 mod stages;
 
 // The answer: there is no room for the word, the set is accepted, or it is not.
-#[derive(Drop)]
+#[derive(Clone, Copy)]
 pub enum Acceptance {
     NoRoom,
     Accepted,
@@ -60,6 +62,7 @@ fn put(parts: Parts, buffer: &mut [u8])
 // By the table of a number, the verdict on a set of eight files, of which one without bytes is absent. The word stands in the first eight bytes of the buffer, and the
 // rest stays; in a buffer of fewer bytes nothing is written.
 // Shut out: a set refused that breaks no rule, or for another rule than its first; a word written anywhere else in the buffer.
+#[tactic(auto, using(crate::proofs::Answers::shorts))]
 pub fn verdict<'a>(table: u8, files: [&'a [u8]; FILES], buffer: &mut [u8]) -> Acceptance
     ensures result_value { number result ≡ verdict_number (table_at table) (map (λ x. x.now) files.entry) buffer.old }
     ensures buffer_after { buffer.new ≡ buffer_of (table_at table) (map (λ x. x.now) files.entry) buffer.old }

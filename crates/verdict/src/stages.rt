@@ -19,7 +19,7 @@ use schema::sheets::sheet_of;
 use word::Word;
 
 // The stages that judge each file alone.
-#[derive(Drop)]
+#[derive(Clone, Copy)]
 pub enum Stage {
     A,
     B,

@@ -1,0 +1,17 @@
+use Prim.Native.Nat.{◌*◌, ◌-◌, ◌^◌, ◌≤◌}
+use lib.ListN.{length}
+use Rattle.schema.specs.Table23.{available}
+use Rattle.schema.specs.Tables.{sheet_of}
+use Rattle.schema.specs.Records.{record_shape}
+use Rattle.document.specs.inner.Items.{picked_items}
+use Rattle.cross.proofs.Walked.{Judging, Sums}
+use Rattle.cross.proofs.Fielded.{available_item}
+use Rattle.cross.proofs.statuses.judge_available.Given as goal
+
+abbrev pub invariant-loop-item : goal.invariant-loop-item
+invariant-loop-item l =
+    (l.sum ≤ l.at * 10 ^ 12) × Sums l.p l.sum l.at
+    × Judging (available_item (picked_items (record_shape (sheet_of l.table 1)) l.types) l.n) available l.p l.sub l.at l.least
+
+abbrev pub decreases-loop-item : goal.decreases-loop-item
+decreases-loop-item l = length l.p - l.at

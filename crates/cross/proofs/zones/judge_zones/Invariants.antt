@@ -1,0 +1,15 @@
+use Prim.Native.Nat.{◌-◌}
+use lib.ListN.{length}
+use Rattle.schema.specs.Tables.{sheet_of}
+use Rattle.schema.specs.Records.{record_shape}
+use Rattle.document.specs.inner.Items.{picked_items}
+use Rattle.cross.specs.Cross.{zone_faults}
+use Rattle.cross.proofs.Walked.{Judging}
+use Rattle.cross.proofs.zones.judge_zones.Given as goal
+
+abbrev pub invariant-loop-item : goal.invariant-loop-item
+invariant-loop-item l =
+    Judging (zone_faults (picked_items (record_shape (sheet_of l.table 1)) l.types)) (record_shape (sheet_of l.table 6)) l.p l.n l.at l.least
+
+abbrev pub decreases-loop-item : goal.decreases-loop-item
+decreases-loop-item l = length l.p - l.at

@@ -1,9 +1,0 @@
--- Each arm answers what the definition says of its variant.
-use borrow.Author.Rules.{rules}
-use Rattle.verdict.proofs.Acceptance.number.Statement.{statement}
-use Rattle.verdict.proofs.Acceptance.number.Tie as tie
-
-pub number_spec : {M : Type 1} → statement M
-number_spec =
-    tie.close (tie.spec (λ c. search rules) (λ c. search rules) (λ c. search rules)
-    (λ c. rw c.enum_told.given.1) (λ c. rw c.enum-told2.given.1) (λ c. rw c.enum-told3.given.1))

@@ -1,0 +1,22 @@
+-- `judge` goes from stage A to the later ones, and the first broken rule of a set may be looked for so.
+use mathlib.Core.Path.{◌≡◌, sym, ◌∙◌}
+use Prim.Native.Nat.{ℕ}
+use native.Mathlib.Omega.{arith}
+use Rattle.verdict.specs.inner.Stages.{staged}
+use Rattle.verdict.proofs.ByFile.{verdict-staged}
+use Rattle.verdict.proofs.stages.judge.Goals as goal
+
+-- stage A is not stage B
+pub first_in-requires : goal.first_in-requires
+first_in-requires c e = let z : ◌≡◌ {A = ℕ} 0 1 = cc in absurd (omega arith)
+
+pub judge_read-requires : goal.judge_read-requires
+judge_read-requires c = sym c.first_in.ensures ∙ c.in-Unbroken.is
+
+pub returns-in-Broken : goal.returns-in-Broken
+unfolding staged
+returns-in-Broken c = rw (verdict-staged, sym c.first_in.ensures ∙ c.in-Broken.is)
+
+pub returns-in-Unbroken : goal.returns-in-Unbroken
+unfolding staged
+returns-in-Unbroken c = rw (verdict-staged, sym c.first_in.ensures ∙ c.in-Unbroken.is) c.judge_read.ensures
