@@ -9,14 +9,12 @@ pub const FILES: usize = Word::FILES as usize;
 // Puts the files that the first words of a text spell into `bytes`. False where one of the words spells none, or there is no room for it.
 pub fn decode(spelled: &[u8], bytes: &mut [u8], ends: &mut [usize; FILES]) -> bool {
     let mut to = 0;
-    let mut i = 0;
-    while i < FILES {
+    for i in 0..FILES {
         let Decoded::To(end) = hex::decode(words::at(spelled, i), bytes, to) else {
             return false;
         };
         ends[i] = end;
         to = end;
-        i += 1;
     }
     true
 }

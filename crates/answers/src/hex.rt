@@ -2,13 +2,13 @@
 use crate::words;
 
 // Where a byte string that was put into a buffer ends.
-#[derive(Drop)]
+#[derive(Clone, Copy)]
 pub enum Decoded {
     Malformed,
     To(usize),
 }
 
-#[derive(Drop)]
+#[derive(Clone, Copy)]
 enum Pair {
     Malformed,
     Byte(u8),

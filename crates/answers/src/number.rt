@@ -1,5 +1,5 @@
 // Numbers in decimal. One past 64 bits reads as the greatest of them, which is past every ceiling too.
-#[derive(Drop)]
+#[derive(Clone, Copy)]
 pub enum Number {
     Malformed,
     Is(u64),
@@ -10,13 +10,11 @@ pub fn parse(word: &[u8]) -> Number {
         return Number::Malformed;
     }
     let mut n = 0;
-    let mut i = 0;
-    while i < word.len() {
-        let Number::Is(more) = with_digit(n, word[i]) else {
+    for b in word {
+        let Number::Is(more) = with_digit(n, *b) else {
             return Number::Malformed;
         };
         n = more;
-        i += 1;
     }
     Number::Is(n)
 }

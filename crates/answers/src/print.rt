@@ -1,88 +1,92 @@
-// Parts of an answer's line, to standard output.
-use libc::STDOUT_FILENO;
+// Parts of an answer's line, to the writer of standard output; and what standard error says where input or output fails.
+use std::io;
+use std::io::{ErrorKind, Write};
 use word::Parts;
 
-pub fn error() {
-    put(b"error\n");
+pub fn error<W: Write>(out: &mut W) -> io::Result<()> {
+    out.write_all(b"error\n")
 }
 
 // The number that an answer begins with.
-pub fn first(n: u8) {
-    number(n as u64);
+pub fn first<W: Write>(out: &mut W, n: u8) -> io::Result<()> {
+    write!(out, "{n}")
 }
 
 // A number after others.
-pub fn next(n: u64) {
-    put(b" ");
-    number(n);
+pub fn next<W: Write>(out: &mut W, n: u64) -> io::Result<()> {
+    write!(out, " {n}")
 }
 
-// A signed number after others; below zero, a minus sign and its size, which is one more than that of the number above it.
-pub fn amount(n: i64) {
-    if n >= 0 {
-        next(n as u64);
-        return;
-    }
-    put(b" -");
-    number(((0 - (n + 1)) as u64) + 1);
+// A signed number after others; below zero, a minus sign and its size.
+pub fn amount<W: Write>(out: &mut W, n: i64) -> io::Result<()> {
+    write!(out, " {n}")
 }
 
 // A mark after others: 1 where it is set.
-pub fn mark(set: bool) {
+pub fn mark<W: Write>(out: &mut W, set: bool) -> io::Result<()> {
     if set {
-        next(1);
-        return;
+        return next(out, 1);
     }
-    next(0);
+    next(out, 0)
 }
 
 // A minus sign after others, for a value that is not given.
-pub fn nothing() {
-    put(b" -");
+pub fn nothing<W: Write>(out: &mut W) -> io::Result<()> {
+    out.write_all(b" -")
 }
 
-pub fn end() {
-    put(b"\n");
+pub fn end<W: Write>(out: &mut W) -> io::Result<()> {
+    out.write_all(b"\n")
 }
 
 // What a word says, after the answer's number.
-pub fn parts(p: Parts) {
-    next(p.file as u64);
-    next(p.kind as u64);
-    next(p.field as u64);
-    next(p.record as u64);
-    next(p.sub as u64);
-    next(p.offset as u64);
+pub fn parts<W: Write>(out: &mut W, p: Parts) -> io::Result<()> {
+    next(out, p.file as u64)?;
+    next(out, p.kind as u64)?;
+    next(out, p.field as u64)?;
+    next(out, p.record as u64)?;
+    next(out, p.sub as u64)?;
+    next(out, p.offset as u64)
 }
 
 // The first eight bytes of a buffer in hex, after the answer's number.
-pub fn word(room: &[u8; 64]) {
-    put(b" ");
-    byte(room[0]);
-    byte(room[1]);
-    byte(room[2]);
-    byte(room[3]);
-    byte(room[4]);
-    byte(room[5]);
-    byte(room[6]);
-    byte(room[7]);
+pub fn word<W: Write>(out: &mut W, room: &[u8; 64]) -> io::Result<()> {
+    out.write_all(b" ")?;
+    byte(out, room[0])?;
+    byte(out, room[1])?;
+    byte(out, room[2])?;
+    byte(out, room[3])?;
+    byte(out, room[4])?;
+    byte(out, room[5])?;
+    byte(out, room[6])?;
+    byte(out, room[7])
 }
 
-fn byte(b: u8) {
-    told(io::print_hex(STDOUT_FILENO, b as u64, 2));
+fn byte<W: Write>(out: &mut W, b: u8) -> io::Result<()> {
+    write!(out, "{b:02x}")
 }
 
-fn put(s: &[u8]) {
-    told(io::write_all(STDOUT_FILENO, s));
+// Where a write has failed, a line on standard error says why. No where nobody is left to write to.
+pub fn told<R: Eprint + AllocGlobal>(rt: &R, written: io::Result<()>) -> bool {
+    let Err(e) = written else {
+        return true;
+    };
+    fail(rt, "standard output", &e);
+    e.kind() != ErrorKind::BrokenPipe
 }
 
-fn number(n: u64) {
-    told(io::print_decimal(STDOUT_FILENO, n));
+// A line on standard error: what failed, and the system's text for why, without the number that std puts behind it.
+pub fn fail<R: Eprint + AllocGlobal>(rt: &R, what: &str, e: &io::Error) {
+    let _ = match format!(in rt.alloc(); "{e}") {
+        Ok(text) => rt.eprintln(format_args!("{what}: {}", reason(text.as_str()))),
+        Err(_) => rt.eprintln(format_args!("{what}: {e}")),
+    };
 }
 
-// Where a write has failed, a line on standard error says why.
-fn told(written: bool) {
-    if !written {
-        os::fail(b"standard output");
+// An error's text up to its number.
+fn reason(text: &str) -> &str {
+    match text.split_once(" (os error ") {
+        Some((before, _)) => before,
+        None => text,
     }
 }

@@ -3,35 +3,42 @@ use crate::files::FILES;
 use crate::number::Number;
 use crate::questions::TABLE;
 use crate::{files, number, print, words};
+use std::io;
+use std::io::Write;
 use verdict::{Acceptance, verdict};
 
 // Room for a word, and more.
 const MOST: usize = 64;
 
-pub fn answer(line: &[u8], bytes: &mut [u8]) -> bool {
+pub fn answer<W: Write>(out: &mut W, line: &[u8], bytes: &mut [u8]) -> io::Result<bool> {
     if words::after_first(line) != 1 + FILES {
-        return false;
+        return Ok(false);
     }
     let Number::Is(length) = number::parse(words::at(line, 1)) else {
-        return false;
+        return Ok(false);
     };
     let mut ends: [usize; FILES] = [0; FILES];
     if !files::decode(words::from(line, 2), bytes, &mut ends) {
-        return false;
+        return Ok(false);
     }
-    judge(bytes, &ends, length);
-    true
+    judge(out, bytes, &ends, length)?;
+    Ok(true)
 }
 
 // A buffer has room for the word or is too short; how much longer or shorter it is makes no difference to the answer.
-fn judge(bytes: &[u8], ends: &[usize; FILES], length: u64) {
+fn judge<W: Write>(
+    out: &mut W,
+    bytes: &[u8],
+    ends: &[usize; FILES],
+    length: u64,
+) -> io::Result<()> {
     let mut room: [u8; MOST] = [0; MOST];
     if length < 8 {
         let mut short: [u8; 7] = [0; 7];
-        print_answer(verdict_on(bytes, ends, &mut short), &room);
+        print_answer(out, verdict_on(bytes, ends, &mut short), &room)
     } else {
         let r = verdict_on(bytes, ends, &mut room);
-        print_answer(r, &room);
+        print_answer(out, r, &room)
     }
 }
 
@@ -49,13 +56,13 @@ fn verdict_on(bytes: &[u8], ends: &[usize; FILES], buffer: &mut [u8]) -> Accepta
     verdict(TABLE, set, buffer)
 }
 
-fn print_answer(r: Acceptance, room: &[u8; MOST]) {
-    print::first(r.number());
+fn print_answer<W: Write>(out: &mut W, r: Acceptance, room: &[u8; MOST]) -> io::Result<()> {
+    print::first(out, r.number())?;
     match r {
         Acceptance::NoRoom => {}
         _ => {
-            print::word(room);
+            print::word(out, room)?;
         }
     }
-    print::end();
+    print::end(out)
 }

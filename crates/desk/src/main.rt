@@ -1,4 +1,6 @@
 // The desk program: the verdict on the feeds in the current folder, on one line.
-fn main() {
-    folder::judge();
+#![tactic(auto)]
+
+fn main(rt: HostRuntime) {
+    folder::judge(&rt);
 }

@@ -3,3 +3,4 @@ pub mod Said
 pub mod Turns
 pub mod Written
 pub mod Numerals
+pub mod Names

@@ -1,11 +1,10 @@
--- Text written behind text is the two written at once, and ends within the buffer.
+-- Text written behind text is the two written at once, and text written at the start of a buffer is what it begins with.
 use mathlib.Core.List.{List, ◌++◌, append_assoc}
-use mathlib.Core.Path.{◌≡◌, sym, ap, ◌∙◌}
+use mathlib.Core.Path.{◌≡◌, refl, sym, ap, ◌∙◌}
 use Prim.Native.Nat.{ℕ, ◌+◌, ◌≤◌}
 use native.Mathlib.Omega.{arith}
 use lib.ListN.{length, take, drop, length-append}
 use lib.Seq.{take_at, drop_at, drop-drop, length-take-le}
-use Rattle.io.specs.Counts.{IsPrefixLen}
 use Rattle.folder.specs.Line.{Written}
 
 module _ (before : List ℕ) (at : ℕ) (room : at ≤ length before) where
@@ -31,9 +30,8 @@ module _ (before : List ℕ) (at : ℕ) (room : at ≤ length before) where
             ∙ ap (λ (l : List ℕ). l ++ drop (at + length (s ++ t)) before) (append_assoc (take at before) s t),
       )
 
-  pub written-within : (s : List ℕ) {after : List ℕ} {end : ℕ} → Written s before at after end → end ≤ length after
-  written-within s {after} {end} (e, m) =
-      omega (arith, ap length m, length-append (take at before ++ s) (drop (at + length s) before), ends s)
-
-  pub written-counts : (s : List ℕ) {after : List ℕ} {end : ℕ} → Written s before at after end → IsPrefixLen end after
-  written-counts s {after} {end} w = let h = written-within s w in (h, sym (length-take-le end after h))
+-- text that was written at the start of a buffer stands there
+pub written_text : (s before : List ℕ) {after : List ℕ} {end : ℕ} → Written s before 0 after end → take end after ≡ s
+written_text s before {after} {end} (e, m) =
+    let k : end ≡ length s = omega (arith, e) in
+    ap (λ (n : ℕ). take n after) k ∙ ap (take (length s)) m ∙ take_at s _ (length s) refl

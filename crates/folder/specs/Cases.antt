@@ -1,5 +1,5 @@
 -- Numerals, lines and names on cases, computed.
-use Rattle.std.specs.Prelude.{◌≡◌, refl, List, [], ◌∷◌, ℕ, ℤ, pos, negsuc}
+use Rattle.std.specs.Prelude.{◌≡◌, refl, List, [], ◌∷◌, ℕ, ℤ, pos, negsuc, Some}
 use Rattle.notation.specs.Ascii.{bytes}
 use Rattle.notation.specs.Case.{Case, Answers}
 use Rattle.word.specs.Word.{no_parts}
@@ -7,7 +7,7 @@ use Rattle.folder.specs.declared.Answer.{Answer}
 use Rattle.folder.specs.declared.Answer.TheVariants.{Nothing, TooLarge, Says}
 use Rattle.folder.specs.declared.reading.Turn.{Turn}
 use Rattle.folder.specs.declared.reading.Turn.TheVariants.{Failed, Ended, Got}
-use Rattle.folder.specs.Reading.{turn_of, opening_of}
+use Rattle.folder.specs.Reading.{turn_of, refusal_of}
 use Rattle.folder.specs.Line.{numeral_within, numeral, line_of, names, name_of}
 
 abbrev numerals : List (Case ℕ (List ℕ))
@@ -58,5 +58,5 @@ openings =
     ("no right to read it", 13, Failed) ∷
     []
 
-openings-answered : Answers (λ e. turn_of (opening_of (negsuc 0) (pos e))) openings
+openings-answered : Answers (λ e. turn_of (refusal_of (Some (pos e)))) openings
 openings-answered = refl

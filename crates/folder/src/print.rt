@@ -3,19 +3,19 @@ ghost use Rattle.std.specs.Prelude.{◌+◌, ◌≤◌, length};
 ghost use Rattle.folder.specs.Line.{next, rule_text, place_text, parts_line, line_of, Written};
 
 use crate::Answer;
-use crate::text::{put, put_number};
-use libc::STDOUT_FILENO;
+use crate::buffer::{put, put_number};
+use crate::failure::fail;
 use word::Parts;
 
 // Room for six numbers of twenty digits with a byte behind each.
 const ROOM: usize = 126;
 
 // Writes the line at once. Where it can't be written whole, a line on standard error says so.
-pub fn line(a: Answer) {
+pub fn line<R: Print + Eprint>(rt: &R, a: Answer) {
     let mut text = [0u8; ROOM];
     let n = put_line(a, &mut text);
-    if !io::write_all(STDOUT_FILENO, &text[..n]) {
-        os::fail(b"standard output");
+    if let Err(error) = rt.write_all(&text[..n]) {
+        fail(rt, "standard output", error);
     }
 }
 

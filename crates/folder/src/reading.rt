@@ -1,13 +1,21 @@
 // One file, opened by name and read into a buffer.
 //
-// No contract can speak of what a call of C answers. So the number that the last call on a file left is lent along, in `left`, and what is taken of the file
-// is promised by it.
-ghost use Rattle.std.specs.Prelude.{◌≡◌, ◌<◌, length};
-ghost use Rattle.folder.specs.Reading.{turn_of, opening_of, Decides};
+// No contract can speak of what the system answers. So what a call on a file answered is taken apart into a number, that of the last call is lent along, in
+// `left`, and what is taken of the file is promised by it.
+ghost use Rattle.std.specs.Prelude.{◌≡◌, ◌<◌, ◌^◌, length, IfOk};
+ghost use Rattle.folder.specs.Reading.{turn_of, opening_of, reading_of, Decides};
 ghost use Rattle.folder.specs.Places.{Gets, Appended};
 
+use crate::failure::fail;
+use std::fs;
+use std::io::{Error, Read};
+use std::rt::Files;
+
+// The number of the error of opening a name that no file has.
+const NO_SUCH_FILE: i32 = 2;
+
 // What is taken of a file: nothing, since it can't be read; all, with the place where it ends in the buffer; or as much as there was room for.
-#[derive(Drop)]
+#[derive(Clone, Copy)]
 pub enum Taken {
     Unread,
     Full,
@@ -15,7 +23,7 @@ pub enum Taken {
 }
 
 // What one read came to.
-#[derive(Drop)]
+#[derive(Clone, Copy)]
 pub enum Turn {
     Failed,
     Ended,
@@ -24,48 +32,64 @@ pub enum Turn {
 
 // Puts a file's bytes into the buffer from a place on. A file that does not exist has none; of one that can't be opened or read a line on standard error says
 // why.
-pub fn read_named(name: &[u8], bytes: &mut [u8], from: usize, left: &mut isize) -> Taken
+pub fn read_named<R: Files + Eprint>(
+    rt: &R,
+    name: &str,
+    bytes: &mut [u8],
+    from: usize,
+    left: &mut isize,
+) -> Taken
     requires { from < length bytes.old }
     ensures { Decides (turn_of left.new) result × Appended from bytes.old bytes.new result }
 {
-    let fd = os::open_read(name);
-    let opened = opening(fd, os::errno());
-    *left = opened;
-    match came_to(opened) {
-        Turn::Failed => {
-            os::fail(name);
-            return Taken::Unread;
-        }
-        Turn::Ended => {
-            return Taken::To(from);
-        }
-        Turn::Got(_) => {
-            return read_open(fd, name, bytes, from, left);
-        }
+    let opened = fs::open(rt, name);
+    let number = opening(&opened);
+    *left = number;
+    match opened {
+        Ok(file) => read_open(rt, file, name, bytes, from, left),
+        Err(error) => match came_to(number) {
+            Turn::Failed => {
+                fail(rt, name, error);
+                Taken::Unread
+            }
+            Turn::Ended => Taken::To(from),
+            Turn::Got(_) => unreachable!(),
+        },
     }
 }
 
 // Reads an open file from a place of the buffer on, and closes it.
-fn read_open(fd: i32, name: &[u8], bytes: &mut [u8], from: usize, left: &mut isize) -> Taken
+fn read_open<R: Eprint, F: Read + Drop>(
+    rt: &R,
+    mut file: F,
+    name: &str,
+    bytes: &mut [u8],
+    from: usize,
+    left: &mut isize,
+) -> Taken
     requires { from < length bytes.old }
     ensures { Decides (turn_of left.new) result × Appended from bytes.old bytes.new result }
 {
-    let taken = read_to_end(fd, name, bytes, from, left);
-    libc::close(fd);
-    taken
+    read_to_end(rt, &mut file, name, bytes, from, left)
 }
 
 // One read may bring less than there is, so the file is read until a read brings nothing, or there is no room.
 // Shut out: a read that failed taken for the file's end; a full buffer taken for it.
-fn read_to_end(fd: i32, name: &[u8], bytes: &mut [u8], from: usize, left: &mut isize) -> Taken
+fn read_to_end<R: Eprint, F: Read>(
+    rt: &R,
+    file: &mut F,
+    name: &str,
+    bytes: &mut [u8],
+    from: usize,
+    left: &mut isize,
+) -> Taken
     requires { from < length bytes.old }
     ensures { Decides (turn_of left.new) result × Appended from bytes.old bytes.new result }
 {
     let mut to = from;
     while to < bytes.len() {
-        match read_some(fd, &mut bytes[to..], left) {
+        match read_some(rt, file, name, &mut bytes[to..], left) {
             Turn::Failed => {
-                os::fail(name);
                 return Taken::Unread;
             }
             Turn::Ended => {
@@ -79,13 +103,23 @@ fn read_to_end(fd: i32, name: &[u8], bytes: &mut [u8], from: usize, left: &mut i
     Taken::Full
 }
 
-// One read.
-fn read_some(fd: i32, room: &mut [u8], left: &mut isize) -> Turn
+// One read. Of one that fails a line on standard error says why.
+fn read_some<R: Eprint, F: Read>(
+    rt: &R,
+    file: &mut F,
+    name: &str,
+    room: &mut [u8],
+    left: &mut isize,
+) -> Turn
     ensures { (result ≡ turn_of left.new) × Gets (length room.old) result }
 {
-    let got = libc::read(fd, room);
-    *left = got;
-    came_to(got)
+    let got = file.read(room);
+    let number = reading(&got);
+    *left = number;
+    if let Err(error) = got {
+        fail(rt, name, error);
+    }
+    came_to(number)
 }
 
 // What a read came to, by the number that it left.
@@ -101,16 +135,30 @@ fn came_to(got: isize) -> Turn
     Turn::Got(got as usize)
 }
 
-// An opening as a number like a read's: below 0 it failed, at 0 there is no such file, at 1 it is open. The error counts only where there is no descriptor.
-// Shut out: a file that is there and can't be opened taken as absent.
-fn opening(fd: i32, error: i32) -> isize
-    ensures { result ≡ opening_of fd error }
+// A read as a number: below 0 it failed, else it is that of the bytes that it brought.
+// Shut out: a read that failed taken for the file's end; one that ended the file taken for a failure.
+fn reading(got: &Result<usize, Error>) -> isize
+    requires { IfOk got.now (λ n. n < 2 ^ 63) }
+    ensures { result ≡ reading_of got.now }
 {
-    if fd < 0 {
-        if error == libc::ENOENT {
-            return 0;
-        }
-        return -1;
+    match got {
+        Ok(n) => *n as isize,
+        Err(_) => -1,
     }
-    1
+}
+
+// An opening as a number like a read's: below 0 it failed, at 0 there is no such file, at 1 it is open.
+// Shut out: a file that is there and can't be opened taken as absent.
+fn opening<F>(opened: &Result<F, Error>) -> isize
+    ensures { result ≡ opening_of opened.now }
+{
+    match opened {
+        Ok(_) => 1,
+        Err(error) => {
+            if error.raw_os_error() == Some(NO_SUCH_FILE) {
+                return 0;
+            }
+            -1
+        }
+    }
 }

@@ -1,4 +1,6 @@
 // The desk program over a sound set of all eight files.
-fn main() {
-    folder::judge();
+#![tactic(auto)]
+
+fn main(rt: HostRuntime) {
+    folder::judge(&rt);
 }

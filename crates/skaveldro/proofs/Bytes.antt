@@ -17,6 +17,7 @@ low-length (suc size) n = ap suc (low-length size (n / 256))
 
 low-at : (size n j : ℕ) → j < size → get_or (low_bytes size n) j 0 ≡ n / 2 ^ (j * 8) % 2 ^ 8
 unfolding low_bytes
+low-at zero n j h = elim h [ ]
 low-at (suc size) n zero h = rw div-one
 low-at (suc size) n (suc j) h =
     let e : suc j * 8 ≡ 8 + j * 8 = omega arith in
@@ -35,6 +36,7 @@ encoded_append (u ∷ us) vs = rw (encoded_append us vs, append_assoc (low_bytes
 
 pub encoded-at : (vs : List ℕ) (i : ℕ) → i / 8 < length vs → get_or (encoded vs) i 0 ≡ get_or vs (i / 8) 0 / 2 ^ (i % 8 * 8) % 2 ^ 8
 unfolding encoded
+encoded-at [] i h = elim h [ ]
 encoded-at (v ∷ vs) i h =
     ⊎_elim
     (λ (low : i / 8 ≡ 0).

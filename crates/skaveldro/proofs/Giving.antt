@@ -22,6 +22,7 @@ module _ (buffer values : List ℕ) (n count : ℕ) (counted : count ≡ length 
 
   pub short : (b : Bool) → length buffer / 8 < (b ⇒ count else 0) → Leaves 2 buffer b
   unfolding told filled holds
+  short false h = elim h [ ]
   short true h = let no = lt-leb (8 * length values) (length buffer) (omega arith) in (rw no, rw no)
 
   pub bare : (b : Bool) → 0 < count → (b ⇒ count else 0) ≡ 0 → Leaves n buffer b

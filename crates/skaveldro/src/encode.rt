@@ -76,7 +76,8 @@ pub fn give(number: u8, parts: Parts, rest: &[u64], buffer: &mut [u8]) -> u8
 {
     let values = PARTS + rest.len();
     let written = given(number, values);
-    if buffer.len() / 8 < written {
+    let lacks_room = buffer.len() / 8 < written;
+    if lacks_room {
         return 2;
     }
     if written == 0 {

@@ -1,6 +1,8 @@
 // The functions that other languages call: numbers and byte slices in, a number out, and the values in a buffer that the caller lends, eight bytes each, the least
 // significant first. A refusal gives no values: it needs no room, and the buffer stays as it was. A buffer that is too short for an answer's values is left alone and
 // the number is 2; one that is longer keeps its other bytes.
+#![tactic(auto)]
+
 ghost use Rattle.std.specs.Prelude.{[], ◌∷◌, ◌≡◌};
 ghost use Rattle.skaveldro.specs.Encoding.{filled};
 ghost use Rattle.skaveldro.specs.Answers.{verdict_answer, verdict_buffer, word_answer, quote_answer, zone_answer, shown_answer, told};
