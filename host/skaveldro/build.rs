@@ -11,7 +11,7 @@ fn main() {
     println!("cargo::rerun-if-env-changed=SKAVELDRO_LIB_DIR");
     let directory = match env::var_os("SKAVELDRO_LIB_DIR") {
         Some(directory) => PathBuf::from(directory),
-        None => Path::new(env!("CARGO_MANIFEST_DIR")).join("../../target/staticlib"),
+        None => Path::new(env!("CARGO_MANIFEST_DIR")).join("../../crates/skaveldro/out"),
     };
     let archive = directory.join(ARCHIVE);
     println!("cargo::rerun-if-changed={}", archive.display());
