@@ -1,32 +1,18 @@
-// Numbers in decimal. One past 64 bits reads as the greatest of them, which is past every ceiling too.
-#[derive(Clone, Copy)]
-pub enum Number {
-    Malformed,
-    Is(u64),
+// Numbers in decimal. One that is out of range reads as the end of the range, which is past every ceiling too.
+use std::str;
+
+// A number of digits alone.
+pub fn parse(word: &[u8]) -> Option<u64> {
+    if word.is_empty() || !word.iter().all(u8::is_ascii_digit) {
+        return None;
+    }
+    Some(str::from_utf8(word).ok()?.parse().unwrap_or(u64::MAX))
 }
 
-pub fn parse(word: &[u8]) -> Number {
-    if word.len() == 0 {
-        return Number::Malformed;
+// A number that may have a minus sign before the digits.
+pub fn parse_signed(word: &[u8]) -> Option<i64> {
+    match word.strip_prefix(b"-") {
+        Some(digits) => Some(0i64.saturating_sub_unsigned(parse(digits)?)),
+        None => Some(0i64.saturating_add_unsigned(parse(word)?)),
     }
-    let mut n = 0;
-    for b in word {
-        let Number::Is(more) = with_digit(n, *b) else {
-            return Number::Malformed;
-        };
-        n = more;
-    }
-    Number::Is(n)
-}
-
-// The number with a digit more, where the byte is one.
-fn with_digit(n: u64, b: u8) -> Number {
-    if b < b'0' || b'9' < b {
-        return Number::Malformed;
-    }
-    let digit = (b - b'0') as u64;
-    if n > (u64::MAX - digit) / 10 {
-        return Number::Is(u64::MAX);
-    }
-    Number::Is(n * 10 + digit)
 }

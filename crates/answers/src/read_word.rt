@@ -1,25 +1,25 @@
 // The question `word BYTES`: what the bytes say as a verdict word.
-use crate::hex::Decoded;
-use crate::{hex, print, words};
+use crate::{hex, print};
 use std::io;
 use std::io::Write;
-use word::{Reading, Word};
+use word::refusal::Refusal;
+use word::{Parts, Word};
 
-pub fn answer<W: Write>(out: &mut W, line: &[u8], bytes: &mut [u8]) -> io::Result<bool> {
-    if words::after_first(line) != 1 {
-        return Ok(false);
-    }
-    let Decoded::To(end) = hex::decode(words::at(line, 1), bytes, 0) else {
-        return Ok(false);
+pub fn ask(words: &[&[u8]], room: &mut [u8]) -> Option<Result<Parts, Refusal>> {
+    let [bytes] = words else {
+        return None;
     };
-    print_reading(out, Word::read(hex::part(bytes, 0, end)))?;
-    Ok(true)
+    let (bytes, _) = hex::decode(bytes, room)?;
+    Some(Word::read(bytes))
 }
 
-fn print_reading<W: Write>(out: &mut W, r: Reading) -> io::Result<()> {
-    print::first(out, r.number())?;
-    if let Reading::Word(p) = r {
-        print::parts(out, p)?;
+pub fn print<W: Write>(out: &mut W, reading: Result<Parts, Refusal>) -> io::Result<()> {
+    match reading {
+        Ok(p) => {
+            write!(out, "0")?;
+            print::parts(out, p)?;
+            writeln!(out)
+        }
+        Err(refusal) => print::refusal(out, refusal),
     }
-    print::end(out)
 }

@@ -1,49 +1,31 @@
 // The question `show`, eight files and then the numbers of one of them and of a record: where the record stands in its file.
-use crate::files::FILES;
-use crate::number::Number;
+use crate::files::Files;
 use crate::questions::TABLE;
-use crate::{files, number, print, words};
-use clean::{Shown, show_record};
+use crate::{files, number, print};
+use clean::show_record;
+use document::Span;
 use std::io;
 use std::io::Write;
+use word::refusal::Refusal;
 
-pub fn answer<W: Write>(out: &mut W, line: &[u8], bytes: &mut [u8]) -> io::Result<bool> {
-    if words::after_first(line) != FILES + 2 {
-        return Ok(false);
-    }
-    let mut ends: [usize; FILES] = [0; FILES];
-    if !files::decode(words::from(line, 1), bytes, &mut ends) {
-        return Ok(false);
-    }
-    let Number::Is(file) = number::parse(words::at(line, FILES + 1)) else {
-        return Ok(false);
+pub fn ask(words: &[&[u8]], room: &mut [u8]) -> Option<Result<Span, Refusal>> {
+    let [files @ .., file, record] = words else {
+        return None;
     };
-    let Number::Is(record) = number::parse(words::at(line, FILES + 2)) else {
-        return Ok(false);
-    };
-    print_shown(
-        out,
-        show_record(
-            TABLE,
-            file,
-            record,
-            files::part(bytes, &ends, file as usize),
-        ),
-    )?;
-    Ok(true)
+    let Files { files } = files::decode(files, room)?;
+    let file = number::parse(file)?;
+    let record = number::parse(record)?;
+    // Under a number that is no file's there are no bytes.
+    let bytes = file
+        .checked_sub(1)
+        .and_then(|i| files.get(i as usize))
+        .copied();
+    Some(show_record(TABLE, file, record, bytes.unwrap_or(&[])))
 }
 
-fn print_shown<W: Write>(out: &mut W, s: Shown) -> io::Result<()> {
-    print::first(out, s.number())?;
-    match s {
-        Shown::NotClean(p) => {
-            print::parts(out, p)?;
-        }
-        Shown::Record(from, upto) => {
-            print::next(out, from as u64)?;
-            print::next(out, upto as u64)?;
-        }
-        _ => {}
+pub fn print<W: Write>(out: &mut W, shown: Result<Span, Refusal>) -> io::Result<()> {
+    match shown {
+        Ok(span) => writeln!(out, "0 {} {}", span.from, span.upto),
+        Err(refusal) => print::refusal(out, refusal),
     }
-    print::end(out)
 }

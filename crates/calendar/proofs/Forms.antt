@@ -1,16 +1,15 @@
 -- Texts of a form have as many bytes as the form, each admitted by the form's byte at its place. So a part of the text is of that part of the form; and the
 -- text's first bytes, one more than the form has, tell whether the whole is of the form.
-use mathlib.Core.Bool.{true, false}
+use mathlib.Core.Bool.{Bool, true, false, ◌&&◌}
 use mathlib.Core.List.{List, [], ◌∷◌}
-use mathlib.Core.Path.{◌≡◌, refl, sym, ap}
-use Prim.Native.Nat.{ℕ, zero, suc, ◌+◌, ◌≤◌, ◌<◌}
+use mathlib.Core.Path.{◌≡◌, refl, ap, ◌∙◌}
+use Prim.Native.Nat.{ℕ, zero, suc, ◌<◌}
 use native.Mathlib.Omega.{arith}
-use lib.ListN.{length, take, drop, drop_of_length-le}
+use lib.ListN.{length, take, drop}
+use Rattle.std.specs.List.{list_all, zip}
 use Rattle.notation.specs.Choice.{◌and◌}
-use Rattle.lexeme.specs.Character.{byte}
-use Rattle.notation.proofs.Lists.{at_cons}
 use Rattle.notation.proofs.Booleans.{by_test, true-false, and_both}
-use Rattle.calendar.specs.Written.{admits, has_form}
+use Rattle.calendar.specs.Written.{admits, admitted, has_form}
 
 pub form_length : (form s : List ℕ) → has_form form s ≡ true → length form ≡ length s
 unfolding has_form
@@ -22,19 +21,17 @@ form_length (f ∷ form) (b ∷ s) e = ap suc (form_length form s (and_both (adm
 pub form_lengths : (form s : List ℕ) → (length form ≡ length s → ⊥) → has_form form s ≡ false
 form_lengths form s h = by_test (has_form form s) (λ t. absurd (h (form_length form s t))) λ t. t
 
--- one step along both: where the byte is admitted, where it is not, and behind the last
-module _ (form s : List ℕ) (i : ℕ) (h : i < length form) (l : i < length s) where
-  pub form_next : admits (byte form i) (byte s i) ≡ true → has_form (drop (i + 1) form) (drop (i + 1) s) ≡ has_form (drop i form) (drop i s)
-  unfolding has_form
-  form_next e = sym (rw (at_cons form i h, at_cons s i l, has_form, e))
-
-  pub form_other : admits (byte form i) (byte s i) ≡ false → false ≡ has_form (drop i form) (drop i s)
-  unfolding has_form
-  form_other e = sym (rw (at_cons form i h, at_cons s i l, has_form, e))
-
-pub form_end : (form s : List ℕ) (i : ℕ) → length form ≤ i → length s ≤ i → true ≡ has_form (drop i form) (drop i s)
+-- byte beside byte
+pub form-zip : (form s : List ℕ) → length form ≡ length s → list_all admitted (zip form s) ≡ has_form form s
 unfolding has_form
-form_end form s i h l = rw (drop_of_length-le form h, drop_of_length-le s l)
+form-zip [] [] e = refl
+form-zip [] (b ∷ s) e = absurd (omega arith)
+form-zip (f ∷ form) [] e = absurd (omega arith)
+form-zip (f ∷ form) (b ∷ s) e = ap (λ t. admits f b && t) (form-zip form s (omega arith)) ∙ both (admits f b) (has_form form s)
+  where
+    both : (t u : Bool) → (t && u) ≡ (t and u)
+    both true u = refl
+    both false u = refl
 
 -- a part
 form_drop : (k : ℕ) (form s : List ℕ) → has_form form s ≡ true → has_form (drop k form) (drop k s) ≡ true

@@ -1,10 +1,8 @@
 -- Dates, computed.
-use Rattle.std.specs.Prelude.{Bool, true, false, List, [], ◌∷◌, refl, ℕ}
+use Rattle.std.specs.Prelude.{Bool, true, false, List, [], ◌∷◌, refl, ℕ, Option, None, Some}
 use Prim.Native.String.{String}
 use Rattle.notation.specs.Ascii.{bytes}
 use Rattle.notation.specs.Case.{Case, Answers}
-use Rattle.notation.specs.Maybe.{Maybe}
-use Rattle.notation.specs.Maybe.Maybe.{none, some}
 use Rattle.text.specs.Text.{text_of}
 use Rattle.decimal.specs.Cases.{deciding}
 use Rattle.calendar.specs.declared.Date.{Date}
@@ -86,12 +84,12 @@ abbrev date : ℕ → ℕ → ℕ → Date
 date year month day = record { year = year; month = month; day = day }
 
 -- which date a text is
-abbrev read : List (Case String (Maybe Date))
+abbrev read : List (Case String (Option Date))
 read =
-    ("a date", "2024-02-29", some (date 2024 2 29)) ∷
-    ("digits that are 0", "0009-01-01", some (date 9 1 1)) ∷
-    ("no real date", "2024-02-30", none) ∷
-    ("of no form", "2024-2-29", none) ∷
+    ("a date", "2024-02-29", Some (date 2024 2 29)) ∷
+    ("digits that are 0", "0009-01-01", Some (date 9 1 1)) ∷
+    ("no real date", "2024-02-30", None) ∷
+    ("of no form", "2024-2-29", None) ∷
     []
 
 read-answered : Answers (λ s. date_of (bytes s)) read

@@ -7,7 +7,7 @@ ghost use Rattle.calendar.specs.Calendar.{leap, month_days, real_date, days_befo
 pub mod written;
 
 // A year, a month and a day, whether there is such a day or not.
-#[derive(Clone, Copy)]
+#[derive(Clone, Copy, Debug, PartialEq, Eq, PartialOrd, Ord)]
 pub struct Date {
     pub year: u16,
     pub month: u8,
@@ -20,9 +20,10 @@ pub fn is_leap(year: u16) -> bool
     ensures { result ≡ leap year }
 {
     if year % 100 == 0 {
-        return year % 400 == 0;
+        year % 400 == 0
+    } else {
+        year % 4 == 0
     }
-    year % 4 == 0
 }
 
 // The days of the months by their numbers, in a year that is no leap year. There is no month 0.
@@ -32,17 +33,11 @@ const MONTHS: [u8; 13] = [0, 31, 28, 31, 30, 31, 30, 31, 31, 30, 31, 30, 31];
 pub fn month_days(year: u16, month: u8) -> u8
     ensures { result ≡ month_days year month }
 {
-    if 12 < month {
-        return 0;
+    if month == 2 && is_leap(year) {
+        29
+    } else {
+        MONTHS.get(usize::from(month)).copied().unwrap_or(0)
     }
-    let days = MONTHS[month as usize];
-    if month != 2 {
-        return days;
-    }
-    if is_leap(year) {
-        return 29;
-    }
-    days
 }
 
 impl Date {
@@ -51,13 +46,7 @@ impl Date {
     pub fn is_real(self) -> bool
         ensures { result ≡ real_date self.year self.month self.day }
     {
-        if 9_999 < self.year {
-            return false;
-        }
-        if self.day < 1 {
-            return false;
-        }
-        self.day <= month_days(self.year, self.month)
+        self.year <= 9_999 && (1..=month_days(self.year, self.month)).contains(&self.day)
     }
 }
 
@@ -65,6 +54,6 @@ impl Date {
 pub fn days_before(year: u16) -> u32
     ensures { result ≡ days_before year }
 {
-    let y = year as u32;
-    365 * y + (y + 3) / 4 + (y + 399) / 400 - (y + 99) / 100
+    let y = u32::from(year);
+    365 * y + y.div_ceil(4) + y.div_ceil(400) - y.div_ceil(100)
 }

@@ -1,12 +1,12 @@
 // Dates as texts spell them.
 ghost use Rattle.std.specs.Prelude.{true, ◌≡◌, take, drop};
+ghost use Rattle.std.specs.List.{list_all, zip};
 ghost use Rattle.notation.specs.Ascii.{bytes};
 ghost use Rattle.text.specs.Text.{text_of};
 ghost use Rattle.decimal.specs.Decimals.{value_of};
-ghost use Rattle.calendar.specs.Written.{admits, has_form, date_form, date_in, is_date};
+ghost use Rattle.calendar.specs.Written.{admits, admitted, has_form, date_form, date_in, is_date};
 
 use crate::Date;
-use lexeme::ascii::is_digit;
 use text::walk::{cursor_at, read_front};
 
 // A form's byte admits a byte: 0 any digit, every other one itself.
@@ -14,26 +14,24 @@ fn is_admitted(form: u8, b: u8) -> bool
     ensures { result ≡ admits form b }
 {
     if form == b'0' {
-        return is_digit(b);
+        b.is_ascii_digit()
+    } else {
+        b == form
     }
-    b == form
+}
+
+// Every byte that stands beside one of the form is admitted by it.
+fn all_admitted(form: &[u8], s: &[u8]) -> bool
+    ensures { result ≡ list_all admitted (zip form.now s.now) }
+{
+    form.iter().zip(s).all(|(f, b)| is_admitted(*f, *b))
 }
 
 // The bytes are of a form.
 fn has_form(form: &[u8], s: &[u8]) -> bool
     ensures { result ≡ has_form form.now s.now }
 {
-    if form.len() != s.len() {
-        return false;
-    }
-    let mut i: usize = 0;
-    while i < s.len() {
-        if !is_admitted(form[i], s[i]) {
-            return false;
-        }
-        i += 1;
-    }
-    true
+    form.len() == s.len() && all_admitted(form, s)
 }
 
 // The number that two digits at a place spell.
@@ -50,7 +48,7 @@ fn date_in(s: &[u8]) -> Date
     ensures { result ≡ date_in s.now }
 {
     Date {
-        year: two_digits(s, 0) as u16 * 100 + two_digits(s, 2) as u16,
+        year: u16::from(two_digits(s, 0)) * 100 + u16::from(two_digits(s, 2)),
         month: two_digits(s, 5),
         day: two_digits(s, 8),
     }
@@ -62,12 +60,6 @@ pub fn is_date(spelled: &[u8]) -> bool
     ensures { result ≡ is_date (text_of spelled.now) }
 {
     let front = read_front(spelled, cursor_at(0), 11);
-    let bytes = front.bytes;
-    let count = front.count;
-    let s = &bytes[..count];
-    if !has_form(b"0000-00-00", s) {
-        return false;
-    }
-    let date = date_in(s);
-    date.is_real()
+    let s = &front.bytes[..front.count];
+    has_form(b"0000-00-00", s) && date_in(s).is_real()
 }

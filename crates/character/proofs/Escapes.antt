@@ -1,30 +1,27 @@
 -- The ways through the definitions of escapes, one equation for each.
-use mathlib.Core.List.{List, [], ◌∷◌}
+use mathlib.Core.List.{List}
 use mathlib.Core.Path.{◌≡◌, sym, ap, ◌∙◌}
-use Prim.Native.Nat.{ℕ, ◌+◌}
+use Prim.Native.Nat.{ℕ}
 use lib.ListN.{drop}
-use borrow.Author.Tests.{eq-eqb, ne_eqb}
-use Rattle.word.specs.Kinds.{not_json}
+use borrow.Author.Tests.{eq-eqb, ne_eqb, eqb-false}
 use Rattle.lexeme.specs.declared.Next.{Next}
-use Rattle.lexeme.specs.declared.Next.TheVariants.{Fault}
-use Rattle.lexeme.specs.declared.Quad.{Quad}
-use Rattle.lexeme.specs.declared.Quad.TheVariants.{Value, Short}
 use Rattle.lexeme.specs.Character.Surrogates.{paired}
 use Rattle.lexeme.specs.Character.{byte, char1, quad, unit, unicode, short, escape}
-use Rattle.character.proofs.Ranges.{NoneOf}
+use Rattle.std.specs.Prelude.{Result, Ok, Some, None, eqb}
+use Rattle.notation.proofs.Booleans.{by_test}
+use Rattle.character.specs.inner.Short as in-two
 
-module _ (l : List ℕ) {m : List ℕ} {q : Quad} (e : m ≡ drop 2 l) (f : q ≡ quad m) where
-  pub unicode-short : {n : ℕ} → q ≡ Short n → Fault not_json (n + 2) ≡ unicode paired l (quad (drop 2 l))
-  unfolding unicode
-  unicode-short g = rw (sym (f ∙ ap quad e) ∙ g, unicode)
-
-  pub unicode-value : {v : ℕ} {n : Next} → q ≡ Value v → n ≡ unit paired l v → n ≡ unicode paired l (quad (drop 2 l))
+module _ (l : List ℕ) {m : List ℕ} {q : Result ℕ ℕ} (e : m ≡ drop 2 l) (f : q ≡ quad m) where
+  pub unicode-value : {v : ℕ} {n : Next} → q ≡ Ok v → n ≡ unit paired l v → n ≡ unicode paired l (quad (drop 2 l))
   unfolding unicode
   unicode-value g h = h ∙ rw (sym (f ∙ ap quad e) ∙ g, unicode)
 
-pub short_none : (b : ℕ) → NoneOf (0x74 ∷ 0x72 ∷ 0x6e ∷ 0x66 ∷ 0x62 ∷ 0x2f ∷ 0x5c ∷ 0x22 ∷ []) b → 0 ≡ short b
-unfolding short
-short_none b ((((((((z, n1), n2), n3), n4), n5), n6), n7), n8) = simp (ne_eqb, short)
+pub short_is : (b : ℕ) {x : ℕ} → Some x ≡ in-two.short b → (x ≡ short b) × (x ≡ 0 → ⊥)
+short_is b {x} e =
+    by_test (eqb (short b) 0) (λ h.
+    let w : Some x ≡ None = rw h at e in absurd cc) (λ h.
+    let w : Some x ≡ Some (short b) = rw h at e in
+    let i : x ≡ short b = cc in (i, λ z. eqb-false (short b) 0 h (sym i ∙ z)))
 
 module _ (l : List ℕ) {b : ℕ} (e : b ≡ byte l 1) where
   pub escape_unicode : {n : Next} → b ≡ 0x75 → n ≡ unicode paired l (quad (drop 2 l)) → n ≡ escape paired l
@@ -34,10 +31,6 @@ module _ (l : List ℕ) {b : ℕ} (e : b ≡ byte l 1) where
   module _ (n : b ≡ 0x75 → ⊥) {x : ℕ} (f : x ≡ short b) where
     means : x ≡ short (byte l 1)
     means = f ∙ ap short e
-
-    pub escape-none : x ≡ 0 → Fault not_json 1 ≡ escape paired l
-    unfolding escape
-    escape-none h = rw (ne_eqb (byte l 1) 0x75 (λ z. n (e ∙ z)), eq-eqb (short (byte l 1)) 0 (sym means ∙ h), escape)
 
     pub escape-short : (x ≡ 0 → ⊥) → char1 x 1 ≡ escape paired l
     unfolding escape

@@ -10,14 +10,11 @@ use Rattle.notation.proofs.Booleans.{by_test}
 use Rattle.lexeme.specs.declared.Char.{Char}
 use Rattle.lexeme.specs.declared.Next.{Next}
 use Rattle.lexeme.specs.declared.Next.TheVariants.{Quote, Character, Fault}
-use Rattle.lexeme.specs.declared.Quad.{Quad}
-use Rattle.lexeme.specs.declared.Quad.TheVariants.{Value, Short}
-use Rattle.lexeme.specs.declared.Trail.{Trail}
-use Rattle.lexeme.specs.declared.Trail.TheVariants.{Low, Other}
 use Rattle.lexeme.specs.Character.{Surrogates, byte, within, quad, low_of, trail, combined, encoded, alone, high, next}
 use Rattle.lexeme.specs.Character.Surrogates.{paired, lone}
 use Rattle.lexeme.proofs.Local.{Near, Way, near, far, next_way, encoded-char, QuadNear, quad-near}
 use Rattle.lexeme.proofs.Rests.{some_left}
+use Rattle.std.specs.Prelude.{Result, Option, Ok, Err, Some, None}
 
 abbrev Inside : List ℕ → Next → Type 0
 Inside l Quote = Unit {0}
@@ -30,14 +27,14 @@ near-inside f l (Character x) n = n.0
 near-inside f l (Fault k m) n = n.0
 
 -- after a high surrogate escape
-abbrev TrailInside : List ℕ → Trail → Type 0
-TrailInside l (Low w) = 6 ≤ length l
-TrailInside l Other = Unit {0}
+abbrev TrailInside : List ℕ → Option ℕ → Type 0
+TrailInside l (Some w) = 6 ≤ length l
+TrailInside l None = Unit {0}
 
-low-inside : (l : List ℕ) (q : Quad) → QuadNear (drop 2 l) q → TrailInside l (low_of q)
+low-inside : (l : List ℕ) (q : Result ℕ ℕ) → QuadNear (drop 2 l) q → TrailInside l (low_of q)
 unfolding low_of
-low-inside l (Short n) i = tt
-low-inside l (Value w) i =
+low-inside l (Err n) i = tt
+low-inside l (Ok w) i =
     let h : 4 ≤ length l - 2 = simp length-drop at i.0 in
     by_test (within 0xdc00 0xdfff w) (λ t. rw (t, low_of) (omega arith)) (λ t. rw (t, low_of) tt)
 
@@ -53,12 +50,12 @@ module _ (l : List ℕ) where
   encoded-inside : (v more : ℕ) → more < length l → Inside l (encoded v more)
   encoded-inside v more h = let c = encoded-char v more in rw c.is (omega (arith, c.takes))
 
-  high-inside : (ρ : Surrogates) (v : ℕ) (t : Trail) → 5 < length l → TrailInside (drop 6 l) t → Inside l (high ρ v t)
+  high-inside : (ρ : Surrogates) (v : ℕ) (t : Option ℕ) → 5 < length l → TrailInside (drop 6 l) t → Inside l (high ρ v t)
   unfolding high alone
-  high-inside paired v Other h i = omega arith
-  high-inside lone v Other h i = encoded-inside v 5 h
-  high-inside paired v (Low w) h i = let k : 6 ≤ length l - 6 = simp length-drop at i in encoded-inside (combined v w) 11 (omega arith)
-  high-inside lone v (Low w) h i = let k : 6 ≤ length l - 6 = simp length-drop at i in encoded-inside (combined v w) 11 (omega arith)
+  high-inside paired v None h i = omega arith
+  high-inside lone v None h i = encoded-inside v 5 h
+  high-inside paired v (Some w) h i = let k : 6 ≤ length l - 6 = simp length-drop at i in encoded-inside (combined v w) 11 (omega arith)
+  high-inside lone v (Some w) h i = let k : 6 ≤ length l - 6 = simp length-drop at i in encoded-inside (combined v w) 11 (omega arith)
 
 next-inside : (ρ : Surrogates) (l : List ℕ) → 0 < length l → Inside l (next ρ l)
 next-inside ρ l h = go (next_way ρ l h)

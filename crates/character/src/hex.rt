@@ -1,77 +1,38 @@
 // Hexadecimal digits.
-ghost use Rattle.std.specs.Prelude.{◌≡◌, ◌<◌, drop};
-ghost use Rattle.lexeme.specs.declared.Quad.TheVariants.{Value};
+ghost use Rattle.std.specs.Prelude.{◌≡◌, drop};
 ghost use Rattle.lexeme.specs.Character as spec;
+ghost use Rattle.character.specs.inner.Digit.{digit, digit_at};
 
-use super::range::within;
-use lexeme::Quad;
 use lexeme::front::byte_at;
 
-// A hexadecimal digit's value, or 16.
-pub fn hex_value(b: u32) -> u32
-    ensures { result ≡ spec.hex_value b }
+// A hexadecimal digit's value.
+#[tactic(auto, unfolding(lexeme::specs::Character::hexadecimal, lexeme::specs::Character::hex_value, lexeme::specs::Character::within))]
+pub fn hex_value(b: u8) -> Option<u32>
+    ensures { result ≡ digit b }
 {
-    if within(0x30, 0x39, b) {
-        return b - 0x30;
+    match b {
+        b'0'..=b'9' => Some(u32::from(b - b'0')),
+        b'A'..=b'F' => Some(u32::from(b - b'A') + 10),
+        b'a'..=b'f' => Some(u32::from(b - b'a') + 10),
+        _ => None,
     }
-    if within(0x41, 0x46, b) {
-        return b - 0x37;
-    }
-    if within(0x61, 0x66, b) {
-        return b - 0x57;
-    }
-    return 16;
 }
 
-// The value of the digit k after `at`, or 16.
-fn hex_at(s: &[u8], at: usize, k: usize) -> u32
-    ensures { result ≡ spec.hex_value (spec.byte (drop at s.now) k) }
+// The value of the digit k after `at`; where it is none, the error is k.
+fn hex_at(s: &[u8], at: usize, k: usize) -> Result<u32, usize>
+    ensures { result ≡ digit_at (drop at s.now) k }
 {
-    hex_value(byte_at(s, at, k) as u32)
+    hex_value(byte_at(s, at, k)).ok_or(k)
 }
 
 // The four digits from `at` on.
-pub fn quad(s: &[u8], at: usize) -> Quad
+#[tactic(auto, unfolding(lexeme::specs::Character::quad, lexeme::specs::Character::hexadecimal))]
+pub fn quad(s: &[u8], at: usize) -> Result<u32, usize>
     ensures { result ≡ spec.quad (drop at s.now) }
 {
-    let a = hex_at(s, at, 0);
-    if 16 <= a {
-        return Quad::Short(0);
-    }
-    let b = hex_at(s, at, 1);
-    if 16 <= b {
-        return Quad::Short(1);
-    }
-    let c = hex_at(s, at, 2);
-    if 16 <= c {
-        return Quad::Short(2);
-    }
-    let d = hex_at(s, at, 3);
-    if 16 <= d {
-        return Quad::Short(3);
-    }
-    return Quad::Value(a * 4096 + b * 256 + c * 16 + d);
-}
-
-// The value of the four digits from `at` on, or 0x10000 where one is none.
-pub fn quad_value(s: &[u8], at: usize) -> u32
-    ensures { result < 0x10000 → spec.quad (drop at s.now) ≡ Value result }
-{
-    let a = hex_at(s, at, 0);
-    if 16 <= a {
-        return 0x10000;
-    }
-    let b = hex_at(s, at, 1);
-    if 16 <= b {
-        return 0x10000;
-    }
-    let c = hex_at(s, at, 2);
-    if 16 <= c {
-        return 0x10000;
-    }
-    let d = hex_at(s, at, 3);
-    if 16 <= d {
-        return 0x10000;
-    }
-    return a * 4096 + b * 256 + c * 16 + d;
+    let a = hex_at(s, at, 0)?;
+    let b = hex_at(s, at, 1)?;
+    let c = hex_at(s, at, 2)?;
+    let d = hex_at(s, at, 3)?;
+    Ok(a * 4096 + b * 256 + c * 16 + d)
 }

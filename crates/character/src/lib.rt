@@ -26,6 +26,7 @@ use word::kind::Kind;
 
 // What stands at `at`, inside a string, where the first byte has the class.
 // Shut out: an overlong form, a surrogate or a number past 10FFFF let through as UTF-8; a control character taken for a plain one.
+#[tactic(auto, unfolding(lexeme::specs::inner::Lead::next_by, lexeme::specs::inner::Class::lead_of, lexeme::specs::inner::Class::least_of, lexeme::specs::inner::Class::most_of), using(lexeme::specs::inner::Class::from80, lexeme::specs::inner::Class::from90, lexeme::specs::inner::Class::from_a0))]
 pub fn next_by(table: &[u8; 256], s: &[u8], at: usize, class: u8) -> Next
     requires { Classifies table.now }
     ensures { result ≡ next_by paired (drop at s.now) (lead_of class) }
@@ -41,36 +42,16 @@ pub fn next_by(table: &[u8; 256], s: &[u8], at: usize, class: u8) -> Next
         });
     }
     match class {
-        Class::QUOTE => {
-            return Next::Quote;
-        }
-        Class::BACKSLASH => {
-            return escape(s, at);
-        }
-        Class::TWO => {
-            return utf2(table, s, at);
-        }
-        Class::THREE_E0 => {
-            return utf3(table, s, at, Class::TAIL_A0, Class::TAIL_A0);
-        }
-        Class::THREE => {
-            return utf3(table, s, at, Class::TAIL_80, Class::TAIL_A0);
-        }
-        Class::THREE_ED => {
-            return utf3(table, s, at, Class::TAIL_80, Class::TAIL_90);
-        }
-        Class::FOUR_F0 => {
-            return utf4(table, s, at, Class::TAIL_90, Class::TAIL_A0);
-        }
-        Class::FOUR => {
-            return utf4(table, s, at, Class::TAIL_80, Class::TAIL_A0);
-        }
-        Class::FOUR_F4 => {
-            return utf4(table, s, at, Class::TAIL_80, Class::TAIL_80);
-        }
-        _ => {
-            return Next::Fault(Kind::NOT_JSON, 0);
-        }
+        Class::QUOTE => Next::Quote,
+        Class::BACKSLASH => escape(s, at),
+        Class::TWO => utf2(table, s, at),
+        Class::THREE_E0 => utf3(table, s, at, Class::TAIL_A0, Class::TAIL_A0),
+        Class::THREE => utf3(table, s, at, Class::TAIL_80, Class::TAIL_A0),
+        Class::THREE_ED => utf3(table, s, at, Class::TAIL_80, Class::TAIL_90),
+        Class::FOUR_F0 => utf4(table, s, at, Class::TAIL_90, Class::TAIL_A0),
+        Class::FOUR => utf4(table, s, at, Class::TAIL_80, Class::TAIL_A0),
+        Class::FOUR_F4 => utf4(table, s, at, Class::TAIL_80, Class::TAIL_80),
+        _ => Next::Fault(Kind::NOT_JSON, 0),
     }
 }
 
@@ -83,8 +64,7 @@ pub fn next_char(s: &[u8], at: usize) -> Next
     if b == b'\\' {
         return escape(s, at);
     }
-    let n = wide_length(s, at, b);
-    if 0 < n {
+    if let Some(n) = wide_length(s, at, b) {
         return Next::Character(standing_at(s, at, n));
     }
     let table = class_table();

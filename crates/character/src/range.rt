@@ -7,13 +7,11 @@ use lexeme::class::class_by;
 use lexeme::front::byte_at;
 
 // Whether b lies between lo and hi.
+#[tactic(auto, unfolding(lexeme::specs::Character::within))]
 pub fn within(lo: u32, hi: u32, b: u32) -> bool
     ensures { result ≡ spec.within lo hi b }
 {
-    if lo <= b {
-        return b <= hi;
-    }
-    return false;
+    lo <= b && b <= hi
 }
 
 // Whether the byte at k places from `at` is one of the tail classes from lo to hi.
@@ -22,8 +20,5 @@ pub fn tail_within(table: &[u8; 256], s: &[u8], at: usize, k: usize, lo: u8, hi:
     ensures { result ≡ spec.within (least_of lo) (most_of hi) (spec.byte (drop at s.now) k) }
 {
     let class = class_by(table, byte_at(s, at, k));
-    if lo <= class {
-        return class <= hi;
-    }
-    return false;
+    lo <= class && class <= hi
 }

@@ -4,43 +4,35 @@ ghost use Rattle.lexeme.specs.Character as spec;
 ghost use Rattle.lexeme.specs.Character.{paired};
 
 use super::hex::quad;
-use super::range::within;
 use super::utf8::encoded;
+use lexeme::Next;
 use lexeme::front::{ahead, byte_at};
-use lexeme::{Next, Quad, Trail};
 use word::kind::Kind;
 
-// Four digits as the value of a low surrogate, or anything else.
-fn low_of(q: Quad) -> Trail
+// Four digits as the value of a low surrogate, if they are that.
+#[tactic(auto, unfolding(lexeme::specs::Character::low_of, lexeme::specs::Character::within))]
+fn low_of(q: Result<u32, usize>) -> Option<u32>
     ensures { result ≡ spec.low_of q }
 {
     match q {
-        Quad::Short(_) => {
-            return Trail::Other;
-        }
-        Quad::Value(w) => {
-            if within(0xdc00, 0xdfff, w) {
-                return Trail::Low(w);
-            }
-            return Trail::Other;
-        }
+        Ok(w @ 0xdc00..=0xdfff) => Some(w),
+        _ => None,
     }
 }
 
-// What stands where a high surrogate escape wants a low one.
-pub fn trail(s: &[u8], at: usize) -> Trail
+// The low surrogate that stands where a high surrogate escape wants one.
+#[tactic(auto, unfolding(lexeme::specs::Character::trail))]
+pub fn trail(s: &[u8], at: usize) -> Option<u32>
     ensures { result ≡ spec.trail (drop at s.now) }
 {
-    if byte_at(s, at, 0) != 0x5c {
-        return Trail::Other;
+    if byte_at(s, at, 0) != b'\\' || byte_at(s, at, 1) != b'u' {
+        return None;
     }
-    if byte_at(s, at, 1) != 0x75 {
-        return Trail::Other;
-    }
-    return low_of(quad(s, ahead(s, at, 2)));
+    low_of(quad(s, ahead(s, at, 2)))
 }
 
 // The code point of a high and a low surrogate.
+#[tactic(auto, unfolding(lexeme::specs::Character::combined))]
 fn combined(v: u32, w: u32) -> u32
     ensures { result ≡ spec.combined v w }
 {
@@ -48,28 +40,24 @@ fn combined(v: u32, w: u32) -> u32
 }
 
 // A high surrogate escape of the value v, by what follows it.
-fn high(v: u32, t: Trail) -> Next
+#[tactic(auto, unfolding(lexeme::specs::Character::high, lexeme::specs::Character::alone))]
+fn high(v: u32, t: Option<u32>) -> Next
     ensures { result ≡ spec.high paired v t }
 {
     match t {
-        Trail::Other => {
-            return Next::Fault(Kind::UNPAIRED, 0);
-        }
-        Trail::Low(w) => {
-            return encoded(combined(v, w), 11);
-        }
+        None => Next::Fault(Kind::UNPAIRED, 0),
+        Some(w) => encoded(combined(v, w), 11),
     }
 }
 
 // The escape \u of the value v, its backslash at `at`.
+#[tactic(auto, unfolding(lexeme::specs::Character::unit, lexeme::specs::Character::alone, lexeme::specs::Character::within))]
 pub fn unit(s: &[u8], at: usize, v: u32) -> Next
     ensures { result ≡ spec.unit paired (drop at s.now) v }
 {
-    if within(0xdc00, 0xdfff, v) {
-        return Next::Fault(Kind::UNPAIRED, 0);
+    match v {
+        0xdc00..=0xdfff => Next::Fault(Kind::UNPAIRED, 0),
+        0xd800..=0xdbff => high(v, trail(s, ahead(s, at, 6))),
+        _ => encoded(v, 5),
     }
-    if within(0xd800, 0xdbff, v) {
-        return high(v, trail(s, ahead(s, at, 6)));
-    }
-    return encoded(v, 5);
 }

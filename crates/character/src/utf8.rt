@@ -10,6 +10,7 @@ use lexeme::{Char, Next};
 use word::kind::Kind;
 
 // UTF-8 of two, three and four bytes, by the classes of those after the first; some first bytes narrow the second to the classes from lo to hi.
+#[tactic(auto, unfolding(lexeme::specs::Character::utf2, lexeme::specs::inner::Class::least_of, lexeme::specs::inner::Class::most_of), using(lexeme::specs::inner::Class::from80, lexeme::specs::inner::Class::from90, lexeme::specs::inner::Class::from_a0))]
 pub fn utf2(table: &[u8; 256], s: &[u8], at: usize) -> Next
     requires { Classifies table.now }
     ensures { result ≡ spec.utf2 (drop at s.now) }
@@ -24,9 +25,10 @@ pub fn utf2(table: &[u8; 256], s: &[u8], at: usize) -> Next
             more: 1,
         });
     }
-    return Next::Fault(Kind::NOT_JSON, 1);
+    Next::Fault(Kind::NOT_JSON, 1)
 }
 
+#[tactic(auto, unfolding(lexeme::specs::Character::utf3, lexeme::specs::inner::Class::least_of, lexeme::specs::inner::Class::most_of), using(lexeme::specs::inner::Class::from80, lexeme::specs::inner::Class::from90, lexeme::specs::inner::Class::from_a0))]
 pub fn utf3(table: &[u8; 256], s: &[u8], at: usize, lo: u8, hi: u8) -> Next
     requires { Classifies table.now × Tails lo hi }
     ensures { result ≡ spec.utf3 (least_of lo) (most_of hi) (drop at s.now) }
@@ -37,16 +39,17 @@ pub fn utf3(table: &[u8; 256], s: &[u8], at: usize, lo: u8, hi: u8) -> Next
     if !tail_within(table, s, at, 2, Class::TAIL_80, Class::TAIL_A0) {
         return Next::Fault(Kind::NOT_JSON, 2);
     }
-    return Next::Character(Char {
+    Next::Character(Char {
         b0: byte_at(s, at, 0),
         b1: byte_at(s, at, 1),
         b2: byte_at(s, at, 2),
         b3: 0,
         len: 3,
         more: 2,
-    });
+    })
 }
 
+#[tactic(auto, unfolding(lexeme::specs::Character::utf4, lexeme::specs::inner::Class::least_of, lexeme::specs::inner::Class::most_of), using(lexeme::specs::inner::Class::from80, lexeme::specs::inner::Class::from90, lexeme::specs::inner::Class::from_a0))]
 pub fn utf4(table: &[u8; 256], s: &[u8], at: usize, lo: u8, hi: u8) -> Next
     requires { Classifies table.now × Tails lo hi }
     ensures { result ≡ spec.utf4 (least_of lo) (most_of hi) (drop at s.now) }
@@ -60,17 +63,18 @@ pub fn utf4(table: &[u8; 256], s: &[u8], at: usize, lo: u8, hi: u8) -> Next
     if !tail_within(table, s, at, 3, Class::TAIL_80, Class::TAIL_A0) {
         return Next::Fault(Kind::NOT_JSON, 3);
     }
-    return Next::Character(Char {
+    Next::Character(Char {
         b0: byte_at(s, at, 0),
         b1: byte_at(s, at, 1),
         b2: byte_at(s, at, 2),
         b3: byte_at(s, at, 3),
         len: 4,
         more: 3,
-    });
+    })
 }
 
 // The UTF-8 of the code point v.
+#[tactic(auto, unfolding(lexeme::specs::Character::encoded))]
 pub fn encoded(v: u32, more: usize) -> Next
     ensures { result ≡ spec.encoded v more }
 {
@@ -107,12 +111,12 @@ pub fn encoded(v: u32, more: usize) -> Next
         });
     }
     let second = (0x80 + v / 4096 % 64) as u8;
-    return Next::Character(Char {
+    Next::Character(Char {
         b0: (0xf0 + v / 262144 % 8) as u8,
         b1: second,
         b2: middle,
         b3: last,
         len: 4,
         more,
-    });
+    })
 }

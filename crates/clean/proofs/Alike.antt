@@ -21,10 +21,11 @@ use Rattle.scalar.specs.Scalars.{unless}
 use Rattle.rings.specs.Rings.{Found, count}
 use Rattle.fault.specs.declared.Place.{Place}
 use Rattle.judge.specs.Faults.{Judge, item_place, absence, each_item, array_faults, object_faults, slot_faults, faults_by, row_faults_by, file_faults_by}
-use Rattle.document.specs.Document.{some, once_only, field, along}
+use Rattle.document.specs.Document.{once_only, field, along}
 use Rattle.document.proofs.Rows as fields
 use Rattle.document.proofs.Rows.{Lists, over, at_row}
 use Rattle.clean.specs.Clean.{tree_of, repeats, clean_by, syntax_outcome}
+use Rattle.std.specs.Prelude.{Some}
 
 -- no coordinates anywhere in it
 abbrev plain_array : Numbering → Bool → Bool
@@ -102,7 +103,7 @@ module _ (f g : PickedItems → List Found) where
       slot_same j need n τ rows (unless_blank (find n ms)) (pick_rows rows ms) (λ z i. plain-same τ e (pick τ z)) (rows_same o ms k)
 
   object-same : {h : ℕ} {name : List ℕ} {σ : Shape} {rows : Rows} → Only h name σ rows → (x : Json)
-      → ((z : Json) → field h (pick (shape.object rows) x) ≡ some (pick σ z) → Same σ (pick σ z)) → Same (shape.object rows) (pick (shape.object rows) x)
+      → ((z : Json) → field h (pick (shape.object rows) x) ≡ Some (pick σ z) → Same σ (pick σ z)) → Same (shape.object rows) (pick (shape.object rows) x)
   unfolding faults_by pick field
   object-same {σ = σ} o (tree.object ms) k p φ =
       rows_same o ms (λ z e. k z (ap once_only (at_row (lists o) ms) ∙ ap (λ (s : Slot Json). once_only (over (pick σ) s)) e)) p
@@ -112,7 +113,7 @@ module _ (f g : PickedItems → List Found) where
   object-same o (tree.string s) k p φ = refl
   object-same o (tree.array is) k p φ = refl
 
-  pub way_same : {σ τ : Shape} {fs : List ℕ} → Route σ fs τ → (x : Json) → ((z : Json) → along fs (pick σ x) ≡ some (pick τ z) → Same τ (pick τ z)) → Same σ (pick σ x)
+  pub way_same : {σ τ : Shape} {fs : List ℕ} → Route σ fs τ → (x : Json) → ((z : Json) → along fs (pick σ x) ≡ Some (pick τ z) → Same τ (pick τ z)) → Same σ (pick σ x)
   unfolding along
   way_same arrived x k = k x refl
   way_same (into o w) x k = object-same o x (λ z e. way_same w z (λ y h. k y (rw (along, e) h)))

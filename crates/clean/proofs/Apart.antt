@@ -16,18 +16,19 @@ use Rattle.schema.specs.Records.{has_ids}
 use Rattle.schema.specs.Pick.{Picked, pick}
 use Rattle.fault.specs.declared.Fault.{Fault}
 use Rattle.fault.specs.Fault.{fault}
-use Rattle.document.specs.Document.{Maybe, none, some, text}
+use Rattle.document.specs.Document.{text}
 use Rattle.ids.specs.inner.Ids.{id_field}
 use Rattle.ids.proofs.Picked.{id_of_lem}
 use Rattle.clean.specs.Clean.{tree_of, records_of, used_before, repeated_id, repeats_from}
 use Rattle.clean.proofs.Faultless.{none_left, none_right}
 use Rattle.clean.proofs.Repeated.{repeats-some}
 use Rattle.clean.proofs.Cleans.{Sound}
+use Rattle.std.specs.Prelude.{Option, None, Some}
 
 -- no two of these records have one text in a field
 pub data Apart (f : ℕ) : List Picked → Type 0 where
   no_record : Apart f []
-  one_record : {z : Picked} {l : List Picked} → ((x : Picked) (t : List ℕ) → Memᴰ x l → text f x ≡ some t → text f z ≡ some t → ⊥) → Apart f l → Apart f (z ∷ l)
+  one_record : {z : Picked} {l : List Picked} → ((x : Picked) (t : List ℕ) → Memᴰ x l → text f x ≡ Some t → text f z ≡ Some t → ⊥) → Apart f l → Apart f (z ∷ l)
 
 module _ (f : ℕ) (t : List ℕ) where
   -- an id that is not used before is that of no record before
@@ -35,21 +36,21 @@ module _ (f : ℕ) (t : List ℕ) where
   unfolding used_before
   unused_rest z ps = go (text f z)
     where
-      go : (o : Maybe (List ℕ)) → ◌≡◌ {A = List ℕ} (elim o [ none ↦ used_before f ps t | some u ↦ same u t ⇒ id_twice ∷ [] else used_before f ps t ]) [] → used_before f ps t ≡ []
-      go none e = e
-      go (some u) e = by_test (same u t) (λ h. cons_nil (rw h at e)) (λ h. rw h at e)
+      go : (o : Option (List ℕ)) → ◌≡◌ {A = List ℕ} (elim o [ None ↦ used_before f ps t | Some u ↦ same u t ⇒ id_twice ∷ [] else used_before f ps t ]) [] → used_before f ps t ≡ []
+      go None e = e
+      go (Some u) e = by_test (same u t) (λ h. cons_nil (rw h at e)) (λ h. rw h at e)
 
-  unused : (y : Picked) → text f y ≡ some t → (ps : List Picked) → used_before f ps t ≡ [] → Memᴰ y ps → ⊥
+  unused : (y : Picked) → text f y ≡ Some t → (ps : List Picked) → used_before f ps t ≡ [] → Memᴰ y ps → ⊥
   unfolding used_before
   unused y h [] e i = Memᴰ.not-nil i
   unused y h (z ∷ ps) e i =
       let ih = unused y h ps (unused_rest z ps e) in
       ⊎_elim
-      (λ k. let is : text f z ≡ some t = ap (text f) (sym k) ∙ h in let u : used_before f (z ∷ ps) t ≡ id_twice ∷ [] = rw (used_before, is, same_refl t) in cons_nil (sym u ∙ e))
+      (λ k. let is : text f z ≡ Some t = ap (text f) (sym k) ∙ h in let u : used_before f (z ∷ ps) t ≡ id_twice ∷ [] = rw (used_before, is, same_refl t) in cons_nil (sym u ∙ e))
       ih (Memᴰ.cases_cons i)
 
   -- nor is that of a record that repeats none
-  unrepeated : (n : ℕ) (ps : List Picked) (x : Picked) → text f x ≡ some t → repeated_id f n ps x ≡ [] → used_before f ps t ≡ []
+  unrepeated : (n : ℕ) (ps : List Picked) (x : Picked) → text f x ≡ Some t → repeated_id f n ps x ≡ [] → used_before f ps t ≡ []
   unfolding repeated_id
   unrepeated n ps x h e = go (used_before f ps t) (rw (repeated_id, h) at e)
     where
@@ -57,7 +58,7 @@ module _ (f : ℕ) (t : List ℕ) where
       go [] i = refl
       go (k ∷ ks) i = cons_nil i
 
-  before-after : (n : ℕ) (ps l : List Picked) → repeats_from f n ps l ≡ [] → (x y : Picked) → text f x ≡ some t → text f y ≡ some t → Memᴰ y ps → Memᴰ x l → ⊥
+  before-after : (n : ℕ) (ps l : List Picked) → repeats_from f n ps l ≡ [] → (x y : Picked) → text f x ≡ Some t → text f y ≡ Some t → Memᴰ y ps → Memᴰ x l → ⊥
   unfolding repeats_from
   before-after n ps [] e x y h k i j = Memᴰ.not-nil j
   before-after n ps (z ∷ l) e x y h k i j =

@@ -24,10 +24,11 @@ use Rattle.rings.specs.Rings as rings
 use Rattle.fault.specs.declared.Place.{Place}
 use Rattle.judge.specs.Faults.{Judge, absence, item_place, by_numbering, each_item, coordinate_faults, slot_faults, faults_by, faults, row_faults_by, row_faults}
 use Rattle.fault.specs.Fault.{faulty}
-use Rattle.document.specs.Document.{none, some, once_only, field, field_items, along}
+use Rattle.document.specs.Document.{once_only, field, field_items, along}
 use Rattle.document.proofs.Rows as fields
 use Rattle.document.proofs.Rows.{Lists, over, at_row}
 use Rattle.document.proofs.Ways.{Requires, here, below, lists, Leads, arrived, into}
+use Rattle.std.specs.Prelude.{None, Some}
 
 -- where nothing is in two lists together, nothing is in either
 pub none_left : {A : Type 0} (xs ys : List A) → xs ++ ys ≡ [] → xs ≡ []
@@ -126,7 +127,7 @@ row-sound (fields.below {g = g} {need = need} {n = n} {τ = τ} {rows = rows} i 
 -- so its field is not there, or holds such a value
 module _ {f : ℕ} {name : List ℕ} {rows : Rows} (p : Place) (φ : ℕ) (x : Json) (e : faults (shape.object rows) p φ (pick (shape.object rows) x) ≡ []) where
   pub field-sound : {σ : Shape} → Lists f name σ rows
-      → (field f (pick (shape.object rows) x) ≡ none) ⊎ ((z : Json) × (field f (pick (shape.object rows) x) ≡ some (pick σ z)) × (faults σ p f (pick σ z) ≡ []))
+      → (field f (pick (shape.object rows) x) ≡ None) ⊎ ((z : Json) × (field f (pick (shape.object rows) x) ≡ Some (pick σ z)) × (faults σ p f (pick σ z) ≡ []))
   unfolding field pick
   field-sound {σ} l =
       let o = object-there p φ rows x e in
@@ -145,13 +146,13 @@ module _ {f : ℕ} {name : List ℕ} {rows : Rows} (p : Place) (φ : ℕ) (x : J
 
 -- the field of a required row
 pub field-there : {f : ℕ} {name : List ℕ} {σ : Shape} {rows : Rows} → Requires f name σ rows → (ms : Members) (z : Json) → unless_blank (find name ms) ≡ once z
-    → field f (pick (shape.object rows) (tree.object ms)) ≡ some (pick σ z)
+    → field f (pick (shape.object rows) (tree.object ms)) ≡ Some (pick σ z)
 unfolding field pick
 field-there {σ = σ} r ms z e = ap once_only (at_row (lists r) ms) ∙ ap (λ (o : Slot Json). once_only (over (pick σ) o)) e
 
 -- along rows that are required and lead on
 pub demands_there : {σ τ : Shape} {ks : List Key} → Leads σ ks τ → (p : Place) (φ : ℕ) (x : Json) → faults σ p φ (pick σ x) ≡ []
-    → (z : Json) × (ψ : ℕ) × (along (map (λ k. k.field) ks) (pick σ x) ≡ some (pick τ z)) × (faults τ p ψ (pick τ z) ≡ [])
+    → (z : Json) × (ψ : ℕ) × (along (map (λ k. k.field) ks) (pick σ x) ≡ Some (pick τ z)) × (faults τ p ψ (pick τ z) ≡ [])
 unfolding along
 demands_there arrived p φ x e = (x, φ, refl, e)
 demands_there (into {f = f} {rows = rows} r d) p φ x e =

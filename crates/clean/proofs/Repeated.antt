@@ -13,7 +13,6 @@ use Rattle.limits.specs.Ceilings as ceiling
 use Rattle.notation.specs.Choice.{◌⇒◌else◌}
 use Rattle.notation.proofs.Booleans.{by_test}
 use Rattle.word.specs.Kinds.{id_twice}
-use Rattle.json_text.specs.declared.Syntax.TheVariants.{Sound}
 use Rattle.json_text.specs.Tree.{Json}
 use Rattle.json_text.specs.Text.{syntax_of}
 use Rattle.text.specs.Text.{same}
@@ -29,7 +28,6 @@ use Rattle.schema.specs.Records.{record_shape, has_records, has_ids}
 use Rattle.schema.specs.Pick.{Picked, items, pick, list_of}
 use Rattle.schema.proofs.Recorded.{no_key, ids-recorded}
 use Rattle.fault.specs.declared.Fault.{Fault}
-use Rattle.fault.specs.declared.Least.TheVariants.{None}
 use Rattle.fault.specs.Fault.{fault, least, top}
 use Rattle.fault.proofs.Order.{later_record}
 use Rattle.fault.proofs.Leasts.{least-one, least-none, none-least, least-early}
@@ -37,7 +35,7 @@ use Rattle.rings.specs.Rings as rings
 use Rattle.fault.specs.declared.Place.{Place}
 use Rattle.judge.specs.Faults.{faults, file_faults_by, file_faults}
 use Rattle.document.specs.Document as document
-use Rattle.document.specs.Document.{Maybe, none, some, elements_of, along}
+use Rattle.document.specs.Document.{elements_of, along}
 use Rattle.document.specs.Spans.{records_span}
 use Rattle.document.specs.inner.Spans.{RecordsFrom}
 use Rattle.document.proofs.Ways.{records-of}
@@ -52,6 +50,7 @@ use Rattle.clean.specs.Clean.{records_of, used_before, repeated_id, repeats_from
 use Rattle.clean.specs.inner.Blamed.{blamed}
 use Rattle.clean.proofs.Faultless.{array-there, items-there, demands_there}
 use Rattle.clean.proofs.IdsOnce.{single_id}
+use Rattle.std.specs.Prelude.{None, Ok, Option, Some}
 
 -- Repeats, by picked records and by bytes.
 
@@ -66,11 +65,11 @@ named-each f file g h [] e = no_name
 named-each f file g h (m ∷ ms) e = one_name (e m (Memᴰ.head refl)) (named-each f file g h ms (λ k i. e k (Memᴰ.tail i)))
 
 module _ (f file : ℕ) where
-  used_one : (id : List ℕ) (y : Picked) (q : List ℕ) (ys : List Picked) (qs : List (List ℕ)) (o : Maybe (List ℕ)) → document.text f y ≡ o → id_of file q ≡ o
+  used_one : (id : List ℕ) (y : Picked) (q : List ℕ) (ys : List Picked) (qs : List (List ℕ)) (o : Option (List ℕ)) → document.text f y ≡ o → id_of file q ≡ o
       → used_before f ys id ≡ (any_has file id qs ⇒ id_twice ∷ [] else []) → used_before f (y ∷ ys) id ≡ (any_has file id (q ∷ qs) ⇒ id_twice ∷ [] else [])
   unfolding used_before any_has
-  used_one id y q ys qs none e k ih = rw (used_before, e, any_has, k) ih
-  used_one id y q ys qs (some t) e k ih =
+  used_one id y q ys qs None e k ih = rw (used_before, e, any_has, k) ih
+  used_one id y q ys qs (Some t) e k ih =
       by_test (same t id) (λ h. rw (used_before, e, any_has, k, h)) (λ h. rw (used_before, e, any_has, k, h) ih)
 
   used_any : {ys : List Picked} {qs : List (List ℕ)} → Named f file ys qs → (id : List ℕ) → used_before f ys id ≡ (any_has file id qs ⇒ id_twice ∷ [] else [])
@@ -78,11 +77,11 @@ module _ (f file : ℕ) where
   used_any no_name id = refl
   used_any (one_name {y} {q} {ys} {qs} e r) id = used_one id y q ys qs (id_of file q) (sym e) refl (used_any r id)
 
-  repeated-one : {ps : List Picked} {qs : List (List ℕ)} → Named f file ps qs → (n : ℕ) (y : Picked) (q : List ℕ) (o : Maybe (List ℕ)) → document.text f y ≡ o → id_of file q ≡ o
+  repeated-one : {ps : List Picked} {qs : List (List ℕ)} → Named f file ps qs → (n : ℕ) (y : Picked) (q : List ℕ) (o : Option (List ℕ)) → document.text f y ≡ o → id_of file q ≡ o
       → repeated_id f n ps y ≡ (repeated file qs q ⇒ fault n f 0 id_twice ∷ [] else [])
   unfolding repeated_id
-  repeated-one {qs = qs} a n y q none e k = rw (repeated_id, e, sym (repeated-none file qs q k))
-  repeated-one {qs = qs} a n y q (some t) e k =
+  repeated-one {qs = qs} a n y q None e k = rw (repeated_id, e, sym (repeated-none file qs q k))
+  repeated-one {qs = qs} a n y q (Some t) e k =
       let is = sym (repeated-some file qs q t k) in
       by_test (any_has file t qs) (λ h. rw (repeated_id, e, used_any a t, is, h)) (λ h. rw (repeated_id, e, used_any a t, is, h))
 
@@ -157,7 +156,7 @@ held n h s t e =
     let r = records-of n h in
     let d = demands_there r.leads top 0 t.tree e in
     let a = array-there top d.1 shape.records (λ b c. refl) ceiling.records (record_shape n) d.0 d.3 in
-    let way : along (map (λ k. k.field) r.way.keys) (pick (sheet_shape n) t.tree) ≡ some (items a.0) = d.2 ∙ ap some a.1 in
+    let way : along (map (λ k. k.field) r.way.keys) (pick (sheet_shape n) t.tree) ≡ Some (items a.0) = d.2 ∙ ap Some a.1 in
     record {
       list = list_of a.0;
       are = rw (records_of, r.is) (ap elements_of way);
@@ -182,7 +181,7 @@ unfolding clean.tree_of
 tree_is s t = rw (clean.tree_of, t.reads)
 
 -- A file that stages A and B pass.
-module _ (n : ℕ) (s : List ℕ) (reads : syntax_of s ≡ Sound) (faultless : least (file_faults (sheet_shape n) (clean.tree_of s)) ≡ None) where
+module _ (n : ℕ) (s : List ℕ) (reads : syntax_of s ≡ Ok tt) (faultless : least (file_faults (sheet_shape n) (clean.tree_of s)) ≡ None) where
   none_found : (t : Passed s) → file_faults (sheet_shape n) t.tree ≡ []
   none_found t = ap (file_faults (sheet_shape n)) (sym (tree_is s t)) ∙ least-none _ faultless
 

@@ -13,7 +13,6 @@ use Rattle.notation.proofs.Booleans.{by_test}
 use Rattle.word.specs.Word.{no_parts}
 use Rattle.lexeme.specs.Read.{then}
 use Rattle.lexeme.specs.Tokens.{blanks}
-use Rattle.json_text.specs.declared.Syntax.TheVariants as syntax
 use Rattle.json_text.specs.Tree as tree
 use Rattle.json_text.specs.Tree.{Json}
 use Rattle.json_text.specs.Text.{text, syntax_of}
@@ -29,11 +28,9 @@ use Rattle.schema.specs.Pick.{pick}
 use Rattle.schema.proofs.Recorded.{no_way}
 use Rattle.schema.specs.Tables.{table_at, sheet_shape, sheet_of}
 use Rattle.schema.proofs.SheetShapes.{sheet_shape_lem}
-use Rattle.fault.specs.declared.outcome.Outcome.{Outcome}
-use Rattle.fault.specs.declared.outcome.Outcome.TheVariants.{Unbroken, Broken}
-use Rattle.fault.specs.Outcome.{file_count}
+use Rattle.fault.specs.Outcome.{file_count, Outcome, unbroken}
 use Rattle.judge.specs.Faults.{faults}
-use Rattle.document.specs.Document.{Maybe, none, some, given}
+use Rattle.document.specs.Document.{given}
 use Rattle.document.specs.declared.Span.{Span}
 use Rattle.document.specs.Spans.{nth_in, record_span}
 use Rattle.document.specs.inner.Spans.{Listed}
@@ -50,10 +47,11 @@ use Rattle.clean.proofs.Faultless.{object-there}
 use Rattle.clean.proofs.Repeated.{Held, tree_is}
 use Rattle.clean.proofs.Judged.{shown-none, shown_of_lem}
 use Rattle.clean.proofs.Cleans.{clean-sound, clean-held}
+use Rattle.std.specs.Prelude.{Err, Ok, Option, None, Some}
 
 -- a clean file that is there has its records
-module _ (sheet file : ℕ) (s : List ℕ) (some : length s ≡ 0 → ⊥) (e : clean_in (sheet_shape sheet) file s ≡ Unbroken) where
-  sound : syntax_of s ≡ syntax.Sound
+module _ (sheet file : ℕ) (s : List ℕ) (some : length s ≡ 0 → ⊥) (e : clean_in (sheet_shape sheet) file s ≡ unbroken) where
+  sound : syntax_of s ≡ Ok tt
   sound = (clean-sound sheet file s some e).reads
 
   records : has_records sheet ≡ true → Held sheet s (tree_of s)
@@ -61,7 +59,7 @@ module _ (sheet file : ℕ) (s : List ℕ) (some : length s ≡ 0 → ⊥) (e : 
 
   module _ (h : 1 ≤ file) (i : file ≤ file_count) (t : has_records sheet ≡ true) where
     by_span : (n : ℕ) → shown_by (sheet_shape sheet) file n s ≡ of_span (record_span (sheet_shape sheet) s n)
-    by_span n = sym (shown_of_lem (sheet_shape sheet) file n s h i Unbroken (sym e))
+    by_span n = sym (shown_of_lem (sheet_shape sheet) file n s h i unbroken (sym e))
 
     trees : record_trees (sheet_shape sheet) (tree_of s) ≡ item_trees (array (records t).there)
     trees = ap (record_trees (sheet_shape sheet)) (tree_is s (passed s sound)) ∙ records-trees sheet (passed s sound) (records t).there
@@ -110,7 +108,7 @@ module _ (sheet file : ℕ) (s : List ℕ) (some : length s ≡ 0 → ⊥) (e : 
     shown-zero = ap (λ (a : Answer). a.number) (by_span 0 ∙ ap of_span (record_none (records t).there))
 
 -- a clean file has its records in an array, or has none, or is not there
-pub listed : (sheet file : ℕ) (s : List ℕ) → clean_in (sheet_shape sheet) file s ≡ Unbroken → Listed sheet s
+pub listed : (sheet file : ℕ) (s : List ℕ) → clean_in (sheet_shape sheet) file s ≡ unbroken → Listed sheet s
 listed sheet file [] e = Listed.absent refl
 listed sheet file (b ∷ s) e =
     let some : length (b ∷ s) ≡ 0 → ⊥ = λ z. omega arith in
@@ -130,9 +128,9 @@ absent_none : (sheet : ℕ) → record_trees (sheet_shape sheet) (tree_of []) �
 unfolding record_trees
 absent_none sheet = ap (record_trees (sheet_shape sheet)) absent-null ∙ go (way_to sheet)
   where
-    go : (o : Maybe Way) → ◌≡◌ {A = List Json} (elim o [ none ↦ [] | some w ↦ items_in (value_along (map (λ k. k.name) w.keys) tree.null) ]) []
-    go none = refl
-    go (some w) = none-along _
+    go : (o : Option Way) → ◌≡◌ {A = List Json} (elim o [ None ↦ [] | Some w ↦ items_in (value_along (map (λ k. k.name) w.keys) tree.null) ]) []
+    go None = refl
+    go (Some w) = none-along _
 
 -- nor has a file without records
 recordless-none : (sheet : ℕ) (x : Json) → has_records sheet ≡ false → record_trees (sheet_shape sheet) x ≡ []
@@ -142,11 +140,11 @@ recordless-none sheet x t = rw (record_trees, no_way sheet t)
 recordless-shown : (sheet file n : ℕ) (s : List ℕ) → 1 ≤ file → file ≤ file_count → has_records sheet ≡ false → shown_by (sheet_shape sheet) file n s ≡ of_clean (clean_in (sheet_shape sheet) file s) (refused 10 no_parts)
 unfolding record_span
 recordless-shown sheet file n s h i t =
-    sym (shown_of_lem (sheet_shape sheet) file n s h i (clean_in (sheet_shape sheet) file s) refl) ∙ ap (λ (z : Span). of_clean (clean_in (sheet_shape sheet) file s) (of_span (nth_in s z n))) (along-none sheet s t)
+    sym (shown_of_lem (sheet_shape sheet) file n s h i (clean_in (sheet_shape sheet) file s) refl) ∙ ap (λ (z : Option Span). of_clean (clean_in (sheet_shape sheet) file s) (of_span (nth_in s z n))) (along-none sheet s t)
 
 absent-shown : (sheet file n : ℕ) → 1 ≤ file → file ≤ file_count → (shown_by (sheet_shape sheet) file n []).number ≡ 10
 unfolding clean_by
-absent-shown sheet file n h i = ap (λ (a : Answer). a.number) (sym (shown_of_lem (sheet_shape sheet) file n [] h i Unbroken refl) ∙ ap of_span (no_record sheet n))
+absent-shown sheet file n h i = ap (λ (a : Answer). a.number) (sym (shown_of_lem (sheet_shape sheet) file n [] h i unbroken refl) ∙ ap of_span (no_record sheet n))
 
 -- The law.
 never : {A : Type 0} {k : ℕ} → k ≡ 0 → 1 ≤ k → A
@@ -163,7 +161,7 @@ answers sheet file (suc k) (b ∷ s) h =
     (λ t. absurd (omega (arith, h.last, ap length (recordless-none sheet (tree_of (b ∷ s)) t))))
 
 module _ (sheet file : ℕ) (h : 1 ≤ file) (i : file ≤ file_count) where
-  has_record : has_records sheet ≡ true → (n : ℕ) (s : List ℕ) → clean_in (sheet_shape sheet) file s ≡ Unbroken → (shown_by (sheet_shape sheet) file n s).number ≡ 0 → Has (sheet_shape sheet) file n s
+  has_record : has_records sheet ≡ true → (n : ℕ) (s : List ℕ) → clean_in (sheet_shape sheet) file s ≡ unbroken → (shown_by (sheet_shape sheet) file n s).number ≡ 0 → Has (sheet_shape sheet) file n s
   has_record r n [] c e = never (sym (absent-shown sheet file n h i) ∙ e) (omega arith)
   has_record r zero (b ∷ s) c e = never (sym (shown-zero sheet file (b ∷ s) (λ z. omega arith) c h i r) ∙ e) (omega arith)
   has_record r (suc k) (b ∷ s) c e =
@@ -172,14 +170,14 @@ module _ (sheet file : ℕ) (h : 1 ≤ file) (i : file ≤ file_count) where
       record { least = h; most = i; clean = c; first = omega arith; last = omega arith })
       (λ t. never (sym (shown-past sheet file (b ∷ s) (λ z. omega arith) c h i r k (ltb-false k (length (record_trees (sheet_shape sheet) (tree_of (b ∷ s)))) t)) ∙ e) (omega arith))
 
-  has-clean : (n : ℕ) (s : List ℕ) → clean_in (sheet_shape sheet) file s ≡ Unbroken → (shown_by (sheet_shape sheet) file n s).number ≡ 0 → Has (sheet_shape sheet) file n s
+  has-clean : (n : ℕ) (s : List ℕ) → clean_in (sheet_shape sheet) file s ≡ unbroken → (shown_by (sheet_shape sheet) file n s).number ≡ 0 → Has (sheet_shape sheet) file n s
   has-clean n s c e =
       by_test (has_records sheet) (λ t. has_record t n s c e)
       (λ t. never (sym (ap (λ (a : Answer). a.number) (recordless-shown sheet file n s h i t ∙ ap (λ (o : Outcome). of_clean o (refused 10 no_parts)) c)) ∙ e) (omega arith))
 
   has : (n : ℕ) (s : List ℕ) (x : Outcome) → clean_in (sheet_shape sheet) file s ≡ x → (shown_by (sheet_shape sheet) file n s).number ≡ 0 → Has (sheet_shape sheet) file n s
-  has n s Unbroken c e = has-clean n s c e
-  has n s (Broken p) c e = never (ap (λ (a : Answer). a.number) (shown_of_lem (sheet_shape sheet) file n s h i (Broken p) (sym c)) ∙ e) (omega arith)
+  has n s (Ok _) c e = has-clean n s c e
+  has n s (Err p) c e = never (ap (λ (a : Answer). a.number) (shown_of_lem (sheet_shape sheet) file n s h i (Err p) (sym c)) ∙ e) (omega arith)
 
 only : (sheet file n : ℕ) (s : List ℕ) → (shown_by (sheet_shape sheet) file n s).number ≡ 0 → Has (sheet_shape sheet) file n s
 only sheet file n s e =

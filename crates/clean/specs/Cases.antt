@@ -1,5 +1,5 @@
 -- The question "show record" on files, computed: the order of checking, and where records stand.
-use Rattle.std.specs.Prelude.{List, [], ◌∷◌, ◌++◌, refl, ℕ}
+use Rattle.std.specs.Prelude.{List, [], ◌∷◌, ◌++◌, refl, ℕ, Option, None, Some}
 use Rattle.notation.specs.Case.{Case, Answers, json}
 use Rattle.word.specs.Word.{no_parts}
 use Rattle.json_text.specs.Tree.{Json}
@@ -12,7 +12,6 @@ use Rattle.schema.specs.Pick as pick
 use Rattle.slots.specs.Cases.{gathering}
 use Rattle.slots.specs.Found.{found_in}
 use Rattle.document.specs.Document as document
-use Rattle.document.specs.Document.{Maybe, none, some}
 use Rattle.document.specs.Spans.{members_along, top_span, records_span, nth, record_span}
 use Rattle.document.specs.Trees.{value_along, listed, record_trees, numbered}
 use Rattle.judge.specs.Cases.{judging, in_data}
@@ -62,12 +61,12 @@ unfolding showing
 questions-answered = refl
 
 -- the records of that file in its tree
-abbrev trees : List (Case ℕ (Maybe Json))
+abbrev trees : List (Case ℕ (Option Json))
 trees =
-    ("records are counted from 1", 0, none) ∷
-    ("the first", 1, some (walk.part_tree (part types 68 141))) ∷
-    ("the second", 2, some (walk.part_tree (part types 144 222))) ∷
-    ("none past the last", 3, none) ∷
+    ("records are counted from 1", 0, None) ∷
+    ("the first", 1, Some (walk.part_tree (part types 68 141))) ∷
+    ("the second", 2, Some (walk.part_tree (part types 144 222))) ∷
+    ("none past the last", 3, None) ∷
     []
 
 trees-answered : Answers (λ n. numbered n (record_trees (file_shape (table_at 0) 1) (tree_of types))) trees

@@ -1,6 +1,6 @@
 -- The question "show record n of file f", told by trees: of a clean file, the part that is shown is the n-th item of its array of records, from the bracket
 -- that opens it to the one that closes it. Every number of a record is answered so, and no other.
-use Rattle.std.specs.Prelude.{false, List, ◌++◌, ◌≡◌, ℕ, ◌≤◌, length}
+use Rattle.std.specs.Prelude.{false, List, ◌++◌, ◌≡◌, ℕ, ◌≤◌, length, Some}
 use Rattle.notation.specs.Ascii.{bytes}
 use Rattle.word.specs.Word.{no_parts}
 use Rattle.json_text.specs.Tree.{Json}
@@ -8,10 +8,9 @@ use Rattle.walk.specs.Walk.{part}
 use Rattle.walk.specs.Part.{Whole}
 use Rattle.schema.specs.Shape.{Shape, Table, file_shape}
 use Rattle.schema.specs.Records.{way_in}
-use Rattle.document.specs.Document.{some, given}
+use Rattle.document.specs.Document.{given}
 use Rattle.document.specs.Trees.{record_trees, numbered}
-use Rattle.fault.specs.declared.outcome.Outcome.TheVariants.{Unbroken}
-use Rattle.fault.specs.Outcome.{file_count}
+use Rattle.fault.specs.Outcome.{file_count, unbroken}
 use Rattle.clean.specs.Clean.{tree_of, clean_in, clean_of}
 use Rattle.clean.specs.Show.{refused, of_clean, shown_of}
 
@@ -19,7 +18,7 @@ use Rattle.clean.specs.Show.{refused, of_clean, shown_of}
 pub record Has (σ : Shape) (file n : ℕ) (s : List ℕ) : Type 0 where
   pub least : 1 ≤ file
   pub most : file ≤ file_count
-  pub clean : clean_in σ file s ≡ Unbroken
+  pub clean : clean_in σ file s ≡ unbroken
   pub first : 1 ≤ n
   pub last : n ≤ length (record_trees σ (tree_of s))
 
@@ -27,7 +26,7 @@ pub record Has (σ : Shape) (file n : ℕ) (s : List ℕ) : Type 0 where
 -- alike this does not say which is meant; the places of `shown_by` do.
 pub record IsRecord (σ : Shape) (n : ℕ) (s : List ℕ) (from upto : ℕ) : Type 0 where
   pub tree : Json
-  pub numbered : numbered n (record_trees σ (tree_of s)) ≡ some tree
+  pub numbered : numbered n (record_trees σ (tree_of s)) ≡ Some tree
   pub inside : upto ≤ length s
   pub whole : Whole (part s from upto) tree
   pub between : List ℕ

@@ -4,7 +4,6 @@ use mathlib.Core.List.{List, [], ◌∷◌, ◌++◌, append-nil}
 use mathlib.Core.Path.{◌≡◌, refl, sym, ap, ap₂, subst, ◌∙◌}
 use Prim.Native.Nat.{ℕ, ◌+◌, ◌<◌}
 use native.Mathlib.Omega.{arith}
-use Rattle.notation.specs.Maybe.{Maybe, none, some}
 use Rattle.word.specs.Kinds.{condition}
 use Rattle.schema.specs.Shape.{Shape, file_shape}
 use Rattle.schema.specs.Tables.{table_at, sheet_of}
@@ -13,7 +12,6 @@ use Rattle.schema.specs.Pick.{Picked}
 use Rattle.schema.proofs.Recorded.{no_key}
 use Rattle.schema.proofs.SheetShapes.{sheet_shape_lem}
 use Rattle.fault.specs.declared.Fault.{Fault}
-use Rattle.fault.specs.declared.Least.TheVariants.{None}
 use Rattle.fault.specs.Fault.{least, top, faulty}
 use Rattle.fault.proofs.Leasts.{none-least}
 use Rattle.clean.specs.Clean.{repeats_from, repeats_in}
@@ -21,6 +19,7 @@ use Rattle.ids.specs.References.{kind_if}
 use Rattle.cross.specs.Cross.{Files, each_record, faults_of, missing_file, cross_faults}
 use Rattle.cross.proofs.Tabled.{has-ids}
 use Rattle.cross.proofs.Fielded.{breaks-nothing}
+use Rattle.std.specs.Prelude.{None, Option, Some}
 
 -- records of files past 4, but for those of file 6, break nothing
 module _ (s : Files) (file : ℕ) (a : 4 < file) (b : file ≡ 6 → ⊥) where
@@ -40,7 +39,7 @@ module _ (table : ℕ) where
   no-repeats : (l : List Picked) → repeats_in (file_shape (table_at table) 7) l ≡ []
   no-repeats l =
       subst (λ (σ : Shape). repeats_in σ l ≡ []) (sheet_shape_lem table 7)
-      (ap (λ (o : Maybe Key). elim o [ none ↦ [] | some k ↦ repeats_from k.field 1 [] l ]) (no_key (sheet_of table 7) no-ids))
+      (ap (λ (o : Option Key). elim o [ None ↦ [] | Some k ↦ repeats_from k.field 1 [] l ]) (no_key (sheet_of table 7) no-ids))
 
   pub bare-faults : (s : Files) → cross_faults (table_at table) s 7 ≡ faulty top 0 (kind_if (missing_file s 7) condition)
   unfolding cross_faults

@@ -22,15 +22,13 @@ use Rattle.schema.specs.Records.{record_shape, has_records, has_ids}
 use Rattle.schema.specs.Pick.{Picked, pick}
 use Rattle.schema.proofs.SheetShapes.{sheet_shape_lem}
 use Rattle.fault.specs.declared.Fault.{Fault}
-use Rattle.fault.specs.declared.Least.TheVariants.{Is}
 use Rattle.fault.specs.Fault.{fault, top, least, faulty}
 use Rattle.fault.specs.Outcome.{file_count}
 use Rattle.fault.specs.declared.Place.{Place}
 use Rattle.judge.specs.Faults.{faults}
 use Rattle.judge.specs.Bounds.{greatest, fields}
 use Rattle.judge.proofs.Holds.{All, none, more, only, all_append, Holds, nothing, holding, holds-is, holds-least, holds_append}
-use Rattle.document.specs.Document as document
-use Rattle.document.specs.Document.{Maybe, field, field_items, text, text_in, spelling, given}
+use Rattle.document.specs.Document.{field, field_items, text, text_in, spelling, given}
 use Rattle.document.specs.Values.{integer_in}
 use Rattle.document.proofs.FieldBytes.{row_of, listed}
 use Rattle.ids.specs.inner.Ids.{id_field, record_bytes, repeated, repeat_from, first_repeat}
@@ -44,6 +42,7 @@ use Rattle.cross.proofs.Numbers.{by_number, Each}
 use Rattle.cross.proofs.Tabled.{has-records, recordless, id_number_lem, object-rows, status-rows, zone-shape}
 use Rattle.cross.proofs.Bare.{bare-faults}
 use Rattle.cross.proofs.Files.{InBytes, file_sheet}
+use Rattle.std.specs.Prelude.{Some, Option, None}
 
 -- the kinds of stage C
 pub record OfStageC (kind : ℕ) : Type 0 where
@@ -66,9 +65,9 @@ when_kinds false k h = none
 demanded-kinds : (needed there : Bool) → All OfStageC (demanded needed there)
 demanded-kinds needed there = when_kinds (needed and not there) condition (record { least = omega arith; most = omega arith })
 
-refers-kinds : (o : Maybe (List ℕ)) (f : ℕ) (l : List Picked) → All OfStageC (refers o f l)
-refers-kinds document.none f l = none
-refers-kinds (document.some id) f l = when_kinds (not (any_with any f l id)) dangling (record { least = omega arith; most = omega arith })
+refers-kinds : (o : Option (List ℕ)) (f : ℕ) (l : List Picked) → All OfStageC (refers o f l)
+refers-kinds None f l = none
+refers-kinds (Some id) f l = when_kinds (not (any_with any f l id)) dangling (record { least = omega arith; most = omega arith })
 
 -- The n-th record.
 module _ (n : ℕ) (h : n ≤ greatest) where
@@ -132,7 +131,7 @@ module _ (n : ℕ) (h : n ≤ greatest) where
       (own-fits 47 (omega arith) (refers-kinds (text 47 x) 20 (s 2).records)))
       (own-fits 48 (omega arith) (refers-kinds (text 48 x) 50 (s 5).records))
 
-  zone_in : (types : List Picked) (y : Picked) → (field 74 y ≡ document.none) ⊎ ((z : Picked) × (field 74 y ≡ document.some z) × (length (field_items 77 z) ≤ greatest))
+  zone_in : (types : List Picked) (y : Picked) → (field 74 y ≡ None) ⊎ ((z : Picked) × (field 74 y ≡ Some z) × (length (field_items 77 z) ≤ greatest))
       → All Fitting (zone_faults types n y)
   unfolding zone_faults
   zone_in types y (inl k) = rw (zone_faults, k) none
@@ -224,5 +223,5 @@ module _ (table : ℕ) (files : Files) (file : ℕ) (h : 1 ≤ file) (i : file �
   bare-holds : file ≡ 7 → Holds Fitting (least (cross_faults (table_at table) files file))
   bare-holds k = rw (k, bare-faults table files) (holds-least (presence 7))
 
-  pub cross_fits : (f : Fault) → least (cross_faults (table_at table) files file) ≡ Is f → Fitting f
+  pub cross_fits : (f : Fault) → least (cross_faults (table_at table) files file) ≡ Some f → Fitting f
   cross_fits f k = holds-is (by_test (has_records (sheet_of table file)) (λ t. recorded-holds (b t)) (λ t. bare-holds (recordless table file h i t))) k

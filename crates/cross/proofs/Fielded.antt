@@ -16,8 +16,6 @@ use Rattle.lexeme.specs.inner.Start.{start}
 use Rattle.json_text.specs.Tree.{Json}
 use Rattle.walk.specs.Part.{Whole}
 use Rattle.walk.specs.inner.Kind.{kind_at}
-use Rattle.decimal.specs.declared.Number.{Number}
-use Rattle.decimal.specs.declared.Number.TheVariants as number
 use Rattle.decimal.specs.Decimals.{number_of}
 use Rattle.decimal.proofs.Formed.{number-formed}
 use Rattle.schema.specs.Shape as shape
@@ -26,7 +24,7 @@ use Rattle.schema.specs.Table23.{available, rule, zone}
 use Rattle.schema.specs.Pick.{Picked, pick}
 use Rattle.fault.specs.declared.Fault.{Fault}
 use Rattle.fault.specs.Fault.{faulty}
-use Rattle.document.specs.Document.{Maybe, none, some, field, field_items, text, text_in, spelling}
+use Rattle.document.specs.Document.{field, field_items, text, text_in, spelling}
 use Rattle.document.proofs.Rows.{Lists}
 use Rattle.document.specs.inner.Items.{picked_items}
 use Rattle.document.specs.Values.{whole_of, integer_in}
@@ -35,6 +33,8 @@ use Rattle.document.proofs.Values.{Holds, member-holds, holds_text, holds-items}
 use Rattle.document.proofs.FieldBytes.{field-spelled, field-text, field-items, row_of, listed}
 use Rattle.ids.specs.References.{kind_if, refers}
 use Rattle.cross.specs.Cross.{Files, record_place, each_record, available_faults, id_faults, rule_faults, zone_faults, faults_of}
+use Rattle.std.specs.Prelude.{Option, Some, None}
+use Rattle.decimal.specs.declared.Decimal.{Decimal}
 
 -- no bytes, no value
 pub none-there : (n : ℕ) → eqb n 0 ≡ not (ltb 0 n)
@@ -46,13 +46,13 @@ no_bytes [] e = refl
 no_bytes (b ∷ q) e = absurd (omega arith)
 
 -- a count is small, whatever is read
-number_small : (s : List ℕ) (n : Number) → number_of s ≡ n → whole_of n < 10 ^ 12
-number_small s (number.Value d) e = (number-formed s d e).whole
-number_small s number.Unformed e = omega arith
+number_small : (s : List ℕ) (n : Option Decimal) → number_of s ≡ n → whole_of n < 10 ^ 12
+number_small s (Some d) e = (number-formed s d e).whole
+number_small s None e = omega arith
 
-spelled-small : (o : Maybe (List ℕ)) → integer_in o < 10 ^ 12
-spelled-small none = omega arith
-spelled-small (some s) = number_small s (number_of s) refl
+spelled-small : (o : Option (List ℕ)) → integer_in o < 10 ^ 12
+spelled-small None = omega arith
+spelled-small (Some s) = number_small s (number_of s) refl
 
 pub count_small : (q : List ℕ) → integer_in (spelled_by q) < 10 ^ 12
 count_small q = spelled-small (spelled_by q)
@@ -83,17 +83,17 @@ module _ {p : List ℕ} {x : Json} (w : Whole p x) where
   rule-ids = field-items (listed refl) w
 
   pub id_text : text_by p ≡ text_in (pick (scalar Sort.id) x)
-  id_text = holds_text Sort.id p (some (pick (scalar Sort.id) x)) (x, w, refl)
+  id_text = holds_text Sort.id p (Some (pick (scalar Sort.id) x)) (x, w, refl)
 
 -- of no bytes there is no member, and so no item
 nothing_in : (σ : Shape) (name : List ℕ) → picked_items σ (array_by (member_of [] name)) ≡ []
 unfolding member_of kind_at start digit within
-nothing_in σ name = holds-items shape.subs 0 σ [] none refl
+nothing_in σ name = holds-items shape.subs 0 σ [] None refl
 
 -- bytes that hold something are whole
-holds-whole : (σ : Shape) (q : List ℕ) (o : Maybe Picked) → Holds σ q o → (length q ≡ 0 → ⊥) → (x : Json) × Whole q x
-holds-whole σ q none h k = absurd (k (ap length h))
-holds-whole σ q (some y) h k = (h.0, h.1)
+holds-whole : (σ : Shape) (q : List ℕ) (o : Option Picked) → Holds σ q o → (length q ≡ 0 → ⊥) → (x : Json) × Whole q x
+holds-whole σ q None h k = absurd (k (ap length h))
+holds-whole σ q (Some y) h k = (h.0, h.1)
 
 pub properties-whole : {p : List ℕ} {x : Json} → Whole p x → (length (member_of p (bytes "properties")) ≡ 0 → ⊥) → (y : Json) × Whole (member_of p (bytes "properties")) y
 unfolding zone row_of
@@ -127,13 +127,13 @@ module _ (types : List Picked) (n : ℕ) where
 
   -- the rules of a zone stand in its properties
   in_properties : {rows : Rows} → Lists 77 (bytes "rules") (shape.array shape.subs ceiling.rules rule) rows
-      → (p : List ℕ) (o : Maybe Picked) → Holds (shape.object rows) p o
+      → (p : List ℕ) (o : Option Picked) → Holds (shape.object rows) p o
       → rule_faults types n 1 (picked_items rule (array_by (member_of p (bytes "rules"))))
-      ≡ elim o [ none ↦ [] | some y ↦ rule_faults types n 1 (field_items 77 y) ]
+      ≡ elim o [ None ↦ [] | Some y ↦ rule_faults types n 1 (field_items 77 y) ]
   unfolding rule_faults
-  in_properties l p none h =
+  in_properties l p None h =
       ap (rule_faults types n 1) (ap (λ q. picked_items rule (array_by (member_of q (bytes "rules")))) h ∙ nothing_in rule (bytes "rules"))
-  in_properties l p (some y) h = ap (rule_faults types n 1) (field-items l h.1 ∙ ap (field_items 77) h.2)
+  in_properties l p (Some y) h = ap (rule_faults types n 1) (field-items l h.1 ∙ ap (field_items 77) h.2)
 
   pub zone-rules : {p : List ℕ} {x : Json} → Whole p x
       → rule_faults types n 1 (picked_items rule (array_by (member_of (member_of p (bytes "properties")) (bytes "rules")))) ≡ zone_faults types n (pick zone x)

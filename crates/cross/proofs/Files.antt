@@ -9,9 +9,7 @@ use native.Mathlib.Omega.{arith}
 use lib.Dec.{ltb}
 use lib.ListN.{length, drop, length-map, length-take}
 use borrow.Author.Tests.{lt-ltb}
-use Rattle.notation.specs.Maybe.{Maybe, none, some}
 use Rattle.notation.proofs.Booleans.{by_test}
-use Rattle.json_text.specs.declared.Syntax.TheVariants.{Sound}
 use Rattle.json_text.specs.Text.{syntax_of}
 use Rattle.json_text.specs.Tree as tree
 use Rattle.json_text.specs.Tree.{Json, Members}
@@ -26,7 +24,6 @@ use Rattle.schema.specs.Tables.{table_at, sheets, sheet_shape, sheet_of}
 use Rattle.schema.specs.Records.{Key, record_shape, has_records, id_key, has_ids}
 use Rattle.schema.specs.Pick.{Picked, pick}
 use Rattle.schema.proofs.SheetShapes.{sheet_shape_lem}
-use Rattle.fault.specs.declared.Least.TheVariants.{None}
 use Rattle.fault.specs.Fault.{least}
 use Rattle.fault.proofs.Leasts.{none-least}
 use Rattle.fault.specs.declared.Place.{Place}
@@ -44,6 +41,7 @@ use Rattle.cross.specs.Stage.{file_of}
 use Rattle.cross.specs.inner.Judged.{file_by}
 use Rattle.cross.specs.inner.Stage.{PassesAB}
 use Rattle.cross.specs.inner.Recorded.{Recorded, repeat_of, ids_least}
+use Rattle.std.specs.Prelude.{None, Ok, Option, Some}
 
 -- a file is there where it has bytes
 pub here-is : (t : Table) (n : ℕ) (s : List ℕ) → ltb 0 (length s) ≡ (file_of t n s).here
@@ -71,9 +69,9 @@ no-repeats : (n : ℕ) → least (repeats_in (sheet_shape n) []) ≡ None
 unfolding repeats_from
 no-repeats n = go (id_key n)
   where
-    go : (o : Maybe Key) → least (elim o [ none ↦ [] | some k ↦ repeats_from k.field 1 [] [] ]) ≡ None
-    go none = none-least [] refl
-    go (some k) = none-least [] refl
+    go : (o : Option Key) → least (elim o [ None ↦ [] | Some k ↦ repeats_from k.field 1 [] [] ]) ≡ None
+    go None = none-least [] refl
+    go (Some k) = none-least [] refl
 
 absent-bytes : (n : ℕ) → InBytes n [] []
 unfolding repeats_from ids_least repeat_of first_repeat repeat_from record_bytes items_of items_from
@@ -91,7 +89,7 @@ module _ (n : ℕ) (h : has_records n ≡ true) (b : ℕ) (r : List ℕ) (t : Pa
   abbrev s : List ℕ
   s = b ∷ r
 
-  reads : syntax_of s ≡ Sound
+  reads : syntax_of s ≡ Ok tt
   reads = t.reads (λ e. omega arith)
 
   through : Held n s (clean.tree_of s)
@@ -105,8 +103,8 @@ module _ (n : ℕ) (h : has_records n ≡ true) (b : ℕ) (r : List ℕ) (t : Pa
   repeated-is : least (repeats (sheet_shape n) (pick (sheet_shape n) (clean.tree_of s))) ≡ ids_least n p
   unfolding ids_least repeat_of
   repeated-is =
-      let none = none-least _ (t.faultless (λ e. omega arith)) in
-      by_test (has_ids n) (λ u. rw (ids_least, repeat_of, u) (repeats-are n s reads none u f).names) (λ u. rw (ids_least, repeat_of, u) (repeats-none n u _))
+      let None = none-least _ (t.faultless (λ e. omega arith)) in
+      by_test (has_ids n) (λ u. rw (ids_least, repeat_of, u) (repeats-are n s reads None u f).names) (λ u. rw (ids_least, repeat_of, u) (repeats-none n u _))
 
   -- records are objects
   record_object : (q : Place) (φ : ℕ) (x : Json) → faults (record_shape n) q φ (pick (record_shape n) x) ≡ [] → (ms : Members) × (x ≡ tree.object ms)

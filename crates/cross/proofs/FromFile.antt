@@ -5,16 +5,15 @@ use mathlib.Core.Path.{◌≡◌, refl, sym, ap, ap₂, ◌∙◌}
 use Prim.Native.Nat.{ℕ, zero, suc, ◌+◌, ◌-◌, ◌≤◌, ◌<◌}
 use native.Mathlib.Omega.{arith}
 use Rattle.word.specs.declared.Parts.{Parts}
-use Rattle.fault.specs.declared.outcome.Outcome.{Outcome}
-use Rattle.fault.specs.declared.outcome.Outcome.TheVariants.{Unbroken, Broken}
-use Rattle.fault.specs.Outcome.{file_count, or_next}
+use Rattle.fault.specs.Outcome.{file_count, or_next, Outcome, unbroken}
 use Rattle.cross.specs.inner.Stage.{from_file, first_of}
+use Rattle.std.specs.Prelude.{Err, Ok}
 
 -- what holds of each outcome
-module _ (P : Outcome → Type 0) (n : P Unbroken) (told : ℕ → Outcome) where
+module _ (P : Outcome → Type 0) (n : P unbroken) (told : ℕ → Outcome) where
   either : (x y : Outcome) → P x → P y → P (or_next x y)
-  either Unbroken y h k = k
-  either (Broken p) y h k = h
+  either (Ok _) y h k = k
+  either (Err p) y h k = h
 
   from_all : (file left : ℕ) → ((k : ℕ) → file ≤ k → k < file + left → P (told k)) → P (from_file told file left)
   unfolding from_file
@@ -50,7 +49,7 @@ module _ (told : ℕ → Outcome) where
   reached_start = record { least = omega arith; most = omega arith; is = refl }
 
 module _ {told : ℕ → Outcome} {file : ℕ} (w : Reached told file) where
-  pub reached_end : file_count < file → Unbroken ≡ first_of told
+  pub reached_end : file_count < file → unbroken ≡ first_of told
   unfolding from_file
   reached_end h = let z : file_count + 1 - file ≡ 0 = omega arith in sym (ap (from_file told file) z) ∙ w.is
 
@@ -62,8 +61,8 @@ module _ {told : ℕ → Outcome} {file : ℕ} (w : Reached told file) where
         let z : file_count + 1 - file ≡ suc (file_count + 1 - (file + 1)) = omega arith in
         ap (λ y. or_next y (ahead told (file + 1))) (sym k ∙ e) ∙ sym (ap (from_file told file) z) ∙ w.is
 
-    pub reached_here : {p : Parts} → x ≡ Broken p → Broken p ≡ first_of told
+    pub reached_here : {p : Parts} → x ≡ Err p → Err p ≡ first_of told
     reached_here k = next k
 
-    pub reached_more : x ≡ Unbroken → Reached told (file + 1)
+    pub reached_more : x ≡ unbroken → Reached told (file + 1)
     reached_more k = record { least = omega (arith, w.least); most = omega arith; is = next k }

@@ -23,7 +23,7 @@ use Rattle.slots.specs.declared.Slots.{Slots}
 use Rattle.slots.specs.inner.Rows.{names_in}
 use Rattle.fault.specs.declared.Fault.{Fault}
 use Rattle.fault.specs.Fault.{faulty}
-use Rattle.document.specs.Document.{Maybe, field, field_items, text, spelling, given}
+use Rattle.document.specs.Document.{field, field_items, text, spelling, given}
 use Rattle.document.specs.inner.Items.{picked_items}
 use Rattle.document.specs.Values.{integer_in}
 use Rattle.document.specs.inner.Values.{member_of, text_by, there_by, array_by, spelled_by}
@@ -35,6 +35,7 @@ use Rattle.cross.specs.Cross.{Files, record_place, sum_of, available_faults, typ
 use Rattle.cross.specs.inner.Judged.{Reads, Slotted}
 use Rattle.cross.proofs.Tabled.{record_rows, object-rows, Value, Listing, has-records, type_rows, station-rows, status-rows, bike-rows}
 use Rattle.cross.proofs.Layouts.{layout, slot-member}
+use Rattle.std.specs.Prelude.{Option}
 
 -- what is picked of an object as a record of a sheet
 abbrev picked_as : (sheet : ℕ) → Members → Picked
@@ -78,11 +79,11 @@ module _ (sheet : ℕ) (h : has_records sheet ≡ true) {p : List ℕ} {s : Slot
 
 -- a vehicle type
 module _ (table : ℕ) (f : Files) (n : ℕ) where
-  abbrev type_of : (motor : Maybe (List ℕ)) (range : Bool) (plan : Maybe (List ℕ)) (priced : Bool) → List Fault
+  abbrev type_of : (motor : Option (List ℕ)) (range : Bool) (plan : Option (List ℕ)) (priced : Bool) → List Fault
   type_of motor range plan priced =
       faulty (record_place n 0) 13 (demanded (not_human motor) range) ++ faulty (record_place n 0) 14 (demanded (f 5).here priced ++ refers plan 50 (f 5).records)
 
-  same_type : {a b e o : Maybe (List ℕ)} {c d g h : Bool} → a ≡ b → c ≡ d → e ≡ o → g ≡ h → type_of a c e g ≡ type_of b d o h
+  same_type : {a b e o : Option (List ℕ)} {c d g h : Bool} → a ≡ b → c ≡ d → e ≡ o → g ≡ h → type_of a c e g ≡ type_of b d o h
   same_type i j k l = rw (i, j, k, l)
 
   abbrev pub type_by : (motor range plan : List ℕ) → List Fault
@@ -107,13 +108,13 @@ station-is table f n g a w =
 
 -- a status
 module _ (table : ℕ) (f : Files) (n : ℕ) where
-  abbrev status_of : (station : Maybe (List ℕ)) (docks there : Bool) (counts : List Picked) (bikes : Maybe (List ℕ)) → List Fault
+  abbrev status_of : (station : Option (List ℕ)) (docks there : Bool) (counts : List Picked) (bikes : Option (List ℕ)) → List Fault
   status_of station docks there counts bikes =
       (faulty (record_place n 0) 30 (refers station 20 (f 2).records) ++ faulty (record_place n 0) 32 (demanded (named has_capacity 20 (f 2).records station) docks)) ++
       (faulty (record_place n 0) 37 (demanded (f 1).here there ++ kind_if (there and not (eqb (sum_of counts) (integer_in bikes))) sum_differs) ++
       available_faults (f 1).records n 1 counts)
 
-  same-status : {a b i j : Maybe (List ℕ)} {c d e r : Bool} {g h : List Picked}
+  same-status : {a b i j : Option (List ℕ)} {c d e r : Bool} {g h : List Picked}
       → a ≡ b → c ≡ d → e ≡ r → g ≡ h → i ≡ j → status_of a c e g i ≡ status_of b d r h j
   same-status k l m o q = rw (k, l, m, o, q)
 
@@ -138,7 +139,7 @@ counts-along table g c w = listing-along (sheet_of table 3) (has-records table 3
 
 -- a bike
 module _ (table : ℕ) (f : Files) (n : ℕ) where
-  abbrev bike_of : (lat lon : Bool) (type : Maybe (List ℕ)) (type_given range : Bool) (station : Maybe (List ℕ)) (docked : Bool) (plan : Maybe (List ℕ))
+  abbrev bike_of : (lat lon : Bool) (type : Option (List ℕ)) (type_given range : Bool) (station : Option (List ℕ)) (docked : Bool) (plan : Option (List ℕ))
       → List Fault
   bike_of lat lon type type_given range station docked plan =
       ((faulty (record_place n 0) 41 (demanded (not docked) lat) ++ faulty (record_place n 0) 42 (demanded (not docked) lon)) ++
@@ -146,7 +147,7 @@ module _ (table : ℕ) (f : Files) (n : ℕ) where
       faulty (record_place n 0) 46 (demanded (named motorized 10 (f 1).records type) range))) ++
       (faulty (record_place n 0) 47 (refers station 20 (f 2).records) ++ faulty (record_place n 0) 48 (refers plan 50 (f 5).records))
 
-  same-bike : {a b c d i j k l o q : Bool} {e m g h u v : Maybe (List ℕ)} → a ≡ b → c ≡ d → e ≡ m → i ≡ j → k ≡ l → g ≡ h → o ≡ q → u ≡ v
+  same-bike : {a b c d i j k l o q : Bool} {e m g h u v : Option (List ℕ)} → a ≡ b → c ≡ d → e ≡ m → i ≡ j → k ≡ l → g ≡ h → o ≡ q → u ≡ v
       → bike_of a c e i k g o u ≡ bike_of b d m j l h q v
   same-bike p r s t w x y z = rw (p, r, s, t, w, x, y, z)
 

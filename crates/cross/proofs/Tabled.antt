@@ -10,7 +10,7 @@ use lib.ListN.{length, get_or}
 use borrow.Author.Tests.{eqb-true, ne_eqb, le-ltb, leb-true, leb-false}
 use Rattle.limits.specs.Ceilings as ceiling
 use Rattle.notation.specs.Choice.{◌and◌}
-use Rattle.notation.specs.Maybe.{none, some, given}
+use Rattle.notation.specs.Given.{given}
 use Rattle.notation.proofs.Booleans.{by_test, true-false}
 use Rattle.schema.specs.Shape as shape
 use Rattle.schema.specs.Shape.{Shape, Rows, Sort, Table, file_shape}
@@ -29,6 +29,7 @@ use Rattle.ids.specs.inner.Ids.{id_field}
 use Rattle.ids.specs.inner.Known.{test_of}
 use Rattle.cross.specs.inner.Judged.{id_number, asked_of, Referring}
 use Rattle.cross.proofs.Numbers.{Each, by_number}
+use Rattle.std.specs.Prelude.{None, Some}
 
 -- what holds of a file's shape in a table holds of its sheet's
 by_sheet : (P : Shape → Type 0) (table file : ℕ) → P (file_shape (table_at table) file) → P (sheet_shape (sheet_of table file))
@@ -72,7 +73,7 @@ referring_ids table {file} h =
 
 -- the field of a file's ids, where it has any
 abbrev id_field_in : Shape → ℕ
-id_field_in σ = elim (id_of σ) [ none ↦ 0 | some k ↦ k.field ]
+id_field_in σ = elim (id_of σ) [ None ↦ 0 | Some k ↦ k.field ]
 
 all-fields : (table : ℕ) → Each (λ file. given (id_of (file_shape (table_at table) file)) ≡ true → id_field_in (file_shape (table_at table) file) ≡ id_number file) 1 file_count
 unfolding Each identified
@@ -103,9 +104,9 @@ module _ (table file : ℕ) (h : has_ids (sheet_of table file) ≡ true) where
 sheet_is : (table file : ℕ) → 1 ≤ file → file ≤ file_count → sheet_of table file ≡ file
 unfolding sheet_of tables
 sheet_is table file h i =
-    let some = ne_eqb file 0 (λ e. omega arith) in let few = le-ltb table_files file (omega arith) in
-    by_test (leb (length tables) table) (λ t. rw (sheet_of, some, few, t))
-    (λ t. let k : table < 1 = leb-false 1 table t in rw (sheet_of, some, few, t) (omega arith))
+    let Some = ne_eqb file 0 (λ e. omega arith) in let few = le-ltb table_files file (omega arith) in
+    by_test (leb (length tables) table) (λ t. rw (sheet_of, Some, few, t))
+    (λ t. let k : table < 1 = leb-false 1 table t in rw (sheet_of, Some, few, t) (omega arith))
 
 pub asked_is : (table file : ℕ) → has_ids (sheet_of table file) ≡ true → test_of (sheet_of table file) ≡ asked_of file
 asked_is table file h = ap test_of (sheet_is table file (least-file table file h) (most-file table file h))

@@ -1,6 +1,6 @@
 -- Stage C: document 01, "Stage C", with the conditions, references and sums of the field table. All broken rules of a set of files that are
 -- through stage B; kind 12 is `repeats_in`, as for a file that is judged alone.
-use Rattle.std.specs.Prelude.{Bool, false, not, List, [], ◌∷◌, ◌++◌, ℕ, ◌+◌, eqb}
+use Rattle.std.specs.Prelude.{Bool, false, not, List, [], ◌∷◌, ◌++◌, ℕ, ◌+◌, eqb, None, Some}
 use Rattle.notation.specs.Choice.{◌⇒◌else◌, ◌and◌}
 use Rattle.word.specs.Kinds.{condition, sum_differs}
 use Rattle.schema.specs.Shape.{Table, file_shape}
@@ -8,7 +8,7 @@ use Rattle.schema.specs.Pick.{Picked}
 use Rattle.fault.specs.declared.Fault.{Fault}
 use Rattle.fault.specs.declared.Place.{Place}
 use Rattle.fault.specs.Fault.{top, faulty}
-use Rattle.document.specs.Document.{none, some, field_items, field, text, text_in, spelling, given}
+use Rattle.document.specs.Document.{field_items, field, text, text_in, spelling, given}
 use Rattle.document.specs.Values.{integer_in}
 use Rattle.clean.specs.Clean.{repeats_in}
 use Rattle.ids.specs.References.{kind_if, has_capacity, motorized, named, refers, demanded}
@@ -73,7 +73,7 @@ bike_faults s n x =
     faulty (record_place n 0) 48 (refers (text 48 x) 50 (s 5).records)
 
 unfoldable pub zone_faults : List Picked → ℕ → Picked → List Fault
-zone_faults types n x = elim (field 74 x) [ none ↦ [] | some p ↦ rule_faults types n 1 (field_items 77 p) ]
+zone_faults types n x = elim (field 74 x) [ None ↦ [] | Some p ↦ rule_faults types n 1 (field_items 77 p) ]
 
 -- record after record, the first with the number n
 unfoldable pub each_record : (ℕ → Picked → List Fault) → ℕ → List Picked → List Fault

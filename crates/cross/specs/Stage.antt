@@ -1,5 +1,6 @@
 -- The files of a set, by their bytes: document 01, "The feed set".
-use Rattle.std.specs.Prelude.{true, false, List, [], ◌∷◌, ℕ, get_or}
+use Rattle.std.specs.Prelude.{true, false, List, [], ◌∷◌, map, ℕ, get_or}
+use Rattle.std.specs.Borrow.{Bor}
 use Rattle.schema.specs.Shape.{Table, file_shape}
 use Rattle.clean.specs.Clean.{records_in}
 use Rattle.cross.specs.Cross.{File, Files}
@@ -7,6 +8,10 @@ use Rattle.cross.specs.Cross.{File, Files}
 -- the byte strings of a set, in the order of their numbers
 abbrev pub Feeds : Type 0
 Feeds = List (List ℕ)
+
+-- what each of the references is to
+abbrev pub contents : List (Bor (List ℕ)) → List (List ℕ)
+contents l = map (λ x. x.now) l
 
 -- the bytes of the file with this number, counted from 1; none of 0 and of numbers past the last
 abbrev pub bytes_of : Feeds → ℕ → List ℕ

@@ -14,20 +14,19 @@ use Rattle.radix.proofs.Digits.{at_most}
 use Rattle.lexeme.specs.Read.Read.{done}
 use Rattle.lexeme.specs.Numbers.{digits, both as both', integer, fraction}
 use Rattle.decimal.specs.declared.Decimal.{Decimal}
-use Rattle.decimal.specs.declared.Number.{Number}
-use Rattle.decimal.specs.declared.Number.TheVariants.{Value, Unformed}
 use Rattle.decimal.specs.Decimals.{value_of, decimal_of, formed, behind_point, behind_whole, number_of, unsigned, priced_as, price_of}
-use Rattle.decimal.specs.declared.Price.TheVariants as price
 use Rattle.decimal.specs.Exact.{unit}
 use Rattle.decimal.specs.inner.Formed.{Formed}
 use Rattle.decimal.specs.inner.Spelling.{front}
 use Rattle.decimal.proofs.Runs.{digits-front, front-value, power_split, value-from}
+use Rattle.std.specs.Prelude.{Option, Ok, Err, Some, None}
+use Rattle.decimal.specs.declared.PriceError.TheVariants.{NoNumber}
 
-chosen : (t : Bool) (x : Number) (d : Decimal) → (t ⇒ x else Unformed) ≡ Value d → (t ≡ true) × (x ≡ Value d)
+chosen : (t : Bool) (x : Option Decimal) (d : Decimal) → (t ⇒ x else None) ≡ Some d → (t ≡ true) × (x ≡ Some d)
 chosen true x d e = (refl, e)
 chosen false x d e = let z : ◌≡◌ {A = ℕ} 0 1 = cc in absurd (omega arith)
 
-none : {d : Decimal} → Unformed ≡ Value d → Formed d
+none : {d : Decimal} → None ≡ Some d → Formed d
 none e = let z : ◌≡◌ {A = ℕ} 0 1 = cc in absurd (omega arith)
 
 -- the digits before the point are the run of some text l, and those behind it of some text t
@@ -60,47 +59,47 @@ module _ (negative : Bool) (l t : List ℕ) (h : length (front l) ≤ 12) (k : l
           omega (arith, n, le-mul_of_pos_right f (one-le-pow (18 - length (front t)) 10 (omega arith)))
 
 module _ (negative : Bool) (l : List ℕ) (d : Decimal) where
-  formed-formed : (t : List ℕ) → formed negative (front l) (front t) ≡ Value d → Formed d
+  formed-formed : (t : List ℕ) → formed negative (front l) (front t) ≡ Some d → Formed d
   unfolding formed
   formed-formed t e =
       let within = leb (length (front l)) 12 and leb (length (front t)) 18 in
-      let made = chosen within (Value (decimal_of negative (front l) (front t))) d e in
+      let made = chosen within (Some (decimal_of negative (front l) (front t))) d e in
       let tests = and_both (leb (length (front l)) 12) (leb (length (front t)) 18) made.0 in
       let same : decimal_of negative (front l) (front t) ≡ d = cc in
       subst Formed same (decimal-formed negative l t (leb-true _ _ tests.0) (leb-true _ _ tests.1))
 
-  point-formed : (t : List ℕ) → behind_point negative (front l) (digits t) ≡ Value d → Formed d
+  point-formed : (t : List ℕ) → behind_point negative (front l) (digits t) ≡ Some d → Formed d
   unfolding behind_point
   point-formed t e = go (drop (length (front t)) t) (rw (digits-front t) at e)
     where
-      go : (r : List ℕ) → behind_point negative (front l) (done (front t) r) ≡ Value d → Formed d
+      go : (r : List ℕ) → behind_point negative (front l) (done (front t) r) ≡ Some d → Formed d
       go [] e = formed-formed t e
       go (b ∷ r) e = none e
 
-  whole-formed : behind_whole negative (digits l) ≡ Value d → Formed d
+  whole-formed : behind_whole negative (digits l) ≡ Some d → Formed d
   unfolding behind_whole
   whole-formed e = go (drop (length (front l)) l) (rw (digits-front l) at e)
     where
-      go : (r : List ℕ) → behind_whole negative (done (front l) r) ≡ Value d → Formed d
+      go : (r : List ℕ) → behind_whole negative (done (front l) r) ≡ Some d → Formed d
       go [] e = formed-formed [] (unfold front in e)
       go (b ∷ r) e = point-formed r (chosen (eqb b 0x2e) (behind_point negative (front l) (digits r)) d e).1
 
 -- what is read of a spelling
-pub number-formed : (s : List ℕ) (d : Decimal) → number_of s ≡ Value d → Formed d
+pub number-formed : (s : List ℕ) (d : Decimal) → number_of s ≡ Some d → Formed d
 unfolding number_of
 number-formed [] d e = none e
 number-formed (b ∷ r) d e = go (eqb b 0x2d) e
   where
-    go : (t : Bool) → (t ⇒ behind_whole true (digits r) else behind_whole false (digits (b ∷ r))) ≡ Value d → Formed d
+    go : (t : Bool) → (t ⇒ behind_whole true (digits r) else behind_whole false (digits (b ∷ r))) ≡ Some d → Formed d
     go true e = whole-formed true r d e
     go false e = whole-formed false (b ∷ r) d e
 
 -- what is read of a price's text
-pub price-formed : (s : List ℕ) (d : Decimal) → price_of s ≡ price.Value d → Formed d
+pub price-formed : (s : List ℕ) (d : Decimal) → price_of s ≡ Ok d → Formed d
 unfolding price_of
 price-formed s d e = go (unsigned (both' integer fraction s)) (number_of s) refl e
   where
-    go : (t : Bool) (n : Number) → number_of s ≡ n → (t ⇒ priced_as n else price.NoNumber) ≡ price.Value d → Formed d
-    go true (Value x) q e = number-formed s d (q ∙ let same : x ≡ d = cc in ap Value same)
-    go true Unformed q e = let z : ◌≡◌ {A = ℕ} 0 1 = cc in absurd (omega arith)
+    go : (t : Bool) (n : Option Decimal) → number_of s ≡ n → (t ⇒ priced_as n else Err NoNumber) ≡ Ok d → Formed d
+    go true (Some x) q e = number-formed s d (q ∙ let same : x ≡ d = cc in ap Some same)
+    go true None q e = let z : ◌≡◌ {A = ℕ} 0 1 = cc in absurd (omega arith)
     go false n q e = let z : ◌≡◌ {A = ℕ} 0 1 = cc in absurd (omega arith)

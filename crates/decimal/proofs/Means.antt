@@ -20,11 +20,11 @@ use Rattle.lexeme.specs.Read.Read.{done}
 use Rattle.lexeme.specs.Character.{within}
 use Rattle.lexeme.specs.Numbers.{digit, digits}
 use Rattle.decimal.specs.declared.Decimal.{Decimal}
-use Rattle.decimal.specs.declared.Number.TheVariants.{Value}
 use Rattle.decimal.specs.Decimals.{tens, value_of, decimal_of, formed, behind_point, behind_whole, number_of}
 use Rattle.decimal.specs.Exact.{unit, exact}
 use Rattle.decimal.specs.inner.Spelling.{front, value_from}
 use Rattle.decimal.proofs.Runs.{digit-range, digits-front, front-digit, front-other, front_fit, tens-weight, power_split, value-from}
+use Rattle.std.specs.Prelude.{Some}
 
 -- nothing but digits
 abbrev pub Digits : List ℕ → Type 0
@@ -39,7 +39,7 @@ after false s = s
 -- a spelling stands for z parts of 10^-18
 pub record Spells (s : List ℕ) (z : ℤ) : Type 0 where
   pub decimal : Decimal
-  pub reads : number_of s ≡ Value decimal
+  pub reads : number_of s ≡ Some decimal
   pub value : exact decimal ≡ z
 
 front_of : (w r : List ℕ) → Digits w → front r ≡ [] → front (w ++ r) ≡ w
@@ -104,16 +104,16 @@ joined w f h k =
     ))
 
 module _ (negative : Bool) (w : List ℕ) (hw : Digits w) (kw : length w ≤ 12) where
-  spelled : (f : List ℕ) → length f ≤ 18 → formed negative w f ≡ Value (decimal_of negative w f)
+  spelled : (f : List ℕ) → length f ≤ 18 → formed negative w f ≡ Some (decimal_of negative w f)
   unfolding formed
   spelled f kf = rw (le-leb (length w) 12 kw, le-leb (length f) 18 kf)
 
-  point-of : (f : List ℕ) → Digits f → length f ≤ 18 → behind_whole negative (digits (w ++ 0x2e ∷ f)) ≡ Value (decimal_of negative w f)
+  point-of : (f : List ℕ) → Digits f → length f ≤ 18 → behind_whole negative (digits (w ++ 0x2e ∷ f)) ≡ Some (decimal_of negative w f)
   unfolding behind_whole behind_point
   point-of f hf kf =
       rw (digits_of w (0x2e ∷ f) hw (front-other 0x2e f (unfold digit within in refl)), whole-text f hf) (spelled f kf)
 
-  whole_of : behind_whole negative (digits w) ≡ Value (decimal_of negative w [])
+  whole_of : behind_whole negative (digits w) ≡ Some (decimal_of negative w [])
   unfolding behind_whole
   whole_of = rw (whole-text w hw) (spelled [] (omega arith))
 

@@ -15,8 +15,6 @@ use Rattle.lexeme.specs.Read.{Read, then, made as changed}
 use Rattle.lexeme.specs.Read.Read.{done, bad}
 use Rattle.lexeme.specs.Character.{within}
 use Rattle.lexeme.specs.Numbers.{digit, digits, some_digits, optional, both, integer, fraction}
-use Rattle.decimal.specs.declared.Price.{Price}
-use Rattle.decimal.specs.declared.Price.TheVariants.{NoNumber}
 use Rattle.decimal.specs.declared.spelling.Run.{Run}
 use Rattle.decimal.specs.declared.quoted.Phase.{Phase}
 use Rattle.decimal.specs.declared.quoted.Phase.TheVariants.{Zero, Whole, Part}
@@ -27,9 +25,13 @@ use Rattle.decimal.specs.inner.Priced.{none, longer, beginning, progress, start,
 use Rattle.decimal.proofs.Runs.{digit-range, beyond, digits-front, front-digit, front-other}
 use Rattle.decimal.proofs.Spelled.{number-plain, formed-long, formed-is, formed-deep}
 use Rattle.decimal.proofs.Progress.{longer-more, longer-full, step-digit, step-point, step_other}
+use Rattle.std.specs.Prelude.{Result, Err}
+use Rattle.decimal.specs.declared.Decimal.{Decimal}
+use Rattle.decimal.specs.declared.PriceError.{PriceError}
+use Rattle.decimal.specs.declared.PriceError.TheVariants.{NoNumber}
 
 -- the price where the text ends
-abbrev verdict : Progress → Price
+abbrev verdict : Progress → Result Decimal PriceError
 verdict p = finished p p.phase
 
 -- a run with more digits
@@ -102,7 +104,7 @@ unfolding steps
 lost-steps [] = refl
 lost-steps (b ∷ l) = rw (lost-step b) (lost-steps l)
 
-lost-from : (p : Progress) (b : ℕ) (l : List ℕ) → step p b ≡ lost → verdict (steps p (b ∷ l)) ≡ NoNumber
+lost-from : (p : Progress) (b : ℕ) (l : List ℕ) → step p b ≡ lost → verdict (steps p (b ∷ l)) ≡ Err NoNumber
 unfolding steps finished
 lost-from p b l e =
     let q : steps p (b ∷ l) ≡ lost = rw e (lost-steps l) in
@@ -143,8 +145,8 @@ follows (b ∷ l) = go (digit b) refl (follows l)
     go false e ih = rw (front-other b l e) (other e)
 
 -- Behind the point: digits to the end, at least one.
-abbrev pointed : List ℕ → List ℕ → Price
-pointed ds t = unsigned (some_digits t) ⇒ priced_as (behind_point false ds (digits t)) else NoNumber
+abbrev pointed : List ℕ → List ℕ → Result Decimal PriceError
+pointed ds t = unsigned (some_digits t) ⇒ priced_as (behind_point false ds (digits t)) else Err NoNumber
 
 unsigned-made : (g : List ℕ → List ℕ) (o : Read (List ℕ)) → unsigned (changed g o) ≡ unsigned o
 unfolding unsigned changed
@@ -166,7 +168,7 @@ part-lost w r b e = go (eqb b 0x2e) refl
 
 module _ (ds : List ℕ) where
   part_end : (c : ℕ) (fs q : List ℕ) → Follows q → verdict (steps (progress Part (lengthened 12 none ds) (lengthened 18 none (c ∷ fs))) q)
-      ≡ (unsigned (done (c ∷ fs) q) ⇒ priced_as (behind_point false ds (done (c ∷ fs) q)) else NoNumber)
+      ≡ (unsigned (done (c ∷ fs) q) ⇒ priced_as (behind_point false ds (done (c ∷ fs) q)) else Err NoNumber)
   unfolding steps unsigned behind_point finished
   part_end c fs [] ends = rw (ne_eqb _ 0 (some-digits 18 c fs)) (priced-digits Part ds (c ∷ fs))
   part_end c fs (b ∷ r) (other e) = lost-from _ b r (part-lost _ _ b e)
@@ -186,15 +188,15 @@ module _ (ds : List ℕ) where
       go false e = lost-from (progress Part w none) c u (part-lost w none c e) ∙ rw e
 
 -- Behind the whole digits: the end, or a point.
-abbrev tail : List ℕ → List ℕ → Price
-tail ds r = unsigned (fraction r) ⇒ priced_as (behind_whole false (done ds r)) else NoNumber
+abbrev tail : List ℕ → List ℕ → Result Decimal PriceError
+tail ds r = unsigned (fraction r) ⇒ priced_as (behind_whole false (done ds r)) else Err NoNumber
 
 module _ (ds : List ℕ) (b : ℕ) (t : List ℕ) where
   tail-point : eqb b 0x2e ≡ true → pointed ds t ≡ tail ds (b ∷ t)
   unfolding fraction optional behind_whole
   tail-point e = rw (e, unsigned-made (λ y. b ∷ y) (some_digits t))
 
-  tail-other : eqb b 0x2e ≡ false → NoNumber ≡ tail ds (b ∷ t)
+  tail-other : eqb b 0x2e ≡ false → Err NoNumber ≡ tail ds (b ∷ t)
   unfolding fraction optional unsigned
   tail-other e = rw e
 
@@ -241,7 +243,7 @@ module _ (s x r : List ℕ) (e : integer s ≡ done x r) where
   unfolding price_of both then
   price-tail q = rw (e, unsigned-made (λ y. x ++ y) (fraction r), q)
 
-  price-none : unsigned (fraction r) ≡ false → NoNumber ≡ price_of s
+  price-none : unsigned (fraction r) ≡ false → Err NoNumber ≡ price_of s
   unfolding price_of both then
   price-none q = rw (e, unsigned-made (λ y. x ++ y) (fraction r), q)
 
@@ -269,7 +271,7 @@ zero-digit : (b : ℕ) → b ≡ 0x30 → digit b ≡ true
 unfolding digit within
 zero-digit b q = rw q
 
-price-other : (b : ℕ) (r : List ℕ) → digit b ≡ false → NoNumber ≡ price_of (b ∷ r)
+price-other : (b : ℕ) (r : List ℕ) → digit b ≡ false → Err NoNumber ≡ price_of (b ∷ r)
 unfolding price_of both then integer some_digits unsigned
 price-other b r e =
     let n : eqb b 0x30 ≡ false = ne_eqb b 0x30 (λ q. let z : ◌≡◌ {A = ℕ} 0 1 = cc (zero-digit b q) in omega arith) in rw (n, e)

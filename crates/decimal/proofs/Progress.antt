@@ -10,7 +10,6 @@ use Rattle.notation.specs.Choice.{◌⇒◌else◌, ◌and◌}
 use Rattle.radix.proofs.Digits.{one_more_lem}
 use Rattle.lexeme.specs.Numbers.{digit}
 use Rattle.decimal.specs.declared.Decimal.{Decimal}
-use Rattle.decimal.specs.declared.Price.TheVariants.{Value, Unformed, NoNumber}
 use Rattle.decimal.specs.declared.spelling.Run.{Run}
 use Rattle.decimal.specs.declared.quoted.Phase.{Phase}
 use Rattle.decimal.specs.declared.quoted.Phase.TheVariants.{Start, Zero, Whole, Part, Lost}
@@ -18,6 +17,8 @@ use Rattle.decimal.specs.declared.quoted.Progress.{Progress}
 use Rattle.decimal.specs.inner.Priced.{longer, lost, start, on_digit, on_point, step, steps, price_so, finished, Held}
 use Rattle.decimal.specs.inner.Spelling.{made}
 use Rattle.decimal.proofs.Runs.{digit-range}
+use Rattle.std.specs.Prelude.{Ok, Err}
+use Rattle.decimal.specs.declared.PriceError.TheVariants.{Unformed, NoNumber}
 
 -- one digit more, within the most digits and past them
 module _ (most : ℕ) (r : Run) (b : ℕ) where
@@ -106,7 +107,7 @@ unfolding steps
 steps_next p e = sym (ap (steps p) e)
 
 -- where the text ends behind the point
-pub part_none : (p : Progress) → p.part.count ≡ 0 → NoNumber ≡ finished p Part
+pub part_none : (p : Progress) → p.part.count ≡ 0 → Err NoNumber ≡ finished p Part
 unfolding finished
 part_none p e = rw (eq-eqb p.part.count 0 e)
 
@@ -115,29 +116,29 @@ unfolding finished
 part-some p n = rw (ne_eqb p.part.count 0 n)
 
 -- a price in the form: it has no more digits behind the point than it may, and is the number of its digits
-no_value : {A : Type 0} {d : Decimal} → NoNumber ≡ Value d → A
+no_value : {A : Type 0} {d : Decimal} → Err NoNumber ≡ Ok d → A
 no_value e = let z : ◌≡◌ {A = ℕ} 0 1 = cc in absurd (omega arith)
 
 module _ (p : Progress) (d : Decimal) where
-  price_so_lem : (f : Phase) → finished p f ≡ Value d → price_so p ≡ Value d
+  price_so_lem : (f : Phase) → finished p f ≡ Ok d → price_so p ≡ Ok d
   unfolding finished
   price_so_lem Start e = no_value e
   price_so_lem Zero e = e
   price_so_lem Whole e = e
   price_so_lem Part e = go (eqb p.part.count 0) e
     where
-      go : (t : Bool) → (t ⇒ NoNumber else price_so p) ≡ Value d → price_so p ≡ Value d
+      go : (t : Bool) → (t ⇒ Err NoNumber else price_so p) ≡ Ok d → price_so p ≡ Ok d
       go true e = no_value e
       go false e = e
   price_so_lem Lost e = no_value e
 
-  pub price-digits : finished p p.phase ≡ Value d
+  pub price-digits : finished p p.phase ≡ Ok d
       → (p.part.count ≤ 18) × (made false p.whole.value p.part.value p.part.count ≡ d)
   unfolding price_so
   price-digits e = go (leb p.whole.count 12) (leb p.part.count 18) refl (price_so_lem p.phase e)
     where
       go : (a b : Bool) → leb p.part.count 18 ≡ b
-          → (a and b ⇒ Value (made false p.whole.value p.part.value p.part.count) else Unformed) ≡ Value d
+          → (a and b ⇒ Ok (made false p.whole.value p.part.value p.part.count) else Err Unformed) ≡ Ok d
           → (p.part.count ≤ 18) × (made false p.whole.value p.part.value p.part.count ≡ d)
       go true true h e = (leb-true _ _ h, cc)
       go true false h e = let z : ◌≡◌ {A = ℕ} 0 1 = cc in absurd (omega arith)

@@ -11,6 +11,8 @@ use lib.Dec.{eqb}
 use lib.ListN.{length, get_or, take, drop, drop_of_length-le, length-take, length-drop}
 use lib.Seq.{take_all}
 use borrow.Author.Tests.{eq-eqb, ne_eqb, le-leb, lt-leb}
+use Rattle.std.specs.List.{list_any}
+use Rattle.notation.proofs.Booleans.{either-is}
 use Rattle.notation.specs.Choice.{◌⇒◌else◌, ◌and◌}
 use Rattle.notation.proofs.Lists.{at_cons}
 use Rattle.radix.specs.Radix.{number_from}
@@ -18,15 +20,14 @@ use Rattle.lexeme.specs.Read.{Read}
 use Rattle.lexeme.specs.Read.Read.{done, bad}
 use Rattle.lexeme.specs.Numbers.{digits}
 use Rattle.decimal.specs.declared.Decimal.{Decimal}
-use Rattle.decimal.specs.declared.Number.{Number}
-use Rattle.decimal.specs.declared.Number.TheVariants.{Value, Unformed}
 use Rattle.decimal.specs.declared.spelling.Run.{Run}
 use Rattle.decimal.specs.Decimals.{decimal_of, formed, behind_point, behind_whole, number_of, has_point}
 use Rattle.decimal.specs.inner.Spelling.{front, value_from, run_from, made, fraction_of}
 use Rattle.decimal.specs.inner.Formed.{IsNumber}
 use Rattle.decimal.proofs.Runs.{digit-range, digits-front, front_length, front_at, front-all, front-take, value-from, run_count, run_value}
+use Rattle.std.specs.Prelude.{Option, Some, None}
 
-no_value : {A : Type 0} {d : Decimal} → Unformed ≡ Value d → A
+no_value : {A : Type 0} {d : Decimal} → None ≡ Some d → A
 no_value e = let z : ◌≡◌ {A = ℕ} 0 1 = cc in absurd (omega arith)
 
 -- a sign counts only where the number is not 0
@@ -38,6 +39,8 @@ pub sign-lost : (negative : Bool) (n : ℕ) → n ≡ 0 → false ≡ (negative 
 sign-lost true n h = rw (eq-eqb n 0 h)
 sign-lost false n h = refl
 
+pub ruleset sign_rules = (sign_kept, sign-lost)
+
 -- scaling, digit by digit
 pub scale_next : (v n : ℕ) → n < 18 → v * 10 * 10 ^ (18 - (n + 1)) ≡ v * 10 ^ (18 - n)
 scale_next v n h = let e : 18 - n ≡ suc (18 - (n + 1)) = omega arith in rw (e, pow-succ' 10 (18 - (n + 1)), mul_assoc)
@@ -47,16 +50,16 @@ scale_end v n h = let z : 18 - n ≡ 0 = omega arith in rw z (sym (mul-one v))
 
 -- the fraction's bytes: too many, not digits to the end, digits to the end
 module _ (negative : Bool) (whole : ℕ) (l : List ℕ) where
-  pub fraction-long : 18 < length l → Unformed ≡ fraction_of negative whole l
+  pub fraction-long : 18 < length l → None ≡ fraction_of negative whole l
   unfolding fraction_of
   fraction-long h = rw (lt-leb (length l) 18 h)
 
   module _ (h : length l ≤ 18) where
-    pub fraction-other : (length (front l) ≡ length l → ⊥) → Unformed ≡ fraction_of negative whole l
+    pub fraction-other : (length (front l) ≡ length l → ⊥) → None ≡ fraction_of negative whole l
     unfolding fraction_of
     fraction-other n = rw (le-leb (length l) 18 h, ne_eqb (length (front l)) (length l) n)
 
-    pub fraction-digits : length (front l) ≡ length l → Value (made negative whole (value_from 0 (front l)) (length l)) ≡ fraction_of negative whole l
+    pub fraction-digits : length (front l) ≡ length l → Some (made negative whole (value_from 0 (front l)) (length l)) ≡ fraction_of negative whole l
     unfolding fraction_of
     fraction-digits q = rw (le-leb (length l) 18 h, eq-eqb (length (front l)) (length l) q)
 
@@ -65,41 +68,41 @@ module _ (negative : Bool) (whole : ℕ) (l : List ℕ) (h : length l ≤ 18) (r
   fraction-count : r.count ≡ length (front l)
   fraction-count = ap (λ (x : Run). x.count) e ∙ run_count l
 
-  pub fraction_run_other : (r.count ≡ length l → ⊥) → Unformed ≡ fraction_of negative whole l
+  pub fraction_run_other : (r.count ≡ length l → ⊥) → None ≡ fraction_of negative whole l
   fraction_run_other n = fraction-other negative whole l h (λ q. n (fraction-count ∙ q))
 
-  pub fraction_run_digits : r.count ≡ length l → Value (made negative whole r.value r.count) ≡ fraction_of negative whole l
+  pub fraction_run_digits : r.count ≡ length l → Some (made negative whole r.value r.count) ≡ fraction_of negative whole l
   fraction_run_digits q =
       rw (q, ap (λ (x : Run). x.value) e, run_value l) (fraction-digits negative whole l h (sym fraction-count ∙ q))
 
 -- the form's definition against the code's
-pub formed-long : (negative : Bool) (before behind : List ℕ) → 12 < length before → formed negative before behind ≡ Unformed
+pub formed-long : (negative : Bool) (before behind : List ℕ) → 12 < length before → formed negative before behind ≡ None
 unfolding formed
 formed-long negative before behind h = rw (lt-leb (length before) 12 h)
 
-point-long : (negative : Bool) (before : List ℕ) (o : Read (List ℕ)) → 12 < length before → behind_point negative before o ≡ Unformed
+point-long : (negative : Bool) (before : List ℕ) (o : Read (List ℕ)) → 12 < length before → behind_point negative before o ≡ None
 unfolding behind_point
 point-long negative before (done behind []) h = formed-long negative before behind h
 point-long negative before (done behind (b ∷ r)) h = refl
 point-long negative before (bad k r) h = refl
 
-same_arms : (t : Bool) {x : Number} → x ≡ Unformed → (t ⇒ x else Unformed) ≡ Unformed
+same_arms : (t : Bool) {x : Option Decimal} → x ≡ None → (t ⇒ x else None) ≡ None
 same_arms true e = e
 same_arms false e = refl
 
 -- a digit too many
-whole_long : (negative : Bool) (before r : List ℕ) → 12 < length before → behind_whole negative (done before r) ≡ Unformed
+whole_long : (negative : Bool) (before r : List ℕ) → 12 < length before → behind_whole negative (done before r) ≡ None
 unfolding behind_whole
 whole_long negative before [] h = formed-long negative before [] h
 whole_long negative before (b ∷ r) h = same_arms (eqb b 0x2e) (point-long negative before (digits r) h)
 
 -- no digit too many: the code's number is the definition's
 pub formed-is : (negative : Bool) (before behind : List ℕ) → length before ≤ 12 → length behind ≤ 18 →
-    formed negative before behind ≡ Value (made negative (value_from 0 before) (value_from 0 behind) (length behind))
+    formed negative before behind ≡ Some (made negative (value_from 0 before) (value_from 0 behind) (length behind))
 unfolding formed decimal_of made
 formed-is negative before behind h k = rw (le-leb (length before) 12 h, le-leb (length behind) 18 k, value-from before, value-from behind)
 
-pub formed-deep : (negative : Bool) (before behind : List ℕ) → length before ≤ 12 → 18 < length behind → formed negative before behind ≡ Unformed
+pub formed-deep : (negative : Bool) (before behind : List ℕ) → length before ≤ 12 → 18 < length behind → formed negative before behind ≡ None
 unfolding formed
 formed-deep negative before behind h k = rw (le-leb (length before) 12 h, lt-leb (length behind) 18 k)
 
@@ -111,7 +114,7 @@ module _ (negative : Bool) (before t : List ℕ) where
       let z : length t ≤ length (front t) = omega arith in
       rw (digits-front t, drop_of_length-le t z, front-all t q)
 
-  point-some : length (front t) < length t → behind_point negative before (digits t) ≡ Unformed
+  point-some : length (front t) < length t → behind_point negative before (digits t) ≡ None
   unfolding behind_point
   point-some a = rw (digits-front t, at_cons t (length (front t)) a)
 
@@ -147,7 +150,7 @@ module _ (negative : Bool) (l : List ℕ) (r : Run) (e : r ≡ run_from 0 0 (tak
       let k : length (front l) ≤ m = omega (arith, front_length l) in
       ap (λ (x : Run). x.value) e ∙ run_value (take m l) ∙ ap (value_from 0) (front-take m l ∙ take_all m (front l) k)
 
-  pub whole-only : length l ≤ r.count → Value (made negative r.value 0 0) ≡ behind_whole negative (digits l)
+  pub whole-only : length l ≤ r.count → Some (made negative r.value 0 0) ≡ behind_whole negative (digits l)
   unfolding behind_whole value_from number_from
   whole-only h =
       let q : length (front l) ≡ length l = omega (arith, counted, front_length l) in
@@ -156,7 +159,7 @@ module _ (negative : Bool) (l : List ℕ) (r : Run) (e : r ≡ run_from 0 0 (tak
       rw (valued k, digits-front l, drop_of_length-le l z) (sym (formed-is negative (front l) [] k (omega arith)))
 
   module _ (h : r.count < length l) where
-    no_more : (length (front l) ≤ 12 → ⊥) → behind_whole negative (digits l) ≡ Unformed
+    no_more : (length (front l) ≤ 12 → ⊥) → behind_whole negative (digits l) ≡ None
     no_more n = rw (digits-front l) (whole_long negative (front l) _ (omega arith))
 
     here : length (front l) ≤ 12 → r.count ≡ length (front l)
@@ -165,7 +168,7 @@ module _ (negative : Bool) (l : List ℕ) (r : Run) (e : r ≡ run_from 0 0 (tak
     rest : length (front l) ≤ 12 → digits l ≡ done (front l) (get_or l r.count 0 ∷ drop (r.count + 1) l)
     rest k = digits-front l ∙ ap (done (front l)) (rw (here k) (at_cons l (length (front l)) (rw (here k) at h)))
 
-    pub no-point : (get_or l r.count 0 ≡ 0x2e → ⊥) → Unformed ≡ behind_whole negative (digits l)
+    pub no-point : (get_or l r.count 0 ≡ 0x2e → ⊥) → None ≡ behind_whole negative (digits l)
     unfolding behind_whole
     no-point n = elim (dec_le (length (front l)) 12) [
       | yes k ↦ rw (rest k, ne_eqb (get_or l r.count 0) 0x2e n)
@@ -184,7 +187,7 @@ module _ (negative : Bool) (l : List ℕ) (r : Run) (e : r ≡ run_from 0 0 (tak
       point-there : get_or l r.count 0 ≡ 0x2e
       point-there = elim (ℕ_discrete (get_or l r.count 0) 0x2e) [ yes p ↦ p | no n ↦ no_value (no-point n ∙ v.1) ]
 
-      fraction-there : fraction_of negative r.value (drop (r.count + 1) l) ≡ Value v.0
+      fraction-there : fraction_of negative r.value (drop (r.count + 1) l) ≡ Some v.0
       fraction-there = point point-there ∙ v.1
 
       pub part-short : length (drop (r.count + 1) l) ≤ 18
@@ -193,14 +196,14 @@ module _ (negative : Bool) (l : List ℕ) (r : Run) (e : r ≡ run_from 0 0 (tak
         | no k ↦ no_value (fraction-long negative r.value (drop (r.count + 1) l) (omega arith) ∙ fraction-there)
       ]
 
-      pub part-digits : (q : Run) → q ≡ run_from 0 0 (drop (r.count + 1) l) → Value (made negative r.value q.value q.count) ≡ behind_whole negative (digits l)
+      pub part-digits : (q : Run) → q ≡ run_from 0 0 (drop (r.count + 1) l) → Some (made negative r.value q.value q.count) ≡ behind_whole negative (digits l)
       part-digits q w = elim (ℕ_discrete q.count (length (drop (r.count + 1) l))) [
         | yes k ↦ fraction_run_digits negative r.value (drop (r.count + 1) l) part-short q w k ∙ point point-there
         | no k ↦ no_value (fraction_run_other negative r.value (drop (r.count + 1) l) part-short q w k ∙ fraction-there)
       ]
 
 -- the sign
-pub number-none : (s : List ℕ) → length s ≡ 0 → Unformed ≡ number_of s
+pub number-none : (s : List ℕ) → length s ≡ 0 → None ≡ number_of s
 unfolding number_of
 number-none [] h = refl
 number-none (b ∷ s) h = absurd (omega arith)
@@ -219,17 +222,10 @@ number-plain [] h e = absurd (h refl)
 number-plain (b ∷ s) h e = rw (ne_eqb b 0x2d e)
 
 -- the search for a point
-pub point-here : (s : List ℕ) (i : ℕ) → i < length s → get_or s i 0 ≡ 0x2e → true ≡ has_point (drop i s)
+pub point_any : (s : List ℕ) → list_any (λ b. eqb b 0x2e) s ≡ has_point s
 unfolding has_point
-point-here s i h e = rw (at_cons s i h, eq-eqb (get_or s i 0) 0x2e e, has_point)
-
-pub point-later : (s : List ℕ) (i : ℕ) → i < length s → (get_or s i 0 ≡ 0x2e → ⊥) → has_point (drop (i + 1) s) ≡ has_point (drop i s)
-unfolding has_point
-point-later s i h e = rw (at_cons s i h, ne_eqb (get_or s i 0) 0x2e e, has_point)
-
-pub point-nowhere : (s : List ℕ) (i : ℕ) → length s ≤ i → false ≡ has_point (drop i s)
-unfolding has_point
-point-nowhere s i h = rw (drop_of_length-le s h)
+point_any [] = refl
+point_any (b ∷ s) = either-is (eqb b 0x2e) _ ∙ ap (λ t. eqb b 0x2e ⇒ true else t) (point_any s)
 
 -- what a part from place k to the end is
 pub part-from : (l : List ℕ) (k : ℕ) → take (length l - k) (drop k l) ≡ drop k l

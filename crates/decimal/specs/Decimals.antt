@@ -1,15 +1,13 @@
 -- The form of listed numbers: document 01, "Numbers". It bounds the digits on either side of the point and admits no exponent.
-use Rattle.std.specs.Prelude.{Bool, true, false, not, List, [], ◌∷◌, map, ℕ, ◌+◌, ◌-◌, ◌*◌, ◌^◌, eqb, leb, length}
+use Rattle.std.specs.Prelude.{Bool, true, false, not, List, [], ◌∷◌, map, ℕ, ◌+◌, ◌-◌, ◌*◌, ◌^◌, eqb, leb, length, Option, Result, Some, None, Ok, Err}
 use Rattle.notation.specs.Choice.{◌⇒◌else◌, ◌and◌}
 use Rattle.radix.specs.Radix.{number}
 use Rattle.lexeme.specs.Read.{Read}
 use Rattle.lexeme.specs.Read.Read.{done, bad}
 use Rattle.lexeme.specs.Numbers.{digits, both, integer, fraction}
 use Rattle.decimal.specs.declared.Decimal.{Decimal}
-use Rattle.decimal.specs.declared.Number.{Number}
-use Rattle.decimal.specs.declared.Price.{Price}
-use Rattle.decimal.specs.declared.Number.TheVariants as number
-use Rattle.decimal.specs.declared.Price.TheVariants as price
+use Rattle.decimal.specs.declared.PriceError.{PriceError}
+use Rattle.decimal.specs.declared.PriceError.TheVariants.{Unformed, NoNumber}
 
 -- the most digits before and after the point
 abbrev pub whole_digits : ℕ
@@ -35,25 +33,25 @@ decimal_of negative before behind =
       part = value_of behind * 10 ^ (part_digits - length behind);
     }
 
-unfoldable pub formed : Bool → List ℕ → List ℕ → Number
+unfoldable pub formed : Bool → List ℕ → List ℕ → Option Decimal
 formed negative before behind =
-    leb (length before) whole_digits and leb (length behind) part_digits ⇒ number.Value (decimal_of negative before behind) else
-    number.Unformed
+    leb (length before) whole_digits and leb (length behind) part_digits ⇒ Some (decimal_of negative before behind) else
+    None
 
 -- what follows the point, and what follows the digits before it: the end, or a point; anything else, as an exponent, is not of the form
-unfoldable pub behind_point : Bool → List ℕ → Read (List ℕ) → Number
+unfoldable pub behind_point : Bool → List ℕ → Read (List ℕ) → Option Decimal
 behind_point negative before (done behind []) = formed negative before behind
-behind_point negative before (done behind (b ∷ r)) = number.Unformed
-behind_point negative before (bad k r) = number.Unformed
+behind_point negative before (done behind (b ∷ r)) = None
+behind_point negative before (bad k r) = None
 
-unfoldable pub behind_whole : Bool → Read (List ℕ) → Number
+unfoldable pub behind_whole : Bool → Read (List ℕ) → Option Decimal
 behind_whole negative (done before []) = formed negative before []
-behind_whole negative (done before (b ∷ r)) = eqb b 0x2e ⇒ behind_point negative before (digits r) else number.Unformed
-behind_whole negative (bad k r) = number.Unformed
+behind_whole negative (done before (b ∷ r)) = eqb b 0x2e ⇒ behind_point negative before (digits r) else None
+behind_whole negative (bad k r) = None
 
 -- the number that a spelling stands for
-unfoldable pub number_of : List ℕ → Number
-number_of [] = number.Unformed
+unfoldable pub number_of : List ℕ → Option Decimal
+number_of [] = None
 number_of (b ∷ r) = eqb b 0x2d ⇒ behind_whole true (digits r) else behind_whole false (digits (b ∷ r))
 
 -- the spelling has a point: no integer has one
@@ -67,10 +65,10 @@ unsigned (done x []) = true
 unsigned (done x (b ∷ r)) = false
 unsigned (bad k r) = false
 
-abbrev pub priced_as : Number → Price
-priced_as (number.Value d) = price.Value d
-priced_as number.Unformed = price.Unformed
+abbrev pub priced_as : Option Decimal → Result Decimal PriceError
+priced_as (Some d) = Ok d
+priced_as None = Err Unformed
 
 -- the price that the text of a string stands for
-unfoldable pub price_of : List ℕ → Price
-price_of s = unsigned (both integer fraction s) ⇒ priced_as (number_of s) else price.NoNumber
+unfoldable pub price_of : List ℕ → Result Decimal PriceError
+price_of s = unsigned (both integer fraction s) ⇒ priced_as (number_of s) else Err NoNumber

@@ -1,13 +1,11 @@
 -- A number's exact value, in parts of 10^-18, and what document 01's "Numbers" asks of it: ranges on the exact value,
 -- coordinates rounded to millionths (document 02, W3), money in ten-thousandths.
-use Rattle.std.specs.Prelude.{Bool, ℕ, ◌+◌, ◌*◌, ◌/◌, ◌%◌, eqb, ℤ, pos, neg_ℤ}
+use Rattle.std.specs.Prelude.{Bool, ℕ, ◌+◌, ◌*◌, ◌/◌, ◌%◌, eqb, ℤ, pos, neg_ℤ, Option, Some, None}
 use Rattle.std.specs.Int.Signed.{le_z}
 use Rattle.notation.specs.Choice.{◌⇒◌else◌, ◌and◌}
 use Rattle.signed.specs.Signed.{signed}
 use Rattle.decimal.specs.declared.Decimal.{Decimal}
 use Rattle.decimal.specs.declared.Amount.{Amount}
-use Rattle.decimal.specs.declared.Money.{Money}
-use Rattle.decimal.specs.declared.Money.TheVariants.{Is, Outside}
 
 -- 1, in parts
 abbrev pub unit : ℕ
@@ -47,8 +45,8 @@ millionths d = signed d.negative (nearest (size d))
 abbrev pub amount_of : Decimal → Amount
 amount_of d = record { negative = d.negative; size = size d / 100_000_000_000_000 }
 
-unfoldable pub money_of : Decimal → Money
-money_of d = in_range 1_000_000 d and eqb (size d % 100_000_000_000_000) 0 ⇒ Is (amount_of d) else Outside
+unfoldable pub money_of : Decimal → Option Amount
+money_of d = in_range 1_000_000 d and eqb (size d % 100_000_000_000_000) 0 ⇒ Some (amount_of d) else None
 
 -- an amount in ten-thousandths
 unfoldable pub ten_thousandths : Amount → ℤ

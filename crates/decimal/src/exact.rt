@@ -2,10 +2,10 @@
 ghost use Rattle.std.specs.Prelude.{true, ◌≡◌, ◌*◌, ◌≤◌};
 ghost use Rattle.signed.specs.Signed.{signed};
 ghost use Rattle.signed.specs.inner.Difference.{difference};
-ghost use Rattle.decimal.specs.Exact.{natural as naturalOf, portion as portionOf, in_range, amount_of, money_of, millionths};
+ghost use Rattle.decimal.specs.Exact.{natural, portion, in_range, amount_of, money_of, millionths};
 ghost use Rattle.decimal.specs.inner.Formed.{Formed};
 
-use crate::{Amount, Decimal, Money};
+use crate::{Amount, Decimal};
 
 impl Decimal {
     // The greatest amount of money either way, and the parts of 10^-18 in a ten-thousandth, in a millionth and in half a millionth.
@@ -20,35 +20,28 @@ impl Decimal {
     // At least 0.
     pub fn natural(self) -> bool
         requires { Formed self }
-        ensures { result ≡ naturalOf self }
+        ensures { result ≡ natural self }
     {
         !self.negative
     }
 
     // From -k to k.
     // Shut out: a test on the rounded value, which lets 90.00000001 pass for 90.
+    #[tactic(auto, using(crate::proofs::Tests::within_less, crate::proofs::Tests::within_more, crate::proofs::Tests::within_even))]
     pub fn within(self, k: u64) -> bool
         requires { Formed self }
         ensures { result ≡ in_range k self }
     {
-        if self.whole < k {
-            return true;
-        }
-        if k < self.whole {
-            return false;
-        }
-        return self.part < 1;
+        self.whole < k || self.whole == k && self.part == 0
     }
 
     // From 0 to 1.
+    #[tactic(auto, using(crate::proofs::Tests::portion_rules))]
     pub fn portion(self) -> bool
         requires { Formed self }
-        ensures { result ≡ portionOf self }
+        ensures { result ≡ portion self }
     {
-        if self.negative {
-            return false;
-        }
-        return self.within(1);
+        !self.negative && self.within(1)
     }
 
     // The amount of a number that is money.
@@ -63,17 +56,15 @@ impl Decimal {
     }
 
     // As money.
-    pub fn money(self) -> Money
+    #[tactic(auto, using(crate::proofs::Tests::money_rules))]
+    pub fn money(self) -> Option<Amount>
         requires { Formed self }
         ensures { result ≡ money_of self }
     {
-        if !self.within(Decimal::MOST_MONEY) {
-            return Money::Outside;
+        if !self.within(Decimal::MOST_MONEY) || self.part % Decimal::TEN_THOUSANDTH != 0 {
+            return None;
         }
-        if self.part % Decimal::TEN_THOUSANDTH != 0 {
-            return Money::Outside;
-        }
-        return Money::Is(self.amount());
+        Some(self.amount())
     }
 
     // How many millionths, to the nearest and without the sign.
@@ -92,9 +83,6 @@ impl Decimal {
     {
         let up = k * 1_000_000;
         let size = self.rounded();
-        if self.negative {
-            return up - size;
-        }
-        return up + size;
+        if self.negative { up - size } else { up + size }
     }
 }

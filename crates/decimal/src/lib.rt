@@ -20,17 +20,9 @@ impl Decimal {
     pub const PART_DIGITS: usize = 18;
 }
 
-// What a number's spelling says: a number in that form, or one that is not.
-#[derive(Clone, Copy)]
-pub enum Number {
-    Value(Decimal),
-    Unformed,
-}
-
-// What a price in quotation marks says: its text is no number that a price may be, or it is one, within the form or not.
-#[derive(Clone, Copy)]
-pub enum Price {
-    Value(Decimal),
+// Why a text in quotation marks is no price: it is no number that a price may be, or one with more digits than the form has.
+#[derive(Clone, Copy, Debug, PartialEq, Eq)]
+pub enum PriceError {
     Unformed,
     NoNumber,
 }
@@ -40,11 +32,4 @@ pub enum Price {
 pub struct Amount {
     pub negative: bool,
     pub size: u64,
-}
-
-// A number as money: an amount, or a number that no amount may be.
-#[derive(Clone, Copy)]
-pub enum Money {
-    Is(Amount),
-    Outside,
 }

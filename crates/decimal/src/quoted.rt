@@ -2,15 +2,13 @@
 ghost use Rattle.std.specs.Prelude.{true, false, ◌≡◌, ◌^◌, ◌≤◌, ◌<◌, min};
 ghost use Rattle.lexeme.specs.Numbers.{digit};
 ghost use Rattle.text.specs.Text.{text_of};
-ghost use Rattle.decimal.specs.declared.Price.TheVariants.{Value};
 ghost use Rattle.decimal.specs.Decimals.{price_of};
 ghost use Rattle.decimal.specs.inner.Spelling.{made};
 ghost use Rattle.decimal.specs.inner.Priced.{none, longer, beginning, progress, start as start_of, on_digit, on_point, step as step_of, steps, price_so, finished, Held};
 ghost use Rattle.decimal.specs.inner.Formed.{IsPrice};
 
 use crate::spelling::{Run, decimal, digit_value, is_digit};
-use crate::{Decimal, Price};
-use text::Step;
+use crate::{Decimal, PriceError};
 use text::walk::{cursor_at, next_byte};
 
 // How far a text is a number: nothing yet, a single 0, whole digits, a point and what follows it; or it is none.
@@ -37,25 +35,24 @@ fn lengthen(run: Run, most: usize, b: u8) -> Run
     ensures { result ≡ longer most run b }
 {
     if run.count < most {
-        return Run {
+        Run {
             value: run.value * 10 + digit_value(b),
             count: run.count + 1,
-        };
+        }
+    } else {
+        Run {
+            value: run.value,
+            count: most + 1,
+        }
     }
-    return Run {
-        value: run.value,
-        count: most + 1,
-    };
 }
 
 // What a first digit begins: nothing goes before the point after a 0.
+#[tactic(auto, unfolding(crate::specs::inner::Priced::beginning))]
 fn begun(b: u8) -> Phase
     ensures { result ≡ beginning b }
 {
-    if b == b'0' {
-        return Phase::Zero;
-    }
-    return Phase::Whole;
+    if b == b'0' { Phase::Zero } else { Phase::Whole }
 }
 
 impl Progress {
@@ -70,74 +67,39 @@ impl Progress {
         }
     }
 
+    #[tactic(auto, unfolding(crate::specs::inner::Priced::on_digit))]
     fn digit(self, b: u8) -> Progress
         requires { Held self × (digit b ≡ true) }
         ensures { result ≡ on_digit self b self.phase }
     {
-        let phase = self.phase;
-        let whole = self.whole;
-        let part = self.part;
-        match phase {
-            Phase::Start => {
-                return Progress {
-                    phase: begun(b),
-                    whole: lengthen(whole, Decimal::WHOLE_DIGITS, b),
-                    part,
-                };
-            }
-            Phase::Zero => {
-                return Progress::empty(Phase::Lost);
-            }
-            Phase::Whole => {
-                return Progress {
-                    phase: Phase::Whole,
-                    whole: lengthen(whole, Decimal::WHOLE_DIGITS, b),
-                    part,
-                };
-            }
-            Phase::Part => {
-                return Progress {
-                    phase: Phase::Part,
-                    whole,
-                    part: lengthen(part, Decimal::PART_DIGITS, b),
-                };
-            }
-            Phase::Lost => {
-                return Progress::empty(Phase::Lost);
-            }
+        match self.phase {
+            Phase::Start => Progress {
+                phase: begun(b),
+                whole: lengthen(self.whole, Decimal::WHOLE_DIGITS, b),
+                ..self
+            },
+            Phase::Whole => Progress {
+                whole: lengthen(self.whole, Decimal::WHOLE_DIGITS, b),
+                ..self
+            },
+            Phase::Part => Progress {
+                part: lengthen(self.part, Decimal::PART_DIGITS, b),
+                ..self
+            },
+            Phase::Zero | Phase::Lost => Progress::empty(Phase::Lost),
         }
     }
 
+    #[tactic(auto, unfolding(crate::specs::inner::Priced::on_point))]
     fn point(self) -> Progress
         ensures { result ≡ on_point self self.phase }
     {
-        let phase = self.phase;
-        let whole = self.whole;
-        let part = self.part;
-        match phase {
-            Phase::Start => {
-                return Progress::empty(Phase::Lost);
-            }
-            Phase::Zero => {
-                return Progress {
-                    phase: Phase::Part,
-                    whole,
-                    part,
-                };
-            }
-            Phase::Whole => {
-                return Progress {
-                    phase: Phase::Part,
-                    whole,
-                    part,
-                };
-            }
-            Phase::Part => {
-                return Progress::empty(Phase::Lost);
-            }
-            Phase::Lost => {
-                return Progress::empty(Phase::Lost);
-            }
+        match self.phase {
+            Phase::Zero | Phase::Whole => Progress {
+                phase: Phase::Part,
+                ..self
+            },
+            Phase::Start | Phase::Part | Phase::Lost => Progress::empty(Phase::Lost),
         }
     }
 
@@ -146,12 +108,12 @@ impl Progress {
         ensures { result ≡ step_of self b }
     {
         if is_digit(b) {
-            return self.digit(b);
+            self.digit(b)
+        } else if b == b'.' {
+            self.point()
+        } else {
+            Progress::empty(Phase::Lost)
         }
-        if b == b'.' {
-            return self.point();
-        }
-        return Progress::empty(Phase::Lost);
     }
 
     // The number of the digits so far, no more of them behind the point than there may be.
@@ -159,51 +121,35 @@ impl Progress {
         requires { Held self × (self.part.count ≤ 18) }
         ensures { result ≡ made false self.whole.value self.part.value self.part.count }
     {
-        let whole = self.whole;
-        let part = self.part;
-        decimal(false, whole.value, part)
+        decimal(false, self.whole.value, self.part)
     }
 
     // The price of the digits so far.
-    fn price(self) -> Price
+    #[tactic(auto, unfolding(crate::specs::inner::Priced::price_so))]
+    fn price(self) -> Result<Decimal, PriceError>
         requires { Held self }
         ensures { result ≡ price_so self }
     {
-        let whole = self.whole;
-        let part = self.part;
-        if Decimal::WHOLE_DIGITS < whole.count {
-            return Price::Unformed;
+        if Decimal::WHOLE_DIGITS < self.whole.count || Decimal::PART_DIGITS < self.part.count {
+            return Err(PriceError::Unformed);
         }
-        if Decimal::PART_DIGITS < part.count {
-            return Price::Unformed;
-        }
-        return Price::Value(self.value());
+        Ok(self.value())
     }
 
-    fn finish(self) -> Price
+    #[tactic(auto, unfolding(crate::specs::inner::Priced::finished))]
+    fn finish(self) -> Result<Decimal, PriceError>
         requires { Held self }
         ensures { result ≡ finished self self.phase }
     {
-        let phase = self.phase;
-        let part = self.part;
-        match phase {
-            Phase::Start => {
-                return Price::NoNumber;
-            }
-            Phase::Zero => {
-                return self.price();
-            }
-            Phase::Whole => {
-                return self.price();
-            }
+        match self.phase {
+            Phase::Start | Phase::Lost => Err(PriceError::NoNumber),
+            Phase::Zero | Phase::Whole => self.price(),
             Phase::Part => {
-                if part.count == 0 {
-                    return Price::NoNumber;
+                if self.part.count == 0 {
+                    Err(PriceError::NoNumber)
+                } else {
+                    self.price()
                 }
-                return self.price();
-            }
-            Phase::Lost => {
-                return Price::NoNumber;
             }
         }
     }
@@ -215,22 +161,16 @@ fn progress_of(spelled: &[u8]) -> Progress
 {
     let mut p = Progress::empty(Phase::Start);
     let mut c = cursor_at(0);
-    loop {
-        match next_byte(spelled, c) {
-            Step::End => {
-                return p;
-            }
-            Step::Byte(b, after) => {
-                p = p.step(b);
-                c = after;
-            }
-        }
+    while let Some((b, after)) = next_byte(spelled, c) {
+        p = p.step(b);
+        c = after;
     }
+    p
 }
 
 // The price that the text of a string stands for.
 // Shut out: an escape taken for itself, so that "\u0031" is no number; a sign, an exponent or a bare point let through.
-pub fn read_price(spelled: &[u8]) -> Price
+pub fn read_price(spelled: &[u8]) -> Result<Decimal, PriceError>
     ensures { result ≡ price_of (text_of spelled.now) }
 {
     progress_of(spelled).finish()
@@ -239,7 +179,7 @@ pub fn read_price(spelled: &[u8]) -> Price
 // The price that a text stands for which is known to be one in the form.
 pub fn formed_price(spelled: &[u8]) -> Decimal
     requires { IsPrice (price_of (text_of spelled.now)) }
-    ensures { Value result ≡ price_of (text_of spelled.now) }
+    ensures { Ok result ≡ price_of (text_of spelled.now) }
 {
     progress_of(spelled).value()
 }

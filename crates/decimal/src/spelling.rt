@@ -3,11 +3,10 @@ ghost use Rattle.std.specs.Prelude.{true, not, ◌≡◌, ◌+◌, ◌-◌, ◌*
 ghost use Rattle.notation.specs.Choice.{◌and◌};
 ghost use Rattle.lexeme.specs.Numbers.{digit, digits};
 ghost use Rattle.decimal.specs.Decimals.{behind_whole, number_of, has_point};
-ghost use Rattle.decimal.specs.declared.Number.TheVariants.{Value};
 ghost use Rattle.decimal.specs.inner.Spelling.{run_from, made, fraction_of};
 ghost use Rattle.decimal.specs.inner.Formed.{IsNumber};
 
-use crate::{Decimal, Number};
+use crate::Decimal;
 
 // Digits in a row: the number that they spell, and how many they are.
 #[derive(Clone, Copy)]
@@ -19,17 +18,14 @@ pub struct Run {
 pub fn is_digit(b: u8) -> bool
     ensures { result ≡ digit b }
 {
-    if b < b'0' {
-        return false;
-    }
-    return b <= b'9';
+    b.is_ascii_digit()
 }
 
 pub fn digit_value(b: u8) -> u64
     requires { digit b ≡ true }
     ensures { result ≡ b - 0x30 }
 {
-    (b - b'0') as u64
+    u64::from(b - b'0')
 }
 
 impl Run {
@@ -39,16 +35,16 @@ impl Run {
         ensures { result ≡ run_from 0 0 s.now }
     {
         let mut value: u64 = 0;
-        let mut count: usize = 0;
-        while count < s.len() {
-            let b = s[count];
-            if !is_digit(b) {
+        for (count, b) in s.iter().enumerate() {
+            if !is_digit(*b) {
                 return Run { value, count };
             }
-            value = value * 10 + digit_value(b);
-            count += 1;
+            value = value * 10 + digit_value(*b);
         }
-        Run { value, count }
+        Run {
+            value,
+            count: s.len(),
+        }
     }
 
     // A run behind the point, in parts of 10^-18.
@@ -57,32 +53,19 @@ impl Run {
         ensures { result ≡ self.value * 10 ^ (18 - self.count) }
     {
         let mut v = self.value;
-        let mut n = self.count;
-        while n < Decimal::PART_DIGITS {
-            v = v * 10;
-            n += 1;
+        for _ in self.count..Decimal::PART_DIGITS {
+            v *= 10;
         }
         v
     }
 }
 
-fn least(a: usize, b: usize) -> usize
-    ensures { result ≡ min a b }
-{
-    if a <= b { a } else { b }
-}
-
 // A sign counts only where the number is not 0.
+#[tactic(auto, using(crate::proofs::Spelled::sign_rules))]
 fn minus(negative: bool, whole: u64, part: u64) -> bool
     ensures { result ≡ negative and not (eqb (whole + part) 0) }
 {
-    if whole != 0 {
-        return negative;
-    }
-    if part != 0 {
-        return negative;
-    }
-    return false;
+    negative && (whole != 0 || part != 0)
 }
 
 pub fn decimal(negative: bool, whole: u64, run: Run) -> Decimal
@@ -97,90 +80,83 @@ pub fn decimal(negative: bool, whole: u64, run: Run) -> Decimal
 }
 
 // The number whose point stands before s.
-fn fraction(s: &[u8], negative: bool, whole: u64) -> Number
+fn fraction(s: &[u8], negative: bool, whole: u64) -> Option<Decimal>
     ensures { result ≡ fraction_of negative whole s.now }
 {
     if Decimal::PART_DIGITS < s.len() {
-        return Number::Unformed;
+        return None;
     }
     let run = Run::of(s);
-    let count = run.count;
-    if count != s.len() {
-        return Number::Unformed;
+    if run.count != s.len() {
+        return None;
     }
-    return Number::Value(decimal(negative, whole, run));
+    Some(decimal(negative, whole, run))
 }
 
 // The digits at the front of a number without its sign, no more of them than may stand before its point.
 fn whole_run(s: &[u8]) -> Run
     ensures { result ≡ run_from 0 0 (take (min 12 (length s.now)) s.now) }
 {
-    let most = least(Decimal::WHOLE_DIGITS, s.len());
-    Run::of(&s[..most])
+    Run::of(&s[..Decimal::WHOLE_DIGITS.min(s.len())])
 }
 
 // The number without its sign. A digit too many shows itself as a byte that is no point.
-fn unsigned(s: &[u8], negative: bool) -> Number
+fn unsigned(s: &[u8], negative: bool) -> Option<Decimal>
     ensures { result ≡ behind_whole negative (digits s.now) }
 {
     let run = whole_run(s);
     let at = run.count;
     if s.len() <= at {
-        return Number::Value(decimal(negative, run.value, Run { value: 0, count: 0 }));
+        return Some(decimal(negative, run.value, Run { value: 0, count: 0 }));
     }
     if s[at] != b'.' {
-        return Number::Unformed;
+        return None;
     }
-    return fraction(&s[at + 1..], negative, run.value);
+    fraction(&s[at + 1..], negative, run.value)
 }
 
 // The number that a spelling stands for.
 // Shut out: a thirteenth digit or a nineteenth decimal let through; a sign kept on 0; an exponent passed over.
-pub fn read_decimal(s: &[u8]) -> Number
+pub fn read_decimal(s: &[u8]) -> Option<Decimal>
     ensures { result ≡ number_of s.now }
 {
-    if s.len() == 0 {
-        return Number::Unformed;
+    if s.is_empty() {
+        return None;
     }
     if s[0] == b'-' {
-        return unsigned(&s[1..], true);
+        unsigned(&s[1..], true)
+    } else {
+        unsigned(s, false)
     }
-    return unsigned(s, false);
 }
 
 // The value of a spelling without its sign that is known to be in the form: behind its whole digits stands nothing, or a point with digits to the end.
 fn formed_unsigned(s: &[u8], negative: bool) -> Decimal
     requires { IsNumber (behind_whole negative (digits s.now)) }
-    ensures { Value result ≡ behind_whole negative (digits s.now) }
+    ensures { Some result ≡ behind_whole negative (digits s.now) }
 {
     let run = whole_run(s);
     let at = run.count;
     if s.len() <= at {
         return decimal(negative, run.value, Run { value: 0, count: 0 });
     }
-    return decimal(negative, run.value, Run::of(&s[at + 1..]));
+    decimal(negative, run.value, Run::of(&s[at + 1..]))
 }
 
 pub fn formed_decimal(s: &[u8]) -> Decimal
     requires { IsNumber (number_of s.now) }
-    ensures { Value result ≡ number_of s.now }
+    ensures { Some result ≡ number_of s.now }
 {
     if s[0] == b'-' {
-        return formed_unsigned(&s[1..], true);
+        formed_unsigned(&s[1..], true)
+    } else {
+        formed_unsigned(s, false)
     }
-    return formed_unsigned(s, false);
 }
 
 // Whether a spelling has a point: no integer has one.
 pub fn has_point(s: &[u8]) -> bool
     ensures { result ≡ has_point s.now }
 {
-    let mut i: usize = 0;
-    while i < s.len() {
-        if s[i] == b'.' {
-            return true;
-        }
-        i += 1;
-    }
-    return false;
+    s.contains(&b'.')
 }

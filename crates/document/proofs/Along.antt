@@ -5,11 +5,10 @@ use mathlib.Core.Path.{◌≡◌, refl, sym, ap, ◌∙◌}
 use Prim.Native.Nat.{ℕ, zero, suc, ◌+◌, ◌-◌, ◌≤◌, ◌<◌}
 use native.Mathlib.Omega.{arith}
 use lib.ListN.{length, drop}
-use Rattle.notation.specs.Maybe.{Maybe, none, some, given}
+use Rattle.notation.specs.Given.{given}
 use Rattle.notation.proofs.Booleans.{true-false}
 use Rattle.limits.specs.Ceilings.{depth}
-use Rattle.lexeme.specs.declared.Scan.TheVariants as scan
-use Rattle.lexeme.specs.Read.{Read, placed}
+use Rattle.lexeme.specs.Read.{Read, placed, wrong_at}
 use Rattle.lexeme.specs.Read.Read.{done, bad}
 use Rattle.lexeme.specs.Character.{paired}
 use Rattle.lexeme.specs.Tokens.{blanks}
@@ -25,22 +24,27 @@ use Rattle.schema.specs.Records.{Way, way_to, has_records}
 use Rattle.schema.specs.inner.Ways.{way_names}
 use Rattle.schema.proofs.Recorded.{no_way}
 use Rattle.schema.specs.Tables.{sheet_shape}
-use Rattle.document.specs.declared.Span.TheVariants.{None, Is}
-use Rattle.document.specs.Spans.{members_along, top_span, records_span, nth}
+use Rattle.document.specs.declared.Span.{Span}
+use Rattle.document.specs.Spans.{members_along, top_span, records_span, nth, spanning}
 use Rattle.document.specs.inner.Spans.{Readable}
+use Rattle.std.specs.Prelude.{Ok, Some, None, Option}
+
+-- two spans that are the same have the same ends
+pub ends-same : {a b c d : ℕ} → Some (spanning a b) ≡ Some (spanning c d) → (a ≡ c) × (b ≡ d)
+ends-same {a} {b} {c} {d} e = let i : spanning a b ≡ spanning c d = cc in (ap (λ (z : Span). z.from) i, ap (λ (z : Span). z.upto) i)
 
 -- the top value, where it was read
 module _ (s : List ℕ) where
-  pub top-found : (upto : ℕ) → scan.End upto ≡ placed s (value paired depth (drop (offset_of s (blanks s)) s)) → top_span s ≡ Is (offset_of s (blanks s)) upto
+  pub top-found : (upto : ℕ) → Ok upto ≡ placed s (value paired depth (drop (offset_of s (blanks s)) s)) → top_span s ≡ Some (spanning (offset_of s (blanks s)) upto)
   unfolding top_span placed
   top-found upto h = go (value paired depth (blanks s)) refl
     where
       begins : value paired depth (drop (offset_of s (blanks s)) s) ≡ value paired depth (blanks s)
       begins = ap (value paired depth) (rest-there (rest-blanks s (rest-drop 0)))
 
-      go : (o : Read Json) → value paired depth (blanks s) ≡ o → top_span s ≡ Is (offset_of s (blanks s)) upto
-      go (done x r) i = let w : scan.End upto ≡ scan.End (offset_of s r) = rw (begins, i) at h in rw (top_span, i) (cc)
-      go (bad k r) i = let w : scan.End upto ≡ scan.Fault k (offset_of s r) = rw (begins, i) at h in let z : ◌≡◌ {A = ℕ} 0 1 = cc in absurd (omega arith)
+      go : (o : Read Json) → value paired depth (blanks s) ≡ o → top_span s ≡ Some (spanning (offset_of s (blanks s)) upto)
+      go (done x r) i = let w : Ok upto ≡ Ok (offset_of s r) = rw (begins, i) at h in rw (top_span, i) (cc)
+      go (bad k r) i = let w : Ok upto ≡ wrong_at k (offset_of s r) = rw (begins, i) at h in let z : ◌≡◌ {A = ℕ} 0 1 = cc in absurd (omega arith)
 
 -- where it begins, and ends with nothing but blanks behind it
 module _ (s : List ℕ) (from : ℕ) (e : from ≡ offset_of s (blanks s)) where
@@ -50,7 +54,7 @@ module _ (s : List ℕ) (from : ℕ) (e : from ≡ offset_of s (blanks s)) where
   top-absent (Readable.sound i) h = let t = passed s i in absurd (omega (arith, t.some, t.inside))
 
   pub top-there : (upto : ℕ) → Readable s → from < length s
-      → ((x : Json) (r : List ℕ) → value paired depth (drop from s) ≡ done x r → blanks r ≡ [] → upto ≡ offset_of s r) → Is from upto ≡ top_span s
+      → ((x : Json) (r : List ℕ) → value paired depth (drop from s) ≡ done x r → blanks r ≡ [] → upto ≡ offset_of s r) → Some (spanning from upto) ≡ top_span s
   top-there upto (Readable.absent i) h v = absurd (omega (arith, ap length i))
   top-there upto (Readable.sound i) h v =
       let t = passed s i in
@@ -64,20 +68,20 @@ pub along-names : (n : ℕ) (s : List ℕ) → has_records n ≡ true → member
 unfolding records_span way_names
 along-names n s h = go (way_to n) h
   where
-    go : (o : Maybe Way) → given o ≡ true
-        → members_along s (elim o [ none ↦ [] | some w ↦ map (λ k. k.name) w.keys ]) (top_span s)
-        ≡ elim o [ none ↦ None | some w ↦ members_along s (map (λ k. k.name) w.keys) (top_span s) ]
-    go none e = true-false e refl
-    go (some w) e = refl
+    go : (o : Option Way) → given o ≡ true
+        → members_along s (elim o [ None ↦ [] | Some w ↦ map (λ k. k.name) w.keys ]) (top_span s)
+        ≡ elim o [ None ↦ None | Some w ↦ members_along s (map (λ k. k.name) w.keys) (top_span s) ]
+    go None e = true-false e refl
+    go (Some w) e = refl
 
 -- a way has names just where there are records
 pub names-given : (n : ℕ) (name : List ℕ) (names : List (List ℕ)) → way_names (sheet_shape n) ≡ name ∷ names → has_records n ≡ true
 unfolding way_names
 names-given n name names e = go (way_to n) e
   where
-    go : (o : Maybe Way) → (elim o [ none ↦ [] | some w ↦ map (λ k. k.name) w.keys ]) ≡ name ∷ names → given o ≡ true
-    go none i = let z : ◌≡◌ {A = ℕ} 0 1 = cc in absurd (omega arith)
-    go (some w) i = refl
+    go : (o : Option Way) → (elim o [ None ↦ [] | Some w ↦ map (λ k. k.name) w.keys ]) ≡ name ∷ names → given o ≡ true
+    go None i = let z : ◌≡◌ {A = ℕ} 0 1 = cc in absurd (omega arith)
+    go (Some w) i = refl
 
 pub along-none : (file : ℕ) (s : List ℕ) → has_records file ≡ false → records_span (sheet_shape file) s ≡ None
 unfolding records_span
@@ -85,7 +89,7 @@ along-none file s h = rw (records_span, no_way file h)
 
 -- items by number, counted down
 module _ (from : ℕ) (m : Item) (l : List Item) where
-  pub nth_here : nth from (m ∷ l) 1 ≡ Is (from + m.value) (from + m.value_end)
+  pub nth_here : nth from (m ∷ l) 1 ≡ Some (spanning (from + m.value) (from + m.value_end))
   unfolding nth
   nth_here = refl
 

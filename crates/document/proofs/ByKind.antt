@@ -1,10 +1,16 @@
 -- The ways through reading a value by its bytes: of the kind that is asked for, or of another.
 use mathlib.Core.List.{List, []}
-use mathlib.Core.Path.{◌≡◌, sym, ap}
+use mathlib.Core.Bool.{Bool, true, false, not}
+use mathlib.Core.Path.{◌≡◌, refl, sym, ap, ◌∙◌}
 use Prim.Native.Nat.{ℕ, ◌-◌, ◌<◌}
 use native.Mathlib.Omega.{arith}
 use lib.ListN.{length, take, drop}
-use borrow.Author.Tests.{eq-eqb, ne_eqb}
+use lib.Dec.{eqb}
+use denote.Enum.Declared.{tag_of}
+use borrow.Author.Tests.{eq-eqb, ne_eqb, eqb-true, eqb-false, not-true, not-false}
+use Rattle.walk.specs.contracts.ValueKind.{the_type}
+use Rattle.walk.specs.declared.ValueKind.{ValueKind}
+use Rattle.walk.specs.declared.ValueKind.TheVariants as kind
 use Rattle.text.specs.Text.{text_of}
 use Rattle.walk.specs.Walk.{part}
 use Rattle.walk.specs.Part.{inside}
@@ -13,14 +19,33 @@ use Rattle.slots.specs.declared.Found.{Found}
 use Rattle.slots.specs.declared.Found.TheVariants.{Missing, Once, Twice}
 use Rattle.slots.specs.Found.{found_in}
 use Rattle.slots.proofs.Finds.{found-value}
-use Rattle.document.specs.Document.{none, some}
 use Rattle.document.specs.inner.Values.{kind_code, found_bytes, FoundWhole, member_of, spelled_by, text_by, array_by}
+use Rattle.std.specs.Prelude.{None, Some}
 
 -- what is found stands there whole
 pub found-standing : (p name : List ℕ) (o : Found) → o ≡ found_in p name → FoundWhole p o
 found-standing p name Missing e = tt
 found-standing p name (Once from upto) e = (found-value p name from upto (sym e)).whole
 found-standing p name Twice e = tt
+
+-- the test of a kind in the code is that of its number
+tag_code : (k : ValueKind) → tag_of the_type k ≡ kind_code k
+tag_code kind.Null = refl
+tag_code kind.Boolean = refl
+tag_code kind.Number = refl
+tag_code kind.String = refl
+tag_code kind.Array = refl
+tag_code kind.Object = refl
+
+pub kind_tag : {k : ValueKind} (q : List ℕ) → k ≡ kind_at q → tag_of the_type k ≡ kind_code (kind_at q)
+kind_tag {k} q e = tag_code k ∙ ap kind_code e
+
+module _ {n m : ℕ} {r : Bool} (e : r ≡ not (eqb n m)) where
+  pub is_other : r ≡ true → n ≡ m → ⊥
+  is_other t = eqb-false n m (not-true (eqb n m) (sym e ∙ t))
+
+  pub is_same : r ≡ false → n ≡ m
+  is_same t = eqb-true n m (not-false (eqb n m) (sym e ∙ t))
 
 -- a member, of an object and of what is none
 module _ (p name : List ℕ) (n : ℕ) (e : n ≡ kind_code (kind_at p)) where
@@ -34,19 +59,19 @@ module _ (p name : List ℕ) (n : ℕ) (e : n ≡ kind_code (kind_at p)) where
 
 -- by the kind of q
 module _ (q : List ℕ) (n : ℕ) (e : n ≡ kind_code (kind_at q)) where
-  pub spelled_none : (n ≡ 2 → ⊥) → spelled_by q ≡ none
+  pub spelled_none : (n ≡ 2 → ⊥) → spelled_by q ≡ None
   unfolding spelled_by
   spelled_none h = rw (← e, ne_eqb n 2 h)
 
-  pub spelled-some : n ≡ 2 → spelled_by q ≡ some q
+  pub spelled-some : n ≡ 2 → spelled_by q ≡ Some q
   unfolding spelled_by
   spelled-some h = rw (← e, eq-eqb n 2 h)
 
-  pub text-none : (n ≡ 3 → ⊥) → text_by q ≡ none
+  pub text-none : (n ≡ 3 → ⊥) → text_by q ≡ None
   unfolding text_by
   text-none h = rw (← e, ne_eqb n 3 h)
 
-  pub text-some : n ≡ 3 → text_by q ≡ some (text_of (inside q))
+  pub text-some : n ≡ 3 → text_by q ≡ Some (text_of (inside q))
   unfolding text_by
   text-some h = rw (← e, eq-eqb n 3 h)
 

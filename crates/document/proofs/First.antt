@@ -13,8 +13,6 @@ use Rattle.json_text.specs.Tree.{Json}
 use Rattle.text.specs.Text.{text_of, same}
 use Rattle.walk.specs.declared.Member.{Member}
 use Rattle.walk.specs.declared.Named.{Named}
-use Rattle.walk.specs.declared.NameStep.TheVariants as names
-use Rattle.walk.specs.declared.MemberStep.TheVariants as members
 use Rattle.walk.specs.Walk.{part, member_at, members_from}
 use Rattle.walk.specs.Part.{Whole}
 use Rattle.walk.specs.inner.Along.{AlongMembers, MemberPassed, NamePassed}
@@ -29,6 +27,7 @@ use Rattle.slots.specs.declared.Found.TheVariants.{Missing, Once, Twice}
 use Rattle.slots.specs.Found.{one_more, noted, found_in}
 use Rattle.slots.proofs.Finds.{fold_keeps}
 use Rattle.document.specs.inner.Spans.{ValueFrom}
+use Rattle.std.specs.Prelude.{Some, None}
 
 -- of a value that is no object nothing is found
 pub found_none : (p name : List ℕ) {x : Json} → Whole p x → (byte p 0 ≡ 0x7b → ⊥) → Missing ≡ found_in p name
@@ -88,22 +87,22 @@ module _ (p name : List ℕ) where
       }
 
   module _ (at : ℕ) (u : NotFoundBefore p name at) where
-    pub unmet_end : MemberPassed p at members.End → (n from upto : ℕ) → Holds p name n from upto → ⊥
+    pub unmet_end : MemberPassed p at None → (n from upto : ℕ) → Holds p name n from upto → ⊥
     unmet_end f n from upto k =
         let q = take n p in
         let a = u n from upto k in
         missing-once (walk_end (member_steps q) (noted q name) Missing at (Once from upto)
         (sym (front-member p n a.along) ∙ sym (f.same (front-along p n a.along))) a.left)
 
-    module _ (o : Named) (f : NamePassed p at (names.Found o)) where
+    module _ (o : Named) (f : NamePassed p at (Some o)) where
       -- the member of that front in the object's own bytes, and its name
       met : (n from upto : ℕ) → Holds p name n from upto
-          → (m : Member) × (member_at (take n p) at ≡ members.Found m) × (o ≡ record { name = m.name; name_end = m.name_end; value = m.value })
+          → (m : Member) × (member_at (take n p) at ≡ Some m) × (o ≡ record { name = m.name; name_end = m.name_end; value = m.value })
           × (part p o.name o.name_end ≡ part (take n p) m.name m.name_end)
       met n from upto k =
           let a = u n from upto k in
           let (m, i, j) = front-found (member_at p at) o (f.same (front-along p n a.along)) in
-          let g : member_at (take n p) at ≡ members.Found m = sym (front-member p n a.along) ∙ i in
+          let g : member_at (take n p) at ≡ Some m = sym (front-member p n a.along) ∙ i in
           let d = member-placed (take n p) at m g in
           let b : m.name_end ≤ length (take n p) = omega arith in
           (m, g, j, ap (λ (z : Named). part p z.name z.name_end) j ∙ front-part p n m.name m.name_end d.name b)
@@ -121,12 +120,12 @@ module _ (p name : List ℕ) where
           let w = rw t at (more n from upto k) in
           ap (λ (z : Named). drop z.value p) j ∙ ap (λ (i : ℕ). drop i p) (once-kept (take n p) name (members_from w.0 (take n p) m.next) m.value m.value_end from upto w.2)
 
-      pub unmet_next : same (text_of (part p o.name o.name_end)) name ≡ false → (m : Member) → MemberPassed p at (members.Found m) → NotFoundBefore p name m.next
+      pub unmet_next : same (text_of (part p o.name o.name_end)) name ≡ false → (m : Member) → MemberPassed p at (Some m) → NotFoundBefore p name m.next
       unmet_next t m h n from upto k =
           let q = take n p in
           let a = u n from upto k in
           let (l, g, j, e) = met n from upto k in
-          let i : members.Found m ≡ members.Found l = h.same (front-along p n a.along) ∙ front-member p n a.along ∙ g in
+          let i : Some m ≡ Some l = h.same (front-along p n a.along) ∙ front-member p n a.along ∙ g in
           let c : l ≡ m = cc in
           let w = rw t at (more n from upto k) in
           subst (λ (z : Member). Ahead p name n from upto z.next) c (record { along = AlongMembers.next a.along g; left = w })

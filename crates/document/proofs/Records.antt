@@ -6,7 +6,7 @@ use Prim.Native.Nat.{ℕ, zero, suc, ◌+◌, ◌-◌, ◌≤◌, ◌<◌}
 use native.Mathlib.Omega.{arith}
 use lib.ListN.{length, drop, length-map}
 use Rattle.limits.specs.Ceilings as ceiling
-use Rattle.notation.proofs.Maybes.{none-some, some-some}
+use Rattle.notation.proofs.Options.{none-some, some-some}
 use Rattle.json_text.specs.Tree as tree
 use Rattle.json_text.specs.Tree.{Json, Items}
 use Rattle.walk.specs.declared.Item.{Item}
@@ -25,45 +25,45 @@ use Rattle.schema.specs.Tables.{sheet_shape}
 use Rattle.schema.specs.Records.{Key, record_shape}
 use Rattle.schema.specs.Pick.{Picked, PickedItems, items, pick, pick_items, list_of}
 use Rattle.document.specs.declared.Span.{Span}
-use Rattle.document.specs.declared.Span.TheVariants.{None, Is}
-use Rattle.document.specs.Document.{Maybe, none, some, field, along}
+use Rattle.document.specs.Document.{field, along}
 use Rattle.document.specs.Trees as trees
 use Rattle.document.specs.Trees.{numbered}
 use Rattle.document.proofs.Rows.{field-held, Stands, reached}
 use Rattle.document.specs.inner.Items.{picked_items}
-use Rattle.document.specs.Spans.{members_along, top_span, records_span, nth, nth_in}
+use Rattle.document.specs.Spans.{members_along, top_span, records_span, nth, nth_in, spanning}
 use Rattle.walk.proofs.Cuts.{part-part, part-inside}
 use Rattle.document.proofs.Along.{top-found, nth-zero}
 use Rattle.document.proofs.Ways.{lists, Leads, arrived, into, Recorded}
+use Rattle.std.specs.Prelude.{Option, Some, None}
 
 -- the value of a file that passes
 module _ (s : List ℕ) (t : Passed s) where
-  pub top-is : top_span s ≡ Is (value_start s) t.end
+  pub top-is : top_span s ≡ Some (spanning (value_start s) t.end)
   top-is = top-found s t.end t.found
 
   pub top-stands : Stands s (value_start s) t.end t.tree
   top-stands = record { whole = t.whole; some = t.some; inside = t.inside }
 
 -- what stands at a span, from which y is picked
-pub record Picks (s : List ℕ) (span : Span) (σ : Shape) (y : Picked) : Type 0 where
+pub record Picks (s : List ℕ) (span : Option Span) (σ : Shape) (y : Picked) : Type 0 where
   pub start : ℕ
   pub end : ℕ
   pub tree : Json
-  pub is : span ≡ Is start end
+  pub is : span ≡ Some (spanning start end)
   pub there : Stands s start end tree
   pub picked : pick σ tree ≡ y
 
-along-into : (f : ℕ) (fs : List ℕ) (x y : Picked) → along (f ∷ fs) x ≡ some y → (z : Picked) × (field f x ≡ some z) × (along fs z ≡ some y)
+along-into : (f : ℕ) (fs : List ℕ) (x y : Picked) → along (f ∷ fs) x ≡ Some y → (z : Picked) × (field f x ≡ Some z) × (along fs z ≡ Some y)
 unfolding along
 along-into f fs x y e = go (field f x) refl e
   where
-    go : (o : Maybe Picked) → field f x ≡ o → elim o [ none ↦ none | some z ↦ along fs z ] ≡ some y → (z : Picked) × (field f x ≡ some z) × (along fs z ≡ some y)
-    go none h k = none-some k
-    go (some z) h k = (z, h, k)
+    go : (o : Option Picked) → field f x ≡ o → elim o [ None ↦ None | Some z ↦ along fs z ] ≡ Some y → (z : Picked) × (field f x ≡ Some z) × (along fs z ≡ Some y)
+    go None h k = none-some k
+    go (Some z) h k = (z, h, k)
 
 -- the fields along a way are the members along its names
 pub leads-on : {σ τ : Shape} {ks : List Key} → Leads σ ks τ → (s : List ℕ) (from upto : ℕ) (x : Json) → Stands s from upto x
-    → (y : Picked) → along (map (λ k. k.field) ks) (pick σ x) ≡ some y → Picks s (members_along s (map (λ k. k.name) ks) (Is from upto)) τ y
+    → (y : Picked) → along (map (λ k. k.field) ks) (pick σ x) ≡ Some y → Picks s (members_along s (map (λ k. k.name) ks) (Some (spanning from upto))) τ y
 unfolding along members_along
 leads-on arrived s from upto x w y e = record { start = from; end = upto; tree = x; is = refl; there = w; picked = some-some e }
 leads-on (into {f = f} {name = name} {rows = rows} {ks = ks} l r) s from upto x w y e =
@@ -84,11 +84,11 @@ pub open_items : {is : Items} (σ : Shape) (s : List ℕ) (from upto : ℕ) → 
 open_items σ s from upto w = front-map (drop from s) (upto - from) (λ m q. pick σ (part_tree q)) w
 
 -- an array at a span, whose items l is picked from
-pub record Records (s : List ℕ) (span : Span) (σ : Shape) (l : List Picked) : Type 0 where
+pub record Records (s : List ℕ) (span : Option Span) (σ : Shape) (l : List Picked) : Type 0 where
   pub start : ℕ
   pub end : ℕ
   pub trees : Items
-  pub is : span ≡ Is start end
+  pub is : span ≡ Some (spanning start end)
   pub there : Stands s start end (tree.array trees)
   pub picked : l ≡ picked_items σ (part s start end)
 
@@ -107,7 +107,7 @@ module _ (numbering : shape.Numbering) (most : ℕ) (σ : Shape) (is : PickedIte
   array_of (tree.string t) e = let z : ◌≡◌ {A = ℕ} 0 1 = cc in absurd (omega arith)
   array_of (tree.object ms) e = let z : ◌≡◌ {A = ℕ} 0 1 = cc in absurd (omega arith)
 
-  pub array-records : {s : List ℕ} {span : Span} → Picks s span (shape.array numbering most σ) (items is) → Records s span σ (list_of is)
+  pub array-records : {s : List ℕ} {span : Option Span} → Picks s span (shape.array numbering most σ) (items is) → Records s span σ (list_of is)
   array-records {s} p =
       let a = array_of p.tree p.picked in
       let w : Stands s p.start p.end (tree.array a.0) = subst (Stands s p.start p.end) a.1 p.there in
@@ -125,7 +125,7 @@ module _ (numbering : shape.Numbering) (most : ℕ) (σ : Shape) (is : PickedIte
 
 -- of a file that passes, where the way to its records is there
 pub records_stand : (n : ℕ) (d : Recorded n) (s : List ℕ) (t : Passed s) (is : PickedItems)
-    → along (map (λ k. k.field) d.way.keys) (pick (sheet_shape n) t.tree) ≡ some (items is) → Records s (records_span (sheet_shape n) s) (record_shape n) (list_of is)
+    → along (map (λ k. k.field) d.way.keys) (pick (sheet_shape n) t.tree) ≡ Some (items is) → Records s (records_span (sheet_shape n) s) (record_shape n) (list_of is)
 unfolding records_span
 records_stand n d s t is e =
     let p = leads-on d.leads s (value_start s) t.end t.tree (top-stands s t) (items is) e in
@@ -134,7 +134,7 @@ records_stand n d s t is e =
 -- items by number
 module _ (from : ℕ) where
   pub nth_of : (f : Item → Json) (ms : List Item) (k : ℕ) → k < length ms → (m : Item) × Memᴰ m ms
-      × (nth from ms (suc k) ≡ Is (from + m.value) (from + m.value_end)) × (numbered (suc k) (map f ms) ≡ some (f m))
+      × (nth from ms (suc k) ≡ Some (spanning (from + m.value) (from + m.value_end))) × (numbered (suc k) (map f ms) ≡ Some (f m))
   unfolding nth numbered
   nth_of f [] k h = absurd (omega arith)
   nth_of f (m ∷ ms) zero h = (m, Memᴰ.head refl, refl, refl)
@@ -152,7 +152,7 @@ item-inside p =
     iterated.each (item_steps p) (λ m. (m.value < m.value_end) × (m.value_end ≤ length p))
     (λ at m e. let k = item-placed p at m e in (k.value, omega arith)) (length p) 1
 
-module _ {s : List ℕ} {span : Span} {σ : Shape} {l : List Picked} (r : Records s span σ l) where
+module _ {s : List ℕ} {span : Option Span} {σ : Shape} {l : List Picked} (r : Records s span σ l) where
   -- the bytes of the array
   abbrev pub array : List ℕ
   array = part s r.start r.end
@@ -165,8 +165,8 @@ module _ {s : List ℕ} {span : Span} {σ : Shape} {l : List Picked} (r : Record
     pub start : ℕ
     pub end : ℕ
     pub tree : Json
-    pub is : nth_in s span n ≡ Is start end
-    pub numbered : trees.numbered n (item_trees array) ≡ some tree
+    pub is : nth_in s span n ≡ Some (spanning start end)
+    pub numbered : trees.numbered n (item_trees array) ≡ Some tree
     pub there : Stands s start end tree
     pub picked : Memᴰ (pick σ tree) l
 
@@ -184,7 +184,7 @@ module _ {s : List ℕ} {span : Span} {σ : Shape} {l : List Picked} (r : Record
         start = a + m.value;
         end = a + m.value_end;
         tree = part_tree (item_of array m);
-        is = ap (λ (z : Span). nth_in s z (suc k)) r.is ∙ t.2;
+        is = ap (λ (z : Option Span). nth_in s z (suc k)) r.is ∙ t.2;
         numbered = t.3;
         there =
             record {
@@ -196,7 +196,7 @@ module _ {s : List ℕ} {span : Span} {σ : Shape} {l : List Picked} (r : Record
       }
 
   pub record_past : (k : ℕ) → length l ≤ k → nth_in s span (suc k) ≡ None
-  record_past k h = ap (λ (z : Span). nth_in s z (suc k)) r.is ∙ nth_past r.start (items_of array) k (omega (arith, as_many))
+  record_past k h = ap (λ (z : Option Span). nth_in s z (suc k)) r.is ∙ nth_past r.start (items_of array) k (omega (arith, as_many))
 
   pub record_none : nth_in s span 0 ≡ None
-  record_none = ap (λ (z : Span). nth_in s z 0) r.is ∙ nth-zero r.start (items_of array)
+  record_none = ap (λ (z : Option Span). nth_in s z 0) r.is ∙ nth-zero r.start (items_of array)

@@ -7,7 +7,7 @@ use native.Mathlib.Omega.{arith}
 use lib.Dec.{eqb}
 use lib.ListN.{length}
 use borrow.Author.Tests.{eq-eqb}
-use Rattle.notation.proofs.Maybes.{none-some, some-some}
+use Rattle.notation.proofs.Options.{none-some, some-some}
 use Rattle.json_text.specs.Tree as tree
 use Rattle.json_text.specs.Tree.{Json, Members}
 use Rattle.walk.specs.Walk.{part}
@@ -20,10 +20,10 @@ use Rattle.slots.specs.declared.Found.TheVariants.{Missing, Once, Twice}
 use Rattle.slots.specs.Found.{found_in}
 use Rattle.slots.specs.inner.Found.{tree_in}
 use Rattle.slots.proofs.Finds.{find-found, found-value}
-use Rattle.document.specs.declared.Span.TheVariants.{Is}
-use Rattle.document.specs.Document.{some, once_only, field}
-use Rattle.document.specs.Spans.{moved, member_span}
+use Rattle.document.specs.Document.{once_only, field}
+use Rattle.document.specs.Spans.{moved, member_span, spanning}
 use Rattle.walk.proofs.Cuts.{part-part, part-inside}
+use Rattle.std.specs.Prelude.{Some}
 
 -- the first row of the field f has this name and shape
 pub data Lists (f : ℕ) (name : List ℕ) (σ : Shape) : Rows → Type 0 where
@@ -64,7 +64,7 @@ pub record Held (name : List ℕ) (σ : Shape) (x : Json) (y : Picked) : Type 0 
   pub picked : pick σ value ≡ y
 
 module _ (σ : Shape) {y : Picked} where
-  from-given : (o : Slot Json) → once_only (over (pick σ) (unless_blank o)) ≡ some y → (z : Json) × (o ≡ once z) × (pick σ z ≡ y)
+  from-given : (o : Slot Json) → once_only (over (pick σ) (unless_blank o)) ≡ Some y → (z : Json) × (o ≡ once z) × (pick σ z ≡ y)
   from-given missing e = none-some e
   from-given twice e = none-some e
   from-given (once tree.null) e = (tree.null, refl, some-some e)
@@ -76,7 +76,7 @@ module _ (σ : Shape) {y : Picked} where
   from-given (once (tree.object ms)) e = (tree.object ms, refl, some-some e)
 
 pub field-held : {f : ℕ} {name : List ℕ} {σ : Shape} {rows : Rows} → Lists f name σ rows → (x : Json) {y : Picked}
-    → field f (pick (shape.object rows) x) ≡ some y → Held name σ x y
+    → field f (pick (shape.object rows) x) ≡ Some y → Held name σ x y
 unfolding field pick
 field-held l tree.null e = none-some e
 field-held l (tree.boolean b) e = none-some e
@@ -97,7 +97,7 @@ pub record Stands (s : List ℕ) (from upto : ℕ) (x : Json) : Type 0 where
 pub record Reached (s name : List ℕ) (from upto : ℕ) (z : Json) : Type 0 where
   pub start : ℕ
   pub end : ℕ
-  pub is : member_span s name (Is from upto) ≡ Is start end
+  pub is : member_span s name (Some (spanning from upto)) ≡ Some (spanning start end)
   pub there : Stands s start end z
 
 tree-once : (p : List ℕ) (o : Found) (z : Json) → tree_in p o ≡ once z → (a : ℕ) × (e : ℕ) × (o ≡ Once a e) × (part_tree (part p a e) ≡ z)

@@ -31,13 +31,14 @@ use Rattle.slots.specs.declared.Found.TheVariants.{Missing, Once, Twice}
 use Rattle.slots.specs.Found.{noted, found_in}
 use Rattle.slots.specs.inner.Found.{tree_in}
 use Rattle.slots.proofs.Finds.{find-found}
-use Rattle.document.specs.declared.Span.TheVariants.{None, Is}
-use Rattle.document.specs.Document.{Maybe, none, some, once_only}
-use Rattle.document.specs.Spans.{moved, members_along, top_span, records_span}
+use Rattle.document.proofs.Along.{ends-same}
+use Rattle.document.specs.Document.{once_only}
+use Rattle.document.specs.Spans.{moved, members_along, top_span, records_span, spanning}
 use Rattle.document.specs.Trees.{member, value_along, listed, items_in, record_trees}
 use Rattle.document.proofs.Rows.{Stands, stands-found}
 use Rattle.document.proofs.Records.{top-is, top-stands, item_trees, Records}
 use Rattle.document.proofs.Rests.{none-along}
+use Rattle.std.specs.Prelude.{Some, None, Option}
 
 -- an object stands between its brackets
 abbrev Braces : List ℕ → Type 0
@@ -62,7 +63,7 @@ other-member : (p name : List ℕ) (x : Json) → Whole p x → (byte p 0 ≡ 0x
 unfolding found_in
 other-member p name x w n = bare x w ∙ sym (ap (λ (ms : List Member). once_only (tree_in p (foldl (noted p name) Missing ms))) (no-members w n))
   where
-    bare : (y : Json) → Whole p y → member name y ≡ none
+    bare : (y : Json) → Whole p y → member name y ≡ None
     bare (tree.object ms) v = absurd (n (ap (λ (q : List ℕ). byte q 0) (object_braces v).1))
     bare (tree.array is) v = refl
     bare (tree.string s) v = refl
@@ -77,33 +78,30 @@ member-found p name x w =
     (λ t. other-member p name x w (eqb-false (byte p 0) 0x7b t))
 
 -- a span that is one
-is-is : {a b c d : ℕ} → Is a b ≡ Is c d → (a ≡ c) × (b ≡ d)
-is-is e = (cc, cc)
-
-none_is : {A : Type 0} {a b : ℕ} → None ≡ Is a b → A
+none_is : {A : Type 0} {a b : ℕ} → None ≡ Some (spanning a b) → A
 none_is e = let z : ◌≡◌ {A = ℕ} 0 1 = cc in absurd (omega arith)
 
 -- the value along names of the tree x stands there
 abbrev Along : List ℕ → List (List ℕ) → Json → ℕ → ℕ → Type 0
-Along s names x from upto = (z : Json) × (value_along names x ≡ some z) × Stands s from upto z
+Along s names x from upto = (z : Json) × (value_along names x ≡ Some z) × Stands s from upto z
 
-pub along-tree : (s : List ℕ) (names : List (List ℕ)) (from upto : ℕ) (x : Json) → Stands s from upto x → (a e : ℕ) → members_along s names (Is from upto) ≡ Is a e
+pub along-tree : (s : List ℕ) (names : List (List ℕ)) (from upto : ℕ) (x : Json) → Stands s from upto x → (a e : ℕ) → members_along s names (Some (spanning from upto)) ≡ Some (spanning a e)
     → Along s names x a e
 unfolding members_along value_along
 along-tree s [] from upto x w a e h =
-    let (i, j) = is-is h in (x, refl, subst (λ (n : ℕ). Stands s n e x) i (subst (λ (n : ℕ). Stands s from n x) j w))
+    let (i, j) = ends-same h in (x, refl, subst (λ (n : ℕ). Stands s n e x) i (subst (λ (n : ℕ). Stands s from n x) j w))
 along-tree s (name ∷ names) from upto x w a e h = go (along-tree s names) (found_in (part s from upto) name) refl h
   where
     p : List ℕ
     p = part s from upto
 
-    go : ((b c : ℕ) (y : Json) → Stands s b c y → (a e : ℕ) → members_along s names (Is b c) ≡ Is a e → Along s names y a e)
-        → (o : Found) → found_in p name ≡ o → members_along s names (moved from o) ≡ Is a e → Along s (name ∷ names) x a e
+    go : ((b c : ℕ) (y : Json) → Stands s b c y → (a e : ℕ) → members_along s names (Some (spanning b c)) ≡ Some (spanning a e) → Along s names y a e)
+        → (o : Found) → found_in p name ≡ o → members_along s names (moved from o) ≡ Some (spanning a e) → Along s (name ∷ names) x a e
     go ih Missing f k = none_is (sym (none-along s names) ∙ k)
     go ih Twice f k = none_is (sym (none-along s names) ∙ k)
     go ih (Once c d) f k =
         let y = part_tree (part p c d) in
-        let m : member name x ≡ some y = member-found p name x w.whole ∙ ap (λ (o : Found). once_only (tree_in p o)) f in
+        let m : member name x ≡ Some y = member-found p name x w.whole ∙ ap (λ (o : Found). once_only (tree_in p o)) f in
         let (z, g, v) = ih (from + c) (from + d) y (stands-found s name from upto w c d f) a e k in
         (z, rw (value_along, m) g, v)
 
@@ -118,11 +116,11 @@ pub records-trees : (file : ℕ) {s : List ℕ} {σ : Shape} {l : List Picked} (
 unfolding record_trees records_span
 records-trees file {s} t r = go (way_to file) r.is
   where
-    go : (o : Maybe Way) → elim o [ none ↦ None | some w ↦ members_along s (map (λ k. k.name) w.keys) (top_span s) ] ≡ Is r.start r.end
-        → elim o [ none ↦ [] | some w ↦ items_in (value_along (map (λ k. k.name) w.keys) t.tree) ] ≡ item_trees (part s r.start r.end)
-    go none i = none_is i
-    go (some way) i =
+    go : (o : Option Way) → elim o [ None ↦ None | Some w ↦ members_along s (map (λ k. k.name) w.keys) (top_span s) ] ≡ Some (spanning r.start r.end)
+        → elim o [ None ↦ [] | Some w ↦ items_in (value_along (map (λ k. k.name) w.keys) t.tree) ] ≡ item_trees (part s r.start r.end)
+    go None i = none_is i
+    go (Some way) i =
         let p = part s r.start r.end in let names = map (λ k. k.name) way.keys in
         let (z, e, w) = along-tree s names (value_start s) t.end t.tree (top-stands s t) r.start r.end (ap (members_along s names) (sym (top-is s t)) ∙ i) in
         let same : z ≡ tree.array r.trees = sym (whole-tree w.whole) ∙ whole-tree r.there.whole in
-        ap items_in (e ∙ ap some same) ∙ ap listed (array_parts p r.there.whole) ∙ listed_of (item_trees p)
+        ap items_in (e ∙ ap Some same) ∙ ap listed (array_parts p r.there.whole) ∙ listed_of (item_trees p)

@@ -31,16 +31,17 @@ use Rattle.slots.specs.inner.Blank.{blank_text}
 use Rattle.slots.proofs.Finds.{find-found, found-value}
 use Rattle.slots.proofs.Picks.{unless-blank}
 use Rattle.document.specs.Document as document
-use Rattle.document.specs.Document.{Maybe, none, some, once_only, field, elements_of, then, text_in, spelling_in, truth_in}
+use Rattle.document.specs.Document.{once_only, field, elements_of, then, text_in, spelling_in, truth_in}
 use Rattle.document.proofs.Rows.{Lists, over, at_row}
 use Rattle.document.proofs.Records.{list_each}
 use Rattle.document.specs.inner.Items.{picked_items}
 use Rattle.document.specs.inner.Values.{kind_code, found_bytes, member_of, truth_by, spelled_by, text_by, array_by, there_by}
+use Rattle.std.specs.Prelude.{Option, None, Some}
 
 -- the bytes q hold what is picked by σ; or there is nothing
-abbrev pub Holds : Shape → List ℕ → Maybe Picked → Type 0
-Holds σ q none = q ≡ []
-Holds σ q (some y) = (x : Json) × Whole q x × (pick σ x ≡ y)
+abbrev pub Holds : Shape → List ℕ → Option Picked → Type 0
+Holds σ q None = q ≡ []
+Holds σ q (Some y) = (x : Json) × Whole q x × (pick σ x ≡ y)
 
 -- a kind's number, of a whole value
 whole_code : {q : List ℕ} {x : Json} → Whole q x → kind_code (kind_at q) ≡ kind_code (kind_of x)
@@ -86,21 +87,21 @@ member-holds {name = name} {σ = σ} l p (tree.object ms) w =
     rw (in_object p name (ap (λ (n : ℕ). eqb n 5) (whole_code w)), at_row l ms, find-found p name w) (held_found σ p name (found_in p name) refl)
 
 -- there or not
-pub holds-there : (σ : Shape) (q : List ℕ) (o : Maybe Picked) → Holds σ q o → there_by q ≡ document.given o
-holds-there σ q none h = ap there_by h
-holds-there σ q (some y) h = lt-ltb 0 (length q) (whole-some h.1)
+pub holds-there : (σ : Shape) (q : List ℕ) (o : Option Picked) → Holds σ q o → there_by q ≡ document.given o
+holds-there σ q None h = ap there_by h
+holds-there σ q (Some y) h = lt-ltb 0 (length q) (whole-some h.1)
 
 -- by the kind
 module _ (q : List ℕ) where
-  truth-is : (b : Bool) → eqb (kind_code (kind_at q)) 1 ≡ b → truth_by q ≡ (b ⇒ some (eqb (get_or q 0 0) 0x74) else none)
+  truth-is : (b : Bool) → eqb (kind_code (kind_at q)) 1 ≡ b → truth_by q ≡ (b ⇒ Some (eqb (get_or q 0 0) 0x74) else None)
   unfolding truth_by
   truth-is b e = rw e
 
-  spelled_is : (b : Bool) → eqb (kind_code (kind_at q)) 2 ≡ b → spelled_by q ≡ (b ⇒ some q else none)
+  spelled_is : (b : Bool) → eqb (kind_code (kind_at q)) 2 ≡ b → spelled_by q ≡ (b ⇒ Some q else None)
   unfolding spelled_by
   spelled_is b e = rw e
 
-  text-is : (b : Bool) → eqb (kind_code (kind_at q)) 3 ≡ b → text_by q ≡ (b ⇒ some (text_of (inside q)) else none)
+  text-is : (b : Bool) → eqb (kind_code (kind_at q)) 3 ≡ b → text_by q ≡ (b ⇒ Some (text_of (inside q)) else None)
   unfolding text_by
   text-is b e = rw e
 
@@ -113,7 +114,7 @@ module _ (q : List ℕ) where
 
   truth-whole : (x : Json) → Whole q x → truth_by q ≡ truth_in (bare (emptied x))
   truth-whole tree.null w = truth-is false (whole_test 1 _ w)
-  truth-whole (tree.boolean b) w = truth-is true (whole_test 1 _ w) ∙ ap some (whole-boolean w)
+  truth-whole (tree.boolean b) w = truth-is true (whole_test 1 _ w) ∙ ap Some (whole-boolean w)
   truth-whole (tree.number s) w = truth-is false (whole_test 1 _ w)
   truth-whole (tree.string s) w = truth-is false (whole_test 1 _ w)
   truth-whole (tree.array is) w = truth-is false (whole_test 1 _ w)
@@ -122,7 +123,7 @@ module _ (q : List ℕ) where
   spelled-whole : (x : Json) → Whole q x → spelled_by q ≡ spelling_in (bare (emptied x))
   spelled-whole tree.null w = spelled_is false (whole_test 2 _ w)
   spelled-whole (tree.boolean b) w = spelled_is false (whole_test 2 _ w)
-  spelled-whole (tree.number s) w = spelled_is true (whole_test 2 _ w) ∙ ap some (sym (whole-number w))
+  spelled-whole (tree.number s) w = spelled_is true (whole_test 2 _ w) ∙ ap Some (sym (whole-number w))
   spelled-whole (tree.string s) w = spelled_is false (whole_test 2 _ w)
   spelled-whole (tree.array is) w = spelled_is false (whole_test 2 _ w)
   spelled-whole (tree.object ms) w = spelled_is false (whole_test 2 _ w)
@@ -131,25 +132,25 @@ module _ (q : List ℕ) where
   text-whole tree.null w = text-is false (whole_test 3 _ w)
   text-whole (tree.boolean b) w = text-is false (whole_test 3 _ w)
   text-whole (tree.number s) w = text-is false (whole_test 3 _ w)
-  text-whole (tree.string s) w = text-is true (whole_test 3 _ w) ∙ ap some (sym (whole-string w))
+  text-whole (tree.string s) w = text-is true (whole_test 3 _ w) ∙ ap Some (sym (whole-string w))
   text-whole (tree.array is) w = text-is false (whole_test 3 _ w)
   text-whole (tree.object ms) w = text-is false (whole_test 3 _ w)
 
 module _ (sort : Sort) where
-  pub holds-truth : (q : List ℕ) (o : Maybe Picked) → Holds (shape.scalar sort) q o → truth_by q ≡ then o truth_in
+  pub holds-truth : (q : List ℕ) (o : Option Picked) → Holds (shape.scalar sort) q o → truth_by q ≡ then o truth_in
   unfolding pick
-  holds-truth q none h = ap truth_by h ∙ truth-is [] false (ap (λ (n : ℕ). eqb n 1) nothing-there)
-  holds-truth q (some y) h = truth-whole q h.0 h.1 ∙ ap truth_in h.2
+  holds-truth q None h = ap truth_by h ∙ truth-is [] false (ap (λ (n : ℕ). eqb n 1) nothing-there)
+  holds-truth q (Some y) h = truth-whole q h.0 h.1 ∙ ap truth_in h.2
 
-  pub holds_spelled : (q : List ℕ) (o : Maybe Picked) → Holds (shape.scalar sort) q o → spelled_by q ≡ then o spelling_in
+  pub holds_spelled : (q : List ℕ) (o : Option Picked) → Holds (shape.scalar sort) q o → spelled_by q ≡ then o spelling_in
   unfolding pick
-  holds_spelled q none h = ap spelled_by h ∙ spelled_is [] false (ap (λ (n : ℕ). eqb n 2) nothing-there)
-  holds_spelled q (some y) h = spelled-whole q h.0 h.1 ∙ ap spelling_in h.2
+  holds_spelled q None h = ap spelled_by h ∙ spelled_is [] false (ap (λ (n : ℕ). eqb n 2) nothing-there)
+  holds_spelled q (Some y) h = spelled-whole q h.0 h.1 ∙ ap spelling_in h.2
 
-  pub holds_text : (q : List ℕ) (o : Maybe Picked) → Holds (shape.scalar sort) q o → text_by q ≡ then o text_in
+  pub holds_text : (q : List ℕ) (o : Option Picked) → Holds (shape.scalar sort) q o → text_by q ≡ then o text_in
   unfolding pick
-  holds_text q none h = ap text_by h ∙ text-is [] false (ap (λ (n : ℕ). eqb n 3) nothing-there)
-  holds_text q (some y) h = text-whole q h.0 h.1 ∙ ap text_in h.2
+  holds_text q None h = ap text_by h ∙ text-is [] false (ap (λ (n : ℕ). eqb n 3) nothing-there)
+  holds_text q (Some y) h = text-whole q h.0 h.1 ∙ ap text_in h.2
 
 -- the items of an array
 module _ (numbering : Numbering) (most : ℕ) (σ : Shape) where
@@ -157,7 +158,7 @@ module _ (numbering : Numbering) (most : ℕ) (σ : Shape) where
   unfolding items_of items_from
   no_items q e = rw (array-is q false e)
 
-  items-whole : (q : List ℕ) (x : Json) → Whole q x → picked_items σ (array_by q) ≡ elements_of (some (pick (shape.array numbering most σ) x))
+  items-whole : (q : List ℕ) (x : Json) → Whole q x → picked_items σ (array_by q) ≡ elements_of (Some (pick (shape.array numbering most σ) x))
   unfolding pick
   items-whole q tree.null w = no_items q (whole_test q 4 _ w)
   items-whole q (tree.boolean b) w = no_items q (whole_test q 4 _ w)
@@ -168,6 +169,6 @@ module _ (numbering : Numbering) (most : ℕ) (σ : Shape) where
       ∙ sym (ap (λ js. list_of (pick_items (λ y. pick σ y) js)) (array_parts q w) ∙ list_each (λ y. pick σ y) (items_of q) (λ m. part_tree (item_of q m)))
   items-whole q (tree.object ms) w = no_items q (whole_test q 4 _ w)
 
-  pub holds-items : (q : List ℕ) (o : Maybe Picked) → Holds (shape.array numbering most σ) q o → picked_items σ (array_by q) ≡ elements_of o
-  holds-items q none h = ap (λ z. picked_items σ (array_by z)) h ∙ no_items [] (ap (λ (n : ℕ). eqb n 4) nothing-there)
-  holds-items q (some y) h = items-whole q h.0 h.1 ∙ ap (λ z. elements_of (some z)) h.2
+  pub holds-items : (q : List ℕ) (o : Option Picked) → Holds (shape.array numbering most σ) q o → picked_items σ (array_by q) ≡ elements_of o
+  holds-items q None h = ap (λ z. picked_items σ (array_by z)) h ∙ no_items [] (ap (λ (n : ℕ). eqb n 4) nothing-there)
+  holds-items q (Some y) h = items-whole q h.0 h.1 ∙ ap (λ z. elements_of (Some z)) h.2

@@ -8,9 +8,9 @@ use lib.Dec.{eqb}
 use borrow.Author.Tests.{eqb-true}
 use Rattle.limits.specs.Ceilings as ceiling
 use Rattle.notation.specs.Choice.{◌and◌}
-use Rattle.notation.specs.Maybe.{Maybe, none, some, given}
+use Rattle.notation.specs.Given.{given}
 use Rattle.notation.proofs.Booleans.{true-false, and_left, and_right}
-use Rattle.notation.proofs.Maybes.{none-some, some-some}
+use Rattle.notation.proofs.Options.{none-some, some-some}
 use Rattle.schema.specs.Shape as shape
 use Rattle.schema.specs.Shape.{Shape, Rows, Need}
 use Rattle.schema.specs.Tables.{sheets, sheet_shape, written}
@@ -18,6 +18,7 @@ use Rattle.schema.specs.Records.{Key, Way, way_in, way_through, way_to, record_i
 use Rattle.schema.proofs.Computed.{every, every_file}
 use Rattle.document.proofs.Rows as fields
 use Rattle.document.proofs.Rows.{Lists}
+use Rattle.std.specs.Prelude.{Option, None, Some}
 
 -- the first row of the field f is required, and has this name and shape
 pub data Requires (f : ℕ) (name : List ℕ) (σ : Shape) : Rows → Type 0 where
@@ -37,7 +38,7 @@ pub data Leads : Shape → List Key → Shape → Type 0 where
 -- a sheet with records
 pub record Recorded (n : ℕ) : Type 0 where
   pub way : Way
-  pub is : way_to n ≡ some way
+  pub is : way_to n ≡ Some way
   pub leads : Leads (sheet_shape n) way.keys (shape.array shape.records ceiling.records (record_shape n))
   pub rows : Rows
   pub object : record_shape n ≡ shape.object rows
@@ -55,9 +56,9 @@ is_object (shape.array numbering most σ) = false
 is_object (shape.object rows) = true
 
 -- a way does not begin with the field g
-abbrev apart : ℕ → Maybe Way → Bool
-apart g none = true
-apart g (some w) = elim w.keys [ [] ↦ true | k ∷ ks ↦ not (eqb k.field g) ]
+abbrev apart : ℕ → Option Way → Bool
+apart g None = true
+apart g (Some w) = elim w.keys [ [] ↦ true | k ∷ ks ↦ not (eqb k.field g) ]
 
 unfoldable mutual
   required_way : Shape → Bool
@@ -72,7 +73,7 @@ unfoldable mutual
   required_rows : Rows → Bool
   required_rows shape.no_row = true
   required_rows (shape.row field need name σ rows) =
-      elim (way_in σ) [ none ↦ apart field (way_through rows) and required_rows rows | some w ↦ is_required need and required_way σ ]
+      elim (way_in σ) [ None ↦ apart field (way_through rows) and required_rows rows | Some w ↦ is_required need and required_way σ ]
 
 -- What it says of a way.
 abbrev records : Shape → Shape
@@ -117,9 +118,9 @@ at_records most σ w e t =
     (record { leads = subst (λ (n : ℕ). Leads (shape.array shape.records most σ) [] (shape.array shape.records n σ)) m arrived; rows = r.0; object = r.1 })
 
 -- a row that leads on, or one before it; what holds of its value and of the rows below is handed over
-module _ (field : ℕ) (need : Need) (name : List ℕ) (σ : Shape) (rows : Rows) (value : (v : Way) → way_in σ ≡ some v → required_way σ ≡ true → Led σ v)
-    (others : (v : Way) → way_through rows ≡ some v → required_rows rows ≡ true → LedRows rows v) (w : Way) where
-  through : (v : Way) → way_in σ ≡ some v → is_required need and required_way σ ≡ true → LedRows (shape.row field need name σ rows) (record { keys = record { field = field; name = name } ∷ v.keys; item = v.item })
+module _ (field : ℕ) (need : Need) (name : List ℕ) (σ : Shape) (rows : Rows) (value : (v : Way) → way_in σ ≡ Some v → required_way σ ≡ true → Led σ v)
+    (others : (v : Way) → way_through rows ≡ Some v → required_rows rows ≡ true → LedRows rows v) (w : Way) where
+  through : (v : Way) → way_in σ ≡ Some v → is_required need and required_way σ ≡ true → LedRows (shape.row field need name σ rows) (record { keys = record { field = field; name = name } ∷ v.keys; item = v.item })
   through v i t =
       let l = value v i (and_right (is_required need) (required_way σ) t) in
       record {
@@ -133,10 +134,10 @@ module _ (field : ℕ) (need : Need) (name : List ℕ) (σ : Shape) (rows : Rows
         object = l.object;
       }
 
-  past : way_through rows ≡ some w → apart field (way_through rows) and required_rows rows ≡ true → LedRows (shape.row field need name σ rows) w
+  past : way_through rows ≡ Some w → apart field (way_through rows) and required_rows rows ≡ true → LedRows (shape.row field need name σ rows) w
   past e t =
       let r = others w e (and_right (apart field (way_through rows)) (required_rows rows) t) in
-      let a : apart field (some w) ≡ true = ap (apart field) (sym e) ∙ and_left (apart field (way_through rows)) (required_rows rows) t in
+      let a : apart field (Some w) ≡ true = ap (apart field) (sym e) ∙ and_left (apart field (way_through rows)) (required_rows rows) t in
       let b : not (eqb r.first.field field) ≡ true = rw r.keys at a in
       record {
         first = r.first;
@@ -150,20 +151,20 @@ module _ (field : ℕ) (need : Need) (name : List ℕ) (σ : Shape) (rows : Rows
       }
 
   -- what rows and test are, by the way through the value
-  abbrev ways : Maybe Way → Maybe Way
-  ways o = elim o [ none ↦ way_through rows | some v ↦ some (record { keys = record { field = field; name = name } ∷ v.keys; item = v.item }) ]
+  abbrev ways : Option Way → Option Way
+  ways o = elim o [ None ↦ way_through rows | Some v ↦ Some (record { keys = record { field = field; name = name } ∷ v.keys; item = v.item }) ]
 
-  abbrev tests : Maybe Way → Bool
-  tests o = elim o [ none ↦ apart field (way_through rows) and required_rows rows | some v ↦ is_required need and required_way σ ]
+  abbrev tests : Option Way → Bool
+  tests o = elim o [ None ↦ apart field (way_through rows) and required_rows rows | Some v ↦ is_required need and required_way σ ]
 
-  by_value : (o : Maybe Way) → way_in σ ≡ o → ways (way_in σ) ≡ some w → tests (way_in σ) ≡ true → LedRows (shape.row field need name σ rows) w
-  by_value none i e t = past (ap ways (sym i) ∙ e) (ap tests (sym i) ∙ t)
-  by_value (some v) i e t = subst (LedRows (shape.row field need name σ rows)) (some-some (ap ways (sym i) ∙ e)) (through v i (ap tests (sym i) ∙ t))
+  by_value : (o : Option Way) → way_in σ ≡ o → ways (way_in σ) ≡ Some w → tests (way_in σ) ≡ true → LedRows (shape.row field need name σ rows) w
+  by_value None i e t = past (ap ways (sym i) ∙ e) (ap tests (sym i) ∙ t)
+  by_value (Some v) i e t = subst (LedRows (shape.row field need name σ rows)) (some-some (ap ways (sym i) ∙ e)) (through v i (ap tests (sym i) ∙ t))
 
 mutual
   unfolding way_in required_way
 
-  led : (σ : Shape) (w : Way) → way_in σ ≡ some w → required_way σ ≡ true → Led σ w
+  led : (σ : Shape) (w : Way) → way_in σ ≡ Some w → required_way σ ≡ true → Led σ w
   led shape.unlisted w e t = none-some e
   led (shape.scalar sort) w e t = none-some e
   led (shape.array shape.records most σ) w e t = at_records most σ w (some-some e) t
@@ -174,7 +175,7 @@ mutual
       let r = led_rows rows w e t in
       record { leads = subst (λ (ks : List Key). Leads (shape.object rows) ks (records w.item)) (sym r.keys) (into r.row r.leads); rows = r.inner; object = r.object }
 
-  led_rows : (rows : Rows) (w : Way) → way_through rows ≡ some w → required_rows rows ≡ true → LedRows rows w
+  led_rows : (rows : Rows) (w : Way) → way_through rows ≡ Some w → required_rows rows ≡ true → LedRows rows w
   led_rows shape.no_row w e t = none-some e
   led_rows (shape.row field need name σ rows) w e t = by_value field need name σ rows (λ v i u. led σ v i u) (λ v i u. led_rows rows v i u) w (way_in σ) refl e t
 
@@ -182,11 +183,11 @@ sheet_required : (n : ℕ) → required_way (sheet_shape n) ≡ true
 unfolding every required_way way_in written
 sheet_required n = every_file required_way sheets refl refl n
 
-given-some : {A : Type 0} (o : Maybe A) → given o ≡ true → (x : A) × (o ≡ some x)
-given-some none e = true-false e refl
-given-some (some x) e = (x, refl)
+given-some : {A : Type 0} (o : Option A) → given o ≡ true → (x : A) × (o ≡ Some x)
+given-some None e = true-false e refl
+given-some (Some x) e = (x, refl)
 
-item-is : (n : ℕ) (w : Way) → way_to n ≡ some w → record_shape n ≡ w.item
+item-is : (n : ℕ) (w : Way) → way_to n ≡ Some w → record_shape n ≡ w.item
 unfolding record_in
 item-is n w e = rw (record_in, e)
 

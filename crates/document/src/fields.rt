@@ -9,7 +9,6 @@ ghost use Rattle.document.specs.Values.{integer_in};
 ghost use Rattle.document.specs.inner.Values.{kind_code, found_bytes, FoundWhole, member_of, spelled_by, text_by, array_by, is_id};
 
 use crate::find;
-use decimal::Number;
 use decimal::spelling::read_decimal;
 use slots::{Found, is_blank_text};
 use text::compare::text_is;
@@ -60,15 +59,9 @@ pub fn value_at(p: &[u8], found: Found) -> &[u8]
     ensures { (FoundWhole p.now found → result.now ≡ found_bytes p.now found) × (length result.now ≤ length p.now) }
 {
     match found {
-        Found::Missing => {
-            return no_bytes(p);
-        }
-        Found::Once(from, upto) => {
-            return unless_blank(cut(p, from, upto));
-        }
-        Found::Twice => {
-            return no_bytes(p);
-        }
+        Found::Missing => no_bytes(p),
+        Found::Once(from, upto) => unless_blank(cut(p, from, upto)),
+        Found::Twice => no_bytes(p),
     }
 }
 
@@ -76,7 +69,7 @@ pub fn value_at(p: &[u8], found: Found) -> &[u8]
 pub fn member<'a>(p: &'a [u8], name: &[u8]) -> &'a [u8]
     ensures { (x : Json) → Whole p.now x → result.now ≡ member_of p.now name.now }
 {
-    if code_of(p) != OBJECT {
+    if value_kind(p) != ValueKind::Object {
         return no_bytes(p);
     }
     value_at(p, find(p, name))
@@ -96,7 +89,7 @@ pub fn unquoted(q: &[u8]) -> &[u8]
 pub fn array_in(q: &[u8]) -> &[u8]
     ensures { result.now ≡ array_by q.now }
 {
-    if code_of(q) != ARRAY {
+    if value_kind(q) != ValueKind::Array {
         return no_bytes(q);
     }
     q
@@ -106,10 +99,10 @@ pub fn array_in(q: &[u8]) -> &[u8]
 pub fn integer_in(q: &[u8]) -> u64
     ensures { result ≡ integer_in (spelled_by q.now) }
 {
-    if code_of(q) != NUMBER {
+    if value_kind(q) != ValueKind::Number {
         return 0;
     }
-    let Number::Value(d) = read_decimal(q) else {
+    let Some(d) = read_decimal(q) else {
         return 0;
     };
     d.whole
@@ -119,8 +112,5 @@ pub fn integer_in(q: &[u8]) -> u64
 pub fn is_id(q: &[u8], id: &[u8]) -> bool
     ensures { result ≡ is_id id.now (text_by q.now) }
 {
-    if code_of(q) != STRING {
-        return false;
-    }
-    text_is(unquoted(q), id)
+    value_kind(q) == ValueKind::String && text_is(unquoted(q), id)
 }

@@ -3,13 +3,12 @@
 #![tactic(auto)]
 
 ghost use Rattle.std.specs.Prelude.{◌≡◌, ◌+◌, ◌<◌, length};
-ghost use Rattle.notation.specs.Choice.{◌⇒◌else◌};
 ghost use Rattle.json_text.specs.Tree.{Json};
 ghost use Rattle.walk.specs.Walk.{items_of};
 ghost use Rattle.walk.specs.Part.{Whole};
 ghost use Rattle.walk.specs.inner.Along.{AlongItems};
 ghost use Rattle.schema.specs.Tables.{sheet_shape};
-ghost use Rattle.slots.specs.Found.{one_more, found_in};
+ghost use Rattle.slots.specs.Found.{found_in};
 ghost use Rattle.document.specs.Spans.{top_span, nth, record_span};
 ghost use Rattle.document.specs.inner.Spans.{Readable, Listed, ValueFrom, RecordsFrom};
 
@@ -21,36 +20,15 @@ use schema::ways::steps_to;
 use slots::Found;
 use text::compare::text_is;
 use walk::tail::last_end;
-use walk::{ItemStep, MemberStep, NameStep, cut, pass_item, pass_member, pass_name, pass_value};
+use walk::{cut, pass_item, pass_member, pass_name, pass_value};
 
 pub mod fields;
 
-// A part of a file's bytes, from one place up to another; or none.
-#[derive(Clone, Copy)]
-pub enum Span {
-    None,
-    Is(usize, usize),
-}
-
-// What was found, with one value more.
-fn one_more(found: Found, from: usize, upto: usize) -> Found
-    ensures { result ≡ one_more found from upto }
-{
-    match found {
-        Found::Missing => Found::Once(from, upto),
-        Found::Once(_, _) => Found::Twice,
-        Found::Twice => Found::Twice,
-    }
-}
-
-// What was found, with this value where its name is the one that is looked for.
-fn counted(named: bool, found: Found, from: usize, upto: usize) -> Found
-    ensures { result ≡ (named ⇒ one_more found from upto else found) }
-{
-    if named {
-        return one_more(found, from, upto);
-    }
-    found
+// A part of a file's bytes, from one place up to another.
+#[derive(Clone, Copy, Debug, PartialEq, Eq)]
+pub struct Span {
+    pub from: usize,
+    pub upto: usize,
 }
 
 // What the object `p` holds under a name. Its values are passed over: it is one that stage A read.
@@ -62,31 +40,27 @@ pub fn find(p: &[u8], name: &[u8]) -> Found
         return found;
     }
     let mut at: usize = 1;
-    loop {
-        match pass_member(p, at) {
-            MemberStep::End => {
-                return found;
-            }
-            MemberStep::Found(m) => {
-                let start = m.name;
-                let end = m.name_end;
-                let named = text_is(&p[start..end], name);
-                found = counted(named, found, m.value, m.value_end);
-                at = m.next;
-            }
+    while let Some(m) = pass_member(p, at) {
+        if text_is(&p[m.name..m.name_end], name) {
+            found = found.one_more(m.value, m.value_end);
         }
+        at = m.next;
     }
+    found
 }
 
 // The value of the whole file, without the blanks around it.
-pub fn top_span(s: &[u8]) -> Span
+pub fn top_span(s: &[u8]) -> Option<Span>
     ensures { Readable s.now → result ≡ top_span s.now }
 {
     let from = skip_blanks(s, 0);
     if s.len() <= from {
-        return Span::None;
+        return None;
     }
-    Span::Is(from, last_end(s, from))
+    Some(Span {
+        from,
+        upto: last_end(s, from),
+    })
 }
 
 // The rest of `p`, an object with whatever follows it, from the first value of a name on; no bytes where there is none.
@@ -97,29 +71,16 @@ fn value_from<'a>(p: &'a [u8], name: &[u8]) -> &'a [u8]
         return cut(p, 0, 0);
     }
     let mut at: usize = 1;
-    loop {
-        match pass_name(p, at) {
-            NameStep::End => {
-                return cut(p, 0, 0);
-            }
-            NameStep::Found(n) => {
-                let start = n.name;
-                let end = n.name_end;
-                let value = n.value;
-                if text_is(&p[start..end], name) {
-                    return &p[value..];
-                }
-                match pass_value(p, n) {
-                    MemberStep::End => {
-                        return cut(p, 0, 0);
-                    }
-                    MemberStep::Found(m) => {
-                        at = m.next;
-                    }
-                }
-            }
+    while let Some(n) = pass_name(p, at) {
+        if text_is(&p[n.name..n.name_end], name) {
+            return &p[n.value..];
         }
+        let Some(m) = pass_value(p, n) else {
+            break;
+        };
+        at = m.next;
     }
+    cut(p, 0, 0)
 }
 
 // The rest of a file of a sheet from its records on; no bytes where the number is no sheet's, or that of one without records. Nothing is passed over but what
@@ -146,39 +107,36 @@ pub fn records_from(sheet: u8, s: &[u8]) -> &[u8]
 }
 
 // The n-th item, counted from 1, of the array at the front of `p`, whose places are counted on from a number.
-fn nth_span(p: &[u8], from: usize, n: usize) -> Span
+fn nth_span(p: &[u8], from: usize, n: usize) -> Option<Span>
     requires { from + length p.now < 18_446_744_073_709_551_616 }
     ensures { AlongItems p.now 1 → result ≡ nth from (items_of p.now) n }
 {
     if n == 0 {
-        return Span::None;
+        return None;
     }
     let mut left = n;
     let mut at: usize = 1;
-    loop {
-        match pass_item(p, at) {
-            ItemStep::End => {
-                return Span::None;
-            }
-            ItemStep::Found(m) => {
-                if left == 1 {
-                    return Span::Is(from + m.value, from + m.value_end);
-                }
-                left -= 1;
-                at = m.next;
-            }
+    while let Some(m) = pass_item(p, at) {
+        if left == 1 {
+            return Some(Span {
+                from: from + m.value,
+                upto: from + m.value_end,
+            });
         }
+        left -= 1;
+        at = m.next;
     }
+    None
 }
 
 // The n-th record of a file of a sheet, counted from 1.
 // Shut out: records counted from 0; the last record shown where n is past it.
-pub fn record_span(sheet: u8, s: &[u8], n: usize) -> Span
+pub fn record_span(sheet: u8, s: &[u8], n: usize) -> Option<Span>
     ensures { Listed sheet s.now → result ≡ record_span (sheet_shape sheet) s.now n }
 {
     let p = records_from(sheet, s);
-    if p.len() == 0 {
-        return Span::None;
+    if p.is_empty() {
+        return None;
     }
     nth_span(p, s.len() - p.len(), n)
 }

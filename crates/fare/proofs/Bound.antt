@@ -33,25 +33,25 @@ charge-most s ride n h e =
 pub room_less : {n : ℕ} {sum : Sum} (k : ℕ) → k ≤ n → Room n sum → Room k sum
 room_less k h r = record { added = omega arith; taken = omega arith }
 
-room-amount : (n size : ℕ) (sum : Sum) (negative : Bool) → size ≤ most_charge most_ride → Room (suc n) sum → Room n (with_amount sum negative size)
-unfolding with_amount
-room-amount n size sum true h r = record { added = omega arith; taken = omega arith }
-room-amount n size sum false h r = record { added = omega arith; taken = omega arith }
+room-amount : (n : ℕ) (sum : Sum) (amount : Amount) → amount.size ≤ most_charge most_ride → Room (suc n) sum → Room n (with_amount sum amount)
+room-amount n sum amount h r = go amount.negative
+  where
+    go : (negative : Bool) → Room n (with_amount sum (record { negative = negative; size = amount.size }))
+    go true = record { added = omega arith; taken = omega arith }
+    go false = record { added = omega arith; taken = omega arith }
 
 pub room_next : {n : ℕ} {sum : Sum} (s : Segment) (ride : ℕ) → s.rate.size ≤ most_money → ride ≤ most_ride → Room (suc n) sum → Room n (with_charge sum s ride)
-unfolding with_charge
 room_next {n} {sum} s ride h l r =
-    room-amount n (s.rate.size * length (moments s ride)) sum s.rate.negative (omega (arith, charge-most s ride _ h refl)) r
+    room-amount n sum _ (omega (arith, charge-most s ride _ h refl)) r
 
 pub payable : {n : ℕ} {sum : Sum} (s : Segment) (ride : ℕ) → s.rate.size ≤ most_money → ride ≤ most_ride → Room (suc n) sum → Payable sum s ride
 payable s ride h l r = record { room = room_less 1 (omega arith) r; modest = h; short = l }
 
 -- a price leaves room for all segments of a plan
 pub room-price : (price : Amount) → price.size ≤ most_money → Room (2 * segments) (of_price price)
-unfolding of_price with_amount
 room-price price h = go price.negative
   where
-    go : (negative : Bool) → Room (2 * segments) (with_amount (record { added = 0; taken = 0 }) negative price.size)
+    go : (negative : Bool) → Room (2 * segments) (with_amount (record { added = 0; taken = 0 }) (record { negative = negative; size = price.size }))
     go true = record { added = omega arith; taken = omega arith }
     go false = record { added = omega arith; taken = omega arith }
 

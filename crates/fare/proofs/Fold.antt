@@ -1,23 +1,16 @@
--- Loops over the segments of a list: what was folded so far and what is left make the whole, of the charges (`Makes`) from the first segment on to the last, and of
--- the mark.
-use mathlib.Core.Bool.{Bool, true}
+-- A loop over the segments of a list: what was folded so far and the charges that are left make the whole (`Makes`), from the first segment on to the last.
 use mathlib.Core.List.{List, [], ◌∷◌}
-use mathlib.Core.Path.{◌≡◌, refl, sym, ap, ap₂, ◌∙◌}
-use Prim.Native.Nat.{ℕ, max}
-use native.Mathlib.Omega.{arith}
-use lib.Dec.{leb}
+use mathlib.Core.Path.{◌≡◌, refl, sym, ap, ◌∙◌}
+use Prim.Native.Nat.{ℕ}
 use lib.IntN.{ℤ, ◌+ℤ◌, +ℤ_assoc, +ℤ_idr}
-use Rattle.notation.specs.Choice.{◌and◌}
-use Rattle.notation.proofs.Booleans.{and-true, and_assoc}
 use Rattle.decimal.specs.declared.Amount.{Amount}
 use Rattle.decimal.specs.Exact.{ten_thousandths}
 use Rattle.fare.specs.declared.Minutes.{Minutes}
 use Rattle.fare.specs.declared.Kilometres.{Kilometres}
 use Rattle.fare.specs.declared.Segment.{Segment}
 use Rattle.fare.specs.declared.Sum.{Sum}
-use Rattle.fare.specs.declared.Marks.{Marks}
-use Rattle.fare.specs.Charges.{charge, charges, sum, all_ended, greatest_end, past}
-use Rattle.fare.specs.inner.Folds.{worth, of_price, with_charge, with_charges, unmarked, with_end, with_ends, marked}
+use Rattle.fare.specs.Charges.{charge, charges, sum}
+use Rattle.fare.specs.inner.Folds.{worth, of_price, with_charge, with_charges}
 use Rattle.fare.proofs.Worth.{worth-price, worth-charge}
 
 -- the sum and the charges of what is left make z
@@ -51,22 +44,3 @@ sum_kept price per_minute per_kilometre minutes kilometres =
     charges_summed _ per_kilometre kilometres.count
     ∙ ap (λ (z : ℤ). z +ℤ charges per_kilometre kilometres.count)
     (charges_summed (of_price price) per_minute minutes.count ∙ ap (λ (z : ℤ). z +ℤ charges per_minute minutes.count) (worth-price price))
-
--- The mark after all segments of a list: by the greatest of their ends, and whether all have one.
-marked_from : (ride : ℕ) (l : List Segment) (m : Marks) → m.some ≡ true
-    → marked (with_ends m l) ride ≡ ((m.ended and all_ended l) and leb (max m.end (greatest_end l)) ride)
-unfolding marked all_ended greatest_end
-marked_from ride [] m e =
-    let z : max m.end 0 ≡ m.end = omega arith in rw (e, and-true m.ended, z)
-marked_from ride (s ∷ l) m e =
-    let z : max (max m.end s.end) (greatest_end l) ≡ max m.end (max s.end (greatest_end l)) = omega arith in
-    marked_from ride l (with_end m s) refl
-    ∙ ap₂ (λ (a : Bool) (n : ℕ). a and leb n ride) (and_assoc m.ended s.ended (all_ended l)) z
-
-pub marked-past : (l : List Segment) (ride : ℕ) → marked (with_ends unmarked l) ride ≡ past l ride
-unfolding marked past all_ended greatest_end
-marked-past [] ride = refl
-marked-past (s ∷ l) ride =
-    let z : max (max 0 s.end) (greatest_end l) ≡ max s.end (greatest_end l) = omega arith in
-    marked_from ride l (with_end unmarked s) refl
-    ∙ ap (λ (n : ℕ). (s.ended and all_ended l) and leb n ride) z

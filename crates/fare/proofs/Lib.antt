@@ -4,7 +4,6 @@ pub mod Fold
 pub mod Bound
 pub mod Size
 pub mod Charging
-pub mod Ends
 pub mod Past
 pub mod Amounts
 pub mod Longer

@@ -10,52 +10,41 @@ use native.Mathlib.Omega.{arith}
 use lib.Dec.{eqb, leb, ltb}
 use lib.ListN.{length}
 use borrow.Author.Tests.{leb-true, leb-false, eqb-true, eqb-false, lt-ltb, le-ltb, le-leb, lt-leb, eq-eqb, ne_eqb}
+use Rattle.std.specs.Prelude.{Option, None, Some, is_some, unwrap_or, min}
+use Rattle.std.specs.Option.{option_map_or}
+use Rattle.std.proofs.lemmas.Bool.Decides.{nat_tests}
 use Rattle.notation.specs.Choice.{◌⇒◌else◌, ◌and◌}
+use Rattle.notation.proofs.Booleans.{true-false, and-true}
 use Rattle.fare.specs.declared.Segment.{Segment}
 use Rattle.fare.specs.Charges.{charged, moments_from, moments}
 use Rattle.fare.specs.inner.Folds.{bound_of, count_below}
 
--- the ways through the bound
+-- the bound
+pub bound_end : (s : Segment) (ride : ℕ) → is_some s.end ≡ true → unwrap_or s.end 0 ≤ ride → bound_of s ride ≡ unwrap_or s.end 0
+bound_end s ride e h = go s.end e h
+  where
+    go : (end : Option ℕ) → is_some end ≡ true → unwrap_or end 0 ≤ ride → option_map_or (λ t. min t (ride + 1)) end (ride + 1) ≡ unwrap_or end 0
+    go None e h = true-false e refl
+    go (Some end) e h = omega arith
+
+less_more : (t ride : ℕ) → leb t ride ≡ ltb t (ride + 1)
+less_more t ride = grind (arith, nat_tests)
+
 module _ (s : Segment) (ride : ℕ) where
-  pub bound_open : s.ended ≡ false → bound_of s ride ≡ ride + 1
-  unfolding bound_of
-  bound_open e = rw e
-
-  pub bound_end : s.ended ≡ true → s.end ≤ ride → bound_of s ride ≡ s.end
-  unfolding bound_of
-  bound_end e h = rw (e, le-leb s.end ride h)
-
-  pub bound_ride : s.ended ≡ true → ride < s.end → bound_of s ride ≡ ride + 1
-  unfolding bound_of
-  bound_ride e h = rw (e, lt-leb s.end ride h)
-
   pub bound_most : bound_of s ride ≤ ride + 1
-  unfolding bound_of
-  bound_most = go s.ended (leb s.end ride) refl
+  bound_most = go s.end
     where
-      go : (ended past : Bool) → leb s.end ride ≡ past → (ended and past ⇒ s.end else ride + 1) ≤ ride + 1
-      go false past e = omega arith
-      go true true e = let h : s.end ≤ ride = leb-true _ _ e in omega arith
-      go true false e = omega arith
+      go : (end : Option ℕ) → option_map_or (λ t. min t (ride + 1)) end (ride + 1) ≤ ride + 1
+      go None = omega arith
+      go (Some end) = omega arith
 
   charged-below : (t : ℕ) → charged s ride t ≡ ltb t (bound_of s ride)
-  unfolding charged bound_of
-  charged-below t = go s.ended (leb t ride) (leb s.end ride) refl refl
+  unfolding charged
+  charged-below t = go s.end
     where
-      go : (ended a b : Bool) → leb t ride ≡ a → leb s.end ride ≡ b
-          → (a and (ended ⇒ ltb t s.end else true)) ≡ ltb t (ended and b ⇒ s.end else ride + 1)
-      go false true b e f = let h : t ≤ ride = leb-true _ _ e in sym (lt-ltb t (ride + 1) (omega arith))
-      go false false b e f = let h : ride < t = leb-false _ _ e in sym (le-ltb t (ride + 1) (omega arith))
-      go true true true e f = refl
-      go true true false e f =
-          let h : t ≤ ride = leb-true _ _ e in
-          let k : ride < s.end = leb-false _ _ f in
-          lt-ltb t s.end (omega arith) ∙ sym (lt-ltb t (ride + 1) (omega arith))
-      go true false true e f =
-          let h : ride < t = leb-false _ _ e in
-          let k : s.end ≤ ride = leb-true _ _ f in
-          sym (le-ltb t s.end (omega arith))
-      go true false false e f = let h : ride < t = leb-false _ _ e in sym (le-ltb t (ride + 1) (omega arith))
+      go : (end : Option ℕ) → (leb t ride and option_map_or (λ end. ltb t end) end true) ≡ ltb t (option_map_or (λ t. min t (ride + 1)) end (ride + 1))
+      go None = and-true (leb t ride) ∙ less_more t ride
+      go (Some end) = grind (arith, nat_tests)
 
 -- the ways through the closed form
 module _ (bound start interval : ℕ) where

@@ -20,38 +20,21 @@ use Rattle.fare.specs.inner.Folds.{worth, with_amount, of_price, with_charge}
 abbrev sums : ℕ → ℕ → Sum
 sums added taken = record { added = added; taken = taken }
 
--- the ways through an amount
-pub amount-taken : (sum : Sum) (negative : Bool) (size : ℕ) → negative ≡ true → sums sum.added (sum.taken + size) ≡ with_amount sum negative size
-unfolding with_amount
-amount-taken sum negative size e = rw e
-
-pub amount-added : (sum : Sum) (negative : Bool) (size : ℕ) → negative ≡ false → sums (sum.added + size) sum.taken ≡ with_amount sum negative size
-unfolding with_amount
-amount-added sum negative size e = rw e
-
-worth-amount : (sum : Sum) (negative : Bool) (size : ℕ) → worth (with_amount sum negative size) ≡ worth sum +ℤ signed negative size
-unfolding with_amount
-worth-amount sum true size =
-    gap_same (gap sum.added (sum.taken + size)) (gap_add (gap sum.added sum.taken) (gap_neg size)) (omega arith)
-worth-amount sum false size =
-    gap_same (gap (sum.added + size) sum.taken) (gap_add (gap sum.added sum.taken) (gap_pos size)) (omega arith)
+-- with one amount more
+worth-amount : (sum : Sum) (amount : Amount) → worth (with_amount sum amount) ≡ worth sum +ℤ signed amount.negative amount.size
+worth-amount sum amount = go amount.negative amount.size
+  where
+    go : (negative : Bool) (size : ℕ) → worth (with_amount sum (record { negative = negative; size = size })) ≡ worth sum +ℤ signed negative size
+    go true size = gap_same (gap sum.added (sum.taken + size)) (gap_add (gap sum.added sum.taken) (gap_neg size)) (omega arith)
+    go false size = gap_same (gap (sum.added + size) sum.taken) (gap_add (gap sum.added sum.taken) (gap_pos size)) (omega arith)
 
 pub worth-price : (price : Amount) → worth (of_price price) ≡ ten_thousandths price
-unfolding of_price ten_thousandths
-worth-price price = worth-amount (sums 0 0) price.negative price.size ∙ go price.negative price.size
+unfolding ten_thousandths
+worth-price price = worth-amount (sums 0 0) price ∙ go price.negative price.size
   where
     go : (negative : Bool) (size : ℕ) → worth (sums 0 0) +ℤ signed negative size ≡ signed negative size
     go true size = gap_same (gap_add (gap 0 0) (gap_neg size)) (gap_neg size) (omega arith)
     go false size = gap_same (gap_add (gap 0 0) (gap_pos size)) (gap_pos size) (omega arith)
-
-pub price-is : (price : Amount) → with_amount (sums 0 0) price.negative price.size ≡ of_price price
-unfolding of_price
-price-is price = refl
-
-pub charge-is : (sum : Sum) (s : Segment) (ride n : ℕ) → n ≡ length (moments s ride)
-    → with_amount sum s.rate.negative (s.rate.size * n) ≡ with_charge sum s ride
-unfolding with_charge
-charge-is sum s ride n e = rw e
 
 -- n times a size with its sign
 pub signed-times : (negative : Bool) (size n : ℕ) → signed negative (size * n) ≡ signed negative size *ℤ pos n
@@ -59,9 +42,9 @@ signed-times true size n = gap_same (gap_neg (size * n)) (gap_mul (gap_neg size)
 signed-times false size n = gap_same (gap_pos (size * n)) (gap_mul (gap_pos size) (gap_pos n)) (omega arith)
 
 pub worth-charge : (sum : Sum) (s : Segment) (ride : ℕ) → worth (with_charge sum s ride) ≡ worth sum +ℤ charge s ride
-unfolding with_charge charge ten_thousandths
+unfolding charge ten_thousandths
 worth-charge sum s ride =
-    worth-amount sum s.rate.negative (s.rate.size * length (moments s ride))
+    worth-amount sum (record { negative = s.rate.negative; size = s.rate.size * length (moments s ride) })
     ∙ ap (λ (z : ℤ). worth sum +ℤ z) (signed-times s.rate.negative s.rate.size (length (moments s ride)))
 
 -- a number at or below zero comes to zero

@@ -1,5 +1,5 @@
 -- Charges, sums and marks at their limits, computed. Document 01's own readings (f) to (i) stand in the table of all of them.
-use Rattle.std.specs.Prelude.{Bool, true, false, List, [], ◌∷◌, ◌≡◌, refl, ℕ, ℤ, pos, neg_ℤ}
+use Rattle.std.specs.Prelude.{Bool, true, false, List, [], ◌∷◌, None, Some, ◌≡◌, refl, ℕ, ℤ, pos, neg_ℤ}
 use Rattle.std.specs.Int.Signed.{le_z}
 use Rattle.notation.specs.Case.{Case, Answers}
 use Rattle.decimal.specs.Exact.{ten_thousandths}
@@ -15,15 +15,15 @@ charging = tt
 -- segments by start, rate in ten-thousandths and interval: one without an end, and one with an end; and a discount, due once
 abbrev endless : ℕ → ℕ → ℕ → Segment
 endless start rate interval =
-    record { start = start; rate = record { negative = false; size = rate }; interval = interval; ended = false; end = 0 }
+    record { start = start; rate = record { negative = false; size = rate }; interval = interval; end = None }
 
 abbrev ending : ℕ → ℕ → ℕ → ℕ → Segment
 ending start rate interval end =
-    record { start = start; rate = record { negative = false; size = rate }; interval = interval; ended = true; end = end }
+    record { start = start; rate = record { negative = false; size = rate }; interval = interval; end = Some end }
 
 abbrev discount : ℕ → ℕ → Segment
 discount start rate =
-    record { start = start; rate = record { negative = true; size = rate }; interval = 0; ended = false; end = 0 }
+    record { start = start; rate = record { negative = true; size = rate }; interval = 0; end = None }
 
 -- the moments at which a segment charges a ride
 abbrev charged-at : List (Case (Segment × ℕ) (List ℕ))

@@ -1,5 +1,6 @@
 -- What a ride costs: document 01, "Charges", with document 02's W2. Lengths are whole minutes or kilometres; amounts are ten-thousandths, of any size.
-use Rattle.std.specs.Prelude.{Bool, true, false, List, [], ◌∷◌, ℕ, zero, suc, ◌+◌, ◌/◌, max, eqb, leb, ltb, length, ℤ, pos, negsuc, ◌+ℤ◌, ◌*ℤ◌}
+use Rattle.std.specs.Prelude.{Bool, true, false, List, [], ◌∷◌, is_some, unwrap_or, ℕ, zero, suc, ◌+◌, ◌/◌, max, eqb, leb, ltb, length, ℤ, pos, negsuc, ◌+ℤ◌, ◌*ℤ◌}
+use Rattle.std.specs.Option.{option_map_or}
 use Rattle.notation.specs.Choice.{◌⇒◌else◌, ◌and◌}
 use Rattle.decimal.specs.Exact.{ten_thousandths}
 use Rattle.fare.specs.declared.Minutes.{Minutes}
@@ -15,7 +16,7 @@ kilometres_of metres = record { count = metres / 1000 }
 
 -- the rate is charged at the moment t of a ride of this length: at most the length, and less than the end where there is one
 unfoldable pub charged : Segment → ℕ → ℕ → Bool
-charged s ride t = leb t ride and (s.ended ⇒ ltb t s.end else true)
+charged s ride t = leb t ride and option_map_or (λ end. ltb t end) s.end true
 
 -- the moments start, start + interval, .. that are charged, at most `most` of them
 unfoldable pub moments_from : Segment → ℕ → ℕ → ℕ → List ℕ
@@ -51,11 +52,12 @@ amount price per_minute per_kilometre minutes kilometres = clamped (sum price pe
 -- at least one segment, all of them with an end, and the ride at or past the greatest
 unfoldable pub all_ended : List Segment → Bool
 all_ended [] = true
-all_ended (s ∷ l) = s.ended and all_ended l
+all_ended (s ∷ l) = is_some s.end and all_ended l
 
+-- of those that have one
 unfoldable pub greatest_end : List Segment → ℕ
 greatest_end [] = 0
-greatest_end (s ∷ l) = max s.end (greatest_end l)
+greatest_end (s ∷ l) = max (unwrap_or s.end 0) (greatest_end l)
 
 unfoldable pub past : List Segment → ℕ → Bool
 past [] ride = false

@@ -1,20 +1,23 @@
 // What a ride costs by a plan's price and segments.
 #![tactic(auto)]
 
+ghost use Rattle.std.specs.Prelude.{◌≡◌, ◌≤◌};
+ghost use Rattle.limits.specs.Ceilings.{segments};
+
 use decimal::Amount;
 use limits::Limits;
 
 pub mod charge;
 pub mod length;
-pub mod mark;
+mod mark;
 
 // The length of a ride in whole minutes, and in whole kilometres: two types, so that neither can stand in the other's place.
-#[derive(Clone, Copy)]
+#[derive(Clone, Copy, Debug, PartialEq, Eq, PartialOrd, Ord)]
 pub struct Minutes {
     pub count: u64,
 }
 
-#[derive(Clone, Copy)]
+#[derive(Clone, Copy, Debug, PartialEq, Eq, PartialOrd, Ord)]
 pub struct Kilometres {
     pub count: u64,
 }
@@ -25,38 +28,38 @@ pub struct Segment {
     pub start: u64,
     pub rate: Amount,
     pub interval: u64,
-    pub ended: bool,
-    pub end: u64,
+    pub end: Option<u64>,
 }
 
-// The segments of one sort: they fill the first `count` places.
+// The segments of one sort as they are read: they fill the first `count` places. An array, since there is no heap.
 #[derive(Clone, Copy)]
 pub struct Segments {
     pub list: [Segment; Segments::PLACES],
     pub count: usize,
+    ghost few: { count ≤ segments },
 }
 
 impl Segments {
+    ghost use Rattle.fare.specs.inner.Folds.{listed};
+
     pub const PLACES: usize = Limits::SEGMENTS as usize;
+
+    pub fn as_slice(&self) -> &[Segment]
+        ensures { result.now ≡ listed self.now }
+    {
+        &self.list[..self.count]
+    }
 }
 
-// A sum of charges: what is added and what is taken off, in ten-thousandths.
-#[derive(Clone, Copy)]
+// A sum of charges: what is added and what is taken off, in ten-thousandths. It has no `==`, since equal sums may differ in both.
+#[derive(Clone, Copy, Debug)]
 pub struct Sum {
     pub added: u64,
     pub taken: u64,
 }
 
-// What the mark needs of the segments so far: whether there is one, whether all have an end, and the greatest end.
-#[derive(Clone, Copy)]
-pub struct Marks {
-    pub some: bool,
-    pub ended: bool,
-    pub end: u64,
-}
-
 // A sum with the charges of all segments of one sort, and whether the ride is past all their ends.
-#[derive(Clone, Copy)]
+#[derive(Clone, Copy, Debug)]
 pub struct Charged {
     pub sum: Sum,
     pub past: bool,

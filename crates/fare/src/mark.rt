@@ -1,45 +1,29 @@
-// What the mark needs of the segments.
-ghost use Rattle.std.specs.Prelude.{◌≡◌, max};
-ghost use Rattle.notation.specs.Choice.{◌and◌};
-ghost use Rattle.fare.specs.inner.Folds.{unmarked, with_end};
+// What the mark tells of the segments.
+ghost use Rattle.std.specs.Prelude.{◌≡◌};
+ghost use Rattle.std.specs.List.{list_all};
+ghost use Rattle.fare.specs.Charges.{past};
+ghost use Rattle.fare.specs.inner.Folds.{has_ended};
 
-use crate::{Marks, Segment};
+use crate::Segment;
 
-fn both(a: bool, b: bool) -> bool
-    ensures { result ≡ a and b }
-{
-    if a {
-        return b;
+impl Segment {
+    // It has an end, and the ride is at or past it.
+    fn has_ended(self, ride: u64) -> bool
+        ensures { result ≡ has_ended ride self }
+    {
+        self.end.is_some_and(|end| end <= ride)
     }
-    return false;
 }
 
-fn greatest(a: u64, b: u64) -> u64
-    ensures { result ≡ max a b }
+fn all_ended(l: &[Segment], ride: u64) -> bool
+    ensures { result ≡ list_all (has_ended ride) l.now }
 {
-    if a <= b { b } else { a }
+    l.iter().all(|s| s.has_ended(ride))
 }
 
-impl Marks {
-    // Of no segment.
-    pub fn none() -> Marks
-        ensures { result ≡ unmarked }
-    {
-        Marks {
-            some: false,
-            ended: true,
-            end: 0,
-        }
-    }
-
-    // With one segment more.
-    pub fn with(self, s: Segment) -> Marks
-        ensures { result ≡ with_end self s }
-    {
-        Marks {
-            some: true,
-            ended: both(self.ended, s.ended),
-            end: greatest(self.end, s.end),
-        }
-    }
+// There is a segment, all have an end, and the ride is at or past the greatest.
+pub(crate) fn is_past(l: &[Segment], ride: u64) -> bool
+    ensures { result ≡ past l.now ride }
+{
+    !l.is_empty() && all_ended(l, ride)
 }

@@ -9,6 +9,10 @@ use lib.Dec.{ltb}
 use borrow.Author.Tests.{ltb-true, ltb-false, lt-ltb, le-ltb}
 use Rattle.notation.specs.Choice.{◌⇒◌else◌}
 use Rattle.notation.proofs.Booleans.{by_test, true-false}
+use Rattle.std.proofs.Common.{Ordering, Less, Equal, Greater}
+use Rattle.std.specs.Ordering.{MatchOrdering, is_lt, nat_cmp, ordering_then}
+use Rattle.std.proofs.lemmas.Cmp.{ranked}
+use Rattle.fault.specs.contracts.FaultOrd as derived
 use Rattle.fault.specs.declared.Fault.{Fault}
 use Rattle.fault.specs.Fault.{before}
 
@@ -103,7 +107,7 @@ module _ (a b : Fault) where
   unfolding before lex
   by_parts = refl
 
-  -- where the code's tests lead
+  -- the first part in which they differ decides
   pub by_record : (a.«record» ≡ b.«record» → ⊥) → ltb a.«record» b.«record» ≡ before a b
   by_record n = rw by_parts (lex_differ a.«record» b.«record» (on_field a b) n)
 
@@ -123,6 +127,26 @@ module _ (a b : Fault) where
 
       pub by_kind : a.sub ≡ b.sub → ltb a.kind b.kind ≡ before a b
       by_kind s = sym (lex_same a.sub b.sub (on_kind a b) s) ∙ on-sub
+
+-- the derived order is this one: `cmp` compares the parts one after the other
+then_less : (x y : ℕ) (o : Ordering) → is_lt (ordering_then (nat_cmp x y) o) ≡ lex x y (is_lt o)
+then_less x y o = go (nat_cmp x y) (ranked x y (nat_cmp x y) refl)
+  where
+    go : (r : Ordering) → MatchOrdering r (x < y) (x ≡ y) (y < x) → is_lt (ordering_then r o) ≡ lex x y (is_lt o)
+    go Less h = sym (lex_less x y (is_lt o) h)
+    go Equal h = sym (lex_same x y (is_lt o) h)
+    go Greater h = sym (lex_more x y (is_lt o) h)
+
+cmp_less : (x y : ℕ) → is_lt (nat_cmp x y) ≡ ltb x y
+cmp_less x y = go (nat_cmp x y) (ranked x y (nat_cmp x y) refl)
+  where
+    go : (r : Ordering) → MatchOrdering r (x < y) (x ≡ y) (y < x) → is_lt r ≡ ltb x y
+    go Less h = sym (lt-ltb x y h)
+    go Equal h = sym (le-ltb x y (omega arith))
+    go Greater h = sym (le-ltb x y (omega arith))
+
+pub cmp_before : (a b : Fault) → is_lt ((derived.TheImpl.cmp-value).it a b) ≡ before a b
+cmp_before a b = rw (then_less, then_less, then_less, cmp_less) (sym (by_parts a b))
 
 -- what stands at a later place is not before
 module _ (a b : Fault) where

@@ -1,10 +1,8 @@
 -- Broken rules and their order: document 01, "Kinds". Of all broken rules of a file, the least by record, field, sub and kind is named.
-use Rattle.std.specs.Prelude.{Bool, true, false, List, [], ◌∷◌, ℕ, ltb}
+use Rattle.std.specs.Prelude.{Bool, true, false, List, [], ◌∷◌, ℕ, ltb, Option, None, Some}
 use Rattle.notation.specs.Choice.{◌⇒◌else◌}
 use Rattle.fault.specs.declared.Fault.{Fault}
 use Rattle.fault.specs.declared.Place.{Place}
-use Rattle.fault.specs.declared.Least.{Least}
-use Rattle.fault.specs.declared.Least.TheVariants.{None, Is}
 
 abbrev pub fault : (rec field sub kind : ℕ) → Fault
 fault rec field sub kind = record { «record» = rec; field = field; sub = sub; kind = kind }
@@ -30,11 +28,11 @@ before a b =
     ltb a.kind b.kind
 
 -- the lesser of two, and the least of a list
-unfoldable pub lesser : Least → Least → Least
+unfoldable pub lesser : Option Fault → Option Fault → Option Fault
 lesser None y = y
-lesser (Is a) None = Is a
-lesser (Is a) (Is b) = before b a ⇒ Is b else Is a
+lesser (Some a) None = Some a
+lesser (Some a) (Some b) = before b a ⇒ Some b else Some a
 
-unfoldable pub least : List Fault → Least
+unfoldable pub least : List Fault → Option Fault
 least [] = None
-least (a ∷ l) = lesser (Is a) (least l)
+least (a ∷ l) = lesser (Some a) (least l)

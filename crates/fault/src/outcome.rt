@@ -3,27 +3,23 @@ ghost use Rattle.std.specs.Prelude.{◌≡◌, ◌<◌};
 ghost use Rattle.fault.specs.Outcome.{syntax_parts, fault_parts, outcome_of};
 ghost use Rattle.fault.specs.inner.Narrow.{Narrow};
 
-use crate::{Fault, Least};
+use crate::Fault;
 use word::Parts;
 
 // No rule is broken, or the first that is, as a word's parts.
-#[derive(Clone, Copy)]
-pub enum Outcome {
-    Unbroken,
-    Broken(Parts),
-}
+pub type Outcome = Result<(), Parts>;
 
 // The parts of a word for what stage A finds in a file.
 pub fn syntax_parts(file: u8, kind: u8, offset: u32) -> Parts
     ensures { result ≡ syntax_parts file kind offset }
 {
     Parts {
-        file: file,
-        kind: kind,
+        file,
+        kind,
         field: 0,
         record: 0,
         sub: 0,
-        offset: offset,
+        offset,
     }
 }
 
@@ -33,7 +29,7 @@ fn fault_parts(file: u8, f: Fault) -> Parts
     ensures { result ≡ fault_parts file f }
 {
     Parts {
-        file: file,
+        file,
         kind: f.kind,
         field: f.field,
         record: f.record as u16,
@@ -43,12 +39,12 @@ fn fault_parts(file: u8, f: Fault) -> Parts
 }
 
 // What is told of a file by the first of its faults.
-pub fn outcome_of(file: u8, least: Least) -> Outcome
+pub fn outcome_of(file: u8, least: Option<Fault>) -> Outcome
     requires { Narrow least }
     ensures { result ≡ outcome_of file least }
 {
     match least {
-        Least::None => Outcome::Unbroken,
-        Least::Is(f) => Outcome::Broken(fault_parts(file, f)),
+        None => Ok(()),
+        Some(f) => Err(fault_parts(file, f)),
     }
 }

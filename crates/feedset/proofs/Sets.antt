@@ -12,7 +12,6 @@ use Rattle.schema.specs.Tables.{table_at, sheet_of}
 use Rattle.schema.specs.Records.{has_records}
 use Rattle.schema.proofs.SheetShapes.{sheet_shape_lem}
 use Rattle.fault.specs.declared.Fault.{Fault}
-use Rattle.fault.specs.declared.Least.{Least}
 use Rattle.fault.specs.Fault.{least, lesser}
 use Rattle.fault.specs.Outcome.{file_count, outcome_of}
 use Rattle.fault.proofs.Leasts.{lesser_assoc, least_append}
@@ -27,10 +26,11 @@ use Rattle.cross.proofs.Bounds.{cross_fits}
 use Rattle.cross.proofs.Sets.{cross_same}
 use Rattle.feedset.specs.inner.Staged.{file_least, set_outcome, AllNarrow}
 use Rattle.feedset.proofs.Staging.{bare-least}
+use Rattle.std.specs.Prelude.{Option}
 
 least-three : (xs ys zs : List Fault) → lesser (least xs) (lesser (least ys) (least zs)) ≡ least (xs ++ ys ++ zs)
 least-three xs ys zs =
-    sym (least_append (xs ++ ys) zs ∙ ap (λ (u : Least). lesser u (least zs)) (least_append xs ys) ∙ lesser_assoc (least xs) (least ys) (least zs))
+    sym (least_append (xs ++ ys) zs ∙ ap (λ (u : Option Fault). lesser u (least zs)) (least_append xs ys) ∙ lesser_assoc (least xs) (least ys) (least zs))
 
 -- all files of a set, each with the rest from its records on; of file 7, which has none, all of it
 pub record AllInBytes (table : ℕ) (s rs : Feeds) : Type 0 where

@@ -8,8 +8,6 @@ use borrow.Author.Tests.{ne_eqb}
 use Rattle.word.specs.Kinds.{condition}
 use Rattle.schema.specs.Tables.{table_at, sheet_of}
 use Rattle.schema.specs.Records.{has_ids}
-use Rattle.fault.specs.declared.Least.{Least}
-use Rattle.fault.specs.declared.Least.TheVariants.{None}
 use Rattle.fault.specs.Fault.{least, lesser, top, faulty}
 use Rattle.fault.proofs.Leasts.{lesser-none}
 use Rattle.ids.specs.inner.Ids.{id_field, record_bytes, first_repeat}
@@ -22,6 +20,8 @@ use Rattle.cross.specs.inner.Recorded.{repeat_of, ids_least}
 use Rattle.cross.proofs.Bare.{records-none, no-ids, bare-faults}
 use Rattle.feedset.specs.declared.records.Findings.{Findings}
 use Rattle.feedset.specs.inner.Staged.{Finds, Found, file_least}
+use Rattle.std.specs.Prelude.{Option, None}
+use Rattle.fault.specs.declared.Fault.{Fault}
 
 -- most files are not called for
 pub called_else : (s : Files) (file : ℕ) → (file ≡ 2 → ⊥) → (file ≡ 3 → ⊥) → (file ≡ 4 → ⊥) → (file ≡ 7 → ⊥) → false ≡ missing_file s file
@@ -40,7 +40,7 @@ no_repeat sheet h p = rw (repeat_of, h)
 
 -- a file by what is found of its records
 pub file-is : (table : ℕ) (rs : Feeds) (file : ℕ) {found : Findings} → Found table rs file found
-    → {a b : Least} → a ≡ least (faulty top 0 (kind_if (missing_file (files_by table rs) file) condition)) → b ≡ blamed (id_field (sheet_of table file)) found.repeat
+    → {a b : Option Fault} → a ≡ least (faulty top 0 (kind_if (missing_file (files_by table rs) file) condition)) → b ≡ blamed (id_field (sheet_of table file)) found.repeat
     → lesser a (lesser b found.least) ≡ file_least table rs file
 unfolding file_least ids_least
 file-is table rs file f e h = ap₂ lesser e (ap₂ lesser (h ∙ ap (blamed (id_field (sheet_of table file))) f.repeats) f.breaks)
@@ -61,7 +61,7 @@ module _ (table : ℕ) where
   unfolding file_least ids_least
   bare-least rs =
       let presence = least (faulty top 0 (kind_if (missing_file (files_by table rs) 7) condition)) in
-      ap₂ (λ (a x : Least). lesser presence (lesser a x))
+      ap₂ (λ (a x : Option Fault). lesser presence (lesser a x))
       (ap (blamed (id_field (sheet_of table 7))) (sym (no_repeat (sheet_of table 7) (no-ids table) (bytes_of rs 7))))
       (sym (records-none (files_by table rs) 7 (omega arith) (λ e. omega arith) (files_by table rs 7).records))
       ∙ ap (lesser presence) (lesser-none None)

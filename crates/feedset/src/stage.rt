@@ -1,10 +1,9 @@
 // Stage C of a set: file by file whether it is called for, which id repeats, and what its records demand.
-ghost use Rattle.std.specs.Prelude.{true, not, map, ◌≡◌, ℕ, ◌≤◌};
+ghost use Rattle.std.specs.Prelude.{true, not, ◌≡◌, ℕ, ◌≤◌};
 ghost use Rattle.notation.specs.Choice.{◌and◌};
 ghost use Rattle.word.specs.Kinds.{condition};
 ghost use Rattle.schema.specs.Tables.{table_at, sheet_of};
 ghost use Rattle.schema.specs.Records.{has_ids};
-ghost use Rattle.fault.specs.declared.Least.TheVariants.{None};
 ghost use Rattle.fault.specs.Fault.{least, top, faulty};
 ghost use Rattle.fault.specs.inner.Narrow.{Narrow};
 ghost use Rattle.fault.specs.Outcome.{file_count};
@@ -14,7 +13,7 @@ ghost use Rattle.ids.specs.inner.Notes.{Indexed};
 ghost use Rattle.ids.specs.References.{kind_if};
 ghost use Rattle.ids.specs.inner.Known.{Searchable};
 ghost use Rattle.cross.specs.Cross.{missing_file};
-ghost use Rattle.cross.specs.Stage.{bytes_of, picked};
+ghost use Rattle.cross.specs.Stage.{bytes_of, picked, contents};
 ghost use Rattle.cross.specs.inner.Judged.{alone, files_by, Known, Referring};
 ghost use Rattle.cross.specs.inner.Stage.{AllPassAB, first_c};
 ghost use Rattle.cross.specs.inner.Recorded.{Recorded, repeat_of};
@@ -26,7 +25,7 @@ use cross::set::{FILES, LENT, file_in, is_here, notes_in};
 use cross::zones::judge_zones;
 use document::records_from;
 use fault::outcome::{Outcome, outcome_of};
-use fault::{Least, Place, lesser};
+use fault::{Fault, Place, lesser};
 use ids::Notes;
 use ids::note::note;
 use schema::sheets::sheet_of;
@@ -55,7 +54,7 @@ fn is_lacking(needed: bool, here: bool) -> bool
 // The file is called for, and it is not there.
 // Shut out: a set accepted without the system's own file.
 fn is_missing<'a>(file: u8, records: [&'a [u8]; FILES]) -> bool
-    ensures { (table : ℕ) → result ≡ missing_file (files_by table (map (λ x. x.now) records.entry)) file }
+    ensures { (table : ℕ) → result ≡ missing_file (files_by table (contents records.entry)) file }
 {
     match file {
         2 => is_lacking(is_here(records, 3), is_here(records, 2)),
@@ -67,20 +66,20 @@ fn is_missing<'a>(file: u8, records: [&'a [u8]; FILES]) -> bool
 }
 
 // The rule that a file breaks which is called for and not there; it stands in the header.
-fn judge_presence<'a>(file: u8, records: [&'a [u8]; FILES]) -> Least
-    ensures { (table : ℕ) → result ≡ least (faulty top 0 (kind_if (missing_file (files_by table (map (λ x. x.now) records.entry)) file) condition)) }
+fn judge_presence<'a>(file: u8, records: [&'a [u8]; FILES]) -> Option<Fault>
+    ensures { (table : ℕ) → result ≡ least (faulty top 0 (kind_if (missing_file (files_by table (contents records.entry)) file) condition)) }
 {
     let header = Place { record: 0, sub: 0 };
     if is_missing(file, records) {
         return header.broken(0, Kind::CONDITION);
     }
-    Least::None
+    None
 }
 
 // One file of the set, by what is found of its records.
 fn judge_file<'a>(table: u8, file: u8, found: Findings, records: [&'a [u8]; FILES]) -> Outcome
-    requires { Found table (map (λ x. x.now) records) file found × Narrow (file_least table (map (λ x. x.now) records) file) }
-    ensures { result ≡ file_outcome table (map (λ x. x.now) records.entry) file }
+    requires { Found table (contents records) file found × Narrow (file_least table (contents records) file) }
+    ensures { result ≡ file_outcome table (contents records.entry) file }
 {
     let a = judge_presence(file, records);
     let b = blame(sheet_of(table, file), found.repeat);
@@ -95,7 +94,7 @@ fn note_records(table: u8, file: u8, p: &[u8], notes: &mut [u32; Notes::SIZE]) -
 {
     Findings {
         repeat: note(sheet_of(table, file), p, notes),
-        least: Least::None,
+        least: None,
     }
 }
 
@@ -108,8 +107,8 @@ fn judge_early<'a, 'n>(
     noted: &mut [u32; Notes::SIZE],
     notes: &'n [u32; Notes::SIZE],
 ) -> Findings
-    requires { Referring file × Notable (sheet_of table file) (bytes_of (map (λ x. x.now) records) file) noted.old × Known table file (map (λ x. x.now) records) (alone notes.now) }
-    ensures { Found table (map (λ x. x.now) records.entry) file result × Searchable (sheet_of table file) (bytes_of (map (λ x. x.now) records.entry) file) noted.new }
+    requires { Referring file × Notable (sheet_of table file) (bytes_of (contents records) file) noted.old × Known table file (contents records) (alone notes.now) }
+    ensures { Found table (contents records.entry) file result × Searchable (sheet_of table file) (bytes_of (contents records.entry) file) noted.new }
 {
     judge_records(
         table,
@@ -128,9 +127,9 @@ fn judge_unnamed<'a, 'n>(
     records: [&'a [u8]; FILES],
     notes: [&'n [u32; Notes::SIZE]; LENT],
 ) -> Findings
-    requires { Referring file × Recorded (bytes_of (map (λ x. x.now) records) file) × AllIdsOnce (sheet_of table file) (bytes_of (map (λ x. x.now) records) file) ×
-        Known table file (map (λ x. x.now) records) (map (λ x. x.now) notes) }
-    ensures { Found table (map (λ x. x.now) records.entry) file result }
+    requires { Referring file × Recorded (bytes_of (contents records) file) × AllIdsOnce (sheet_of table file) (bytes_of (contents records) file) ×
+        Known table file (contents records) (contents notes) }
+    ensures { Found table (contents records.entry) file result }
 {
     let mut noted: [u32; Notes::SIZE] = [0; Notes::SIZE];
     judge_records(
@@ -149,8 +148,8 @@ fn judge_last<'a, 'n>(
     records: [&'a [u8]; FILES],
     notes: [&'n [u32; Notes::SIZE]; LENT],
 ) -> Findings
-    requires { Recorded (bytes_of (map (λ x. x.now) records) 6) × Known table 6 (map (λ x. x.now) records) (map (λ x. x.now) notes) }
-    ensures { Found table (map (λ x. x.now) records.entry) 6 result }
+    requires { Recorded (bytes_of (contents records) 6) × Known table 6 (contents records) (contents notes) }
+    ensures { Found table (contents records.entry) 6 result }
 {
     Findings {
         repeat: 0,
@@ -171,8 +170,8 @@ fn find<'a, 'n>(
     records: [&'a [u8]; FILES],
     notes: [&'n [u32; Notes::SIZE]; LENT],
 ) -> Findings
-    requires { (1 ≤ file) × (file ≤ file_count) × Ready table (map (λ x. x.now) records) (map (λ x. x.now) notes) named }
-    ensures { Found table (map (λ x. x.now) records.entry) file result }
+    requires { (1 ≤ file) × (file ≤ file_count) × Ready table (contents records) (contents notes) named }
+    ensures { Found table (contents records.entry) file result }
 {
     match file {
         1 => named.types,
@@ -181,7 +180,7 @@ fn find<'a, 'n>(
         6 => judge_last(table, records, notes),
         7 => Findings {
             repeat: 0,
-            least: Least::None,
+            least: None,
         },
         8 => named.regions,
         _ => judge_unnamed(table, file, records, notes),
@@ -195,28 +194,20 @@ fn judge_noted<'a, 'n>(
     records: [&'a [u8]; FILES],
     notes: [&'n [u32; Notes::SIZE]; LENT],
 ) -> Outcome
-    requires { Ready table (map (λ x. x.now) records) (map (λ x. x.now) notes) named }
-    ensures { result ≡ set_outcome table (map (λ x. x.now) records.entry) }
+    requires { Ready table (contents records) (contents notes) named }
+    ensures { result ≡ set_outcome table (contents records.entry) }
 {
-    let mut file: u8 = 1;
-    while file <= Word::FILES {
+    for file in 1..=Word::FILES {
         let found = find(table, file, named, records, notes);
-        match judge_file(table, file, found, records) {
-            Outcome::Broken(p) => {
-                return Outcome::Broken(p);
-            }
-            Outcome::Unbroken => {
-                file += 1;
-            }
-        }
+        judge_file(table, file, found, records)?;
     }
-    Outcome::Unbroken
+    Ok(())
 }
 
 // The first file with a broken rule, where nothing is noted yet. Regions, which stations alone name, are noted where types are noted afterwards.
 fn judge_parts<'a>(table: u8, records: [&'a [u8]; FILES]) -> Outcome
-    requires { AllRecorded table (map (λ x. x.now) records) × AllSingle table (map (λ x. x.now) records) × AllNarrow table (map (λ x. x.now) records) }
-    ensures { result ≡ set_outcome table (map (λ x. x.now) records.entry) }
+    requires { AllRecorded table (contents records) × AllSingle table (contents records) × AllNarrow table (contents records) }
+    ensures { result ≡ set_outcome table (contents records.entry) }
 {
     let mut type_notes: [u32; Notes::SIZE] = [0; Notes::SIZE];
     let mut station_notes: [u32; Notes::SIZE] = [0; Notes::SIZE];
@@ -241,7 +232,7 @@ fn judge_parts<'a>(table: u8, records: [&'a [u8]; FILES]) -> Outcome
 // The rest of a file from its records on.
 fn records_in<'a>(table: u8, files: [&'a [u8]; FILES], file: u8) -> &'a [u8]
     requires { (1 ≤ file) × (file ≤ file_count) }
-    ensures { RecordsFrom (sheet_of table file) (bytes_of (map (λ x. x.now) files.entry) file) result.now }
+    ensures { RecordsFrom (sheet_of table file) (bytes_of (contents files.entry) file) result.now }
 {
     records_from(sheet_of(table, file), file_in(files, file))
 }
@@ -249,8 +240,8 @@ fn records_in<'a>(table: u8, files: [&'a [u8]; FILES], file: u8) -> &'a [u8]
 // Stage C of a set of files that are through stages A and B, by the table of a number.
 // Shut out: a file passed over because a later one breaks a rule too; a rule of one file named in another.
 pub fn judge_set<'a>(table: u8, files: [&'a [u8]; FILES]) -> Outcome
-    requires { AllPassAB table (map (λ x. x.now) files) }
-    ensures { result ≡ first_c (table_at table) (picked (table_at table) (map (λ x. x.now) files.entry)) }
+    requires { AllPassAB table (contents files) }
+    ensures { result ≡ first_c (table_at table) (picked (table_at table) (contents files.entry)) }
 {
     let records = [
         records_in(table, files, 1),

@@ -1,6 +1,2 @@
-pub mod Placing
 pub mod Said
-pub mod Turns
-pub mod Written
 pub mod Numerals
-pub mod Names

@@ -1,12 +1,10 @@
 -- The fewest decimal digits that hold a number are its numeral.
-use mathlib.Core.Bool.{Bool, true, false}
 use mathlib.Core.List.{List, [], ◌∷◌, ◌++◌}
-use mathlib.Core.Path.{◌≡◌, refl, sym, ap, subst, ◌∙◌}
+use mathlib.Core.Path.{◌≡◌, sym, ap, subst, ◌∙◌}
 use Prim.Native.Nat.{ℕ, zero, suc, ◌-◌, ◌/◌, ◌%◌, ◌^◌, ◌≤◌, ◌<◌}
-use native.Mathlib.Nat.{pow-suc, pow-le-pow_right, one-le-pow}
+use native.Mathlib.Nat.{pow-suc, one-le-pow}
 use native.Mathlib.Omega.{arith}
-use lib.Dec.{leb}
-use borrow.Author.Tests.{lt-ltb, le-ltb, leb-true, leb-false}
+use borrow.Author.Tests.{lt-ltb, le-ltb}
 use Rattle.io.specs.Digits.{last_digits, hex_digit_ascii, IsDigitCount}
 use Rattle.folder.specs.Line.{digit, numeral_within, numeral}
 
@@ -49,15 +47,3 @@ pub numeral_fewest : (n k : ℕ) → IsDigitCount 10 1 n k → last_digits 10 k 
 numeral_fewest n zero f = absurd (omega (arith, f.0))
 numeral_fewest n (suc k) f =
     let e : suc k - 1 ≡ k = omega arith in spelt k n n f.1 (λ z. subst (λ (m : ℕ). 10 ^ m ≤ n) e (f.2 (omega arith))) (omega arith)
-
--- a number of 64 bits has twenty digits at most
-at_most : (n k : ℕ) → n < 2 ^ 64 → IsDigitCount 10 1 n k → (t : Bool) → leb k 20 ≡ t → k ≤ 20
-at_most n k h f true e = leb-true k 20 e
-at_most n k h f false e =
-    let g : 20 < k = leb-false k 20 e in
-    let p : 10 ^ 20 ≤ 10 ^ (k - 1) = pow-le-pow_right {n = 10} (omega arith) {i = 20} {j = k - 1} (omega arith) in
-    let q = f.2 (omega arith) in
-    absurd (omega arith)
-
-pub twenty_digits : (n k : ℕ) → n < 2 ^ 64 → IsDigitCount 10 1 n k → k ≤ 20
-twenty_digits n k h f = at_most n k h f (leb k 20) refl

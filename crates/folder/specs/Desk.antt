@@ -1,15 +1,11 @@
 -- The desk program: document 01, "Run". Its answer on the files that stand in a buffer: none where one of them can't be read, else too large or what the
 -- verdict's word says, by the table of version 2.3.
-use Rattle.std.specs.Prelude.{List, ◌≡◌, ℕ, ◌+◌}
+use Rattle.std.specs.Prelude.{List, ℕ, zero, suc, ◌+◌, Option, None, Some, Result, Ok, Err}
 use Rattle.word.specs.declared.Parts.{Parts}
 use Rattle.schema.specs.Table23.{table23}
 use Rattle.verdict.specs.Verdict.{said, verdict_of}
-use Rattle.folder.specs.declared.Answer.{Answer}
-use Rattle.folder.specs.declared.Answer.TheVariants.{Nothing, TooLarge, Says}
-use Rattle.folder.specs.declared.reading.Taken.{Taken}
-use Rattle.folder.specs.declared.reading.Taken.TheVariants as taken
-use Rattle.folder.specs.declared.reading.Turn.{Turn}
-use Rattle.folder.specs.declared.reading.Turn.TheVariants as turn
+use Rattle.folder.specs.declared.Refusal.{Refusal}
+use Rattle.folder.specs.declared.Refusal.TheVariants.{Unread, TooLarge}
 use Rattle.folder.specs.Places.{set_in}
 
 -- the most bytes of a set
@@ -24,14 +20,9 @@ room = most + 1
 abbrev pub said_of : (bytes places : List ℕ) → Parts
 said_of bytes places = said (verdict_of table23 (set_in bytes places))
 
-abbrev pub answer_of : Taken → (bytes places : List ℕ) → Answer
-answer_of taken.Unread bytes places = Nothing
-answer_of taken.Full bytes places = TooLarge
-answer_of (taken.To end) bytes places = Says (said_of bytes places)
-
 -- The answer by what the last call on a file came to: none where it failed, the verdict where it was the last file's end, and where it brought bytes the
 -- buffer is full.
-abbrev pub Tells : Turn → (bytes places : List ℕ) → Answer → Type 0
-Tells turn.Failed bytes places a = a ≡ Nothing
-Tells turn.Ended bytes places a = a ≡ Says (said_of bytes places)
-Tells (turn.Got n) bytes places a = a ≡ TooLarge
+abbrev pub answer_of : Option ℕ → (bytes places : List ℕ) → Result Parts Refusal
+answer_of None bytes places = Err Unread
+answer_of (Some zero) bytes places = Ok (said_of bytes places)
+answer_of (Some (suc n)) bytes places = Err TooLarge

@@ -1,9 +1,9 @@
 -- What the desk writes, and the names of the files that it opens: document 01, "Run" and "The feed set".
-use Rattle.std.specs.Prelude.{true, false, List, [], ◌∷◌, ◌++◌, ◌≡◌, ℕ, zero, suc, ◌+◌, ◌/◌, ◌%◌, ltb, length, take, drop, get_or}
+use Rattle.std.specs.Prelude.{true, false, List, [], ◌∷◌, ◌++◌, ℕ, zero, suc, ◌+◌, ◌/◌, ◌%◌, ltb, get_or, Result, Ok, Err}
 use Rattle.notation.specs.Ascii.{bytes}
 use Rattle.word.specs.declared.Parts.{Parts}
-use Rattle.folder.specs.declared.Answer.{Answer}
-use Rattle.folder.specs.declared.Answer.TheVariants.{Nothing, TooLarge, Says}
+use Rattle.folder.specs.declared.Refusal.{Refusal}
+use Rattle.folder.specs.declared.Refusal.TheVariants.{Unread, TooLarge}
 
 -- a decimal digit's character
 abbrev pub digit : ℕ → ℕ
@@ -33,10 +33,10 @@ abbrev pub parts_line : Parts → List ℕ
 parts_line p = rule_text p ++ place_text p
 
 -- the whole output; no byte where there is no answer
-unfoldable pub line_of : Answer → List ℕ
-line_of Nothing = []
-line_of TooLarge = bytes "too large\n"
-line_of (Says p) = parts_line p
+unfoldable pub line_of : Result Parts Refusal → List ℕ
+line_of (Err Unread) = []
+line_of (Err TooLarge) = bytes "too large\n"
+line_of (Ok p) = parts_line p
 
 -- the standard names, in the order of the set
 unfoldable pub names : List (List ℕ)
@@ -54,7 +54,3 @@ names =
 -- the name of a file by its place in the set, counted from 0
 unfoldable pub name_of : ℕ → List ℕ
 name_of i = get_or names i []
-
--- Bytes written over a buffer from a place on, and the place behind them.
-abbrev pub Written : (s before : List ℕ) (at : ℕ) (after : List ℕ) (end : ℕ) → Type 0
-Written s before at after end = (end ≡ at + length s) × (after ≡ take at before ++ s ++ drop (at + length s) before)

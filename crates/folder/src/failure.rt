@@ -18,8 +18,6 @@ pub fn fail<R: Eprint>(rt: &R, what: &str, error: Error) {
 // The system's text, without the number that std writes behind it.
 fn reason_in(text: &[u8]) -> &str {
     let text = str::from_utf8(text).unwrap_or("");
-    match text.split_once(" (os error ") {
-        Some((reason, _)) => reason,
-        None => text,
-    }
+    text.split_once(" (os error ")
+        .map_or(text, |(reason, _)| reason)
 }

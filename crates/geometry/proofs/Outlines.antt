@@ -1,15 +1,17 @@
 -- A ring point by point: a question that is asked of what is kept with the points that are left is the same once the next of these is taken. So it is the
 -- question of the whole ring while no point is taken, and with none left what is kept answers it. Edges that meet the origin add nothing to the area sum.
-use mathlib.Core.Bool.{Bool, beq, true, false, not}
+use mathlib.Core.Bool.{Bool, beq, true, false, not, ◌&&◌}
 use mathlib.Core.List.{List, [], ◌∷◌}
 use mathlib.Core.Path.{◌≡◌, refl, sym, ap, ap₂, ◌∙◌}
 use Prim.Native.Nat.{ℕ, ◌+◌, ◌≤◌, ◌<◌}
+use Rattle.std.specs.Prelude.{Option, None, Some, unwrap_or}
+use Rattle.std.specs.Option.{option_eq, option_map_or}
 use native.Mathlib.Decide.{dec_lt}
 use native.Mathlib.Omega.{arith}
 use lib.Dec.{eqb}
 use lib.IntN.{ℤ, pos, ◌+ℤ◌, +ℤ_idl, +ℤ_idr, +ℤ_assoc}
 use lib.Signed.{lt_z}
-use borrow.Author.Tests.{lt-ltb, le-ltb, eq-eqb, ne_eqb}
+use borrow.Author.Tests.{lt-ltb, le-ltb}
 use Rattle.limits.specs.Ceilings.{positions}
 use Rattle.notation.specs.Choice.{◌⇒◌else◌, ◌and◌}
 use Rattle.signed.specs.inner.Difference.{difference}
@@ -21,6 +23,7 @@ use Rattle.geometry.specs.inner.Shifted.{OnMap, added, half_lat, half_lon, origi
 use Rattle.geometry.specs.inner.Outline.{no_outline, is_empty, joined, Sized, area_from, clockwise_from, closes, closes_from, sound_from, edge_meets, edge_crosses, on_from, odd_from, held_by, stands_from}
 use Rattle.geometry.specs.declared.Outline.{Outline}
 use Rattle.geometry.specs.declared.Position.{Position}
+use Rattle.geometry.specs.contracts.PositionPartialEq.TheImpl as position
 use Rattle.geometry.specs.declared.Standing.TheVariants.{Edge, Is}
 use Rattle.geometry.proofs.Added.{room-none, room-added, on-map-origin, area_none, area_added}
 use Rattle.geometry.proofs.Edges.{flip, flip_law}
@@ -29,13 +32,9 @@ use Rattle.geometry.proofs.Tests.{equal_nat}
 -- what is kept has room
 pub sized-none : Sized no_outline
 sized-none =
-    record { edges = 0; taken = omega arith; few = omega arith; room = room-none refl; first = on-map-origin; last = on-map-origin }
+    record { edges = 0; taken = omega arith; few = omega arith; room = room-none refl; last = on-map-origin }
 
 module _ {o : Outline} {p : Position} (s : Sized o) (m : OnMap p) where
-  first-on-map : (t : Bool) → OnMap (t ⇒ p else o.first)
-  first-on-map true = m
-  first-on-map false = s.first
-
   pub sized-next : Sized (joined o p)
   sized-next = go (dec_lt o.count positions)
     where
@@ -47,7 +46,6 @@ module _ {o : Outline} {p : Position} (s : Sized o) (m : OnMap p) where
             taken = omega (arith, s.taken);
             few = omega (arith, s.taken, l);
             room = room-added s.last m s.room;
-            first = first-on-map (is_empty o);
             last = m;
           }
       go (no n) =
@@ -58,7 +56,6 @@ module _ {o : Outline} {p : Position} (s : Sized o) (m : OnMap p) where
             taken = omega (arith, s.taken);
             few = s.few;
             room = s.room;
-            first = first-on-map (is_empty o);
             last = m;
           }
 
@@ -94,9 +91,6 @@ flip_none true = refl
 flip_none false = refl
 
 -- one point more
-not-empty : (n : ℕ) → eqb (n + 1) 0 ≡ false
-not-empty n = ne_eqb (n + 1) 0 (omega arith)
-
 module _ (o : Outline) (q : Point) where
   on-end : (t : Bool) → (t ⇒ on_ring [] q else on_ring (point o.last ∷ []) q) ≡ false
   unfolding on_ring
@@ -123,7 +117,7 @@ module _ (o : Outline) (q : Point) where
 
     on-next : on_from o (point p ∷ l) q ≡ (edge_meets o (point p) q ⇒ true else on_from (joined o p) l q)
     unfolding on_from
-    on-next = rw (not-empty o.count) (on_edge_lem (is_empty o))
+    on-next = on_edge_lem (is_empty o)
 
     odd-edge : (t : Bool) → (t ⇒ odd (point p ∷ l) q else odd (point o.last ∷ point p ∷ l) q)
         ≡ flip (t ⇒ false else crosses (point o.last) (point p) q) (odd (point p ∷ l) q)
@@ -133,18 +127,18 @@ module _ (o : Outline) (q : Point) where
 
     odd-next : odd_from o (point p ∷ l) q ≡ flip (edge_crosses o (point p) q) (odd_from (joined o p) l q)
     unfolding odd_from
-    odd-next = rw (not-empty o.count) (odd-edge (is_empty o))
+    odd-next = odd-edge (is_empty o)
 
 module _ (o : Outline) (p : Position) (l : List Point) where
-  closes-edge : (t : Bool) → ends_at (point (t ⇒ p else o.first)) (point p) l
-      ≡ (t ⇒ closes (point p ∷ l) else ends_at (point o.first) (point o.last) (point p ∷ l))
+  closes-edge : (first : Option Position) → ends_at (point (unwrap_or first p)) (point p) l
+      ≡ option_map_or (λ a. ends_at (point a) (point o.last) (point p ∷ l)) first (closes (point p ∷ l))
   unfolding closes ends_at
-  closes-edge true = refl
-  closes-edge false = refl
+  closes-edge None = refl
+  closes-edge (Some a) = refl
 
   closes-next : closes_from (joined o p) l ≡ closes_from o (point p ∷ l)
   unfolding closes_from
-  closes-next = rw (not-empty o.count) (closes-edge (is_empty o))
+  closes-next = closes-edge o.first
 
   module _ (few : o.count < positions) where
     area_next : area_from (joined o p) l ≡ area_from o (point p ∷ l)
@@ -188,30 +182,17 @@ module _ (o : Outline) (t first held : Bool) (p : Position) (l : List Point) (q 
 equal-moved : (a b s : ℕ) → equal (difference a s) (difference b s) ≡ eqb a b
 equal-moved a b s = ap₂ ◌and◌ (difference_le a b s) (difference_le b a s) ∙ equal_nat a b
 
-and-false : (t : Bool) → (t and false) ≡ false
-and-false true = refl
-and-false false = refl
+both : (s t : Bool) → (s and t) ≡ (s && t)
+both true t = refl
+both false t = refl
 
-module _ (o : Outline) where
-  pub sound_none : o.count ≡ 0 → false ≡ sound_from o []
-  unfolding sound_from closes_from closes
-  sound_none e = rw (eq-eqb o.count 0 e)
+ends-where-equal : (first : Option Position) (last : Position)
+    → option_map_or (λ a. ends_at (point a) (point last) []) first false ≡ option_eq position.eq-value.it first (Some last)
+unfolding ends_at same_point
+ends-where-equal None last = refl
+ends-where-equal (Some a) last = ap₂ ◌and◌ (equal-moved a.lon last.lon half_lon) (equal-moved a.lat last.lat half_lat) ∙ both (eqb a.lon last.lon) (eqb a.lat last.lat)
 
-  module _ (some : o.count ≡ 0 → ⊥) where
-    closes-end : closes_from o [] ≡ (eqb o.first.lon o.last.lon and eqb o.first.lat o.last.lat)
-    unfolding closes_from ends_at same_point
-    closes-end =
-        rw (ne_eqb o.count 0 some)
-        (ap₂ ◌and◌ (equal-moved o.first.lon o.last.lon half_lon) (equal-moved o.first.lat o.last.lat half_lat))
-
-    pub open_lon : (o.first.lon ≡ o.last.lon → ⊥) → false ≡ sound_from o []
-    unfolding sound_from
-    open_lon n = rw (closes-end, ne_eqb o.first.lon o.last.lon n)
-
-    pub open_lat : (o.first.lat ≡ o.last.lat → ⊥) → false ≡ sound_from o []
-    unfolding sound_from
-    open_lat n = rw (closes-end, ne_eqb o.first.lat o.last.lat n, and-false (eqb o.first.lon o.last.lon))
-
-    pub closed_area : o.first.lon ≡ o.last.lon → o.first.lat ≡ o.last.lat → not (equal (area_from o []) (pos 0)) ≡ sound_from o []
-    unfolding sound_from
-    closed_area e f = rw (closes-end, eq-eqb o.first.lon o.last.lon e, eq-eqb o.first.lat o.last.lat f)
+pub sound-end : (o : Outline) {t : Bool} → t ≡ option_eq position.eq-value.it o.first (Some o.last)
+    → (t and not (equal (area_from o []) (pos 0))) ≡ sound_from o []
+unfolding sound_from closes_from closes
+sound-end o e = ap (λ t. t and not (equal (area_from o []) (pos 0))) (e ∙ sym (ends-where-equal o.first o.last))

@@ -1,11 +1,12 @@
 -- The ways through the tests of one edge: moved coordinates are ordered as the true ones are, so each test of the code is one of the
 -- definition's, and those that it leaves out do not matter.
-use mathlib.Core.Bool.{true, false}
+use mathlib.Core.Bool.{false}
 use mathlib.Core.Path.{◌≡◌}
 use Prim.Native.Nat.{ℕ, ◌≤◌, ◌<◌}
 use lib.IntN.{pos}
 use lib.Signed.{lt_z}
 use borrow.Author.Tests.{le-leb, lt-leb, lt-ltb, le-ltb}
+use Rattle.notation.specs.Choice.{◌and◌}
 use Rattle.signed.specs.inner.Difference.{difference}
 use Rattle.signed.proofs.Gap.{difference_le, difference_lt}
 use Rattle.geometry.specs.Ring.{equal}
@@ -18,19 +19,10 @@ between-moved a b c s = simp difference_le
 
 module _ (a b q : Position) where
   -- on the edge
-  pub off_line : equal (side (point a) (point b) (point q)) (pos 0) ≡ false → false ≡ on_edge (point a) (point b) (point q)
+  pub on-edge-tests : on_edge (point a) (point b) (point q)
+      ≡ (equal (side (point a) (point b) (point q)) (pos 0) and between (pos a.lon) (pos b.lon) (pos q.lon) and between (pos a.lat) (pos b.lat) (pos q.lat))
   unfolding on_edge
-  off_line e = rw e
-
-  module _ (e : equal (side (point a) (point b) (point q)) (pos 0) ≡ true) where
-    pub beside : between (pos a.lon) (pos b.lon) (pos q.lon) ≡ false → false ≡ on_edge (point a) (point b) (point q)
-    unfolding on_edge
-    beside f = rw (e, between-moved a.lon b.lon q.lon half_lon, f)
-
-    pub within : between (pos a.lon) (pos b.lon) (pos q.lon) ≡ true
-        → between (pos a.lat) (pos b.lat) (pos q.lat) ≡ on_edge (point a) (point b) (point q)
-    unfolding on_edge
-    within f = rw (e, between-moved a.lon b.lon q.lon half_lon, f, between-moved a.lat b.lat q.lat half_lat)
+  on-edge-tests = rw (between-moved a.lon b.lon q.lon half_lon, between-moved a.lat b.lat q.lat half_lat)
 
   -- across the parallel
   module _ (below : a.lat ≤ q.lat) where

@@ -1,6 +1,6 @@
 // One edge of a ring and a point.
 ghost use Rattle.std.specs.Prelude.{◌≡◌, pos};
-ghost use Rattle.geometry.specs.Held.{side as side_of, between as betweenOf, on_edge, crosses as crosses_of};
+ghost use Rattle.geometry.specs.Held.{side as side_of, between as between_of, on_edge, crosses as crosses_of};
 ghost use Rattle.geometry.specs.inner.Shifted.{OnMap, point, value};
 
 use crate::{Balance, Position};
@@ -15,18 +15,9 @@ pub fn side(a: Position, b: Position, q: Position) -> Balance
 
 // c lies between a and b, ends included.
 pub fn between(a: u64, b: u64, c: u64) -> bool
-    ensures { result ≡ betweenOf (pos a) (pos b) (pos c) }
+    ensures { result ≡ between_of (pos a) (pos b) (pos c) }
 {
-    if a <= b {
-        if a <= c {
-            return c <= b;
-        }
-        return false;
-    }
-    if b <= c {
-        return c <= a;
-    }
-    return false;
+    (a.min(b)..=a.max(b)).contains(&c)
 }
 
 // The edge from a to b has q on it.
@@ -34,14 +25,7 @@ pub fn on_edge(a: Position, b: Position, q: Position) -> bool
     requires { OnMap a × OnMap b × OnMap q }
     ensures { result ≡ on_edge (point a) (point b) (point q) }
 {
-    let s = side(a, b, q);
-    if !s.is_zero() {
-        return false;
-    }
-    if !between(a.lon, b.lon, q.lon) {
-        return false;
-    }
-    return between(a.lat, b.lat, q.lat);
+    side(a, b, q).is_zero() && between(a.lon, b.lon, q.lon) && between(a.lat, b.lat, q.lat)
 }
 
 // The edge from a to b crosses the parallel of q strictly east of q.
@@ -51,13 +35,8 @@ pub fn crosses(a: Position, b: Position, q: Position) -> bool
 {
     let s = side(a, b, q);
     if a.lat <= q.lat {
-        if q.lat < b.lat {
-            return s.above_zero();
-        }
-        return false;
+        q.lat < b.lat && s.above_zero()
+    } else {
+        b.lat <= q.lat && s.below_zero()
     }
-    if b.lat <= q.lat {
-        return s.below_zero();
-    }
-    return false;
 }

@@ -12,10 +12,7 @@ impl Outline {
         requires { Sized self × OnMap p × OnMap q }
         ensures { result ≡ edge_meets self (point p) (point q) }
     {
-        if self.count == 0 {
-            return false;
-        }
-        on_edge(self.last, p, q)
+        self.first.is_some() && on_edge(self.last, p, q)
     }
 
     // Whether that edge crosses east of q.
@@ -23,10 +20,7 @@ impl Outline {
         requires { Sized self × OnMap p × OnMap q }
         ensures { result ≡ edge_crosses self (point p) (point q) }
     {
-        if self.count == 0 {
-            return false;
-        }
-        crosses(self.last, p, q)
+        self.first.is_some() && crosses(self.last, p, q)
     }
 
     // Whether a point off every edge is held by a polygon's rings once this one was asked too: the first of them, or a further one, with whether the point is
@@ -36,15 +30,10 @@ impl Outline {
         requires { Sized self }
         ensures { result ≡ held_by (clockwise_from self []) inside first held }
     {
-        if !first {
-            if inside {
-                return false;
-            }
-            return held;
+        if first {
+            inside == self.is_clockwise()
+        } else {
+            held && !inside
         }
-        if self.is_clockwise() {
-            return inside;
-        }
-        return !inside;
     }
 }

@@ -15,20 +15,10 @@ impl Outline {
     {
         Outline {
             count: 0,
-            first: Position::origin(),
+            first: None,
             last: Position::origin(),
             area: Balance::none(),
         }
-    }
-
-    // The first point, once p was taken too.
-    fn first_with(self, p: Position) -> Position
-        ensures { result ≡ (is_empty self ⇒ p else self.first) }
-    {
-        if self.count == 0 {
-            return p;
-        }
-        self.first
     }
 
     // The area sum, once p was taken too. A ring of more positions than the ceiling is not asked for it, so there the sum stays.
@@ -36,11 +26,11 @@ impl Outline {
         requires { Sized self × OnMap p }
         ensures { result ≡ (ltb self.count positions ⇒ added self.area self.last p else self.area) }
     {
-        let area = self.area;
-        if self.count < Limits::POSITIONS as u32 {
-            return area.with(self.last, p);
+        if self.count < u32::from(Limits::POSITIONS) {
+            self.area.with(self.last, p)
+        } else {
+            self.area
         }
-        area
     }
 
     // With one point more.
@@ -50,7 +40,7 @@ impl Outline {
     {
         Outline {
             count: self.count + 1,
-            first: self.first_with(p),
+            first: Some(self.first.unwrap_or(p)),
             last: p,
             area: self.area_with(p),
         }
@@ -61,8 +51,7 @@ impl Outline {
         requires { Sized self }
         ensures { value result ≡ area_from self [] }
     {
-        let area = self.area;
-        area.with(self.last, Position::origin())
+        self.area.with(self.last, Position::origin())
     }
 
     // The inside lies to the right of each edge.
@@ -78,17 +67,6 @@ impl Outline {
         requires { Sized self }
         ensures { result ≡ sound_from self [] }
     {
-        if self.count == 0 {
-            return false;
-        }
-        let first = self.first;
-        let last = self.last;
-        if first.lon != last.lon {
-            return false;
-        }
-        if first.lat != last.lat {
-            return false;
-        }
-        return !self.area_sum().is_zero();
+        self.first == Some(self.last) && !self.area_sum().is_zero()
     }
 }

@@ -13,9 +13,9 @@ use Rattle.sorting.specs.Ids.{id_at}
 use Rattle.text.proofs.Decoding.{text-end}
 use Rattle.walk.specs.declared.Item.{Item}
 use Rattle.walk.proofs.Parts.{item_of}
-use Rattle.document.specs.Document.{Maybe, none, some}
 use Rattle.ids.specs.inner.Ids.{id_of, text_or, id_text, ids_of, NoIdBefore, TextPlace, record_bytes, passing}
 use Rattle.ids.specs.inner.Notes.{size, start_at, member_start, pass_at, bit, entered, Entry, Next, Noted}
+use Rattle.std.specs.Prelude.{Option, None, Some}
 
 pub fresh : length (replicate {A = ℕ} size 0) ≡ size
 fresh = length-replicate {A = ℕ} size 0
@@ -135,7 +135,7 @@ module _ {sheet : ℕ} {p : List ℕ} {n : ℕ} {notes : List ℕ} (w : Noted sh
 
 -- by the id of the record m
 module _ {sheet : ℕ} {p : List ℕ} {n : ℕ} {notes : List ℕ} {m : Item} (w : Noted sheet p n notes) (x : Next sheet p n m) {y : Bool} (passes : y ≡ passing sheet (item_of p m)) where
-  text-by : (o : Maybe (List ℕ)) → id_of sheet (item_of p m) ≡ o → text_or o ≡ ids_of sheet p n
+  text-by : (o : Option (List ℕ)) → id_of sheet (item_of p m) ≡ o → text_or o ≡ ids_of sheet p n
   unfolding id_text
   text-by o e = ap text_or (sym e) ∙ ap (λ (q : List ℕ). id_text sheet q) x.is
 
@@ -145,13 +145,13 @@ module _ {sheet : ℕ} {p : List ℕ} {n : ℕ} {notes : List ℕ} {m : Item} (w
   entry_by : {a at : ℕ} → Entry sheet p (item_of p m) a at → Entry sheet p (get_or (record_bytes p) n []) a at
   entry_by {a} {at} = subst (λ (q : List ℕ). Entry sheet p q a at) x.is
 
-  pub enter_none : id_of sheet (item_of p m) ≡ none → Noted sheet p (n + 1) (entered notes n (length p) (length p) 0 (bit y))
+  pub enter_none : id_of sheet (item_of p m) ≡ None → Noted sheet p (n + 1) (entered notes n (length p) (length p) 0 (bit y))
   enter_none e =
-      noted_more w x.room (length p) (length p) 0 y (entry_by (Entry.without e (omega arith))) (text-end p (length p) (omega arith) ∙ text-by none e) test_by
+      noted_more w x.room (length p) (length p) 0 y (entry_by (Entry.without e (omega arith))) (text-end p (length p) (omega arith) ∙ text-by None e) test_by
 
-  pub enter_some : (r at : ℕ) → TextPlace (item_of p m) (id_of sheet (item_of p m)) r → 0 < r → NoIdBefore sheet (item_of p m) at
+  pub enter_some : (r at : ℕ) → TextPlace (item_of p m) (id_of sheet (item_of p m)) (Some r) → NoIdBefore sheet (item_of p m) at
       → Noted sheet p (n + 1) (entered notes n (m.value + r) m.value at (bit y))
-  enter_some r at t h u =
-      let v = t.some h in let a = m.value in let k = m.value_end - m.value in
+  enter_some r at t u =
+      let v = t.some r refl in let a = m.value in let k = m.value_end - m.value in
       noted_more w x.room (a + r) a at y (entry_by (Entry.within v.1 m x.among refl refl u))
-      (ap text_of (sym (drop-drop r a p) ∙ ap (drop r) (sym (take-append-drop k (drop a p)))) ∙ v.2 (drop k (drop a p)) ∙ text-by (some v.0) v.1) test_by
+      (ap text_of (sym (drop-drop r a p) ∙ ap (drop r) (sym (take-append-drop k (drop a p)))) ∙ v.2 (drop k (drop a p)) ∙ text-by (Some v.0) v.1) test_by

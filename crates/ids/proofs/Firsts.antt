@@ -16,10 +16,10 @@ use Rattle.text.specs.Text.{same}
 use Rattle.text.proofs.Laws.{same_true, same_refl}
 use Rattle.sorting.specs.Repeats as sorting
 use Rattle.sorting.specs.Repeats.{same_id, used_before}
-use Rattle.document.specs.Document.{Maybe, none, some}
 use Rattle.document.specs.inner.Values.{is_id}
 use Rattle.ids.specs.inner.Ids.{id_of, text_or, id_text, has_id, any_has, repeated, repeat_from, first_repeat, earlier}
 use Rattle.ids.proofs.Texts.{id_given}
+use Rattle.std.specs.Prelude.{Option, None, Some}
 
 -- a record has an id that is given, by the text of its own
 module _ (sheet : ℕ) (id q : List ℕ) where
@@ -27,24 +27,24 @@ module _ (sheet : ℕ) (id q : List ℕ) where
   unfolding id_text
   has-text = go (id_of sheet q)
     where
-      go : (o : Maybe (List ℕ)) → is_id id o ≡ true → text_or o ≡ id
-      go none e = true-false e refl
-      go (some t) e = same_true t id e
+      go : (o : Option (List ℕ)) → is_id id o ≡ true → text_or o ≡ id
+      go None e = true-false e refl
+      go (Some t) e = same_true t id e
 
   pub text-has : 0 < length id → id_text sheet q ≡ id → has_id sheet id q ≡ true
   unfolding id_text
   text-has h = go (id_of sheet q)
     where
-      go : (o : Maybe (List ℕ)) → text_or o ≡ id → is_id id o ≡ true
-      go none e = absurd (omega (arith, ap length e))
-      go (some t) e = ap (λ (x : List ℕ). same x id) e ∙ same_refl id
+      go : (o : Option (List ℕ)) → text_or o ≡ id → is_id id o ≡ true
+      go None e = absurd (omega (arith, ap length e))
+      go (Some t) e = ap (λ (x : List ℕ). same x id) e ∙ same_refl id
 
 pub no-has : (sheet : ℕ) (q : List ℕ) → has_id sheet [] q ≡ false
 no-has sheet q = by_test (has_id sheet [] q) (λ t. go (id_of sheet q) refl t) λ t. t
   where
-    go : (o : Maybe (List ℕ)) → id_of sheet q ≡ o → is_id [] o ≡ true → has_id sheet [] q ≡ false
-    go none e t = true-false t refl
-    go (some x) e t = absurd (omega (arith, id_given sheet q x e, ap length (same_true x [] t)))
+    go : (o : Option (List ℕ)) → id_of sheet q ≡ o → is_id [] o ≡ true → has_id sheet [] q ≡ false
+    go None e t = true-false t refl
+    go (Some x) e t = absurd (omega (arith, id_given sheet q x e, ap length (same_true x [] t)))
 
 module _ (sheet : ℕ) (rs : List (List ℕ)) (ids : ℕ → List ℕ) (are : (k : ℕ) → k < length rs → ids k ≡ id_text sheet (get_or rs k [])) where
   -- one of those before has the id of the record j
@@ -80,12 +80,12 @@ module _ (sheet : ℕ) (rs : List (List ℕ)) (ids : ℕ → List ℕ) (are : (k
   unfolding id_text
   used_repeated k h = go (id_of sheet (get_or rs k [])) refl
     where
-      text : (o : Maybe (List ℕ)) → id_of sheet (get_or rs k []) ≡ o → ids k ≡ text_or o
+      text : (o : Option (List ℕ)) → id_of sheet (get_or rs k []) ≡ o → ids k ≡ text_or o
       text o e = are k h ∙ ap text_or e
 
-      go : (o : Maybe (List ℕ)) → id_of sheet (get_or rs k []) ≡ o → used_before ids k k ≡ (elim o [ none ↦ false | some id ↦ any_has sheet id (earlier rs k) ])
-      go none e = none_used k k (text none e)
-      go (some id) e = used_any id (id_given sheet (get_or rs k []) id e) k k (text (some id) e) (omega arith)
+      go : (o : Option (List ℕ)) → id_of sheet (get_or rs k []) ≡ o → used_before ids k k ≡ (elim o [ None ↦ false | Some id ↦ any_has sheet id (earlier rs k) ])
+      go None e = none_used k k (text None e)
+      go (Some id) e = used_any id (id_given sheet (get_or rs k []) id e) k k (text (Some id) e) (omega arith)
 
   from-same : (n k : ℕ) → k + n ≡ length rs → sorting.repeat_from ids k n ≡ repeat_from sheet (k + 1) (earlier rs k) (drop k rs)
   unfolding sorting.repeat_from repeat_from earlier

@@ -19,8 +19,6 @@ use Rattle.text.specs.Text.{text_of, same}
 use Rattle.json_text.specs.Tree.{Json, Members}
 use Rattle.json_text.specs.Text.{expect}
 use Rattle.walk.specs.declared.Member.{Member}
-use Rattle.walk.specs.declared.MemberStep.{MemberStep}
-use Rattle.walk.specs.declared.MemberStep.TheVariants as members
 use Rattle.walk.specs.Walk.{part, member_in, member_at, members_from, members_of}
 use Rattle.walk.specs.Part.{Whole, inside}
 use Rattle.walk.specs.inner.Kind.{kind_at}
@@ -30,13 +28,13 @@ use Rattle.walk.proofs.Parts.{member-whole}
 use Rattle.slots.specs.declared.Found.{Found}
 use Rattle.slots.specs.declared.Found.TheVariants.{Missing, Once, Twice}
 use Rattle.slots.specs.Found.{noted, found_in}
-use Rattle.document.specs.Document.{none, some}
 use Rattle.document.specs.inner.Values.{kind_code, found_bytes, FoundWhole, member_of, text_by}
 use Rattle.document.proofs.ByKind.{member-found}
 use Rattle.ids.specs.inner.Ids.{id_name, id_value, id_of, NoIdBefore}
+use Rattle.std.specs.Prelude.{Option, Some, None}
 
 -- no bytes have no id
-pub no_text : text_by [] ≡ none
+pub no_text : text_by [] ≡ None
 unfolding text_by kind_at start digit within
 no_text = refl
 
@@ -45,7 +43,7 @@ unfolding found_in members_of members_from
 nothing-found name = refl
 
 -- where nothing is found, or twice
-none_found : (sheet : ℕ) (q : List ℕ) (o : Found) → o ≡ found_in q (id_name sheet) → found_bytes q o ≡ [] → id_of sheet q ≡ none
+none_found : (sheet : ℕ) (q : List ℕ) (o : Found) → o ≡ found_in q (id_name sheet) → found_bytes q o ≡ [] → id_of sheet q ≡ None
 unfolding id_value member_of
 none_found sheet q o e z =
     ap text_by
@@ -53,7 +51,7 @@ none_found sheet q o e z =
     ∙ no_text
 
 -- a record with an id is an object in which its name stands once
-module _ (sheet : ℕ) (q id : List ℕ) (e : id_of sheet q ≡ some id) where
+module _ (sheet : ℕ) (q id : List ℕ) (e : id_of sheet q ≡ Some id) where
   pub id_single : found_in q (id_name sheet) ≡ Twice → ⊥
   id_single t = let n = none_found sheet q Twice (sym t) refl in let z : ◌≡◌ {A = ℕ} 0 1 = cc in omega arith
 
@@ -63,24 +61,24 @@ module _ (sheet : ℕ) (q id : List ℕ) (e : id_of sheet q ≡ some id) where
       by_test (eqb (kind_code (kind_at q)) 5)
       (λ t. sym (eqb-true (kind_code (kind_at q)) 5 t))
       (λ t.
-      let n : none ≡ some id = sym no_text ∙ (rw (id_value, member_of, t) at e) in let z : ◌≡◌ {A = ℕ} 0 1 = cc in absurd (omega arith))
+      let n : None ≡ Some id = sym no_text ∙ (rw (id_value, member_of, t) at e) in let z : ◌≡◌ {A = ℕ} 0 1 = cc in absurd (omega arith))
 
-pub id_some : (sheet : ℕ) (q id : List ℕ) → id_of sheet q ≡ some id → 0 < length q
+pub id_some : (sheet : ℕ) (q id : List ℕ) → id_of sheet q ≡ Some id → 0 < length q
 id_some sheet [] id e = let n = none_found sheet [] Missing (sym (nothing-found (id_name sheet))) refl in let z : ◌≡◌ {A = ℕ} 0 1 = cc in absurd (omega arith)
 id_some sheet (b ∷ q) id e = omega arith
 
 -- a step that passes over values, along such a record or in nothing
-nothing-at : (at : ℕ) → member_at [] at ≡ members.End
+nothing-at : (at : ℕ) → member_at [] at ≡ None
 unfolding member_at member_in expect blanks
 nothing-at zero = refl
 nothing-at (suc n) = refl
 
-pub passed_end : (q : List ℕ) (at : ℕ) {o : MemberStep} → MemberPassed q at o → o ≡ members.End → (0 < length q → AlongMembers q at) → member_at q at ≡ members.End
+pub passed_end : (q : List ℕ) (at : ℕ) {o : Option Member} → MemberPassed q at o → o ≡ None → (0 < length q → AlongMembers q at) → member_at q at ≡ None
 passed_end [] at h e a = nothing-at at
 passed_end (b ∷ q) at h e a = sym (h.same (a (omega arith))) ∙ e
 
-pub passed_found : (q : List ℕ) (at : ℕ) {o : MemberStep} {m : Member} → MemberPassed q at o → o ≡ members.Found m → (0 < length q → AlongMembers q at)
-    → member_at q at ≡ members.Found m
+pub passed_found : (q : List ℕ) (at : ℕ) {o : Option Member} {m : Member} → MemberPassed q at o → o ≡ Some m → (0 < length q → AlongMembers q at)
+    → member_at q at ≡ Some m
 passed_found q at {m = m} h e a = let k = h.placed m e in sym (h.same (a (omega arith))) ∙ e
 
 -- from the first member of the name on
@@ -112,11 +110,11 @@ unmet_at {sheet} {r = r} {a = a} e i u = subst (λ (l : List ℕ). NoIdBefore sh
 
 module _ {sheet : ℕ} {q : List ℕ} {at : ℕ} (u : NoIdBefore sheet q at) where
   -- at the end none has it
-  unmet_end : member_at q at ≡ members.End → Missing ≡ found_in q (id_name sheet)
+  unmet_end : member_at q at ≡ None → Missing ≡ found_in q (id_name sheet)
   unmet_end e = walk_end (member_steps q) (noted q (id_name sheet)) Missing at (found_in q (id_name sheet)) e u.left
 
   -- the member there, x its name
-  module _ (m : Member) (f : member_at q at ≡ members.Found m) (x : List ℕ) (is : x ≡ part q m.name m.name_end) where
+  module _ (m : Member) (f : member_at q at ≡ Some m) (x : List ℕ) (is : x ≡ part q m.name m.name_end) where
     onward : {t : Bool} → same (text_of x) (id_name sheet) ≡ t
         → Walk (member_steps q) (noted q (id_name sheet)) (t ⇒ Once m.value m.value_end else Missing) m.next (found_in q (id_name sheet))
     onward e =
@@ -135,20 +133,20 @@ module _ {sheet : ℕ} {q : List ℕ} {at : ℕ} (u : NoIdBefore sheet q at) whe
         ∙ member-found q (id_name sheet) 5 object refl (Once m.value m.value_end) (first_found q (id_name sheet) m.value m.value_end m.next (onward e) single)
 
 -- where no member has the name, the record has no id
-pub end_none : {sheet : ℕ} {q : List ℕ} {at : ℕ} → NoIdBefore sheet q at → member_at q at ≡ members.End → id_of sheet q ≡ none
+pub end_none : {sheet : ℕ} {q : List ℕ} {at : ℕ} → NoIdBefore sheet q at → member_at q at ≡ None → id_of sheet q ≡ None
 end_none {sheet} {q} u e = none_found sheet q Missing (unmet_end u e) refl
 
 -- the text that a value stands for, which is a string
-module _ (v t : List ℕ) (e : text_by v ≡ some t) where
+module _ (v t : List ℕ) (e : text_by v ≡ Some t) where
   pub text-kind : 3 ≡ kind_code (kind_at v)
   unfolding text_by
   text-kind =
       by_test (eqb (kind_code (kind_at v)) 3) (λ h. sym (eqb-true (kind_code (kind_at v)) 3 h)) λ h.
-      let k : none ≡ some t = (rw (text_by, h) at e) in let z : ◌≡◌ {A = ℕ} 0 1 = cc in absurd (omega arith)
+      let k : None ≡ Some t = (rw (text_by, h) at e) in let z : ◌≡◌ {A = ℕ} 0 1 = cc in absurd (omega arith)
 
   pub text-inside : text_of (inside v) ≡ t
   unfolding text_by
   text-inside =
       by_test (eqb (kind_code (kind_at v)) 3)
-      (λ h. let k : some (text_of (inside v)) ≡ some t = (rw (text_by, h) at e) in cc)
-      (λ h. let k : none ≡ some t = (rw (text_by, h) at e) in let z : ◌≡◌ {A = ℕ} 0 1 = cc in absurd (omega arith))
+      (λ h. let k : Some (text_of (inside v)) ≡ Some t = (rw (text_by, h) at e) in cc)
+      (λ h. let k : None ≡ Some t = (rw (text_by, h) at e) in let z : ◌≡◌ {A = ℕ} 0 1 = cc in absurd (omega arith))

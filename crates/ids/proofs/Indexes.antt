@@ -27,7 +27,6 @@ use Rattle.sorting.proofs.Finding.{finds_by-keys}
 use Rattle.walk.specs.declared.Item.{Item}
 use Rattle.walk.specs.Walk.{items_of}
 use Rattle.walk.proofs.Parts.{item_of}
-use Rattle.ids.specs.declared.Start.TheVariants.{At, Nowhere}
 use Rattle.ids.specs.inner.Ids.{text_or, id_text, ids_of, has_id, record_bytes, passing, meeting, any_meets, first_repeat}
 use Rattle.ids.specs.inner.Notes.{start_at, member_start, pass_at, skip_in, bit, Entry, Noted, in_order, record_at, id_in_order, Spread, Indexed}
 use Rattle.ids.specs.inner.Spread.{Sorted}
@@ -35,6 +34,7 @@ use Rattle.ids.specs.inner.Known.{probe, RecordOf}
 use Rattle.ids.proofs.Entering.{entry_at}
 use Rattle.ids.proofs.Firsts.{has-text, text-has, no-has, first-same}
 use Rattle.ids.proofs.Spreads.{spread-marked}
+use Rattle.std.specs.Prelude.{Some, None}
 
 -- some record is met
 module _ (sheet : ℕ) (tested : Bool) (id : List ℕ) (rs : List (List ℕ)) where
@@ -205,7 +205,7 @@ module _ {sheet : ℕ} {p notes : List ℕ} (w : Indexed sheet p notes) (id : Li
   pub found-no : (tested : Bool) → met ≡ 0 → false ≡ any_meets sheet tested id (record_bytes p) (length (items_of p))
   found-no tested e = sym (any_none sheet tested id (record_bytes p) (length (items_of p)) (none_has e))
 
-  pub found_nowhere : met ≡ 0 → RecordOf sheet p id Nowhere
+  pub found_nowhere : met ≡ 0 → RecordOf sheet p id None
   unfolding record_bytes
   found_nowhere e m i =
       by_test (has_id sheet id (item_of p m))
@@ -231,16 +231,16 @@ module _ {sheet : ℕ} {p notes : List ℕ} (w : Indexed sheet p notes) (id : Li
         (w.spread (met - 1) one.0 (subst (λ (x : List ℕ). 0 < length x) (sym one.1) given)
         ∙ ap (λ (x : List ℕ). bit (any_meets sheet true x (record_bytes p) (length (items_of p)))) one.1)
 
-    pub found-start : {start : ℕ} → start ≡ start_at notes (met - 1) → RecordOf sheet p id (At start)
+    pub found-start : {start : ℕ} → start ≡ start_at notes (met - 1) → RecordOf sheet p id (Some start)
     unfolding id_text
     found-start {start} e = go (w.entries (met - 1) one.0)
       where
-        go : Entry sheet p (get_or (record_bytes p) (record_at sheet p (met - 1)) []) (start_at notes (met - 1)) (member_start notes (met - 1)) → RecordOf sheet p id (At start)
+        go : Entry sheet p (get_or (record_bytes p) (record_at sheet p (met - 1)) []) (start_at notes (met - 1)) (member_start notes (met - 1)) → RecordOf sheet p id (Some start)
         go (Entry.without none h) = absurd (omega (arith, given, ap length (sym (ap text_or none) ∙ one.1)))
         go (Entry.within some m among at starts u) = (m, among, starts ∙ sym e, ap (has_id sheet id) at ∙ has_it)
 
 -- no record has the id of no bytes
-pub none-nowhere : (sheet : ℕ) (p : List ℕ) {id : List ℕ} → id ≡ [] → RecordOf sheet p id Nowhere
+pub none-nowhere : (sheet : ℕ) (p : List ℕ) {id : List ℕ} → id ≡ [] → RecordOf sheet p id None
 none-nowhere sheet p e m i = ap (λ (x : List ℕ). has_id sheet x (item_of p m)) e ∙ no-has sheet (item_of p m)
 
 pub none_met : (sheet : ℕ) (tested : Bool) (id : List ℕ) (rs : List (List ℕ)) (n : ℕ) → id ≡ [] → false ≡ any_meets sheet tested id rs n

@@ -17,7 +17,7 @@ use Rattle.walk.proofs.Parts.{item_of, items-whole}
 use Rattle.schema.specs.Table23.{vehicle_type, station}
 use Rattle.schema.specs.Records.{record_shape, has_ids, located}
 use Rattle.schema.specs.Pick.{Picked, pick}
-use Rattle.document.specs.Document.{Maybe, none, some, text}
+use Rattle.document.specs.Document.{text}
 use Rattle.document.specs.inner.Items.{picked_items}
 use Rattle.document.specs.inner.Values.{is_id}
 use Rattle.document.proofs.FieldBytes.{row_of, listed, field-text, field-given}
@@ -25,6 +25,7 @@ use Rattle.ids.specs.inner.Ids.{id_field, id_of, record_bytes, passing, meeting,
 use Rattle.ids.proofs.Picked.{id_picked}
 use Rattle.ids.specs.References.{any_with, not_human}
 use Rattle.ids.specs.inner.Known.{test_of, tested_of}
+use Rattle.std.specs.Prelude.{Option, None, Some}
 
 -- the record of a file answers alike in bytes and picked
 record Alike (sheet : ℕ) (q : List ℕ) (x : Picked) : Type 0 where
@@ -54,10 +55,10 @@ module _ (sheet : ℕ) (tested : Bool) (id : List ℕ) where
   unfolding any_with
   any_step test f x l = go (text f x)
     where
-      go : (o : Maybe (List ℕ)) → (elim o [ none ↦ any_with test f l id | some t ↦ same t id and test x ⇒ true else any_with test f l id ])
+      go : (o : Option (List ℕ)) → (elim o [ None ↦ any_with test f l id | Some t ↦ same t id and test x ⇒ true else any_with test f l id ])
           ≡ (is_id id o and test x ⇒ true else any_with test f l id)
-      go none = refl
-      go (some t) = refl
+      go None = refl
+      go (Some t) = refl
 
   any-front : (q : List ℕ) (l : List (List ℕ)) (n : ℕ) → any_meets sheet tested id (q ∷ l) (suc n) ≡ (meeting sheet tested id q ⇒ true else any_meets sheet tested id l n)
   unfolding any_meets

@@ -9,27 +9,25 @@ use lib.ListN.{length, get_or, drop, length-map}
 use lib.Seq.{drop-cons}
 use Rattle.limits.specs.Ceilings.{records, file_bytes}
 use Rattle.walk.specs.declared.Item.{Item}
-use Rattle.walk.specs.declared.ItemStep.{ItemStep}
-use Rattle.walk.specs.declared.ItemStep.TheVariants as step
 use Rattle.walk.specs.Walk.{items_of}
 use Rattle.walk.specs.inner.Along.{AlongItems, ItemPassed}
 use Rattle.walk.proofs.Left.{Left, Onward, left-start, left_end, left-more, left-whole, left-among}
 use Rattle.walk.proofs.Parts.{item_of}
-use Rattle.document.specs.Document.{Maybe, none, some}
 use Rattle.ids.specs.inner.Ids.{id_of, AllIdsOnce, record_bytes, any_has, repeated}
 use Rattle.ids.specs.inner.Notes.{size, Next, Noted}
 use Rattle.ids.proofs.Entering.{noted-none}
+use Rattle.std.specs.Prelude.{Option, Some, None}
 
 -- by the id of a record
 module _ (sheet : ℕ) (passed : List (List ℕ)) (q : List ℕ) where
-  by_id : (o : Maybe (List ℕ)) → id_of sheet q ≡ o → (elim o [ none ↦ false | some id ↦ any_has sheet id passed ]) ≡ repeated sheet passed q
-  by_id o e = ap (λ (x : Maybe (List ℕ)). elim x [ none ↦ false | some id ↦ any_has sheet id passed ]) (sym e)
+  by_id : (o : Option (List ℕ)) → id_of sheet q ≡ o → (elim o [ None ↦ false | Some id ↦ any_has sheet id passed ]) ≡ repeated sheet passed q
+  by_id o e = ap (λ (x : Option (List ℕ)). elim x [ None ↦ false | Some id ↦ any_has sheet id passed ]) (sym e)
 
-  pub repeated-none : id_of sheet q ≡ none → false ≡ repeated sheet passed q
-  repeated-none e = by_id none e
+  pub repeated-none : id_of sheet q ≡ None → false ≡ repeated sheet passed q
+  repeated-none e = by_id None e
 
-  pub repeated-some : (id : List ℕ) → id_of sheet q ≡ some id → any_has sheet id passed ≡ repeated sheet passed q
-  repeated-some id e = by_id (some id) e
+  pub repeated-some : (id : List ℕ) → id_of sheet q ≡ Some id → any_has sheet id passed ≡ repeated sheet passed q
+  repeated-some id e = by_id (Some id) e
 
 -- the first n records of the array are entered; those from `at` on are left
 pub record Noting (sheet : ℕ) (p notes : List ℕ) (n at : ℕ) : Type 0 where
@@ -44,11 +42,11 @@ unfolding record_bytes
 noting_start {sheet} {p} z a = record { items = items_of p; left = left-start a; count = omega arith; rest = refl; noted = noted-none z }
 
 -- what a step that passes over the next record finds
-module _ {sheet : ℕ} {p notes : List ℕ} {n at : ℕ} (w : Noting sheet p notes n at) {s : ItemStep} (f : ItemPassed p at s) where
-  pub noting_end : s ≡ step.End → n ≡ length (items_of p)
+module _ {sheet : ℕ} {p notes : List ℕ} {n at : ℕ} (w : Noting sheet p notes n at) {s : Option Item} (f : ItemPassed p at s) where
+  pub noting_end : s ≡ None → n ≡ length (items_of p)
   noting_end e = omega (arith, w.count, ap length (left_end w.left f e))
 
-  module _ (m : Item) (e : s ≡ step.Found m) where
+  module _ (m : Item) (e : s ≡ Some m) where
     onward : Onward p m w.items
     onward = left-more w.left f e
 

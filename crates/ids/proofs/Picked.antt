@@ -5,7 +5,6 @@ use mathlib.Core.List.{List}
 use mathlib.Core.Path.{◌≡◌, refl}
 use Prim.Native.Nat.{ℕ, zero, suc, ◌≤◌}
 use native.Mathlib.Omega.{arith}
-use Rattle.notation.specs.Maybe.{some}
 use Rattle.notation.proofs.Booleans.{by_test, true-false}
 use Rattle.word.specs.Form.{written_form}
 use Rattle.json_text.specs.Tree.{Json}
@@ -19,6 +18,7 @@ use Rattle.document.specs.Document.{text}
 use Rattle.document.proofs.Ways.{Requires, here, lists}
 use Rattle.document.proofs.FieldBytes.{field-text}
 use Rattle.ids.specs.inner.Ids.{id_field, id_name, id_value, id_of}
+use Rattle.std.specs.Prelude.{Some}
 
 abbrev fields : ℕ
 fields = written_form.fields
@@ -26,7 +26,7 @@ fields = written_form.fields
 -- a file whose records have ids
 pub record Identified (n : ℕ) : Type 0 where
   pub key : Key
-  pub is : id_key n ≡ some key
+  pub is : id_key n ≡ Some key
   pub number : (1 ≤ id_field n) × (id_field n ≤ fields)
   pub rows : Rows
   pub object : record_shape n ≡ shape.object rows

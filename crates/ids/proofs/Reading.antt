@@ -11,8 +11,6 @@ use Rattle.notation.specs.Choice.{◌⇒◌else◌}
 use Rattle.notation.proofs.Booleans.{by_test}
 use Rattle.text.specs.Text.{text_of, same}
 use Rattle.walk.specs.declared.Member.{Member}
-use Rattle.walk.specs.declared.MemberStep.{MemberStep}
-use Rattle.walk.specs.declared.MemberStep.TheVariants as members
 use Rattle.walk.specs.Walk.{part, member_at}
 use Rattle.walk.specs.Part.{part_tree, inside}
 use Rattle.walk.specs.inner.Along.{AlongMembers, MemberPassed}
@@ -21,12 +19,12 @@ use Rattle.walk.proofs.Places.{member-placed}
 use Rattle.walk.proofs.Parts.{item_of}
 use Rattle.slots.specs.declared.Found.TheVariants.{Once}
 use Rattle.slots.specs.inner.Blank.{blank_text}
-use Rattle.document.specs.Document.{none, some}
 use Rattle.document.specs.inner.Values.{found_bytes, text_by}
 use Rattle.ids.specs.inner.Ids.{id_name, id_of, text_or, id_text, NoIdBefore}
 use Rattle.ids.specs.inner.Notes.{Entry}
 use Rattle.ids.proofs.IdOnce.{id_single, id_object, id_some, end_none, text-inside, value-here, unmet_next}
 use Rattle.ids.proofs.Texts.{no-some}
+use Rattle.std.specs.Prelude.{Option, Some, None}
 
 -- an object q at the front of r
 module _ (q r : List ℕ) (is : take (length q) r ≡ q) where
@@ -44,12 +42,12 @@ module _ (q r : List ℕ) (is : take (length q) r ≡ q) where
       front-part r (length q) from upto h (subst (λ (k : ℕ). upto ≤ k) (ap length (sym is)) i) ∙ ap (λ (l : List ℕ). part l from upto) is
 
 -- the name of a member
-name_in : (q r : List ℕ) → take (length q) r ≡ q → (at : ℕ) (m : Member) → member_at q at ≡ members.Found m → {x : List ℕ} → x ≡ part r m.name m.name_end
+name_in : (q r : List ℕ) → take (length q) r ≡ q → (at : ℕ) (m : Member) → member_at q at ≡ Some m → {x : List ℕ} → x ≡ part r m.name m.name_end
     → x ≡ part q m.name m.name_end
 name_in q r is at m g named = let k = member-placed q at m g in named ∙ part_in q r is m.name m.name_end k.name (omega arith)
 
 -- a text that is found is that between its quotation marks
-found-text : (q : List ℕ) (a e : ℕ) (id : List ℕ) → text_by (found_bytes q (Once a e)) ≡ some id → text_of (inside (part q a e)) ≡ id
+found-text : (q : List ℕ) (a e : ℕ) (id : List ℕ) → text_by (found_bytes q (Once a e)) ≡ Some id → text_of (inside (part q a e)) ≡ id
 found-text q a e id h =
     by_test (blank_text (part_tree (part q a e)))
     (λ t. no-some (ap (λ (b : Bool). text_by (b ⇒ [] else part q a e)) (sym t) ∙ h))
@@ -57,8 +55,8 @@ found-text q a e id h =
 
 -- a walk over the members of the record q in the bytes r has come to `at`, and none that it passed has the name of the file's ids
 pub data Reading (sheet : ℕ) (q r : List ℕ) (at : ℕ) : Type 0 where
-  nothing : id_of sheet q ≡ none → r ≡ [] → Reading sheet q r at
-  reading : {id : List ℕ} → id_of sheet q ≡ some id → take (length q) r ≡ q → NoIdBefore sheet q at → Reading sheet q r at
+  nothing : id_of sheet q ≡ None → r ≡ [] → Reading sheet q r at
+  reading : {id : List ℕ} → id_of sheet q ≡ Some id → take (length q) r ≡ q → NoIdBefore sheet q at → Reading sheet q r at
 
 front-again : (k : ℕ) (l : List ℕ) → take (length (take k l)) l ≡ take k l
 front-again k l = ap (take (length (take k l))) (sym (take-append-drop k l)) ∙ take_at (take k l) (drop k l) (length (take k l)) refl
@@ -71,21 +69,21 @@ reading-start {sheet} {p} {q} {r} (Entry.within e m among is s u) i j =
     ∙ front-again (m.value_end - m.value) (drop m.value p) ∙ is)
     (subst (NoIdBefore sheet q) (sym j) u)
 
-module _ {sheet : ℕ} {q r : List ℕ} {at : ℕ} {o : MemberStep} (h : MemberPassed r at o) where
+module _ {sheet : ℕ} {q r : List ℕ} {at : ℕ} {o : Option Member} (h : MemberPassed r at o) where
   -- the step in r is that in q
-  along_id : {id : List ℕ} → id_of sheet q ≡ some id → NoIdBefore sheet q at → AlongMembers q at
+  along_id : {id : List ℕ} → id_of sheet q ≡ Some id → NoIdBefore sheet q at → AlongMembers q at
   along_id {id} e u = u.along (id_some sheet q id e)
 
-  step_is : {id : List ℕ} → id_of sheet q ≡ some id → take (length q) r ≡ q → NoIdBefore sheet q at → member_at q at ≡ o
+  step_is : {id : List ℕ} → id_of sheet q ≡ Some id → take (length q) r ≡ q → NoIdBefore sheet q at → member_at q at ≡ o
   step_is e is u = let a = along_id e u in sym (h.same (along_in q r is a) ∙ member_in q r is a)
 
-  pub reading-end : Reading sheet q r at → o ≡ members.End → id_text sheet q ≡ []
+  pub reading-end : Reading sheet q r at → o ≡ None → id_text sheet q ≡ []
   unfolding id_text
   reading-end (Reading.nothing e z) f = ap text_or e
   reading-end (Reading.reading e is u) f = ap text_or (end_none u (step_is e is u ∙ f))
 
   -- the member that is found, x its name
-  module _ (m : Member) (f : o ≡ members.Found m) (x : List ℕ) (named : x ≡ part r m.name m.name_end) where
+  module _ (m : Member) (f : o ≡ Some m) (x : List ℕ) (named : x ≡ part r m.name m.name_end) where
     pub reading-more : same (text_of x) (id_name sheet) ≡ false → Reading sheet q r at → Reading sheet q r m.next
     reading-more t (Reading.nothing e z) = Reading.nothing e z
     reading-more t (Reading.reading e is u) = let g = step_is e is u ∙ f in Reading.reading e is (unmet_next u m g x (name_in q r is at m g named) t)

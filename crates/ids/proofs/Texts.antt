@@ -28,11 +28,11 @@ use Rattle.slots.specs.declared.Found.{Found}
 use Rattle.slots.specs.declared.Found.TheVariants.{Missing, Once, Twice}
 use Rattle.slots.specs.Found.{found_in}
 use Rattle.slots.specs.inner.Blank.{blank_text}
-use Rattle.document.specs.Document.{none, some}
 use Rattle.document.specs.inner.Values.{kind_code, found_bytes, member_of, text_by}
 use Rattle.document.proofs.ByKind.{found-standing, text-some}
 use Rattle.ids.specs.inner.Ids.{id_name, id_value, id_of}
 use Rattle.ids.proofs.IdOnce.{no_text, text-kind, text-inside}
+use Rattle.std.specs.Prelude.{None, Some}
 
 -- what a string reads as is what its bytes decode to
 text-read : (k : ℕ) (l y r : List ℕ) → string paired k l ≡ done y r → decoded paired k l ≡ y
@@ -72,7 +72,7 @@ part_follows q s a e h i =
     ∙ drop-append-le 1 v (w ++ s) long
 
 -- a value that is found is not the text with nothing in it
-nonempty : (v t : List ℕ) (x : Json) → Whole v x → blank_text x ≡ false → text_by v ≡ some t → 0 < length t
+nonempty : (v t : List ℕ) (x : Json) → Whole v x → blank_text x ≡ false → text_by v ≡ Some t → 0 < length t
 nonempty v t x w b e = go x w b
   where
     third : 3 ≡ kind_code (kind_at v)
@@ -90,10 +90,10 @@ nonempty v t x w b e = go x w b
     go (Json.array is) w b = absurd (omega (arith, third, ap kind_code (whole-kind w)))
     go (Json.object ms) w b = absurd (omega (arith, third, ap kind_code (whole-kind w)))
 
-pub no-some : {A : Type 0} {t : List ℕ} → text_by [] ≡ some t → A
-no-some {t = t} e = let k : none ≡ some t = sym no_text ∙ e in let z : ◌≡◌ {A = ℕ} 0 1 = cc in absurd (omega arith)
+pub no-some : {A : Type 0} {t : List ℕ} → text_by [] ≡ Some t → A
+no-some {t = t} e = let k : None ≡ Some t = sym no_text ∙ e in let z : ◌≡◌ {A = ℕ} 0 1 = cc in absurd (omega arith)
 
-found-given : (q name t : List ℕ) (o : Found) → o ≡ found_in q name → text_by (found_bytes q o) ≡ some t → 0 < length t
+found-given : (q name t : List ℕ) (o : Found) → o ≡ found_in q name → text_by (found_bytes q o) ≡ Some t → 0 < length t
 found-given q name t Missing i e = no-some e
 found-given q name t (Once a b) i e =
     by_test (blank_text (part_tree (part q a b)))
@@ -101,7 +101,7 @@ found-given q name t (Once a b) i e =
     λ h. nonempty (part q a b) t (part_tree (part q a b)) (found-standing q name (Once a b) i) h (rw h at e)
 found-given q name t Twice i e = no-some e
 
-pub id_given : (sheet : ℕ) (q t : List ℕ) → id_of sheet q ≡ some t → 0 < length t
+pub id_given : (sheet : ℕ) (q t : List ℕ) → id_of sheet q ≡ Some t → 0 < length t
 unfolding id_value member_of
 id_given sheet q t e =
     by_test (eqb (kind_code (kind_at q)) 5) (λ h. found-given q (id_name sheet) t (found_in q (id_name sheet)) refl (rw (id_value, member_of, h) at e)) λ h. no-some (rw (id_value, member_of, h) at e)

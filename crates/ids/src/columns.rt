@@ -6,13 +6,6 @@ ghost use Rattle.ids.specs.inner.Notes.{start_at, member_start, pass_at, count_i
 use crate::Notes;
 use walk::cut;
 
-// A place or a number as one of 64 bits.
-fn wide(x: u32) -> usize
-    ensures { result ≡ x }
-{
-    x as usize
-}
-
 // The key of the id at the place `i` of the order.
 pub fn key_at(notes: &[u32; Notes::SIZE], i: usize) -> u32
     requires { i < records }
@@ -26,7 +19,7 @@ pub fn start_at(notes: &[u32; Notes::SIZE], i: usize) -> usize
     requires { i < records }
     ensures { result ≡ start_at notes.now i }
 {
-    wide(notes[Notes::STARTS + i])
+    notes[Notes::STARTS + i] as usize
 }
 
 // What stands in `p` from the record at a place on.
@@ -42,7 +35,7 @@ pub fn member_at(notes: &[u32; Notes::SIZE], i: usize) -> usize
     requires { i < records }
     ensures { result ≡ member_start notes.now i }
 {
-    wide(notes[Notes::MEMBERS + i] / 2)
+    (notes[Notes::MEMBERS + i] / 2) as usize
 }
 
 // Whether the record at a place is noted to pass.
@@ -57,14 +50,14 @@ pub fn is_passed(notes: &[u32; Notes::SIZE], i: usize) -> bool
 pub fn count(notes: &[u32; Notes::SIZE]) -> usize
     ensures { result ≡ count_in notes.now }
 {
-    wide(notes[Notes::COUNT])
+    notes[Notes::COUNT] as usize
 }
 
 // How many bytes all ids begin with alike.
 pub fn skip(notes: &[u32; Notes::SIZE]) -> usize
     ensures { result ≡ skip_in notes.now }
 {
-    wide(notes[Notes::SKIP])
+    notes[Notes::SKIP] as usize
 }
 
 // A place and a truth as they are noted.
@@ -72,10 +65,7 @@ fn doubled(member: usize, passes: bool) -> u32
     requires { member ≤ file_bytes }
     ensures { result ≡ 2 * member + bit passes }
 {
-    if passes {
-        return 2 * (member as u32) + 1;
-    }
-    2 * (member as u32)
+    2 * member as u32 + u32::from(passes)
 }
 
 // One entry more.

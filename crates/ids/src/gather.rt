@@ -6,23 +6,13 @@ ghost use Rattle.ids.specs.inner.Gather.{Listing, Column, Written, Gathered, Set
 
 use crate::Notes;
 
-// A record's number as an index.
-fn index(k: u16) -> usize
-    ensures { result ≡ k }
-{
-    k as usize
-}
-
 // Writes over the first column what another has of the records in order.
 fn take_column(order: &[u16], column: usize, notes: &mut [u32; Notes::SIZE])
     requires { Listing order.now × Column column × (length notes.old ≡ size) }
     ensures { Written 0 (length order.now) (λ i. get_or notes.old (column + get_or order.now i 0) 0) notes.old notes.new }
 {
-    let mut i: usize = 0;
-    while i < order.len() {
-        let k = index(order[i]);
-        notes[i] = notes[column + k];
-        i += 1;
+    for (i, &k) in order.iter().enumerate() {
+        notes[i] = notes[column + usize::from(k)];
     }
 }
 
@@ -31,10 +21,8 @@ fn put_back(n: usize, column: usize, notes: &mut [u32; Notes::SIZE])
     requires { (n ≤ records) × Column column × (length notes.old ≡ size) }
     ensures { Written column n (λ i. get_or notes.old i 0) notes.old notes.new }
 {
-    let mut i: usize = 0;
-    while i < n {
+    for i in 0..n {
         notes[column + i] = notes[i];
-        i += 1;
     }
 }
 
@@ -52,11 +40,8 @@ fn put_keys(order: &[u16], keys: &[u32], notes: &mut [u32; Notes::SIZE])
     requires { Listing order.now × (length keys.now ≡ length order.now) × (length notes.old ≡ size) }
     ensures { Written 0 (length order.now) (λ i. get_or keys.now (get_or order.now i 0) 0) notes.old notes.new }
 {
-    let mut i: usize = 0;
-    while i < order.len() {
-        let k = index(order[i]);
-        notes[i] = keys[k];
-        i += 1;
+    for (i, &k) in order.iter().enumerate() {
+        notes[i] = keys[usize::from(k)];
     }
 }
 

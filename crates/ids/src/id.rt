@@ -1,5 +1,5 @@
 // The id of a record.
-ghost use Rattle.std.specs.Prelude.{◌≡◌, ◌≤◌, ◌<◌, length};
+ghost use Rattle.std.specs.Prelude.{ℕ, ◌≡◌, ◌≤◌, ◌<◌, length, Some};
 ghost use Rattle.limits.specs.Ceilings.{file_bytes};
 ghost use Rattle.text.specs.Text.{text_of, same};
 ghost use Rattle.slots.specs.declared.Found.TheVariants.{Once};
@@ -10,20 +10,18 @@ use crate::IdText;
 use document::fields::{STRING, code_of, value_at};
 use slots::Found;
 use text::compare::text_is;
-use walk::{MemberStep, cut, pass_member};
+use walk::{cut, pass_member};
 
 // The field of a file's own ids; 0 where its records have none.
 // Shut out: plans whose ids are not looked at; a region that repeats an id blamed on another field.
 pub fn id_field(sheet: u8) -> u8
     ensures { result ≡ id_field sheet }
 {
-    if sheet == 8 {
-        return 100;
+    match sheet {
+        8 => 100,
+        0..=5 => sheet * 10,
+        _ => 0,
     }
-    if 5 < sheet {
-        return 0;
-    }
-    sheet * 10
 }
 
 // Whether a name is that of a file's own ids; no bytes are, where its records have none.
@@ -41,15 +39,15 @@ pub fn names_id(sheet: u8, spelled: &[u8]) -> bool
     }
 }
 
-// Where the text begins that stands in `q` from one place up to another; 0 where no text stands there, or one with nothing in it.
-fn text_from(q: &[u8], from: usize, upto: usize) -> usize
+// Where the text begins that stands in `q` from one place up to another; none where no text stands there, or one with nothing in it.
+fn text_from(q: &[u8], from: usize, upto: usize) -> Option<usize>
     requires { (length q.now ≤ file_bytes) × (from < upto) × (upto ≤ length q.now) }
-    ensures { (result ≤ length q.now) × (FoundWhole q.now (Once from upto) → TextPlace q.now (text_by (found_bytes q.now (Once from upto))) result) }
+    ensures { ((at : ℕ) → result ≡ Some at → at ≤ length q.now) × (FoundWhole q.now (Once from upto) → TextPlace q.now (text_by (found_bytes q.now (Once from upto))) result) }
 {
     if code_of(value_at(q, Found::Once(from, upto))) != STRING {
-        return 0;
+        return None;
     }
-    from + 1
+    Some(from + 1)
 }
 
 // Where the id of the record `q` is: its members are passed over up to the one that has the name of the file's ids.
@@ -58,17 +56,15 @@ pub fn id_text(sheet: u8, q: &[u8]) -> IdText
     ensures { IdTold sheet q.now result }
 {
     let mut at: usize = 1;
-    loop {
-        let MemberStep::Found(m) = pass_member(q, at) else {
-            return IdText {
-                member: at,
-                text: 0,
-            };
-        };
+    while let Some(m) = pass_member(q, at) {
         if names_id(sheet, cut(q, m.name, m.name_end)) {
             let text = text_from(q, m.value, m.value_end);
             return IdText { member: at, text };
         }
         at = m.next;
+    }
+    IdText {
+        member: at,
+        text: None,
     }
 }

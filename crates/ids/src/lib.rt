@@ -14,23 +14,16 @@ pub mod search;
 
 // The notes of a file are an array of `SIZE` numbers: three columns with an entry for each record, how many records there are, and how many bytes all their
 // ids begin with alike. Records are entered by their numbers; once they are in order, the columns stand in the order of the ids.
-#[derive(Clone, Copy)]
+#[derive(Clone, Copy, Debug, PartialEq, Eq)]
 pub struct Notes {
     pub entries: u16,
 }
 
-// Where the id of a record is: the place in the record where its member is looked for, and the one where its text begins, 0 where it has none.
-#[derive(Clone, Copy)]
+// Where the id of a record is: the place in the record where its member is looked for, and the one where its text begins, if it has one.
+#[derive(Clone, Copy, Debug, PartialEq, Eq)]
 pub struct IdText {
     pub member: usize,
-    pub text: usize,
-}
-
-// Where the record of an id starts.
-#[derive(Clone, Copy)]
-pub enum Start {
-    At(usize),
-    Nowhere,
+    pub text: Option<usize>,
 }
 
 impl Notes {

@@ -19,10 +19,7 @@ use text::compare::{text_is, word_is};
 pub fn is_motorized(value: &[u8]) -> bool
     ensures { result ≡ not_human (text_by value.now) }
 {
-    if code_of(value) != STRING {
-        return true;
-    }
-    !word_is(unquoted(value), b"human")
+    code_of(value) != STRING || !word_is(unquoted(value), b"human")
 }
 
 // Whether the record `q` is of the sort that its file's references are asked about: a type whose propulsion is not human, a station with a capacity.
@@ -50,8 +47,5 @@ pub fn meets(sheet: u8, p: &[u8], notes: &[u32; Notes::SIZE], id: &[u8], tested:
     if found.met == 0 {
         return false;
     }
-    if tested {
-        return is_passed(notes, found.met - 1);
-    }
-    true
+    !tested || is_passed(notes, found.met - 1)
 }

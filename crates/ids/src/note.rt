@@ -11,7 +11,7 @@ use crate::columns::enter;
 use crate::id::id_text;
 use crate::lookup::passes;
 use crate::order::order_notes;
-use walk::{Item, ItemStep, item_bytes, pass_item};
+use walk::{Item, item_bytes, pass_item};
 
 // Enters the record m of `p` behind the `n` that are entered.
 // Shut out: the text of an id looked for where its record starts.
@@ -22,11 +22,10 @@ pub fn note_record(sheet: u8, p: &[u8], m: Item, n: usize, notes: &mut [u32; Not
     let q = item_bytes(p, m);
     let passed = passes(sheet, q);
     let id = id_text(sheet, q);
-    if id.text == 0 {
-        enter(notes, n, p.len(), p.len(), 0, passed);
-        return;
+    match id.text {
+        None => enter(notes, n, p.len(), p.len(), 0, passed),
+        Some(text) => enter(notes, n, m.value + text, m.value, id.member, passed),
     }
-    enter(notes, n, m.value + id.text, m.value, id.member, passed);
 }
 
 // Notes the records of the array `p`; the number of the first record whose id one before it has, or 0.
@@ -36,12 +35,10 @@ pub fn note(sheet: u8, p: &[u8], notes: &mut [u32; Notes::SIZE]) -> u16
 {
     let mut n: usize = 0;
     let mut at: usize = 1;
-    loop {
-        let ItemStep::Found(m) = pass_item(p, at) else {
-            return order_notes(p, n, notes);
-        };
+    while let Some(m) = pass_item(p, at) {
         note_record(sheet, p, m, n, notes);
         n += 1;
         at = m.next;
     }
+    order_notes(p, n, notes)
 }

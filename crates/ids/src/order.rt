@@ -53,13 +53,12 @@ fn hand_on(p: &[u8], notes: &mut [u32; Notes::SIZE], keys: &[u32], from: u16, to
     requires { (from < records) × (to < records) × Tells p.now notes.old keys.now }
     ensures { notes.new ≡ handed (id_at p.now notes.old) notes.old from to }
 {
-    if is_passed(notes, from as usize) {
-        if !is_passed(notes, to as usize) {
-            if is_same(p, notes, keys, from, to) {
-                let at = Notes::MEMBERS + to as usize;
-                notes[at] = marked(notes[at]);
-            }
-        }
+    if is_passed(notes, from as usize)
+        && !is_passed(notes, to as usize)
+        && is_same(p, notes, keys, from, to)
+    {
+        let at = Notes::MEMBERS + to as usize;
+        notes[at] = marked(notes[at]);
     }
 }
 
@@ -70,14 +69,10 @@ fn spread(p: &[u8], keys: &[u32], order: &[u16], notes: &mut [u32; Notes::SIZE])
         × Ordered (id_at p.now notes.old) order.now × Tells p.now notes.old keys.now }
     ensures { Closed p.now order.now notes.old notes.new }
 {
-    let mut i: usize = 1;
-    while i < order.len() {
+    for i in 1..order.len() {
         hand_on(p, notes, keys, order[i - 1], order[i]);
-        i += 1;
     }
-    let mut j = order.len();
-    while 1 < j {
-        j -= 1;
+    for j in (1..order.len()).rev() {
         hand_on(p, notes, keys, order[j], order[j - 1]);
     }
 }

@@ -17,13 +17,11 @@ use word::kind::Kind;
 pub fn demanded(needed: bool, value: &[u8]) -> u8
     ensures { listed result ≡ demanded_of needed (there_by value.now) }
 {
-    if !needed {
-        return 0;
+    if needed && value.is_empty() {
+        Kind::CONDITION
+    } else {
+        0
     }
-    if 0 < value.len() {
-        return 0;
-    }
-    Kind::CONDITION
 }
 
 // Whether a record of a file that a reference names is of the sort that is asked about there; none is where no reference is given.
@@ -31,10 +29,7 @@ fn named(value: &[u8], sheet: u8, p: &[u8], notes: &[u32; Notes::SIZE]) -> bool
     requires { Searchable sheet p.now notes.now }
     ensures { result ≡ named_by (test_of sheet) (id_field sheet) (picked_items (record_shape sheet) p.now) (text_by value.now) }
 {
-    if code_of(value) != STRING {
-        return false;
-    }
-    meets(sheet, p, notes, unquoted(value), true)
+    code_of(value) == STRING && meets(sheet, p, notes, unquoted(value), true)
 }
 
 // What a field breaks that is needed where a record which a reference names is of that sort: the kind, or 0. The record is searched for only where the
@@ -62,11 +57,9 @@ pub fn refers(value: &[u8], sheet: u8, p: &[u8], notes: &[u32; Notes::SIZE]) -> 
     requires { Searchable sheet p.now notes.now }
     ensures { listed result ≡ refers_to (text_by value.now) (id_field sheet) (picked_items (record_shape sheet) p.now) }
 {
-    if code_of(value) != STRING {
-        return 0;
+    if code_of(value) == STRING && !meets(sheet, p, notes, unquoted(value), false) {
+        Kind::DANGLING
+    } else {
+        0
     }
-    if meets(sheet, p, notes, unquoted(value), false) {
-        return 0;
-    }
-    Kind::DANGLING
 }

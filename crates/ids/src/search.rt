@@ -6,15 +6,15 @@ ghost use Rattle.walk.specs.Walk.{items_of};
 ghost use Rattle.ids.specs.inner.Notes.{Indexed};
 ghost use Rattle.ids.specs.inner.Known.{probe, Searchable, RecordOf};
 
+use crate::Notes;
 use crate::columns::{count, key_at, member_at, record_from, skip, start_at};
 use crate::id::names_id;
-use crate::{Notes, Start};
 use document::fields::unquoted;
 use sorting::Lookup;
-use text::Order;
+use std::cmp::Ordering;
 use text::key::key_of;
 use text::ordering::order_of;
-use walk::{MemberStep, cut, pass_member};
+use walk::{cut, pass_member};
 
 // A record of the array `p` that has the id, by its place in the order of ids, counted from 1; 0 where none has it. The id is spelled as in a file, or raw. The
 // search goes by halves over the records in order: the key of the one in the middle tells in which half to go on. Where it is the key of the id, the search
@@ -43,51 +43,44 @@ pub fn search(sheet: u8, p: &[u8], notes: &[u32; Notes::SIZE], id: &[u8], raw: b
         }
         let record = record_from(p, notes, middle);
         let mut at = member_at(notes, middle);
-        loop {
-            match pass_member(record, at) {
-                MemberStep::End => {
-                    lo = middle + 1;
-                    break;
-                }
-                MemberStep::Found(m) => {
-                    let name = cut(record, m.name, m.name_end);
-                    if names_id(sheet, name) {
-                        let value = cut(record, m.value, m.value_end);
-                        match order_of(unquoted(value), id, raw) {
-                            Order::Less => {
-                                lo = middle + 1;
-                                break;
-                            }
-                            Order::Greater => {
-                                hi = middle;
-                                break;
-                            }
-                            Order::Equal => {
-                                met = middle + 1;
-                                break 'search;
-                            }
-                        }
+        while let Some(m) = pass_member(record, at) {
+            let name = cut(record, m.name, m.name_end);
+            if names_id(sheet, name) {
+                let value = cut(record, m.value, m.value_end);
+                match order_of(unquoted(value), id, raw) {
+                    Ordering::Less => {
+                        lo = middle + 1;
+                        continue 'search;
                     }
-                    at = m.next;
+                    Ordering::Greater => {
+                        hi = middle;
+                        continue 'search;
+                    }
+                    Ordering::Equal => {
+                        met = middle + 1;
+                        break 'search;
+                    }
                 }
             }
+            at = m.next;
         }
+        lo = middle + 1;
     }
     Lookup { met, left }
 }
 
 // Where the record of the array `p` starts that has the id, which is no spelling but its bytes. An id of no bytes is none.
 // Shut out: a record found by an id that it spells as asked and that decodes to another.
-pub fn find_record(sheet: u8, p: &[u8], notes: &[u32; Notes::SIZE], id: &[u8]) -> Start
+pub fn find_record(sheet: u8, p: &[u8], notes: &[u32; Notes::SIZE], id: &[u8]) -> Option<usize>
     requires { Searchable sheet p.now notes.now }
     ensures { RecordOf sheet p.now id.now result }
 {
-    if id.len() == 0 {
-        return Start::Nowhere;
+    if id.is_empty() {
+        return None;
     }
     let found = search(sheet, p, notes, id, true);
     if found.met == 0 {
-        return Start::Nowhere;
+        return None;
     }
-    Start::At(start_at(notes, found.met - 1))
+    Some(start_at(notes, found.met - 1))
 }

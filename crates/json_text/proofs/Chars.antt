@@ -9,7 +9,6 @@ use lib.Dec.{eqb}
 use lib.ListN.{drop}
 use borrow.Author.Tests.{eqb-true, lt-ltb}
 use Rattle.notation.proofs.Booleans.{by_test, true-false}
-use Rattle.lexeme.specs.declared.Quad.TheVariants.{Value}
 use Rattle.lexeme.specs.Read.{made}
 use Rattle.lexeme.specs.Read.Read.{done}
 use Rattle.lexeme.specs.Character.{lone, within, char1, char2, char3, char4, utf2, utf3, utf4, hex_value, hexadecimal, quad, alone, unit, unicode, short, escape, next}
@@ -24,6 +23,7 @@ use Rattle.json_text.specs.Grammar as Grammar
 use Rattle.json_text.specs.Grammar.{tail, hex_digit, escapable, Chars}
 use Rattle.json_text.proofs.Leads.{bounds, lead_plain, lead-two, lead-three, lead-four}
 use Rattle.lexeme.proofs.Leads.{next_led}
+use Rattle.std.specs.Prelude.{Ok}
 
 -- UTF-8 of two, three and four bytes, by its ranges
 two-next : (a b : ℕ) (q : List ℕ) → within 0x80 0xbf b ≡ true → utf2 (a ∷ b ∷ q) ≡ char2 a b 1
@@ -84,7 +84,7 @@ abbrev worth : ℕ → ℕ → ℕ → ℕ → ℕ
 worth a b c d = hex_value a * 4096 + hex_value b * 256 + hex_value c * 16 + hex_value d
 
 pub quad-of : (a b c d : ℕ) (q : List ℕ) → hex_digit a ≡ true → hex_digit b ≡ true → hex_digit c ≡ true → hex_digit d ≡ true
-    → quad (a ∷ b ∷ c ∷ d ∷ q) ≡ Value (worth a b c d)
+    → quad (a ∷ b ∷ c ∷ d ∷ q) ≡ Ok (worth a b c d)
 unfolding quad
 quad-of a b c d q h i j k = rw (hex_yes a h, hex_yes b i, hex_yes c j, hex_yes d k, quad)
 

@@ -18,8 +18,8 @@ use Rattle.lexeme.specs.Numbers as Numbers
 use Rattle.lexeme.specs.Numbers.{either}
 use Rattle.lexeme.specs.Tokens.{blank, blanks, literal}
 use Rattle.lexeme.specs.inner.Start.{Start, start}
-use Rattle.lexeme.proofs.Reading.{Consumes, Any, Ok, StrongPrefix}
-use Rattle.lexeme.proofs.Reading.Ok.{stops}
+use Rattle.lexeme.proofs.Reading.{Consumes, Any, Settled, StrongPrefix}
+use Rattle.lexeme.proofs.Reading.Settled.{stops}
 use Rattle.lexeme.proofs.Steps.{then-done, done-bad, bad_kind, made_reads, made-bad, made-done, then-reads, then_fails}
 use Rattle.notation.proofs.Booleans.{by_test}
 use Rattle.lexeme.proofs.StrongPrefixes.{string_takes, blanks-of}
@@ -256,7 +256,7 @@ module _ (k : ℕ) (P : List ℕ → Type 0) (z : ℕ) (W : ℕ → Place) (L : 
 
     -- elements up to their closing bracket
     module _ {A : Type 0} (close : ℕ) (c : Closing close) (apart : eqb z close ≡ false) (element : List ℕ → Read A) (consumes : Consumes element)
-        (takes : StrongPrefix Ok element) (clear : Clears outside element) (d : ℕ) (holds : FaultPlaces outside element d) where
+        (takes : StrongPrefix Settled element) (clear : Clears outside element) (d : ℕ) (holds : FaultPlaces outside element d) where
       run_places : {l : List ℕ} {o : Read (List A)} → Run close element l o → (r : List ℕ) → o ≡ bad k r → FaultPlace outside (all close element) d l r
       run_places (last e j) r i = done-bad i
       run_places (broken e j) r i = no-fault other i

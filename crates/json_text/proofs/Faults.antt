@@ -19,8 +19,8 @@ use Rattle.lexeme.specs.Numbers as Numbers
 use Rattle.lexeme.specs.Numbers.{either}
 use Rattle.lexeme.specs.Tokens.{blank, blanks}
 use Rattle.lexeme.specs.inner.Start.{Start, start}
-use Rattle.lexeme.proofs.Reading.{Consumes, Any, Ok, numeric, Stops, Consumed, StrongPrefix, Faulted, Faults}
-use Rattle.lexeme.proofs.Reading.Ok.{alike, stops}
+use Rattle.lexeme.proofs.Reading.{Consumes, Any, Settled, numeric, Stops, Consumed, StrongPrefix, Faulted, Faults}
+use Rattle.lexeme.proofs.Reading.Settled.{alike, stops}
 use Rattle.lexeme.proofs.Steps.{blanks_stop, then-done, bad-done, done-bad, bad_kind, bad-rest, made_reads, made-same, made-bad, then-reads, then_fails}
 use Rattle.lexeme.proofs.StrongPrefixes.{string_takes, blanks-of, solid-first}
 use Rattle.lexeme.proofs.Starts.{blank-other}
@@ -180,18 +180,18 @@ breaks close firm l {r} e = go (follows_as close l e)
         }
 
 -- what a number may stand before, at a fault and at an ending
-ok_dead : {m : List ℕ} (p r : List ℕ) (b : ℕ) (w v : List ℕ) → m ≡ p ++ r → r ≡ b ∷ w → Ok m (p ++ (b ∷ v))
+ok_dead : {m : List ℕ} (p r : List ℕ) (b : ℕ) (w v : List ℕ) → m ≡ p ++ r → r ≡ b ∷ w → Settled m (p ++ (b ∷ v))
 ok_dead [] r b w v e i = rw (e ∙ i) alike
 ok_dead (c ∷ p) r b w v e i = rw e alike
 
-ok_ending : {m : List ℕ} (p r z : List ℕ) → m ≡ p ++ r → Stops z → Ok m (p ++ z)
+ok_ending : {m : List ℕ} (p r z : List ℕ) → m ≡ p ++ r → Stops z → Settled m (p ++ z)
 ok_ending [] r z e s = stops s
 ok_ending (c ∷ p) r z e s = rw e alike
 
 -- what a reader of elements is
 pub record Reader {A : Type 0} (f : List ℕ → Read A) : Type 0 where
   pub consumes : Consumes f
-  pub takes : StrongPrefix Ok f
+  pub takes : StrongPrefix Settled f
   pub faults : Faults f
   pub firm : Firm f
 
@@ -412,13 +412,13 @@ text-faults d l r e = go (f l) refl
         }
     go (done x m) h = rest (blanks m) refl
       where
-        t : Consumed Ok f l x m
+        t : Consumed Settled f l x m
         t = blanks_takes (value lone d) rd.consumes rd.takes l m x h
 
         k : List ℕ
         k = (blanks-of m).part
 
-        reads : (z : List ℕ) → Ok m (k ++ z) → Solid z → text lone d ((t.part ++ k) ++ z) ≡ finish x z
+        reads : (z : List ℕ) → Settled m (k ++ z) → Solid z → text lone d ((t.part ++ k) ++ z) ≡ finish x z
         reads z o s = then-reads end (ap f (append_assoc t.part k z) ∙ t.frame (k ++ z) o) ∙ ap (finish x) (blanks_frame m z s)
 
         rest : (n : List ℕ) → blanks m ≡ n → Faulted (text lone d) l r

@@ -15,7 +15,6 @@ use Rattle.lexeme.specs.declared.Next.{Next}
 use Rattle.lexeme.specs.declared.Next.TheVariants.{Quote, Character, Fault}
 use Rattle.lexeme.specs.Read.Read.{done}
 use Rattle.word.specs.Kinds.{not_json}
-use Rattle.lexeme.specs.declared.Quad.TheVariants.{Short}
 use Rattle.lexeme.specs.Character.{lone, byte, within, char2, char3, char4, utf2, utf3, utf4, hex_value, hexadecimal, quad, unicode, short, escape, next}
 use Rattle.lexeme.specs.inner.Lead.{Lead, lead, next_by}
 use Rattle.lexeme.specs.inner.Lead.Lead.{plain, quote, backslash, wrong, two, three_e0, three, three_ed, four_f0, four, four_f4}
@@ -30,6 +29,7 @@ use Rattle.json_text.specs.Grammar.{tail, escapable, Chars}
 use Rattle.json_text.proofs.Leads.{ranged}
 use Rattle.json_text.proofs.Chars.{hex_back, char_passed}
 use Rattle.lexeme.proofs.Leads.{next-by}
+use Rattle.std.specs.Prelude.{Result, Err}
 
 -- an answer that is no character
 never : {A : Type 0} {k n : ℕ} {x : Char} → Fault k n ≡ Character x → A
@@ -58,9 +58,9 @@ row_first whole ts s l some e char = go (decided (Fault not_json) ts s 1 l some)
 -- an escape
 first-unicode : (m : List ℕ) (x : Char) (l : List ℕ) → unicode lone l (quad m) ≡ Character x → First (0x5c ∷ 0x75 ∷ m)
 unfolding unicode quad row hexadecimal hex_value within
-first-unicode m x l e = go (decided Short (hexadecimal ∷ hexadecimal ∷ hexadecimal ∷ hexadecimal ∷ []) (refl, (refl, (refl, (refl, tt)))) 0 m (omega arith))
+first-unicode m x l e = go (decided {A = Result ℕ ℕ} Err (hexadecimal ∷ hexadecimal ∷ hexadecimal ∷ hexadecimal ∷ []) (refl, (refl, (refl, (refl, tt)))) 0 m (omega arith))
   where
-    go : Decided Short (hexadecimal ∷ hexadecimal ∷ hexadecimal ∷ hexadecimal ∷ []) 0 m → First (0x5c ∷ 0x75 ∷ m)
+    go : Decided {A = Result ℕ ℕ} Err (hexadecimal ∷ hexadecimal ∷ hexadecimal ∷ hexadecimal ∷ []) 0 m → First (0x5c ∷ 0x75 ∷ m)
     go (all_met p h f) =
         record {
           part = 0x5c ∷ 0x75 ∷ front 4 0 m;

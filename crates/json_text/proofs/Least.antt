@@ -8,11 +8,10 @@ use native.Mathlib.Omega.{arith}
 use lib.ListN.{length}
 use Rattle.limits.specs.Ceilings.{depth}
 use Rattle.word.specs.Kinds.{too_long, not_json, unpaired, too_deep}
-use Rattle.lexeme.specs.Read.{Read}
+use Rattle.lexeme.specs.Read.{Read, wrong_at}
 use Rattle.lexeme.specs.Read.Read.{bad}
 use Rattle.lexeme.specs.Character.{Surrogates, paired, lone}
 use Rattle.lexeme.proofs.Reading.{rest, Relaxed}
-use Rattle.json_text.specs.declared.Syntax.TheVariants.{Fault}
 use Rattle.json_text.specs.Tree.{Json}
 use Rattle.json_text.specs.Text.{text, syntax_of}
 use Rattle.json_text.proofs.FaultKinds.{Kind, grammar, surrogate, levels}
@@ -112,5 +111,5 @@ least s k r e =
     alone i (inr h) = omega arith
 
 -- the verdict: its offset is where the fault's rest begins
-pub verdict-least : (s : List ℕ) (k n : ℕ) → syntax_of s ≡ Fault k n → (k ≡ too_long → ⊥) → (m : FaultRead s k n) × Least s k m.rest
+pub verdict-least : (s : List ℕ) (k n : ℕ) → syntax_of s ≡ wrong_at k n → (k ≡ too_long → ⊥) → (m : FaultRead s k n) × Least s k m.rest
 verdict-least s k n e other = let m = met s k n e other in (m, least s k m.rest m.reads)

@@ -8,7 +8,7 @@ use lib.ListN.{length, take, drop, take-append-drop}
 use lib.Seq.{drop-drop}
 use Rattle.lexeme.specs.Read.Read.{done}
 use Rattle.lexeme.specs.Character.{Surrogates}
-use Rattle.lexeme.proofs.Reading.Ok.{stops}
+use Rattle.lexeme.proofs.Reading.Settled.{stops}
 use Rattle.json_text.specs.Tree.{Json}
 use Rattle.json_text.specs.Text.{value}
 use Rattle.json_text.proofs.StrongPrefixes.{value_takes}

@@ -9,32 +9,30 @@ use lib.Dec.{eqb}
 use lib.ListN.{length, drop, length-drop}
 use borrow.Author.Tests.{eq-eqb, ne_eqb}
 use Rattle.word.specs.Kinds.{not_json}
-use Rattle.lexeme.specs.declared.Scan.{Scan}
-use Rattle.lexeme.specs.declared.Scan.TheVariants.{End, Fault}
 use Rattle.lexeme.specs.Read.{Read, placed}
 use Rattle.lexeme.specs.Read.Read.{done, bad}
 use Rattle.lexeme.specs.Tokens.{blanks}
 use Rattle.lexeme.specs.Character.{paired, byte}
 use Rattle.lexeme.proofs.NumberParts.{equal-inside}
-use Rattle.lexeme.proofs.Reading.{Consumes, Ok, StrongPrefix}
+use Rattle.lexeme.proofs.Reading.{Consumes, Settled, StrongPrefix}
 use Rattle.lexeme.proofs.Rests.{shows, next-drop, rest_at}
 use Rattle.lexeme.proofs.Placed.{placed-made, ends, ends_at, faults, passes, Lands, lands, takes_leaves}
 use Rattle.lexeme.proofs.Spans.{skipped}
-use Rattle.json_text.specs.declared.element.Turn.TheVariants.{Stop, Next}
+use Rattle.json_text.specs.declared.element.Turn.TheVariants.{Closed, Next}
 use Rattle.json_text.specs.inner.Turns.{turn}
-use Rattle.json_text.specs.Text.{After, after, contents, bracketed, member, value}
-use Rattle.json_text.specs.Text.After.{closed, more, wrong}
+use Rattle.json_text.specs.Text.{after, contents, bracketed, member, value}
 use Rattle.json_text.proofs.Steps.{elements-bad, elements-closed, elements-wrong, contents-end, contents-none, contents-some}
 use Rattle.json_text.proofs.Bound.{all, after_less, elements-next}
 use Rattle.json_text.proofs.StrongPrefixes.{continues, member_consumes, member_takes, value_consumes, value_takes}
 use Rattle.json_text.proofs.Values.{value-empty, member-empty}
-use Rattle.json_text.proofs.Follow.{Stops, stops, next-at}
-use Rattle.json_text.proofs.Follow.Stops.{at_bracket, at-fault}
+use Rattle.json_text.proofs.Follow.{closed-at, wrong-at, next-at}
+use Rattle.std.specs.Prelude.{Ok, Err}
+use Rattle.lexeme.specs.declared.SyntaxError.{SyntaxError}
 
 -- what is asked of an element: it takes a byte at least, what it takes decides what is read, and nothing is no element
 pub record Element {A : Type 0} (f : List ℕ → Read A) : Type 0 where
   pub consumes : Consumes f
-  pub takes : StrongPrefix Ok f
+  pub takes : StrongPrefix Settled f
   pub none : f [] ≡ bad not_json []
 
 pub items : (d : ℕ) → Element (value paired d)
@@ -60,7 +58,7 @@ module _ {A : Type 0} (close : ℕ) (element : List ℕ → Read A) (s : List �
   unfolding bracketed
   opened = ap (contents close element) (sym (skipped s at i k).rest)
 
-  pub opened_closed : eqb 0 close ≡ false → b ≡ close → End (i + 1) ≡ placed s (bracketed close element (drop at s))
+  pub opened_closed : eqb 0 close ≡ false → b ≡ close → Ok (i + 1) ≡ placed s (bracketed close element (drop at s))
   opened_closed z e =
       let g = eq-eqb _ close (sym f ∙ e) in
       let n : i < length s = equal-inside close z s i (sym f ∙ e) in
@@ -74,38 +72,40 @@ module _ {A : Type 0} (close : ℕ) (element : List ℕ → Read A) (s : List �
       go [] n = contents-end close element ∙ sym (elements-bad close 0 element [] not_json [] a.none)
       go (b ∷ r) n = contents-some close element b r (ne_eqb _ _ n)
 
--- after the element at i, whose reading ended as o says
+-- after the element at i: a fault in it, or an end at j
 module _ {A : Type 0} {close : ℕ} {element : List ℕ → Read A} (a : Element element) {s : List ℕ} {at i : ℕ} (p : Pending close element s at i) where
-  pub pending_stops : (o w : Scan) → o ≡ placed s (element (drop i s)) → Stop w ≡ turn s close o → w ≡ placed s (bracketed close element (drop at s))
-  unfolding turn
-  pending_stops (Fault k n) w e h =
-      let z : w ≡ Fault k n = cc in
-      z ∙ passes s k n (element (drop i s)) _ e (λ r g. elements-bad close _ element _ k r g) ∙ sym p.ends
-  pending_stops (End j) w e h = go (after close (drop j s)) refl (stops s w _ h) ∙ sym p.ends
-    where
-      d : Lands element s i j
-      d = lands element s i j (takes_leaves Ok element a.takes) e
+  pub pending_fails : (w : SyntaxError) → Err w ≡ placed s (element (drop i s)) → Err w ≡ placed s (bracketed close element (drop at s))
+  pending_fails w e = passes s w (element (drop i s)) _ e (λ r g. elements-bad close _ element _ w.kind r g) ∙ sym p.ends
 
-      go : (x : After) → after close (drop j s) ≡ x → Stops s w x → w ≡ placed s (all close element (drop i s))
-      go (closed q) g (at_bracket z) = z ∙ ends s q _ _ refl _ (elements-closed close _ element _ _ _ _ d.reads g)
-      go (wrong q) g (at-fault z) = z ∙ faults s q _ _ refl _ (elements-wrong close _ element _ _ _ _ d.reads g)
-      go (more _) g x6 = elim x6 [ ]
+  module _ (j : ℕ) (e : Ok j ≡ placed s (element (drop i s))) where
+    landed : Lands element s i j
+    landed = lands element s i j (takes_leaves Settled element a.takes) e
 
-  pub pending_next : (o : Scan) (n : ℕ) → o ≡ placed s (element (drop i s)) → Next n ≡ turn s close o → (i < n) × Pending close element s at n
-  unfolding turn
-  pending_next (Fault k m) n e h = let z : ◌≡◌ {A = ℕ} 0 1 = cc in absurd (omega arith)
-  pending_next (End j) n e h =
-      let c = next-at s n (after close (drop j s)) h in
-      let d = lands element s i j (takes_leaves Ok element a.takes) e in
-      let t = continues close (drop j s) c.1 in
-      let w : drop n s ≡ c.0 = ap (λ (m : ℕ). drop m s) c.2 ∙ rest_at s j t.part c.0 t.splits in (
-        omega (arith, c.2, a.consumes _ _ _ d.reads, after_less close (drop j s) c.1, length-drop i s, length-drop j s),
-        record {
-          upto = omega (arith, c.2);
-          ends =
-              p.ends
-              ∙ ap (placed s) (elements-next close element a.consumes _ _ _ _ d.reads c.1)
-              ∙ placed-made s _ (all close element c.0)
-              ∙ ap (λ (l : List ℕ). placed s (all close element l)) (sym w);
-        },
-      )
+    pub pending_closed : (n : ℕ) → Ok (Closed n) ≡ turn s close j → Ok n ≡ placed s (bracketed close element (drop at s))
+    unfolding turn
+    pending_closed n h =
+        let c = closed-at s n (after close (drop j s)) h in
+        ends s c.0 _ _ c.2 _ (elements-closed close _ element _ _ _ _ landed.reads c.1) ∙ sym p.ends
+
+    pub pending_wrong : (w : SyntaxError) → Err w ≡ turn s close j → Err w ≡ placed s (bracketed close element (drop at s))
+    unfolding turn
+    pending_wrong w h =
+        let c = wrong-at s w (after close (drop j s)) h in
+        c.2 ∙ faults s c.0 _ _ refl _ (elements-wrong close _ element _ _ _ _ landed.reads c.1) ∙ sym p.ends
+
+    pub pending_next : (n : ℕ) → Ok (Next n) ≡ turn s close j → (i < n) × Pending close element s at n
+    unfolding turn
+    pending_next n h =
+        let c = next-at s n (after close (drop j s)) h in
+        let t = continues close (drop j s) c.1 in
+        let w : drop n s ≡ c.0 = ap (λ (m : ℕ). drop m s) c.2 ∙ rest_at s j t.part c.0 t.splits in (
+          omega (arith, c.2, a.consumes _ _ _ landed.reads, after_less close (drop j s) c.1, length-drop i s, length-drop j s),
+          record {
+            upto = omega (arith, c.2);
+            ends =
+                p.ends
+                ∙ ap (placed s) (elements-next close element a.consumes _ _ _ _ landed.reads c.1)
+                ∙ placed-made s _ (all close element c.0)
+                ∙ ap (λ (l : List ℕ). placed s (all close element l)) (sym w);
+          },
+        )

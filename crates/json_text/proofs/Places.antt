@@ -8,7 +8,7 @@ use lib.ListN.{length, take, drop, get_or, length-append, take-append-drop}
 use lib.Seq.{drop_at, take-append-le, get_or-append_seam}
 use Rattle.limits.specs.Ceilings.{depth}
 use Rattle.word.specs.Kinds.{unpaired, too_deep}
-use Rattle.lexeme.specs.Read.{Read}
+use Rattle.lexeme.specs.Read.{Read, wrong_at}
 use Rattle.lexeme.specs.Read.Read.{done, bad}
 use Rattle.lexeme.specs.Character.{paired, lone}
 use Rattle.lexeme.specs.Strings as Strings
@@ -17,7 +17,6 @@ use Rattle.lexeme.proofs.Reading.{rest}
 use Rattle.lexeme.proofs.Steps.{then-done, bad_kind, bad-rest}
 use Rattle.lexeme.proofs.Relaxed.{string_relaxed}
 use Rattle.json_text.specs.Cases.{reading}
-use Rattle.json_text.specs.declared.Syntax.TheVariants.{Fault}
 use Rattle.json_text.specs.Tree.{Json}
 use Rattle.json_text.specs.Text.{value, finish, text, syntax_of}
 use Rattle.json_text.specs.Grammar.{IsText, Begins}
@@ -118,7 +117,7 @@ front-text : (s p : List ℕ) (c : ℕ) (v : List ℕ) (n : ℕ) (x : Json) → 
 front-text s p c v n x e reads =
     subst (Spells depth x) (ap (λ (m : List ℕ). m ++ (c ∷ v)) (sym e) ∙ sym (append_assoc (take n s) (c ∷ []) v)) (read-spells depth x (p ++ (c ∷ v)) reads)
 
-pub verdict-unpaired : (s : List ℕ) (n : ℕ) → syntax_of s ≡ Fault unpaired n → UnpairedAt s n
+pub verdict-unpaired : (s : List ℕ) (n : ℕ) → syntax_of s ≡ wrong_at unpaired n → UnpairedAt s n
 verdict-unpaired s n e =
     let m = met s unpaired n e (λ i. omega arith) in
     let u = text-unpaired depth s m.rest m.reads in
@@ -171,7 +170,7 @@ allowed s r e some fits = go (text lone d s) refl
         let less : length q < length r = subst (λ (o : Read Json). length (rest o) < length r) h (past.passes (λ i. omega arith)) in
         begins-of s u.part q u.ending n u.splits (omega (arith, ap length u.splits ∙ length-append u.part q)) (reads_grammar d u.what _ u.alive)
 
-pub verdict-deep : (s : List ℕ) (n : ℕ) → syntax_of s ≡ Fault too_deep n → TooDeepAt s n
+pub verdict-deep : (s : List ℕ) (n : ℕ) → syntax_of s ≡ wrong_at too_deep n → TooDeepAt s n
 verdict-deep s n e =
     let m = met s too_deep n e (λ i. omega arith) in
     let u = text-deep depth s m.rest m.reads in

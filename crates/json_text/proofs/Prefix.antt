@@ -10,13 +10,13 @@ use Rattle.word.specs.Kinds.{not_json}
 use Rattle.lexeme.specs.Read.Read.{done, bad}
 use Rattle.lexeme.specs.Character.{paired, lone}
 use Rattle.lexeme.proofs.Steps.{bad-done}
-use Rattle.json_text.specs.declared.Syntax.TheVariants.{Fault}
 use Rattle.json_text.specs.Text.{text, syntax_of}
 use Rattle.json_text.specs.Grammar.{Begins, Longest}
 use Rattle.json_text.proofs.Relaxed.{text_relaxed_surrogates, text_relaxed_depth, ends_too, faults_too}
 use Rattle.json_text.proofs.Faults.{text-faults}
 use Rattle.json_text.proofs.Passed.{grammar_reads, reads_grammar}
 use Rattle.json_text.proofs.Verdict.{met}
+use Rattle.lexeme.specs.Read.{wrong_at}
 
 -- what stands before the rest, and that with one byte more
 pub before : (s p r : List ℕ) → s ≡ p ++ r → take (length s - length r) s ≡ p
@@ -64,5 +64,5 @@ module _ (s r : List ℕ) (e : text paired depth s ≡ bad not_json r) where
       ends (b ∷ w) i h g = none-longer b w i (subst (λ (q : List ℕ). Begins (take (length s - length q + 1) s)) i g)
 
 -- the offset of kind 2 in the verdict is the longest prefix's length
-pub verdict_prefix : (s : List ℕ) (n : ℕ) → syntax_of s ≡ Fault not_json n → Longest s n
+pub verdict_prefix : (s : List ℕ) (n : ℕ) → syntax_of s ≡ wrong_at not_json n → Longest s n
 verdict_prefix s n e = let m = met s not_json n e (λ i. omega arith) in subst (Longest s) m.place (prefix s m.rest m.reads)

@@ -16,7 +16,7 @@ use Rattle.lexeme.specs.Numbers as Numbers
 use Rattle.lexeme.specs.Tokens.{blank, blanks}
 use Rattle.lexeme.specs.inner.Start.{Start, start}
 use Rattle.lexeme.proofs.Reading.{Consumes, numeric, Stops}
-use Rattle.lexeme.proofs.Reading.Ok.{stops}
+use Rattle.lexeme.proofs.Reading.Settled.{stops}
 use Rattle.lexeme.proofs.Steps.{done_what, made_reads, then-reads, blanks_pass, blanks_stop}
 use Rattle.lexeme.proofs.StrongPrefixes.{number_takes, number_consumes}
 use Rattle.lexeme.proofs.Starts.{blank-other, blank_stops, number-starts}

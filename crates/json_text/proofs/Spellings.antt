@@ -12,7 +12,7 @@ use Rattle.limits.specs.Ceilings.{file_bytes, depth}
 use Rattle.word.specs.Kinds.{too_long}
 use Rattle.notation.specs.Ascii.{bytes}
 use Rattle.notation.proofs.Booleans.{by_test}
-use Rattle.lexeme.specs.Read.{Read, placed}
+use Rattle.lexeme.specs.Read.{Read, placed, wrong_at}
 use Rattle.lexeme.specs.Read.Read.{done, bad}
 use Rattle.lexeme.specs.Character.{Surrogates, paired}
 use Rattle.lexeme.specs.Strings as Strings
@@ -20,12 +20,11 @@ use Rattle.lexeme.specs.Numbers as Numbers
 use Rattle.lexeme.specs.Tokens.{blank, blanks, literal}
 use Rattle.lexeme.specs.inner.Start.{Start, start}
 use Rattle.lexeme.proofs.Reading.{Consumes}
-use Rattle.lexeme.proofs.Reading.Ok.{stops}
+use Rattle.lexeme.proofs.Reading.Settled.{stops}
 use Rattle.lexeme.proofs.Steps.{bad-done, done_what, done-rest, made-done, then-done, blanks_pass, blanks_stop}
 use Rattle.lexeme.proofs.StrongPrefixes.{number_takes}
 use Rattle.lexeme.proofs.Starts.{string-byte, array-byte, object-byte}
 use Rattle.lexeme.proofs.Spells.{number-spells, literal-spells}
-use Rattle.json_text.specs.declared.Syntax.TheVariants.{Sound, Fault}
 use Rattle.json_text.specs.Tree.{Json, as_items, as_members}
 use Rattle.json_text.specs.Text.{expect, contents, bracketed, member, value_by, value, finish, text, syntax_by, syntax_of}
 use Rattle.json_text.specs.Text.After.{closed, more}
@@ -36,6 +35,7 @@ use Rattle.json_text.proofs.StrongPrefixes.{value_consumes, member_consumes}
 use Rattle.json_text.proofs.Texts.{judged}
 use Rattle.json_text.proofs.Characters.{string_characters}
 use Rattle.json_text.proofs.Spelled.{spelled-read}
+use Rattle.std.specs.Prelude.{Ok}
 
 -- a spelling at the front of l, and r after it
 pub record Front (S : List ℕ → Type 0) (l r : List ℕ) : Type 0 where
@@ -272,20 +272,20 @@ pub read-spells : (d : ℕ) (x : Json) (s : List ℕ) → text paired d s ≡ do
 read-spells d x s e = (text_finds d x s [] e).0
 
 -- Stage A passes a file exactly where it is short enough and spells some tree.
-pub sound-spells : (s : List ℕ) → syntax_of s ≡ Sound → (x : Json) × Spells depth x s
+pub sound-spells : (s : List ℕ) → syntax_of s ≡ Ok tt → (x : Json) × Spells depth x s
 unfolding syntax_of syntax_by placed
 sound-spells s e = by_test (ltb file_bytes (length s)) long read
   where
     long : ltb file_bytes (length s) ≡ true → (x : Json) × Spells depth x s
-    long h = let p : Fault too_long 0 ≡ Sound = rw (h, syntax_of) at e in absurd (let z : ◌≡◌ {A = ℕ} 0 1 = cc in omega arith)
+    long h = let p : wrong_at too_long 0 ≡ Ok tt = rw (h, syntax_of) at e in absurd (let z : ◌≡◌ {A = ℕ} 0 1 = cc in omega arith)
 
-    go : (o : Read Json) → text paired depth s ≡ o → syntax_by (placed s o) ≡ Sound → (x : Json) × Spells depth x s
+    go : (o : Read Json) → text paired depth s ≡ o → syntax_by (placed s o) ≡ Ok tt → (x : Json) × Spells depth x s
     go (done x r) h i = (x, (text_finds depth x s r h).0)
     go (bad k r) h i = absurd (let z : ◌≡◌ {A = ℕ} 0 1 = cc in omega arith)
 
     read : ltb file_bytes (length s) ≡ false → (x : Json) × Spells depth x s
     read h = go (text paired depth s) refl (rw (h, syntax_of) at e)
 
-pub spells-sound : {x : Json} (s : List ℕ) → length s ≤ file_bytes → Spells depth x s → syntax_of s ≡ Sound
+pub spells-sound : {x : Json} (s : List ℕ) → length s ≤ file_bytes → Spells depth x s → syntax_of s ≡ Ok tt
 unfolding syntax_by placed
 spells-sound {x} s few h = sym (judged s (placed s (done x [])) few (ap (placed s) (sym (spelled-read h))))

@@ -1,5 +1,5 @@
 -- A value takes a byte at least, and what it took decides what was read: another text behind it, or none, changes nothing.
--- A number looks one byte further, so what follows one must not go on with it (Ok). Each combinator hands both properties on.
+-- A number looks one byte further, so what follows one must not go on with it (Settled). Each combinator hands both properties on.
 use mathlib.Core.Bool.{Bool, true, false}
 use mathlib.Core.List.{List, [], ◌∷◌, ◌++◌, append_assoc}
 use mathlib.Core.Path.{◌≡◌, refl, sym, ap, subst, ◌∙◌}
@@ -14,8 +14,8 @@ use Rattle.lexeme.specs.Read.Read.{done, bad}
 use Rattle.lexeme.specs.Character.{Surrogates}
 use Rattle.lexeme.specs.Strings as Strings
 use Rattle.lexeme.specs.Tokens.{blank, blanks}
-use Rattle.lexeme.proofs.Reading.{Consumes, Any, Ok, Consumed, StrongPrefix}
-use Rattle.lexeme.proofs.Reading.Ok.{alike}
+use Rattle.lexeme.proofs.Reading.{Consumes, Any, Settled, Consumed, StrongPrefix}
+use Rattle.lexeme.proofs.Reading.Settled.{alike}
 use Rattle.lexeme.proofs.Steps.{bad-done, done_what, done-rest, made-done, then-done}
 use Rattle.lexeme.proofs.Shrinks.{blanks_shrinks}
 use Rattle.lexeme.proofs.StrongPrefixes.{made_takes, made_consumes, cons_took, string_takes, string_consumes, number_takes, number_consumes, literal_takes, literal_consumes, blanks-of, solid-first}
@@ -101,7 +101,7 @@ pub took_some : {A : Type 0} {C : List ℕ → List ℕ → Type 0} {f : List �
 took_some {l = l} {r} {x} consumes e t = omega (arith, consumes l r x e, ap length t.splits ∙ length-append t.part r)
 
 -- what a number may stand before: what begins as the text did
-pub ok_part : {m : List ℕ} (p r q : List ℕ) → 0 < length p → m ≡ p ++ r → Ok m (p ++ q)
+pub ok_part : {m : List ℕ} (p r q : List ℕ) → 0 < length p → m ≡ p ++ r → Settled m (p ++ q)
 ok_part [] r q h e = absurd (omega arith)
 ok_part (c ∷ p) r q h e = rw e alike
 
@@ -141,7 +141,7 @@ blanks_frame l (c ∷ m) s = (blanks-of l).frame c s m
 
 -- StrongPrefix, from the inside out
 
-pub weaken : {A : Type 0} {f : List ℕ → Read A} → StrongPrefix Any f → StrongPrefix Ok f
+pub weaken : {A : Type 0} {f : List ℕ → Read A} → StrongPrefix Any f → StrongPrefix Settled f
 weaken takes l r x e = let t = takes l r x e in record { part = t.part; splits = t.splits; frame = λ q o. t.frame q tt }
 
 pub then_takes : {A B : Type 0} {C : List ℕ → List ℕ → Type 0} (f : List ℕ → Read A) (g : A → List ℕ → Read B)
@@ -226,7 +226,7 @@ continues close l {q} e = go (follows_as close l e)
               ∙ ap more (blanks_frame w m s);
         }
 
-module _ {A : Type 0} (close : ℕ) (element : List ℕ → Read A) (consumes : Consumes element) (takes : StrongPrefix Ok element) where
+module _ {A : Type 0} (close : ℕ) (element : List ℕ → Read A) (consumes : Consumes element) (takes : StrongPrefix Settled element) where
   pub run_takes : {l : List ℕ} {o : Read (List A)} → Run close element l o → (xs : List A) (r : List ℕ) → o ≡ done xs r → Consumed Any (all close element) l xs r
   run_takes (faulty e) xs r i = bad-done i
   run_takes (broken e j) xs r i = bad-done i
@@ -287,19 +287,19 @@ module _ {A : Type 0} (close : ℕ) (element : List ℕ → Read A) (consumes : 
   unfolding bracketed
   bracketed_takes = blanks_takes (contents close element) (contents_consumes close element consumes) contents_takes
 
-pub named_takes : (f : List ℕ → Read Json) → Consumes f → StrongPrefix Ok f → (name : List ℕ) → StrongPrefix Ok (named f name)
+pub named_takes : (f : List ℕ → Read Json) → Consumes f → StrongPrefix Settled f → (name : List ℕ) → StrongPrefix Settled (named f name)
 named_takes f consumes takes name =
     blanks_takes (expect 0x3a _) (expect_consumes 0x3a _ (made_consumes (λ x. (name, x)) _ (blanks_consumes f consumes)))
     (expect_takes 0x3a _ (made_takes (λ x. (name, x)) _ (blanks_takes f consumes takes)))
 
-pub member_takes : (ρ : Surrogates) (f : List ℕ → Read Json) → Consumes f → StrongPrefix Ok f → StrongPrefix Ok (member ρ f)
+pub member_takes : (ρ : Surrogates) (f : List ℕ → Read Json) → Consumes f → StrongPrefix Settled f → StrongPrefix Settled (member ρ f)
 unfolding member
 member_takes ρ f consumes takes = then_takes (expect 0x22 (Strings.string ρ 0)) (named f) (expect_takes 0x22 _ (string_takes ρ 0)) (named_takes f consumes takes)
 
 -- a reader that takes a byte at least, and what it takes decides what it reads
 pub record Consumer {A : Type 0} (f : List ℕ → Read A) : Type 0 where
   pub consumes : Consumes f
-  pub takes : StrongPrefix Ok f
+  pub takes : StrongPrefix Settled f
 
 opened_made : {A : Type 0} (g : A → Json) (f : List ℕ → Read A) → Consumes f → StrongPrefix Any f → Consumer (λ l. made g (f (drop 1 l)))
 opened_made g f consumes takes =
@@ -308,7 +308,7 @@ opened_made g f consumes takes =
       takes = weaken (opened_takes (λ t. made g (f t)) (made_consumes g f consumes) (made_takes g f takes));
     }
 
-value-by_takes : (ρ : Surrogates) (arrays objects : List ℕ → Read Json) → Consumer arrays → Consumer objects → StrongPrefix Ok (value_by ρ arrays objects)
+value-by_takes : (ρ : Surrogates) (arrays objects : List ℕ → Read Json) → Consumer arrays → Consumer objects → StrongPrefix Settled (value_by ρ arrays objects)
 unfolding value_by
 value-by_takes ρ arrays objects array object [] r x e = bad-done e
 value-by_takes ρ arrays objects array object (b ∷ l) r x e =
@@ -325,7 +325,7 @@ value-by_takes ρ arrays objects array object (b ∷ l) r x e =
     let t = c.holds.takes (b ∷ l) r x p in
     agree_took (value_by ρ arrays objects) c.reader c.reads t (took_some c.holds.consumes p t)
 
-pub value_takes : (ρ : Surrogates) (d : ℕ) → StrongPrefix Ok (value ρ d)
+pub value_takes : (ρ : Surrogates) (d : ℕ) → StrongPrefix Settled (value ρ d)
 unfolding value
 value_takes ρ zero =
     let deep : Consumer {A = Json} (bad too_deep) = record { consumes = λ l r x e. bad-done e; takes = λ l r x e. bad-done e } in

@@ -12,8 +12,6 @@ use Rattle.notation.proofs.Booleans.{by_test}
 use Rattle.word.specs.Kinds.{not_json, unpaired}
 use Rattle.lexeme.specs.declared.Next.{Next}
 use Rattle.lexeme.specs.declared.Next.TheVariants.{Quote, Character, Fault}
-use Rattle.lexeme.specs.declared.Trail.{Trail}
-use Rattle.lexeme.specs.declared.Trail.TheVariants as follow
 use Rattle.lexeme.specs.Read.Read.{done, bad}
 use Rattle.lexeme.specs.Character.{byte, within, bytes_of, utf2, utf3, utf4, encoded, hex_value, hexadecimal, quad, low_of, trail, combined, alone, high, unit, unicode, short, escape, next, paired}
 use Rattle.lexeme.specs.inner.Lead.{Lead, lead, next_by}
@@ -26,6 +24,7 @@ use Rattle.json_text.specs.Places.{Escape, Low, Unpaired}
 use Rattle.json_text.proofs.Chars.{hex_back, quad-of}
 use Rattle.json_text.proofs.Leads.{ranged}
 use Rattle.lexeme.proofs.Leads.{next-by}
+use Rattle.std.specs.Prelude.{Option, Some, None}
 
 -- a fault of kind 3, if it is one, stands at the front
 abbrev Lonely : List ℕ → Next → Type 0
@@ -40,11 +39,11 @@ encoded_lonely : (l : List ℕ) (v more : ℕ) → Lonely l (encoded v more)
 encoded_lonely l v more = rw (encoded-char v more).is tt
 
 -- a low surrogate escape is found after a high one
-low_follows : {q p : List ℕ} (u : Low q p) → trail q ≡ follow.Low u.value
+low_follows : {q p : List ℕ} (u : Low q p) → trail q ≡ Some u.value
 unfolding trail low_of
 low_follows u = go u.whole u.range
   where
-    go : {v : ℕ} {q p : List ℕ} → Escape v q p → within 0xdc00 0xdfff v ≡ true → trail q ≡ follow.Low v
+    go : {v : ℕ} {q p : List ℕ} → Escape v q p → within 0xdc00 0xdfff v ≡ true → trail q ≡ Some v
     go (Escape.escape {a} {b} {c} {d} {q = p} h i j k) range = rw (quad-of a b c d p h i j k, range)
 
 module _ (l : List ℕ) where
@@ -68,14 +67,14 @@ module _ (l : List ℕ) where
 
 -- an escape of four digits
 module _ (v : ℕ) (l q : List ℕ) (whole : Escape v l q) (rest : drop 6 l ≡ q) where
-  high_lonely : within 0xd800 0xdbff v ≡ true → (t : Trail) → trail q ≡ t → Lonely l (high paired v t)
+  high_lonely : within 0xd800 0xdbff v ≡ true → (t : Option ℕ) → trail q ≡ t → Lonely l (high paired v t)
   unfolding high alone
-  high_lonely range (follow.Low w) e = encoded_lonely l (combined v w) 11
-  high_lonely range follow.Other e =
+  high_lonely range (Some w) e = encoded_lonely l (combined v w) 11
+  high_lonely range None e =
       λ i. (
         refl,
         Unpaired.high (record { value = v; whole = whole; range = range })
-            (λ p u. let f : follow.Other ≡ follow.Low u.value = sym e ∙ low_follows u in absurd (let z : ◌≡◌ {A = ℕ} 0 1 = cc in omega arith)),
+            (λ p u. let f : None ≡ Some u.value = sym e ∙ low_follows u in absurd (let z : ◌≡◌ {A = ℕ} 0 1 = cc in omega arith)),
       )
 
   unit_lonely : Lonely l (unit paired l v)

@@ -7,15 +7,15 @@ use borrow.Author.Tests.{lt-ltb, le-ltb}
 use Rattle.limits.specs.Ceilings.{file_bytes, depth}
 use Rattle.notation.proofs.Lists.{at_cons}
 use Rattle.word.specs.Kinds.{too_long, not_json}
-use Rattle.lexeme.specs.declared.Scan.{Scan}
-use Rattle.lexeme.specs.Read.{placed}
+use Rattle.lexeme.specs.Read.{placed, wrong_at}
 use Rattle.lexeme.specs.Read.Read.{done, bad}
 use Rattle.lexeme.specs.Character.{paired}
 use Rattle.lexeme.proofs.Spans.{Skipped}
 use Rattle.lexeme.proofs.Steps.{then-reads, then_fails}
 use Rattle.json_text.specs.Tree.{Json}
-use Rattle.json_text.specs.declared.Syntax.TheVariants.{Fault}
 use Rattle.json_text.specs.Text.{value, finish, text, syntax_by, syntax_of}
+use Rattle.std.specs.Prelude.{Result}
+use Rattle.lexeme.specs.declared.SyntaxError.{SyntaxError}
 
 module _ (s : List ℕ) (d i : ℕ) (k : Skipped s 0 i) where
   pub text-bad : (n : ℕ) (r : List ℕ) → value paired d (drop i s) ≡ bad n r → text paired d s ≡ bad n r
@@ -35,10 +35,10 @@ module _ (s : List ℕ) (d i : ℕ) (k : Skipped s 0 i) where
     unfolding finish
     text-ends h = text-read ∙ rw (drop_of_length-le s h)
 
-pub too_long_lem : (s : List ℕ) → file_bytes < length s → Fault too_long 0 ≡ syntax_of s
+pub too_long_lem : (s : List ℕ) → file_bytes < length s → wrong_at too_long 0 ≡ syntax_of s
 unfolding syntax_of
 too_long_lem s h = rw (syntax_of, lt-ltb _ _ h)
 
-pub judged : (s : List ℕ) (o : Scan) → length s ≤ file_bytes → o ≡ placed s (text paired depth s) → syntax_by o ≡ syntax_of s
+pub judged : (s : List ℕ) (o : Result ℕ SyntaxError) → length s ≤ file_bytes → o ≡ placed s (text paired depth s) → syntax_by o ≡ syntax_of s
 unfolding syntax_of
 judged s o h e = rw (syntax_of, le-ltb _ _ h, e)

@@ -11,8 +11,7 @@ use borrow.Author.Tests.{eq-eqb, ne_eqb}
 use Rattle.word.specs.Kinds.{not_json, too_deep}
 use Rattle.notation.specs.Ascii.{bytes}
 use Rattle.notation.proofs.Booleans.{true-false}
-use Rattle.lexeme.specs.declared.Scan.TheVariants.{End, Fault}
-use Rattle.lexeme.specs.Read.{Read, made, placed}
+use Rattle.lexeme.specs.Read.{Read, made, placed, wrong_at}
 use Rattle.lexeme.specs.Read.Read.{bad}
 use Rattle.lexeme.specs.Character.{paired, byte, within}
 use Rattle.lexeme.specs.inner.Class.{start_of, Classed}
@@ -32,6 +31,7 @@ use Rattle.json_text.specs.Tree.{Json, as_items, as_members}
 use Rattle.json_text.specs.Text.{expect, bracketed, member, value_by, value}
 use Rattle.json_text.proofs.StrongPrefixes.{expect_takes}
 use Rattle.json_text.proofs.Steps.{expect-end, expect-here, expect-other, value_at, value-start}
+use Rattle.std.specs.Prelude.{Ok}
 
 -- arrays and objects from their bracket on, as `value` reads them
 nested : {A : Type 0} → (List A → Json) → ℕ → (ℕ → List ℕ → Read A) → ℕ → List ℕ → Read Json
@@ -197,7 +197,7 @@ module _ (v : List ℕ → Read Json) where
   member_unnamed l k r e = then_fails _ e
 
   -- its name ends at j; blanks follow up to i, and there the byte b
-  module _ (s : List ℕ) (at : ℕ) {j i b : ℕ} (named : End j ≡ placed s (expect 0x22 (Strings.string paired 0) (drop at s)))
+  module _ (s : List ℕ) (at : ℕ) {j i b : ℕ} (named : Ok j ≡ placed s (expect 0x22 (Strings.string paired 0) (drop at s)))
       (k : i ≡ length s - length (blanks (drop j s))) (f : b ≡ byte (drop i s) 0) where
     named-at : Lands (expect 0x22 (Strings.string paired 0)) s at j
     named-at = lands (expect 0x22 (Strings.string paired 0)) s at j name_leaves named
@@ -207,7 +207,7 @@ module _ (v : List ℕ → Read Json) where
     member-named =
         then-reads _ named-at.reads ∙ ap (expect 0x3a (λ q. made (λ y. (named-at.what, y)) (v (blanks q)))) (sym (skipped s j i k).rest)
 
-    pub member-wrong : (b ≡ 0x3a → ⊥) → Fault not_json i ≡ placed s (member paired v (drop at s))
+    pub member-wrong : (b ≡ 0x3a → ⊥) → wrong_at not_json i ≡ placed s (member paired v (drop at s))
     member-wrong n = faults-at s i _ (skipped s j i k).upto not_json (member-named ∙ expect-absent 0x3a _ s i (λ z. n (f ∙ z)))
 
     pub member-value : b ≡ 0x3a → {n : ℕ} → n ≡ length s - length (blanks (drop (i + 1) s))

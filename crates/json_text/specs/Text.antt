@@ -1,20 +1,17 @@
 -- Stage A of document 01: a JSON text by RFC 8259, read to its tree or to its first fault of kind 2, 3 or 4; before all that, kind 1.
-use Rattle.std.specs.Prelude.{true, false, List, [], ◌∷◌, ℕ, zero, suc, length, drop, eqb, ltb}
+use Rattle.std.specs.Prelude.{true, false, List, [], ◌∷◌, ℕ, zero, suc, length, drop, eqb, ltb, Result, Ok, Err}
 use Rattle.limits.specs.Ceilings.{file_bytes, depth}
 use Rattle.word.specs.Kinds.{too_long, not_json, too_deep}
-use Rattle.lexeme.specs.declared.Scan.{Scan}
-use Rattle.lexeme.specs.declared.Scan.TheVariants.{End, Fault}
 use Rattle.notation.specs.Choice.{◌⇒◌else◌}
 use Rattle.notation.specs.Ascii.{bytes}
-use Rattle.lexeme.specs.Read.{Read, then, made, placed}
+use Rattle.lexeme.specs.Read.{Read, then, made, placed, wrong_at}
 use Rattle.lexeme.specs.Read.Read.{done, bad}
 use Rattle.lexeme.specs.Character.{Surrogates, paired}
 use Rattle.lexeme.specs.Strings
 use Rattle.lexeme.specs.Numbers
 use Rattle.lexeme.specs.Tokens.{blanks, literal}
-use Rattle.json_text.specs.declared.Syntax.{Syntax}
-use Rattle.json_text.specs.declared.Syntax.TheVariants as syntax
 use Rattle.json_text.specs.Tree.{Json, as_items, as_members}
+use Rattle.lexeme.specs.declared.SyntaxError.{SyntaxError}
 
 -- the byte c, and then what f reads
 unfoldable pub expect : {A : Type 0} → ℕ → (List ℕ → Read A) → List ℕ → Read A
@@ -93,12 +90,12 @@ unfoldable pub text : Surrogates → ℕ → List ℕ → Read Json
 text ρ levels l = then (value ρ levels (blanks l)) (λ x r. finish x (blanks r))
 
 -- what the end of reading says
-unfoldable pub syntax_by : Scan → Syntax
-syntax_by (End n) = syntax.Sound
-syntax_by (Fault kind offset) = syntax.Fault kind offset
+unfoldable pub syntax_by : Result ℕ SyntaxError → Result (Unit {0}) SyntaxError
+syntax_by (Ok n) = Ok tt
+syntax_by (Err w) = wrong_at w.kind w.offset
 
 -- stage A's verdict on a file
-unfoldable pub syntax_of : List ℕ → Syntax
+unfoldable pub syntax_of : List ℕ → Result (Unit {0}) SyntaxError
 syntax_of s =
-    ltb file_bytes (length s) ⇒ syntax.Fault too_long 0 else
+    ltb file_bytes (length s) ⇒ wrong_at too_long 0 else
     syntax_by (placed s (text paired depth s))

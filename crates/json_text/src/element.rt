@@ -3,39 +3,43 @@ ghost use Rattle.std.specs.Prelude.{◌≡◌};
 ghost use Rattle.lexeme.specs.inner.Class.{Classifies};
 ghost use Rattle.json_text.specs.inner.Turns.{turn};
 
-use lexeme::Scan;
+use lexeme::SyntaxError;
 use lexeme::blank::skip_blanks_by;
 use word::kind::Kind;
 
-// The whole array or object ends so, or the next element begins there.
-#[derive(Clone, Copy)]
+// The whole array or object ends there, or the next element begins there.
+#[derive(Clone, Copy, Debug, PartialEq, Eq)]
 pub enum Turn {
-    Stop(Scan),
+    Closed(usize),
     Next(usize),
 }
 
-// After an element whose reading ended so: a fault ends the whole, and so does the closing bracket or the want of a comma.
-pub fn after_element(table: &[u8; 256], s: &[u8], element: Scan, close: u8) -> Turn
+// After an element that ends at `end`: the closing bracket, or a comma; the want of both is a fault.
+pub fn after_element(
+    table: &[u8; 256],
+    s: &[u8],
+    end: usize,
+    close: u8,
+) -> Result<Turn, SyntaxError>
     requires { Classifies table.now }
-    ensures { result ≡ turn s.now close element }
+    ensures { result ≡ turn s.now close end }
 {
-    match element {
-        Scan::Fault(kind, place) => {
-            return Turn::Stop(Scan::Fault(kind, place));
-        }
-        Scan::End(end) => {
-            let i = skip_blanks_by(table, s, end);
-            if s.len() <= i {
-                return Turn::Stop(Scan::Fault(Kind::NOT_JSON, i));
-            }
-            let b = s[i];
-            if b == close {
-                return Turn::Stop(Scan::End(i + 1));
-            }
-            if b == b',' {
-                return Turn::Next(skip_blanks_by(table, s, i + 1));
-            }
-            return Turn::Stop(Scan::Fault(Kind::NOT_JSON, i));
-        }
+    let i = skip_blanks_by(table, s, end);
+    if s.len() <= i {
+        return Err(SyntaxError {
+            kind: Kind::NOT_JSON,
+            offset: i,
+        });
     }
+    let b = s[i];
+    if b == close {
+        return Ok(Turn::Closed(i + 1));
+    }
+    if b == b',' {
+        return Ok(Turn::Next(skip_blanks_by(table, s, i + 1)));
+    }
+    Err(SyntaxError {
+        kind: Kind::NOT_JSON,
+        offset: i,
+    })
 }

@@ -8,32 +8,22 @@ pub mod element;
 pub mod reader;
 pub mod strings;
 
-use lexeme::Scan;
+use lexeme::SyntaxError;
 use limits::Limits;
 use reader::read_text;
 use word::kind::Kind;
 
-// Stage A's verdict on one file: it passes, or its first fault, by kind and offset.
-#[derive(Clone, Copy)]
-pub enum Syntax {
-    Sound,
-    Fault(u8, usize),
-}
-
 // Stage A of one file, for any bytes at all. (No bytes are no JSON text: whether a file is there is asked before.)
 // Shut out: a seventeenth level let through; a fault named a byte early or late, or before the blanks that stand ahead of it.
-pub fn check_syntax(file: &[u8]) -> Syntax
+pub fn check_syntax(file: &[u8]) -> Result<(), SyntaxError>
     ensures { result ≡ syntax_of file.now }
 {
     if Limits::FILE_BYTES < file.len() {
-        return Syntax::Fault(Kind::TOO_LONG, 0);
+        return Err(SyntaxError {
+            kind: Kind::TOO_LONG,
+            offset: 0,
+        });
     }
-    match read_text(file, Limits::DEPTH) {
-        Scan::End(_) => {
-            return Syntax::Sound;
-        }
-        Scan::Fault(kind, place) => {
-            return Syntax::Fault(kind, place);
-        }
-    }
+    read_text(file, Limits::DEPTH)?;
+    Ok(())
 }

@@ -10,10 +10,6 @@ use Rattle.notation.specs.Choice.{◌⇒◌else◌}
 use Rattle.json_text.specs.Tree as tree
 use Rattle.json_text.specs.Tree.{Json}
 use Rattle.decimal.specs.declared.Decimal.{Decimal}
-use Rattle.decimal.specs.declared.Number.{Number}
-use Rattle.decimal.specs.declared.Number.TheVariants as number
-use Rattle.decimal.specs.declared.Price.{Price}
-use Rattle.decimal.specs.declared.Price.TheVariants as price
 use Rattle.decimal.specs.Decimals.{number_of, has_point, price_of}
 use Rattle.decimal.specs.Exact.{natural, portion, in_range}
 use Rattle.calendar.specs.Written.{is_date}
@@ -23,6 +19,9 @@ use Rattle.schema.specs.Shape.{Sort}
 use Rattle.scalar.specs.Scalars.{unless, formed_kinds, any_money, price_money, pricing, any_word, currency, number_kinds, text_kinds, boolean_kinds, kinds_of, sort_kinds}
 use Rattle.judge.specs.Bounds.{OfStageB}
 use Rattle.judge.proofs.Holds.{All, none, only}
+use Rattle.std.specs.Prelude.{Option, Result, Some, None, Ok, Err}
+use Rattle.decimal.specs.declared.PriceError.{PriceError}
+use Rattle.decimal.specs.declared.PriceError.TheVariants.{Unformed, NoNumber}
 
 abbrev pub AllStageB : List ℕ → Type 0
 AllStageB ks = All OfStageB ks
@@ -31,19 +30,19 @@ pub unless-kinds : (t : Bool) (kind : ℕ) → OfStageB kind → AllStageB (unle
 unless-kinds true kind h = none
 unless-kinds false kind h = only h
 
-formed-kinds : (test : Decimal → Bool) (x : Number) → AllStageB (formed_kinds test x)
+formed-kinds : (test : Decimal → Bool) (x : Option Decimal) → AllStageB (formed_kinds test x)
 unfolding formed_kinds
-formed-kinds test (number.Value d) = unless-kinds (test d) _ (omega arith)
-formed-kinds test number.Unformed = only (omega arith)
+formed-kinds test (Some d) = unless-kinds (test d) _ (omega arith)
+formed-kinds test None = only (omega arith)
 
-pricing-kinds : (x : Price) → AllStageB (pricing x)
+pricing-kinds : (x : Result Decimal PriceError) → AllStageB (pricing x)
 unfolding pricing
-pricing-kinds (price.Value d) = unless-kinds (price_money d) _ (omega arith)
-pricing-kinds price.Unformed = only (omega arith)
-pricing-kinds price.NoNumber = only (omega arith)
+pricing-kinds (Ok d) = unless-kinds (price_money d) _ (omega arith)
+pricing-kinds (Err Unformed) = only (omega arith)
+pricing-kinds (Err NoNumber) = only (omega arith)
 
 -- an integer has no point
-integer-kinds : (t : Bool) (x : Number) → AllStageB (t ⇒ 7 ∷ [] else formed_kinds natural x)
+integer-kinds : (t : Bool) (x : Option Decimal) → AllStageB (t ⇒ 7 ∷ [] else formed_kinds natural x)
 integer-kinds true x = only (omega arith)
 integer-kinds false x = formed-kinds natural x
 

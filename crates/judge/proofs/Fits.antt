@@ -16,8 +16,6 @@ use Rattle.schema.specs.Tables.{sheets, written, sheet_shape}
 use Rattle.schema.specs.Pick.{Picked, PickedItems, Slots, bare, items, slots, no_item, item, no_slot, absent, repeated, present, pick, list_of}
 use Rattle.schema.proofs.Computed.{every, every_file}
 use Rattle.fault.specs.declared.Fault.{Fault}
-use Rattle.fault.specs.declared.Least.{Least}
-use Rattle.fault.specs.declared.Least.TheVariants.{Is}
 use Rattle.fault.specs.Fault.{fault, before, least, top, faulty}
 use Rattle.fault.proofs.Order.{later_record}
 use Rattle.rings.specs.Rings.{count}
@@ -28,6 +26,7 @@ use Rattle.judge.specs.inner.WordFit.{header, in_record, in_item, Level, array_f
 use Rattle.judge.proofs.Holds.{All, none, more, only, Holds, nothing, holding, holds-map, holds-is, holds-least, holds_append, after-sub, first_stays, Of}
 use Rattle.judge.proofs.Broken.{AllStageB, unless-kinds, value-kinds}
 use Rattle.judge.proofs.Positions.{coordinates_fit, coordinates-of}
+use Rattle.std.specs.Prelude.{Option, Some}
 
 -- items, numbered from n + 1 on
 abbrev Inside : (Fault → Type 0) → Judge → Numbering → Place → ℕ → ℕ → Type 0
@@ -50,7 +49,7 @@ abbrev excess : Place → ℕ → Fault
 excess p φ = fault p.«record» φ p.sub too_many
 
 excess_first : (p : Place) (φ : ℕ) (l : List Fault) → Holds (λ f. before f (excess p φ) ≡ false) (least l) →
-    least (faulty p φ (too_many ∷ []) ++ l) ≡ Is (excess p φ)
+    least (faulty p φ (too_many ∷ []) ++ l) ≡ Some (excess p φ)
 unfolding faulty least
 excess_first p φ l h = first_stays (excess p φ) h
 
@@ -181,7 +180,7 @@ module _ (judge : Judge) (p : Place) (φ : ℕ) (known : φ ≤ fields) (most : 
   outer-keeps l at keeps x = items_hold p φ (kept_here l p φ known) judge shape.outer most (λ n y. keeps p at y) x
 
 -- positions
-kept_of : {p : Place} {φ : ℕ} {x : Least} → Holds (Of p.«record» φ) x → (Within p → Holds Fitting x) → Holds (Kept in_record p φ) x
+kept_of : {p : Place} {φ : ℕ} {x : Option Fault} → Holds (Of p.«record» φ) x → (Within p → Holds Fitting x) → Holds (Kept in_record p φ) x
 kept_of nothing fits = nothing
 kept_of (holding {f = f} o) fits = holding {f = f} (record { under = (o.rec, omega (arith, o.field)); fits = λ w. holds-is (fits w) refl })
 
@@ -231,7 +230,7 @@ mutual
       ss
 
 -- Files: the shape of every number fits from the top value on, which is field 0.
-pub shape-fits : (σ : Shape) → fits_word σ header 0 ≡ true → (x : Json) (f : Fault) → least (file_faults σ x) ≡ Is f → Fitting f
+pub shape-fits : (σ : Shape) → fits_word σ header 0 ≡ true → (x : Json) (f : Fault) → least (file_faults σ x) ≡ Some f → Fitting f
 unfolding file_faults_by
 shape-fits σ t x f e = (holds-is (keeps σ header 0 (omega arith) t top (refl, refl) (pick σ x)) e).fits (omega arith)
 
@@ -239,5 +238,5 @@ pub file-fits : (file : ℕ) → fits_word (sheet_shape file) header 0 ≡ true
 unfolding every written fits_word
 file-fits file = every_file (λ σ. fits_word σ header 0) sheets refl refl file
 
-pub first_fits : (file : ℕ) (x : Json) (f : Fault) → least (file_faults (sheet_shape file) x) ≡ Is f → Fitting f
+pub first_fits : (file : ℕ) (x : Json) (f : Fault) → least (file_faults (sheet_shape file) x) ≡ Some f → Fitting f
 first_fits file x f e = shape-fits (sheet_shape file) (file-fits file) x f e

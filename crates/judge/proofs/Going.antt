@@ -18,10 +18,8 @@ use Rattle.schema.specs.Tables.{sheets}
 use Rattle.schema.proofs.Walk.{Laid, lines_in, step, first-row, no-row}
 use Rattle.slots.specs.declared.Slots.{Slots as Filled}
 use Rattle.slots.specs.inner.Rows.{most_rows, names_in, line_names, row_line}
-use Rattle.slots.specs.inner.Slots.{slots_of, slot_at, gathered}
+use Rattle.slots.specs.inner.Slots.{slot_at, gathered}
 use Rattle.slots.proofs.Picks.{Slotted, slotted_all}
-use Rattle.fault.specs.declared.Least.{Least}
-use Rattle.fault.specs.declared.Least.TheVariants.{None}
 use Rattle.fault.specs.Fault.{lesser, least}
 use Rattle.fault.proofs.Leasts.{lesser-none, none-lesser, lesser_assoc, least_append}
 use Rattle.fault.specs.declared.Place.{Place}
@@ -29,9 +27,11 @@ use Rattle.judge.specs.Faults.{row_faults_by, row_faults}
 use Rattle.judge.specs.inner.Judgeable.{judgeable, judgeable_rows}
 use Rattle.judge.specs.inner.Judged.{member_faults, row_least, Member, Kept, Listed, RowsJudged}
 use Rattle.judge.proofs.Values.{Row, row-judged}
+use Rattle.std.specs.Prelude.{Option, None}
+use Rattle.fault.specs.declared.Fault.{Fault}
 
 -- one part more: what it adds goes over to the least so far
-pub passed : (acc this rest : Least) {all total : Least} → all ≡ lesser this rest → lesser acc all ≡ total → lesser (lesser acc this) rest ≡ total
+pub passed : (acc this rest : Option Fault) {all total : Option Fault} → all ≡ lesser this rest → lesser acc all ≡ total → lesser (lesser acc this) rest ≡ total
 passed acc this rest e t = lesser_assoc acc this rest ∙ ap (lesser acc) (sym e) ∙ t
 
 -- a row and the rows below it
@@ -52,7 +52,7 @@ unfolding row_faults_by least
 no_rows q ms = refl
 
 -- the rows that are left, at line i and slot `row`
-pub record Left (p : List ℕ) (s : Filled) (end : ℕ) (q : Place) (level i row : ℕ) (acc : Least) (ms : Members) (total : Least) : Type 0 where
+pub record Left (p : List ℕ) (s : Filled) (end : ℕ) (q : Place) (level i row : ℕ) (acc : Option Fault) (ms : Members) (total : Option Fault) : Type 0 where
   pub rest : Rows
   pub laid : Laid sheets i rest
   pub ends : i + lines_in rest ≡ end
@@ -61,15 +61,15 @@ pub record Left (p : List ℕ) (s : Filled) (end : ℕ) (q : Place) (level i row
   pub slotting : Slotted p s row rest
   pub makes : lesser acc (least (row_faults rest q (pick_rows rest ms))) ≡ total
 
--- whatever object filled the columns
-abbrev pub RowsGo : List ℕ → List Least → ℕ → ℕ → Place → ℕ → ℕ → Least → Type 0
-RowsGo state leasts first count q i row acc =
-    (p from upto : List ℕ) (level : ℕ) (rows : Rows) → Listed first count level rows → (ms : Members) → Whole p (Json.object ms) →
-    slots_of state from upto ≡ gathered p (line_names first count) → Kept p first q level (slots_of state from upto) leasts →
-    Left p (slots_of state from upto) (first + count) q level i row acc ms (least (row_faults rows q (pick_rows rows ms)))
+-- whatever object filled the slots
+abbrev pub RowsGo : Filled → List (Option Fault) → ℕ → ℕ → Place → ℕ → ℕ → Option Fault → Type 0
+RowsGo slots leasts first count q i row acc =
+    (p : List ℕ) (level : ℕ) (rows : Rows) → Listed first count level rows → (ms : Members) → Whole p (Json.object ms) →
+    slots ≡ gathered p (line_names first count) → Kept p first q level slots leasts →
+    Left p slots (first + count) q level i row acc ms (least (row_faults rows q (pick_rows rows ms)))
 
 -- past the row at the front of those that are left
-row_passed : (p : List ℕ) (s : Filled) (end : ℕ) (q : Place) (level i row : ℕ) (acc : Least) (ms : Members) (total : Least) {line : Line} {r : Least} →
+row_passed : (p : List ℕ) (s : Filled) (end : ℕ) (q : Place) (level i row : ℕ) (acc : Option Fault) (ms : Members) (total : Option Fault) {line : Line} {r : Option Fault} →
     line ≡ line_at sheets i → Row p (slot_at s row) i q level r → Whole p (Json.object ms) →
     (field : ℕ) (need : Need) (name : List ℕ) (σ : Shape) (below : Rows) → Laid sheets i (shape.row field need name σ below) →
     i + lines_in (shape.row field need name σ below) ≡ end → row + length (names_in (shape.row field need name σ below)) ≤ most_rows →
@@ -97,25 +97,25 @@ unfolding names_in
 no_name shape.no_row e = refl
 no_name (shape.row field need name σ rows) e = absurd (omega arith)
 
-module _ (state : List ℕ) (leasts : List Least) (first count : ℕ) (q : Place) where
-  pub rows_start : RowsGo state leasts first count q first 0 None
-  rows_start p from upto level rows t ms w e kept =
+module _ (slots : Filled) (leasts : List (Option Fault)) (first count : ℕ) (q : Place) where
+  pub rows_start : RowsGo slots leasts first count q first 0 None
+  rows_start p level rows t ms w e kept =
       record {
         rest = rows;
         laid = t.laid;
         ends = ap (λ (k : ℕ). first + k) t.lines;
         few = omega (arith, t.few);
         judgeable-rest = t.judgeable-rest;
-        slotting = slotted_all p first count (slots_of state from upto) e rows t.laid t.lines t.distinct t.few;
+        slotting = slotted_all p first count slots e rows t.laid t.lines t.distinct t.few;
         makes = none-lesser _;
       }
 
-  pub rows_next : (i row : ℕ) (acc : Least) {line : Line} {r : Least} → line ≡ line_at sheets i → i < first + count → row < most_rows → i ≡ row_line sheets first row →
-      r ≡ row_least (get_or state row 0) (get_or leasts row None) line q →
-      RowsGo state leasts first count q i row acc → RowsGo state leasts first count q (i + 1 + line.inside) (row + 1) (lesser acc r)
-  rows_next i row acc {line} {r} at h few here j go p from upto level rows t ms w e kept =
-      let k = go p from upto level rows t ms w e kept in
-      let s = slots_of state from upto in
+  pub rows_next : (i row : ℕ) (acc : Option Fault) {line : Line} {r : Option Fault} → line ≡ line_at sheets i → i < first + count → row < most_rows → i ≡ row_line sheets first row →
+      r ≡ row_least (slot_at slots row) (get_or leasts row None) line q →
+      RowsGo slots leasts first count q i row acc → RowsGo slots leasts first count q (i + 1 + line.inside) (row + 1) (lesser acc r)
+  rows_next i row acc {line} {r} at h few here j go p level rows t ms w e kept =
+      let k = go p level rows t ms w e kept in
+      let s = slots in
       let value = get_or leasts row None in
       let total = least (row_faults rows q (pick_rows rows ms)) in
       let f = first-row k.rest (omega (arith, k.ends)) in
@@ -127,18 +127,18 @@ module _ (state : List ℕ) (leasts : List Least) (first count : ℕ) (q : Place
       k.laid k.ends k.few k.judgeable-rest k.slotting k.makes
 
   -- none is left
-  rows-done : (i row : ℕ) (acc : Least) → ((rest : Rows) → i + lines_in rest ≡ first + count → row + length (names_in rest) ≤ most_rows → rest ≡ shape.no_row) →
-      RowsGo state leasts first count q i row acc → RowsJudged state leasts first count q acc
+  rows-done : (i row : ℕ) (acc : Option Fault) → ((rest : Rows) → i + lines_in rest ≡ first + count → row + length (names_in rest) ≤ most_rows → rest ≡ shape.no_row) →
+      RowsGo slots leasts first count q i row acc → RowsJudged slots leasts first count q acc
   rows-done i row acc none go =
       record {
-        is = λ p from upto level rows t ms w e kept.
-            let k = go p from upto level rows t ms w e kept in
+        is = λ p level rows t ms w e kept.
+            let k = go p level rows t ms w e kept in
             let z : k.rest ≡ shape.no_row = none k.rest k.ends k.few in
             sym (lesser-none acc) ∙ ap (lesser acc) (sym (ap (λ (y : Rows). least (row_faults y q (pick_rows y ms))) z ∙ no_rows q ms)) ∙ k.makes;
       }
 
-  pub rows_end : (i row : ℕ) (acc : Least) → first + count ≤ i → RowsGo state leasts first count q i row acc → RowsJudged state leasts first count q acc
+  pub rows_end : (i row : ℕ) (acc : Option Fault) → first + count ≤ i → RowsGo slots leasts first count q i row acc → RowsJudged slots leasts first count q acc
   rows_end i row acc h = rows-done i row acc (λ rest e few. no-row rest (omega arith))
 
-  pub rows-full : (i row : ℕ) (acc : Least) → most_rows ≤ row → RowsGo state leasts first count q i row acc → RowsJudged state leasts first count q acc
+  pub rows-full : (i row : ℕ) (acc : Option Fault) → most_rows ≤ row → RowsGo slots leasts first count q i row acc → RowsJudged slots leasts first count q acc
   rows-full i row acc h = rows-done i row acc (λ rest e few. no_name rest (omega arith))

@@ -15,7 +15,6 @@ use Rattle.lexeme.proofs.Spans.{Skipped}
 use Rattle.json_text.specs.Tree as tree
 use Rattle.json_text.specs.Tree.{Json, Items}
 use Rattle.walk.specs.declared.Item.{Item}
-use Rattle.walk.specs.declared.ItemStep.TheVariants as items
 use Rattle.walk.specs.Walk.{part, onward, item_at, items_of}
 use Rattle.walk.specs.Part.{Whole, part_tree}
 use Rattle.walk.specs.inner.Kind.{kind_at}
@@ -34,8 +33,6 @@ use Rattle.schema.specs.Pick as picking
 use Rattle.schema.specs.Pick.{Picked, PickedItems, pick, pick_items, list_of}
 use Rattle.schema.specs.Tables.{sheets}
 use Rattle.notation.proofs.Booleans.{and_left, and_right}
-use Rattle.fault.specs.declared.Least.{Least}
-use Rattle.fault.specs.declared.Least.TheVariants.{None}
 use Rattle.fault.specs.Fault.{lesser, least, faulty}
 use Rattle.fault.proofs.Leasts.{lesser-none, none-lesser, lesser_assoc, least_append}
 use Rattle.scalar.specs.Scalars.{unless}
@@ -45,42 +42,44 @@ use Rattle.judge.specs.Faults.{Judge, item_place, each_item, array_faults, fault
 use Rattle.judge.specs.inner.Judgeable.{plain, judgeable}
 use Rattle.judge.specs.inner.Judged.{brackets_of, item_place_of, ArrayAt, Single, Array}
 use Rattle.judge.proofs.Lines.{line-field, line-numbering, line-most, line-item, item-told, line-place, plain-single, bracketless, whole-items, no_items}
+use Rattle.std.specs.Prelude.{Option, Some, None}
+use Rattle.fault.specs.declared.Fault.{Fault}
 
 -- The least fault `acc` of n items with those of the items ms of p behind them, and the number of them all.
 module _ (p : List ℕ) (numbering : Numbering) (σ : Shape) (q : Place) (φ : ℕ) where
   abbrev picks : List Item → PickedItems
   picks ms = pick_items (λ y. pick σ y) (tree.as_items (map (λ m. part_tree (item_of p m)) ms))
 
-  abbrev found : Least → ℕ → List Item → Least × ℕ
+  abbrev found : Option Fault → ℕ → List Item → Option Fault × ℕ
   found acc n ms = (lesser acc (least (each_item (λ r f y. faults σ r f y) numbering q φ n (picks ms))), n + count (picks ms))
 
-  found_none : (acc : Least) (n : ℕ) → found acc n [] ≡ (acc, n)
+  found_none : (acc : Option Fault) (n : ℕ) → found acc n [] ≡ (acc, n)
   unfolding pick_items tree.as_items each_item least count list_of
   found_none acc n = let z : n + 0 ≡ n = omega arith in λ x. (lesser-none acc x, z x)
 
-  found-more : (acc : Least) (n : ℕ) {r : Least} (m : Item) → r ≡ least (faults σ (item_place numbering (n + 1) q) φ (pick σ (part_tree (item_of p m)))) →
+  found-more : (acc : Option Fault) (n : ℕ) {r : Option Fault} (m : Item) → r ≡ least (faults σ (item_place numbering (n + 1) q) φ (pick σ (part_tree (item_of p m)))) →
       (ms : List Item) → found acc n (m ∷ ms) ≡ found (lesser acc r) (n + 1) ms
   unfolding pick_items tree.as_items each_item count list_of
   found-more acc n {r} m e ms =
       let rest = least (each_item (λ r f y. faults σ r f y) numbering q φ (n + 1) (picks ms)) in
       let this = pick σ (part_tree (item_of p m)) in
       let one : lesser acc (least (each_item (λ r f y. faults σ r f y) numbering q φ n (picking.item this (picks ms)))) ≡ lesser (lesser acc r) rest =
-      ap (lesser acc) (least_append _ _ ∙ ap (λ (z : Least). lesser z rest) (sym e)) ∙ sym (lesser_assoc acc r rest) in
+      ap (lesser acc) (least_append _ _ ∙ ap (λ (z : Option Fault). lesser z rest) (sym e)) ∙ sym (lesser_assoc acc r rest) in
       let many : n + count (picking.item this (picks ms)) ≡ n + 1 + count (picks ms) = omega arith in
       λ x. (one x, many x)
 
 -- of the items of the array that a row holds
-abbrev items_found : List ℕ → {i : ℕ} → ArrayAt i → Place → Least → ℕ → List Item → Least × ℕ
+abbrev items_found : List ℕ → {i : ℕ} → ArrayAt i → Place → Option Fault → ℕ → List Item → Option Fault × ℕ
 items_found p a q acc n ms = found p a.numbering a.item q a.row.field acc n ms
 
 -- all items, and how many they are
-array_total : (judge : Judge) (numbering : Numbering) (most : ℕ) (q : Place) (φ : ℕ) (P : PickedItems) (n : ℕ) (acc : Least) → n ≡ count P →
+array_total : (judge : Judge) (numbering : Numbering) (most : ℕ) (q : Place) (φ : ℕ) (P : PickedItems) (n : ℕ) (acc : Option Fault) → n ≡ count P →
     acc ≡ least (each_item judge numbering q φ 0 P) →
     lesser (least (faulty q φ (unless (leb n most) too_many))) acc ≡ least (array_faults judge numbering most q φ (picking.items P))
 array_total judge numbering most q φ P n acc k a = rw (k, a) (sym (least_append _ _))
 
 -- the items of a whole array that are still to come, from the place `at` on
-abbrev pub ItemsGo : List ℕ → ℕ → Place → ℕ → ℕ → Least → ℕ → Type 0
+abbrev pub ItemsGo : List ℕ → ℕ → Place → ℕ → ℕ → Option Fault → ℕ → Type 0
 ItemsGo p i q level at acc n =
     (a : ArrayAt i) → judgeable (shape.array a.numbering a.most a.item) level ≡ true → (is : Items) → Whole p (Json.array is) →
     Comes p (items_found p a q acc n) at (items_found p a q None 0 (items_of p))
@@ -90,7 +89,7 @@ as_read : (p : List ℕ) (at : ℕ) → ItemPassed p at (item_at p at)
 as_read p at = record { placed = item-placed p at; same = λ a. refl }
 
 -- The first n bytes of p are an array, whatever n is: how far the walk has come in it, and the items that are still to come.
-pub record ItemsMet (p : List ℕ) (i : ℕ) (q : Place) (level at : ℕ) (acc : Least) (k : ℕ) : Type 0 where
+pub record ItemsMet (p : List ℕ) (i : ℕ) (q : Place) (level at : ℕ) (acc : Option Fault) (k : ℕ) : Type 0 where
   along : (n : ℕ) (is : Items) → Whole (take n p) (Json.array is) → AlongItems (take n p) at
   go : (n : ℕ) → ItemsGo (take n p) i q level at acc k
 
@@ -125,13 +124,13 @@ module _ (p : List ℕ) (i : ℕ) (q : Place) (level : ℕ) where
     not-positions a k = other (ap (λ (m : Line). m.numbering) line-is ∙ line-numbering a ∙ k)
 
     -- an item at v, of e bytes
-    item-judged : (at : ℕ) (acc : Least) (k v e next : ℕ) {r : Least} → Skipped p at v → Ends (drop v p) e → 0 < e → next ≡ onward p (blanks (drop (v + e) p)) →
+    item-judged : (at : ℕ) (acc : Option Fault) (k v e next : ℕ) {r : Option Fault} → Skipped p at v → Ends (drop v p) e → 0 < e → next ≡ onward p (blanks (drop (v + e) p)) →
         Single (take e (drop v p)) line.item i (item_place_of line.numbering (k + 1) q) level r →
         (n : ℕ) → ItemsMet p i q level at acc k → ItemsGo (take n p) i q level next (lesser acc r) (k + 1)
     item-judged at acc k v e next {r} here ends some on s n met a d is w =
         let P = take n p in let σ = a.item in
         let m : Item = record { value = v; value_end = v + e; next = next } in
-        let f : item_at P at ≡ items.Found m = item_met p n at v e here ends some next on (met.along n is w) in
+        let f : item_at P at ≡ Some m = item_met p n at v e here ends some next on (met.along n is w) in
         let placed = item-placed P at m f in
         let y = judgeable-items a.numbering (not-positions a) a.most σ level d in
         let b = and_left (plain σ) (judgeable σ level) y in
@@ -146,7 +145,7 @@ module _ (p : List ℕ) (i : ℕ) (q : Place) (level : ℕ) where
         ∙ ap (λ (φ : ℕ). least (faults σ (item_place a.numbering (k + 1) q) φ (pick σ x))) (line-field a.row) in
         comes_more (met.go n a d is w) (as_read P at) f (items_found P a q (lesser acc r) (k + 1)) (found-more P a.numbering σ q a.row.field acc k m h)
 
-    pub items-next : (at : ℕ) (acc : Least) (k v e next : ℕ) {r : Least} → Skipped p at v → Ends (drop v p) e → 0 < e → next ≡ onward p (blanks (drop (v + e) p)) →
+    pub items-next : (at : ℕ) (acc : Option Fault) (k v e next : ℕ) {r : Option Fault} → Skipped p at v → Ends (drop v p) e → 0 < e → next ≡ onward p (blanks (drop (v + e) p)) →
         Single (take e (drop v p)) line.item i (item_place_of line.numbering (k + 1) q) level r →
         ItemsMet p i q level at acc k → ItemsMet p i q level next (lesser acc r) (k + 1)
     items-next at acc k v e next here ends some on s met =
@@ -156,7 +155,7 @@ module _ (p : List ℕ) (i : ℕ) (q : Place) (level : ℕ) where
         }
 
     -- no item at v: the array ends behind its closing bracket
-    module _ (at : ℕ) (acc : Least) (k v e : ℕ) (here : Skipped p at v) (none : Ends (drop v p) e) (zero : e ≡ 0)
+    module _ (at : ℕ) (acc : Option Fault) (k v e : ℕ) (here : Skipped p at v) (none : Ends (drop v p) e) (zero : e ≡ 0)
         {b : ℕ} (by : b ≡ brackets_of (kind_at p)) (is-array : b ≡ code "[") (met : ItemsMet p i q level at acc k) where
       pub array-ends : (upto : ℕ) → upto ≡ length p - length (drop 1 (blanks (drop at p))) → Ends p upto
       array-ends upto c =
@@ -171,7 +170,7 @@ module _ (p : List ℕ) (i : ℕ) (q : Place) (level : ℕ) where
             none = λ o. absurd (bracketless p o (sym by ∙ is-array));
           }
 
-      pub items-end : (n : ℕ) {r : Least} → r ≡ lesser (least (faulty q line.field (unless (leb k line.most) too_many))) acc → Array (take n p) i q level r
+      pub items-end : (n : ℕ) {r : Option Fault} → r ≡ lesser (least (faulty q line.field (unless (leb k line.most) too_many))) acc → Array (take n p) i q level r
       unfolding pick
       items-end n {r} h = record { is = is }
         where
@@ -188,8 +187,8 @@ module _ (p : List ℕ) (i : ℕ) (q : Place) (level : ℕ) where
               let end = item-ended p n at v e here none zero (met.along n m.0 v') in
               let we : (acc, k) ≡ items_found P a q None 0 (items_of P) =
               sym (found_none P a.numbering a.item q field acc k) ∙ comes_end (met.go n a d m.0 v') (as_read P at) end in
-              let l : acc ≡ least (each_item (λ r f y. faults a.item r f y) a.numbering q field 0 picked) = ap (λ (z : Least × ℕ). z.0) we ∙ none-lesser _ in
-              let c : k ≡ count picked = ap (λ (z : Least × ℕ). z.1) we ∙ omega arith in
+              let l : acc ≡ least (each_item (λ r f y. faults a.item r f y) a.numbering q field 0 picked) = ap (λ (z : Option Fault × ℕ). z.0) we ∙ none-lesser _ in
+              let c : k ≡ count picked = ap (λ (z : Option Fault × ℕ). z.1) we ∙ omega arith in
               let t : pick σ x ≡ picking.items picked =
               ap (pick σ) m.1 ∙ ap (λ (z : Items). picking.items (pick_items (λ y. pick a.item y) z)) (array_parts P v') in
               h ∙ ap (λ (z : Line). lesser (least (faulty q z.field (unless (leb k z.most) too_many))) acc) line-is
@@ -199,7 +198,7 @@ module _ (p : List ℕ) (i : ℕ) (q : Place) (level : ℕ) where
               ∙ ap least (sym (counted-faults a.numbering (not-positions a) a.most a.item q field (picking.items picked)))
               ∙ ap (λ (z : Picked). least (faults σ q field z)) (sym t)
 
-    pub array-other : (n : ℕ) {b : ℕ} {r : Least} → b ≡ brackets_of (kind_at p) → (b ≡ code "[" → ⊥) → r ≡ least (faulty q line.field (wrong_type ∷ [])) → Array (take n p) i q level r
+    pub array-other : (n : ℕ) {b : ℕ} {r : Option Fault} → b ≡ brackets_of (kind_at p) → (b ≡ code "[" → ⊥) → r ≡ least (faulty q line.field (wrong_type ∷ [])) → Array (take n p) i q level r
     array-other n b not-array h =
         record {
           is = λ a e x w.

@@ -24,13 +24,13 @@ use Rattle.schema.specs.Tables.{sheets, written, sheet_shape}
 use Rattle.schema.proofs.Computed.{every, every_file}
 use Rattle.schema.proofs.Walk.{LaidIn, laid-object, file_lined, lines_in}
 use Rattle.slots.specs.inner.Rows.{names_in}
-use Rattle.fault.specs.declared.Least.{Least}
-use Rattle.fault.specs.declared.Least.TheVariants.{None}
 use Rattle.fault.specs.Fault.{least, top}
 use Rattle.notation.proofs.Booleans.{true-false, and_left, and_right}
 use Rattle.judge.specs.Faults.{faults_by, faults, file_faults_by, file_faults}
 use Rattle.judge.specs.inner.Judgeable.{arrays, plain, judgeable}
 use Rattle.judge.specs.inner.Judged.{Object}
+use Rattle.std.specs.Prelude.{Option, None}
+use Rattle.fault.specs.declared.Fault.{Fault}
 
 -- at most this many objects lie in one another
 abbrev pub levels : ℕ
@@ -70,7 +70,7 @@ without-lines (shape.object rows) e n x =
 pub file-unlisted : (file : ℕ) → (file_lines sheets file).count ≡ 0 → (x : Json) → None ≡ least (file_faults (sheet_shape file) x)
 file-unlisted file e x = without-lines (sheet_shape file) (file-laid file) (sym (file_lined sheets file).count ∙ e) x
 
-pub file-listed : (p : List ℕ) (e : ℕ) {r : Least} {lines : Range} (file : ℕ) → lines ≡ file_lines sheets file → (lines.count ≡ 0 → ⊥) → Ends p e →
+pub file-listed : (p : List ℕ) (e : ℕ) {r : Option Fault} {lines : Range} (file : ℕ) → lines ≡ file_lines sheets file → (lines.count ≡ 0 → ⊥) → Ends p e →
     Object (take e p) lines.first lines.count 0 top levels r → (x : Json) → Whole p x → r ≡ least (file_faults (sheet_shape file) x)
 unfolding file_faults_by inside
 file-listed p e {r} file at n ends o x w =

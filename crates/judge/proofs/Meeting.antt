@@ -1,5 +1,4 @@
--- The judge's loop over an object's members. The columns that it fills count each row's name as the slots do, so that at the end they tell what the object
--- holds under it; and the least that is kept for a row is that of the value which was met first, judged where it stands.
+-- The judge's loop over an object's members. The slots that it fills tell at the end what the object holds under each row's name; and the least that is kept for a row is that of the value which was met first, judged where it stands.
 use mathlib.Core.Bool.{true}
 use mathlib.Core.List.{List}
 use mathlib.Core.Path.{◌≡◌, refl, sym, ap, subst, ◌∙◌}
@@ -12,9 +11,7 @@ use Rattle.lexeme.specs.Tokens.{blanks}
 use Rattle.json_text.specs.Tree.{Json, Members}
 use Rattle.text.specs.Text.{text_of}
 use Rattle.walk.specs.declared.Named.{Named}
-use Rattle.walk.specs.declared.NameStep.TheVariants as names
 use Rattle.walk.specs.declared.Member.{Member as Met}
-use Rattle.walk.specs.declared.MemberStep.TheVariants as members
 use Rattle.walk.specs.Walk.{part, onward, member_at}
 use Rattle.walk.specs.Part.{Whole}
 use Rattle.walk.specs.inner.Kind.{kind_at}
@@ -28,36 +25,31 @@ use Rattle.schema.specs.Tables.{sheets}
 use Rattle.slots.specs.declared.Row.{Row}
 use Rattle.slots.specs.declared.Slots.{Slots}
 use Rattle.slots.specs.inner.Rows.{most_rows, line_names, row_named, row_line, RowOf}
-use Rattle.slots.specs.inner.Slots.{slots_of, empty, slot_at, new_at, counted_in, put_in, absorbed, gathered}
-use Rattle.slots.proofs.Filled.{put-counts, Sized, put-sized, empty-sized, empty-missing, Put, here, there, put-once}
-use Rattle.fault.specs.declared.Least.{Least}
-use Rattle.fault.specs.declared.Least.TheVariants.{None}
+use Rattle.slots.specs.inner.Slots.{empty, new_at, put_in, absorbed, gathered}
+use Rattle.slots.proofs.Filled.{Sized, put-sized, empty-sized, empty-missing, Put, here, there, put-once}
 use Rattle.fault.specs.declared.Place.{Place}
 use Rattle.judge.specs.inner.Judged.{brackets_of, Member, Kept, RowsJudged, MembersJudged}
 use Rattle.judge.proofs.Lines.{bracketless, whole-members}
+use Rattle.std.specs.Prelude.{Option, Some, None}
+use Rattle.fault.specs.declared.Fault.{Fault}
 
 -- how many leasts are kept: one for each row, and one that is not looked at
 abbrev pub leasts_kept : ℕ
 leasts_kept = 17
 
--- the members of the object that the first n bytes of p are, whatever n is, up to the place `at`: with the places of the first values, which the code does not
--- keep, the columns are slots
-pub record Meeting (p : List ℕ) (first count : ℕ) (q : Place) (level : ℕ) (state : List ℕ) (leasts : List Least) (at : ℕ) : Type 0 where
-  from : List ℕ
-  upto : List ℕ
-  sized : Sized (slots_of state from upto)
+-- the members of the object that the first n bytes of p are, whatever n is, up to the place `at`
+pub record Meeting (p : List ℕ) (first count : ℕ) (q : Place) (level : ℕ) (slots : Slots) (leasts : List (Option Fault)) (at : ℕ) : Type 0 where
+  sized : Sized slots
   many : length leasts ≡ leasts_kept
   along : (n : ℕ) (ms : Members) → Whole (take n p) (Json.object ms) →
-      MembersAlong (take n p) (absorbed (take n p) (line_names first count)) (slots_of state from upto) at (gathered (take n p) (line_names first count))
-  kept : (n : ℕ) (ms : Members) → Whole (take n p) (Json.object ms) → Kept (take n p) first q level (slots_of state from upto) leasts
+      MembersAlong (take n p) (absorbed (take n p) (line_names first count)) slots at (gathered (take n p) (line_names first count))
+  kept : (n : ℕ) (ms : Members) → Whole (take n p) (Json.object ms) → Kept (take n p) first q level slots leasts
 
 module _ (p : List ℕ) (first count : ℕ) (q : Place) (level : ℕ) where
-  pub meeting-start : Meeting p first count q level (replicate most_rows 0) (replicate leasts_kept None) 1
+  pub meeting-start : Meeting p first count q level empty (replicate leasts_kept None) 1
   unfolding gathered
   meeting-start =
       record {
-        from = replicate most_rows 0;
-        upto = replicate most_rows 0;
         sized = empty-sized;
         many = refl;
         along = λ n ms w. members-along (take n p) (absorbed (take n p) (line_names first count)) w empty;
@@ -65,24 +57,18 @@ module _ (p : List ℕ) (first count : ℕ) (q : Place) (level : ℕ) where
       }
 
   -- a member m whose name has the row r, and whose value takes e bytes
-  module _ (state : List ℕ) (leasts : List Least) (at : ℕ) (m : Named) (named : NamePassed p at (names.Found m)) (r : Row)
-      (row_is : RowOf (text_of (part p m.name m.name_end)) first count r) (e : ℕ) (ends : Ends (drop m.value p) e) (least : Least)
-      (judged : new_at state r.row ≡ true → Member (take e (drop m.value p)) r.line q level least)
-      (next : ℕ) (on : next ≡ onward p (blanks (drop (m.value + e) p))) (g : Meeting p first count q level state leasts at) where
-    abbrev before : Slots
-    before = slots_of state g.from g.upto
-
+  module _ (before : Slots) (leasts : List (Option Fault)) (at : ℕ) (m : Named) (named : NamePassed p at (Some m)) (r : Row)
+      (row_is : RowOf (text_of (part p m.name m.name_end)) first count r) (e : ℕ) (ends : Ends (drop m.value p) e) (least : Option Fault)
+      (judged : new_at before r.row ≡ true → Member (take e (drop m.value p)) r.line q level least)
+      (next : ℕ) (on : next ≡ onward p (blanks (drop (m.value + e) p))) (g : Meeting p first count q level before leasts at) where
     abbrev after : Slots
     after = put_in before r.row m.value (m.value + e)
 
     abbrev met : Met
     met = record { name = m.name; name_end = m.name_end; value = m.value; value_end = m.value + e; next = next }
 
-    after_is : after ≡ slots_of (counted_in state r.row) after.from after.upto
-    after_is = ap (λ (l : List ℕ). slots_of l after.from after.upto) (sym (put-counts before r.row m.value (m.value + e)))
-
     module _ (n : ℕ) (ms : Members) (w : Whole (take n p) (Json.object ms)) where
-      found : member_at (take n p) at ≡ members.Found met
+      found : member_at (take n p) at ≡ Some met
       found = member_met p n at m e next named ends on (g.along n ms w).0
 
       placed : Placed (take n p) at met
@@ -104,28 +90,26 @@ module _ (p : List ℕ) (first count : ℕ) (q : Place) (level : ℕ) where
           let kept = get_or-set_same leasts r.row least None (omega (arith, g.many)) in
           rw (d, b, f, kept, sym (cut-same p n at m.value e inside), sym line) (judged new)
 
-    pub meeting-next : Meeting p first count q level (counted_in state r.row) (set leasts r.row least) next
+    pub meeting-next : Meeting p first count q level after (set leasts r.row least) next
     meeting-next =
         record {
-          from = after.from;
-          upto = after.upto;
-          sized = subst Sized after_is (put-sized before r.row m.value (m.value + e) g.sized);
+          sized = put-sized before r.row m.value (m.value + e) g.sized;
           many = length-set leasts r.row least ∙ g.many;
           along = λ n ms w.
               subst (λ (s : Slots). MembersAlong (take n p) (absorbed (take n p) (line_names first count)) s next (gathered (take n p) (line_names first count)))
-              (row-there n ms w ∙ after_is)
+              (row-there n ms w)
               (members-along-next (take n p) (absorbed (take n p) (line_names first count)) before at (gathered (take n p) (line_names first count)) met (found n ms w)
               (g.along n ms w));
           kept = λ n ms w.
               record {
                 is = λ j a u h o.
                     first-kept n ms w j a u h
-                    (put-once before r.row m.value (m.value + e) g.sized j a u (ap (λ (s : Slots). slot_at s j) after_is ∙ o));
+                    (put-once before r.row m.value (m.value + e) g.sized j a u o);
               };
         }
 
   -- no member more: the object ends behind its closing bracket
-  module _ (state : List ℕ) (leasts : List Least) (at : ℕ) (none : NamePassed p at names.End) (g : Meeting p first count q level state leasts at) where
+  module _ (before : Slots) (leasts : List (Option Fault)) (at : ℕ) (none : NamePassed p at None) (g : Meeting p first count q level before leasts at) where
     pub meeting-ends : brackets_of (kind_at p) ≡ code "{" → (e : ℕ) → e ≡ length p - length (drop 1 (blanks (drop at p))) → Ends p e
     meeting-ends o e c =
         record {
@@ -139,11 +123,11 @@ module _ (p : List ℕ) (first count : ℕ) (q : Place) (level : ℕ) where
           none = λ k. absurd (bracketless p k o);
         }
 
-    pub meeting-end : (n : ℕ) {r : Least} → RowsJudged state leasts first count q r → MembersJudged (take n p) first count q level r
+    pub meeting-end : (n : ℕ) {r : Option Fault} → RowsJudged before leasts first count q r → MembersJudged (take n p) first count q level r
     meeting-end n j =
         record {
           is = λ rows t ms w.
               let a = g.along n ms w in
-              let e = members-along-last (take n p) (absorbed (take n p) (line_names first count)) (slots_of state g.from g.upto) at _ (member-ended p n at none a.0) a in
-              j.is (take n p) g.from g.upto level rows t ms w e (g.kept n ms w);
+              let e = members-along-last (take n p) (absorbed (take n p) (line_names first count)) before at _ (member-ended p n at none a.0) a in
+              j.is (take n p) level rows t ms w e (g.kept n ms w);
         }

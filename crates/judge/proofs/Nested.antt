@@ -17,13 +17,14 @@ use Rattle.schema.specs.inner.Line.{line_at, numbering_letter}
 use Rattle.schema.specs.Pick.{Picked, PickedItems, bare, items, item, emptied, in_array, pick_items, pick}
 use Rattle.schema.specs.Table23.{coordinates}
 use Rattle.schema.specs.Tables.{sheets}
-use Rattle.fault.specs.declared.Least.{Least}
 use Rattle.fault.specs.Fault.{least}
 use Rattle.fault.specs.declared.Place.{Place}
 use Rattle.judge.specs.Faults.{coordinate_faults, faults_by, faults}
 use Rattle.judge.specs.inner.Judgeable.{arrays, judgeable}
 use Rattle.judge.specs.inner.Judged.{Array}
 use Rattle.judge.proofs.Lines.{line-field, line-numbering}
+use Rattle.std.specs.Prelude.{Option}
+use Rattle.fault.specs.declared.Fault.{Fault}
 
 each_same : (f g : Json → Picked) → ((x : Json) → f x ≡ g x) → (is : Items) → pick_items f is ≡ pick_items g is
 unfolding pick_items
@@ -81,7 +82,7 @@ position-faults shape.outer h most σ level e q φ x = absurd (omega arith)
 position-faults shape.positions h most σ level e q φ x =
     ap (coordinate_faults q φ) (nested_picked 4 coordinates (shape.array shape.positions most σ) refl e x)
 
-module _ {p : List ℕ} {i : ℕ} {q : Place} {level : ℕ} {r : Least} {line : Line} where
+module _ {p : List ℕ} {i : ℕ} {q : Place} {level : ℕ} {r : Option Fault} {line : Line} where
   pub array-positions : line ≡ line_at sheets i → line.numbering ≡ code "p" →
       ((x : Json) → Whole p x → r ≡ least (coordinate_faults q line.field (pick coordinates x))) → Array p i q level r
   array-positions at v h =

@@ -15,7 +15,6 @@ use Rattle.word.specs.Kinds.{wrong_type, too_many, bad_ring}
 use Rattle.schema.specs.Shape as sort
 use Rattle.schema.specs.Pick.{Picked, PickedItems, bare, items, slots, list_of}
 use Rattle.fault.specs.declared.Fault.{Fault}
-use Rattle.fault.specs.declared.Least.{Least}
 use Rattle.fault.specs.Fault.{fault, lesser, least}
 use Rattle.fault.proofs.Leasts.{least-one}
 use Rattle.scalar.specs.Scalars.{unless}
@@ -26,6 +25,7 @@ use Rattle.fault.specs.declared.Place.{Place}
 use Rattle.judge.specs.Bounds.{OfStageB, Fitting, greatest, fields}
 use Rattle.judge.proofs.Holds.{All, none, more, only, all_append, Holds, nothing, holds-least, holds-lesser, Of, Small, small-fits, small-left, small_right}
 use Rattle.judge.proofs.Broken.{AllStageB, unless-kinds, value-kinds}
+use Rattle.std.specs.Prelude.{Option}
 
 -- kinds of a position
 
@@ -117,7 +117,7 @@ polygons_up_to n (x ∷ l) =
 
 -- faults of a field in a record
 module _ (p : Place) (φ : ℕ) where
-  abbrev N : List Found → Least
+  abbrev N : List Found → Option Fault
   N l = least (numbered p.«record» φ l)
 
   N-append : (xs ys : List Found) → N (xs ++ ys) ≡ lesser (N xs) (N ys)

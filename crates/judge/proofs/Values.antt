@@ -5,11 +5,11 @@ use mathlib.Core.Path.{◌≡◌, refl, sym, ap, subst, ◌∙◌}
 use Prim.Native.Char.{code}
 use Prim.Native.Nat.{ℕ, zero, suc, ◌+◌, ◌-◌, ◌≤◌, ◌<◌}
 use native.Mathlib.Omega.{arith}
-use lib.Dec.{eqb, leb}
-use lib.ListN.{length, get_or, take}
+use lib.Dec.{leb}
+use lib.ListN.{length, take}
 use borrow.Author.Tests.{leb-true}
 use Rattle.notation.specs.Choice.{◌⇒◌else◌}
-use Rattle.notation.proofs.Booleans.{by_test, true-false, and_left, and_right}
+use Rattle.notation.proofs.Booleans.{true-false, and_left, and_right}
 use Rattle.word.specs.Kinds.{name_twice, wrong_type}
 use Rattle.json_text.specs.Tree as tree
 use Rattle.json_text.specs.Tree.{Json, Members}
@@ -33,10 +33,8 @@ use Rattle.slots.specs.inner.Found.{tree_in}
 use Rattle.slots.specs.inner.Rows.{line_count, most_rows, names_in}
 use Rattle.slots.specs.inner.Slots.{slot_at}
 use Rattle.slots.specs.inner.Blank.{blank_text}
-use Rattle.slots.proofs.Filled.{slot-missing, slot-once, slot_twice}
 use Rattle.slots.proofs.Finds.{find-found, found-value}
 use Rattle.slots.proofs.Picks.{unless-blank}
-use Rattle.fault.specs.declared.Least.{Least}
 use Rattle.fault.specs.Fault.{least, faulty}
 use Rattle.scalar.specs.Scalars.{kinds_of}
 use Rattle.word.specs.inner.Listed.{listed}
@@ -45,6 +43,8 @@ use Rattle.judge.specs.Faults.{absence, faults_by, faults}
 use Rattle.judge.specs.inner.Judgeable.{under, judgeable, judgeable_rows}
 use Rattle.judge.specs.inner.Judged.{brackets_of, absence_of, member_faults, row_least, LineTells, Single, Array, Member, MembersJudged, Object, RowAt}
 use Rattle.judge.proofs.Lines.{how_many, line-field, line-need, line-value, row_told, whole-members, no-members}
+use Rattle.std.specs.Prelude.{Option}
+use Rattle.fault.specs.declared.Fault.{Fault}
 
 -- a single value
 
@@ -64,7 +64,7 @@ scalar-faults sort q φ x ks e = ap (faulty q φ) (sym (outline-kinds sort x ∙
 line-at-field : (i : ℕ) {line : Line} → line ≡ line_at sheets i → line.field ≡ (line_at sheets i).field
 line-at-field i at = ap (λ (l : Line). l.field) at
 
-module _ {p : List ℕ} {letter i : ℕ} {q : Place} {level : ℕ} {r : Least} where
+module _ {p : List ℕ} {letter i : ℕ} {q : Place} {level : ℕ} {r : Option Fault} where
   pub single-past : line_count ≤ i → Single p letter i q level r
   single-past h = record { is = λ σ t n e x w. absurd (omega (arith, t.there)) }
 
@@ -115,7 +115,7 @@ member-same q a e = sym (ap (λ (o : Slot Json). least (member_faults a.need a.v
 given_by : (b : Bool) (x : Json) → b ≡ blank_text x → {t : Bool} → b ≡ t → unless_empty x ≡ (t ⇒ missing else once x)
 given_by b x e f = unless-blank x ∙ ap (λ (t : Bool). t ⇒ missing else once x) (sym e ∙ f)
 
-module _ {p : List ℕ} {i : ℕ} {q : Place} {level : ℕ} {r : Least} {line : Line} (at : line ≡ line_at sheets i) (blank : Bool)
+module _ {p : List ℕ} {i : ℕ} {q : Place} {level : ℕ} {r : Option Fault} {line : Line} (at : line ≡ line_at sheets i) (blank : Bool)
     (told : (x : Json) → Whole p x → blank ≡ blank_text x) where
   pub member-blank : blank ≡ true → r ≡ least (faulty q line.field (absence_of line.need)) → Member p i q level r
   member-blank t h = record { is = λ a e x w. h ∙ ap least (absent-faults q a at) ∙ member-same q a (given_by blank x (told x w) t) }
@@ -140,7 +140,7 @@ module _ {p : List ℕ} {i : ℕ} {q : Place} {level : ℕ} {r : Least} {line : 
       ∙ ap (λ (φ : ℕ). least (faults a.value q φ (pick a.value x))) (line-field a)
 
 -- a row of the object p, with what is found under its name
-pub record Row (p : List ℕ) (found : Found) (i : ℕ) (q : Place) (level : ℕ) (r : Least) : Type 0 where
+pub record Row (p : List ℕ) (found : Found) (i : ℕ) (q : Place) (level : ℕ) (r : Option Fault) : Type 0 where
   pub is : (a : RowAt i) → judgeable a.value level ≡ true → (ms : Members) → Whole p (Json.object ms) → found ≡ found_in p a.name →
       r ≡ least (member_faults a.need a.value q a.field (unless_blank (find a.name ms)))
 
@@ -148,7 +148,7 @@ given-found : {p : List ℕ} {found o : Found} (name : List ℕ) (ms : Members) 
     unless_blank (find name ms) ≡ unless_blank (tree_in p o)
 given-found {p} name ms w f e = ap unless_blank (find-found p name w ∙ ap (tree_in p) (sym f ∙ e))
 
-module _ {p : List ℕ} {found : Found} {i : ℕ} {q : Place} {level : ℕ} {r : Least} where
+module _ {p : List ℕ} {found : Found} {i : ℕ} {q : Place} {level : ℕ} {r : Option Fault} where
   module _ {line : Line} (at : line ≡ line_at sheets i) where
     row-missing : found ≡ Missing → r ≡ least (faulty q line.field (absence_of line.need)) → Row p found i q level r
     row-missing g h = record { is = λ a e ms w f. h ∙ ap least (absent-faults q a at) ∙ member-same q a (given-found a.name ms w f g) }
@@ -169,21 +169,22 @@ module _ {p : List ℕ} {found : Found} {i : ℕ} {q : Place} {level : ℕ} {r :
       }
 
 -- by how often its name was met
-pub row-judged : (p : List ℕ) (s : Slots) (row i : ℕ) (q : Place) (level : ℕ) (value : Least) {line : Line} {r : Least} → line ≡ line_at sheets i → row < most_rows →
-    r ≡ row_least (get_or s.state row 0) value line q → ((from upto : ℕ) → slot_at s row ≡ Once from upto → Member (part p from upto) i q level value) →
+pub row-judged : (p : List ℕ) (s : Slots) (row i : ℕ) (q : Place) (level : ℕ) (value : Option Fault) {line : Line} {r : Option Fault} → line ≡ line_at sheets i → row < most_rows →
+    r ≡ row_least (slot_at s row) value line q → ((from upto : ℕ) → slot_at s row ≡ Once from upto → Member (part p from upto) i q level value) →
     Row p (slot_at s row) i q level r
-row-judged p s row i q level value {line} {r} at h e kept =
-    by_test (eqb (get_or s.state row 0) 0) (λ t. row-missing at (slot-missing s row h t) (rw t at e))
-    (λ t. by_test (eqb (get_or s.state row 0) 1)
-    (λ u. let k = slot-once s row h t u in let v : r ≡ value = rw (t, u) at e in row-once k (rw v (kept _ _ k)))
-    (λ u. row-twice at (slot_twice s row h t u) (rw (t, u) at e)))
+row-judged p s row i q level value {line} {r} at h e kept = go (slot_at s row) e kept
+  where
+    go : (o : Found) → r ≡ row_least o value line q → ((from upto : ℕ) → o ≡ Once from upto → Member (part p from upto) i q level value) → Row p o i q level r
+    go Missing e kept = row-missing at refl e
+    go (Once from upto) e kept = row-once refl (rw e (kept from upto refl))
+    go Twice e kept = row-twice at refl e
 
 under_less : (level : ℕ) → (level ≡ 0 → ⊥) → (test : ℕ → Bool) → under level test ≡ true → test (level - 1) ≡ true
 under_less zero n test e = absurd (n refl)
 under_less (suc l) n test e = let z : suc l - 1 ≡ l = omega arith in rw z e
 
 -- an object: lines that are not there, and what is no object
-module _ {p : List ℕ} {first count field : ℕ} {q : Place} {level : ℕ} {r : Least} where
+module _ {p : List ℕ} {first count field : ℕ} {q : Place} {level : ℕ} {r : Option Fault} where
   pub object_shut : level ≡ 0 → Object p first count field q level r
   unfolding judgeable
   object_shut z =
@@ -196,7 +197,7 @@ module _ {p : List ℕ} {first count field : ℕ} {q : Place} {level : ℕ} {r :
   pub object-past : line_count < first + count → Object p first count field q level r
   object-past h = record { is = λ rows l c e x w. absurd (omega (arith, l.fits, how_many)) }
 
-module _ (p : List ℕ) (n first count field : ℕ) (q : Place) (level : ℕ) {r : Least} {b : ℕ} (by : b ≡ brackets_of (kind_at p)) where
+module _ (p : List ℕ) (n first count field : ℕ) (q : Place) (level : ℕ) {r : Option Fault} {b : ℕ} (by : b ≡ brackets_of (kind_at p)) where
   pub object-other : (b ≡ code "{" → ⊥) → r ≡ least (faulty q field (wrong_type ∷ [])) → Object (take n p) first count field q level r
   object-other other h = record { is = λ rows l c e x w. h ∙ sym (ap least (no-members p n w (λ k. other (by ∙ k)) rows q field)) }
 

@@ -1,5 +1,5 @@
 -- Files and the first rule that each breaks, computed.
-use Rattle.std.specs.Prelude.{List, [], ◌∷◌, ◌++◌, refl, ℕ, zero, suc}
+use Rattle.std.specs.Prelude.{List, [], ◌∷◌, ◌++◌, refl, ℕ, zero, suc, Option, None, Some}
 use Prim.Native.String.{String}
 use Rattle.notation.specs.Case.{Case, Answers, json}
 use Rattle.walk.specs.Part.{part_tree}
@@ -8,12 +8,11 @@ use Rattle.calendar.specs.Cases.{dating}
 use Rattle.schema.specs.Shape.{file_shape}
 use Rattle.schema.specs.Tables.{table_at}
 use Rattle.schema.specs.Pick.{find}
-use Rattle.fault.specs.declared.Least.{Least}
-use Rattle.fault.specs.declared.Least.TheVariants.{None, Is}
 use Rattle.fault.specs.Fault.{fault, before, lesser, least, faulty}
 use Rattle.scalar.specs.Scalars.{any_money, price_money, pricing, any_word, capitals, currency}
 use Rattle.rings.specs.Cases.{ringing}
 use Rattle.judge.specs.Faults.{each_item, faults_by, file_faults_by, file_faults}
+use Rattle.fault.specs.declared.Fault.{Fault}
 
 -- opens every definition of stage B
 unfoldable pub judging : Unit {0}
@@ -57,11 +56,11 @@ second_rule rule = zone [] (json "'rules':[{'ride_allowed':true,'ride_through_al
 abbrev polygons : String → List ℕ
 polygons s = zone (json s) []
 
-abbrev broken : (rec field sub kind : ℕ) → Least
-broken rec field sub kind = Is (fault rec field sub kind)
+abbrev broken : (rec field sub kind : ℕ) → Option Fault
+broken rec field sub kind = Some (fault rec field sub kind)
 
 -- a file by its number and text
-abbrev files : List (Case (ℕ × List ℕ) Least)
+abbrev files : List (Case (ℕ × List ℕ) (Option Fault))
 files =
     -- the header
     ("no record", (4, in_data (json "{'bikes':[]}")), None) ∷

@@ -1,11 +1,10 @@
 -- What document 02's request W13 lets a reader count on, beyond the definition of a zone's faults: the word can say every position's number, and without
 -- further rings the faults are those of before. `proofs/Coordinates` shows it.
-use Rattle.std.specs.Prelude.{true, ◌≡◌, ℕ, ◌+◌, ◌*◌, ◌≤◌, ◌<◌}
+use Rattle.std.specs.Prelude.{true, ◌≡◌, ℕ, ◌+◌, ◌*◌, ◌≤◌, ◌<◌, Some}
 use mathlib.Core.List.{List, [], ◌∷◌, Memᴰ}
 use Rattle.limits.specs.Ceilings as ceiling
 use Rattle.schema.specs.Pick.{Picked, PickedItems, items, list_of, elements}
 use Rattle.fault.specs.declared.Fault.{Fault}
-use Rattle.fault.specs.declared.Least.TheVariants.{Is}
 use Rattle.fault.specs.Fault.{least}
 use Rattle.rings.specs.Rings.{numbered, count, item_count, polygon_positions, item_total, are_zone_counts}
 use Rattle.rings.specs.OneRing.{coordinates_of_one, OneRingAtMost}
@@ -34,6 +33,6 @@ pub record Coordinates : Type 0 where
   pub sixteen : greatest < (ceiling.zone_rings + 1) * ceiling.positions
   -- whatever a zone holds, its first fault fits the word
   pub first_fits : (p : Place) (field : ℕ) (is : PickedItems) (f : Fault) → p.«record» ≤ greatest → field ≤ fields
-      → least (coordinate_faults p field (items is)) ≡ Is f → Fitting f
+      → least (coordinate_faults p field (items is)) ≡ Some f → Fitting f
   -- where no polygon has more than one ring, the faults of before are found and no other
   pub one_ring : (p : Place) (field : ℕ) (is : PickedItems) → OneRingAtMost (list_of is) → coordinate_faults p field (items is) ≡ numbered p.«record» field (coordinates_of_one is)

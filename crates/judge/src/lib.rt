@@ -13,63 +13,53 @@ ghost use Rattle.judge.specs.Faults.{file_faults};
 ghost use Rattle.judge.specs.inner.Judged.{absence_of, item_place_of};
 
 use crate::part::judge_object;
-use fault::{Least, Place};
+use fault::{Fault, Place};
 use schema::Line;
 use schema::lines::{file_lines, table_bytes};
 use word::kind::Kind;
 
 pub mod part;
+pub mod row;
 
 // A member that is not there.
-fn absent(place: Place, line: Line) -> Least
+#[tactic(auto, unfolding(fault::specs::Fault::faulty, fault::specs::Fault::least))]
+fn absent(place: Place, line: Line) -> Option<Fault>
     ensures { result ≡ least (faulty place line.field (absence_of line.need)) }
 {
     if line.need == Line::REQUIRED {
-        return place.broken(line.field, Kind::MISSING);
+        place.broken(line.field, Kind::MISSING)
+    } else {
+        None
     }
-    place.broken(line.field, 0)
 }
 
 // An array of n items.
-fn excess(place: Place, line: Line, n: u32) -> Least
+#[tactic(auto, unfolding(fault::specs::Fault::faulty, fault::specs::Fault::least))]
+fn excess(place: Place, line: Line, n: u32) -> Option<Fault>
     ensures { result ≡ least (faulty place line.field (unless (leb n line.most) too_many)) }
 {
-    let most = wide(line.most);
-    if most < n {
-        return place.broken(line.field, Kind::TOO_MANY);
+    if n <= u32::from(line.most) {
+        None
+    } else {
+        place.broken(line.field, Kind::TOO_MANY)
     }
-    place.broken(line.field, 0)
 }
 
 // An array's n-th item.
 fn item(place: Place, numbering: u8, n: u32) -> Place
     ensures { result ≡ item_place_of numbering n place }
 {
-    if numbering == Line::RECORDS {
-        return Place {
-            record: n,
-            sub: place.sub,
-        };
+    match numbering {
+        Line::RECORDS => Place { record: n, ..place },
+        Line::SUBS => Place { sub: n, ..place },
+        _ => place,
     }
-    if numbering == Line::SUBS {
-        return Place {
-            record: place.record,
-            sub: n,
-        };
-    }
-    place
-}
-
-fn wide(x: u16) -> u32
-    ensures { result ≡ x }
-{
-    x as u32
 }
 
 // What the value at the front of some bytes breaks first, and where it ends; 0 where none stands there.
-#[derive(Clone, Copy)]
+#[derive(Clone, Copy, Debug, PartialEq, Eq)]
 pub struct Judged {
-    pub least: Least,
+    pub least: Option<Fault>,
     pub end: usize,
 }
 
@@ -77,16 +67,15 @@ pub struct Judged {
 const LEVELS: u8 = 8;
 
 // The first broken rule of a file of a sheet, of which p is the value; no rule holds for a number that no sheet has.
-pub fn judge_file(p: &[u8], sheet: u8) -> Least
+pub fn judge_file(p: &[u8], sheet: u8) -> Option<Fault>
     requires { length p.now ≤ file_bytes }
     ensures { (x : Json) → Whole p.now x → result ≡ least (file_faults (sheet_shape sheet) x) }
 {
     let lines = file_lines(sheet);
     if lines.count == 0 {
-        return Least::None;
+        return None;
     }
     let top = Place { record: 0, sub: 0 };
     let table = table_bytes();
-    let judged = judge_object(p, &table, lines.first, lines.count, 0, top, LEVELS);
-    judged.least
+    judge_object(p, &table, lines.first, lines.count, 0, top, LEVELS).least
 }

@@ -7,7 +7,7 @@ ghost use Rattle.walk.specs.Part.{Whole};
 ghost use Rattle.walk.specs.inner.Kind.{kind_at};
 ghost use Rattle.walk.specs.inner.Front.{Ends};
 ghost use Rattle.schema.specs.Pick.{pick};
-ghost use Rattle.schema.specs.inner.Line.{line_at, bytes_of};
+ghost use Rattle.schema.specs.inner.Line.{bytes_of};
 ghost use Rattle.schema.specs.Table23.{coordinates};
 ghost use Rattle.schema.specs.Tables.{sheets};
 ghost use Rattle.slots.specs.inner.Rows.{line_count};
@@ -15,17 +15,18 @@ ghost use Rattle.fault.specs.Fault.{least};
 ghost use Rattle.judge.specs.Faults.{coordinate_faults};
 ghost use Rattle.judge.specs.inner.Judged.{brackets_of, row_least, Single, Array, Member, RowsJudged, MembersJudged, Object};
 
+use crate::row::Row;
 use crate::{Judged, absent, excess, item};
-use fault::{Least, Place, lesser};
+use fault::{Fault, Place, lesser};
 use lexeme::blank::skip_blanks;
 use rings::Field;
 use rings::zone::judge_coordinates;
 use scalar::judge_scalar;
 use schema::Line;
 use schema::lines::line_at;
-use slots::{Slots, begins_blank, count_name, is_new, row_of};
+use slots::{Found, Slots, begins_blank, row_of};
 use walk::skip::skip_value;
-use walk::{NameStep, ValueKind, closed_end, next_place, pass_name, value_kind};
+use walk::{ValueKind, closed_end, next_place, pass_name, value_kind};
 use word::kind::Kind;
 
 // The letter of an array or an object, by the kind of the value p; 0 of any other.
@@ -35,28 +36,16 @@ fn brackets(p: &[u8]) -> u8
     match value_kind(p) {
         ValueKind::Array => Line::ARRAY,
         ValueKind::Object => Line::OBJECT,
-        ValueKind::String => 0,
-        ValueKind::Number => 0,
-        ValueKind::Boolean => 0,
-        ValueKind::Null => 0,
+        _ => 0,
     }
-}
-
-fn wide(x: u8) -> usize
-    ensures { result ≡ x }
-{
-    x as usize
 }
 
 // A value that is passed over, with what is known to be broken.
-fn passed(p: &[u8], broken: Least) -> Judged
-    ensures { Ends p.now result.end × (result.least ≡ broken) }
+fn passed(p: &[u8], least: Option<Fault>) -> Judged
+    ensures { Ends p.now result.end × (result.least ≡ least) }
 {
     let end = skip_value(p, 0);
-    Judged {
-        least: broken,
-        end: end,
-    }
+    Judged { least, end }
 }
 
 // The value of field 73: the first of its faults stands at a position's number.
@@ -71,77 +60,84 @@ fn judge_positions(p: &[u8], field: u8, place: Place) -> Judged
     let end = skip_value(p, 0);
     let owner = Field {
         record: place.record,
-        field: field,
+        field,
     };
     Judged {
         least: judge_coordinates(&p[..end], owner),
-        end: end,
+        end,
     }
 }
 
 // A value that is to be neither array nor object.
-fn judge_plain(p: &[u8], letter: u8, i: usize, line: Line, place: Place) -> Judged
-    requires { line ≡ line_at sheets i }
+fn judge_plain(p: &[u8], letter: u8, row: Row, place: Place) -> Judged
     ensures { Ends p.now result.end ×
-        ((level : ℕ) → (letter ≡ 0x7b → ⊥) → Single (take result.end p.now) letter i place level result.least) }
+        ((level : ℕ) → (letter ≡ 0x7b → ⊥) → Single (take result.end p.now) letter row.i place level result.least) }
 {
     let end = skip_value(p, 0);
-    let kind = judge_scalar(&p[..end], letter, i);
+    let kind = judge_scalar(&p[..end], letter, row.i);
     Judged {
-        least: place.broken(line.field, kind),
-        end: end,
+        least: place.broken(row.line.field, kind),
+        end,
     }
 }
 
-// A value that is no array, by its letter; line i tells the rest.
+// A value that is no array, by its letter; its row tells the rest.
 #[cycle(judge_array_judge_member_judge_members_judge_object_judge_single)]
 fn judge_single(
     p: &[u8],
     table: &[u8; Line::TABLE_BYTES],
     letter: u8,
-    i: usize,
-    line: Line,
+    row: Row,
     place: Place,
     level: u8,
 ) -> Judged
-    requires { (length p.now ≤ file_bytes) × (line ≡ line_at sheets i) × (table.now ≡ bytes_of sheets) }
-    ensures { Ends p.now result.end × Single (take result.end p.now) letter i place level result.least }
+    requires { (length p.now ≤ file_bytes) × (table.now ≡ bytes_of sheets) }
+    ensures { Ends p.now result.end × Single (take result.end p.now) letter row.i place level result.least }
 {
-    if Line::COUNT <= i {
-        return passed(p, Least::None);
+    let line = row.line;
+    if Line::COUNT <= row.i {
+        return passed(p, None);
     }
     if letter == Line::OBJECT {
-        return judge_object(p, table, i + 1, wide(line.inside), line.field, place, level);
+        return judge_object(
+            p,
+            table,
+            row.i + 1,
+            usize::from(line.inside),
+            line.field,
+            place,
+            level,
+        );
     }
-    judge_plain(p, letter, i, line, place)
+    judge_plain(p, letter, row, place)
 }
 
-// The array of line i: all of its items, and how many they are.
+// The array of a row: all of its items, and how many they are.
 #[cycle(judge_array_judge_member_judge_members_judge_object_judge_single)]
 fn judge_array(
     p: &[u8],
     table: &[u8; Line::TABLE_BYTES],
-    i: usize,
-    line: Line,
+    row: Row,
     place: Place,
     level: u8,
 ) -> Judged
-    requires { (length p.now ≤ file_bytes) × (line ≡ line_at sheets i) × (table.now ≡ bytes_of sheets) }
-    ensures { Ends p.now result.end × Array (take result.end p.now) i place level result.least }
+    requires { (length p.now ≤ file_bytes) × (table.now ≡ bytes_of sheets) }
+    ensures { Ends p.now result.end × Array (take result.end p.now) row.i place level result.least }
 {
+    let line = row.line;
     if line.numbering == Line::POSITIONS {
         return judge_positions(p, line.field, place);
     }
     if brackets(p) != Line::ARRAY {
         return passed(p, place.broken(line.field, Kind::WRONG_TYPE));
     }
-    let mut least = Least::None;
+    let mut least = None;
     let mut n: u32 = 0;
     let mut at: usize = 1;
     loop {
         let value = skip_blanks(p, at);
         let there = item(place, line.numbering, n + 1);
-        let item = judge_single(&p[value..], table, line.item, i, line, there, level);
+        let item = judge_single(&p[value..], table, line.item, row, there, level);
         if item.end == 0 {
             return Judged {
                 least: lesser(excess(place, line, n), least),
@@ -149,28 +145,27 @@ fn judge_array(
             };
         }
         n += 1;
-        let r = item.least;
-        least = lesser(least, r);
+        least = lesser(least, item.least);
         at = next_place(p, value + item.end);
     }
 }
 
-// The value of the member of line i; it is passed over where its name is not new.
+// The value of a row's member; it is passed over where its name is not new.
 #[cycle(judge_array_judge_member_judge_members_judge_object_judge_single)]
 fn judge_member(
     p: &[u8],
     table: &[u8; Line::TABLE_BYTES],
     new: bool,
-    i: usize,
-    line: Line,
+    row: Row,
     place: Place,
     level: u8,
 ) -> Judged
-    requires { (length p.now ≤ file_bytes) × (line ≡ line_at sheets i) × (table.now ≡ bytes_of sheets) }
-    ensures { Ends p.now result.end × (new ≡ true → Member (take result.end p.now) i place level result.least) }
+    requires { (length p.now ≤ file_bytes) × (table.now ≡ bytes_of sheets) }
+    ensures { Ends p.now result.end × (new ≡ true → Member (take result.end p.now) row.i place level result.least) }
 {
+    let line = row.line;
     if !new {
-        return passed(p, Least::None);
+        return passed(p, None);
     }
     if begins_blank(p) {
         return Judged {
@@ -179,52 +174,46 @@ fn judge_member(
         };
     }
     if line.value == Line::ARRAY {
-        return judge_array(p, table, i, line, place, level);
+        return judge_array(p, table, row, place, level);
     }
-    judge_single(p, table, line.value, i, line, place, level)
+    judge_single(p, table, line.value, row, place, level)
 }
 
 // A least is kept for each row of an object, and one for the names that no row has.
 const KEPT: usize = Slots::ROWS + 1;
 
-// What a row of an object breaks first, by how often its name was met, and by what the value breaks that was met first.
-fn judge_row(met: u8, value: Least, line: Line, place: Place) -> Least
-    ensures { result ≡ row_least met value line place }
+// What a row of an object breaks first, by what the object holds under its name, and by what the value breaks that was met first.
+fn judge_row(found: Found, value: Option<Fault>, line: Line, place: Place) -> Option<Fault>
+    ensures { result ≡ row_least found value line place }
 {
-    if met == Slots::MISSING {
-        return absent(place, line);
+    match found {
+        Found::Missing => absent(place, line),
+        Found::Once(_, _) => value,
+        Found::Twice => place.broken(line.field, Kind::NAME_TWICE),
     }
-    if met == Slots::ONCE {
-        return value;
-    }
-    place.broken(line.field, Kind::NAME_TWICE)
 }
 
-// The rows of an object, `count` lines from `first` on, by the columns that its members filled.
+// The rows of an object, `count` lines from `first` on, by the slots that its members filled.
 fn judge_rows(
     table: &[u8; Line::TABLE_BYTES],
-    state: &[u8; Slots::ROWS],
-    leasts: [Least; KEPT],
+    slots: &Slots,
+    leasts: &[Option<Fault>; KEPT],
     first: usize,
     count: usize,
     place: Place,
-) -> Least
+) -> Option<Fault>
     requires { (table.now ≡ bytes_of sheets) × (first + count ≤ line_count) }
-    ensures { RowsJudged state.now leasts first count place result }
+    ensures { RowsJudged slots.now leasts.now first count place result }
 {
-    let mut least = Least::None;
+    let mut least = None;
     let mut i = first;
-    let mut row: usize = 0;
-    while row < Slots::ROWS {
+    for row in 0..Slots::ROWS {
         if first + count <= i {
             return least;
         }
         let line = line_at(table, i);
-        let met = state[row];
-        let value = leasts[row];
-        least = lesser(least, judge_row(met, value, line, place));
-        i = i + 1 + wide(line.inside);
-        row += 1;
+        least = lesser(least, judge_row(slots.at(row), leasts[row], line, place));
+        i += 1 + usize::from(line.inside);
     }
     least
 }
@@ -242,34 +231,26 @@ fn judge_members(
     requires { (length p.now ≤ file_bytes) × (first + count ≤ line_count) × (brackets_of (kind_at p.now) ≡ 0x7b) × (table.now ≡ bytes_of sheets) }
     ensures { Ends p.now result.end × MembersJudged (take result.end p.now) first count place level result.least }
 {
-    let none = Least::None;
-    let mut state: [u8; Slots::ROWS] = [Slots::MISSING; Slots::ROWS];
-    let mut leasts: [Least; KEPT] = [none; KEPT];
+    let mut slots = Slots::new();
+    let mut leasts: [Option<Fault>; KEPT] = [None; KEPT];
     let mut at: usize = 1;
-    loop {
-        match pass_name(p, at) {
-            NameStep::End => {
-                return Judged {
-                    least: judge_rows(table, &state, leasts, first, count, place),
-                    end: closed_end(p, at),
-                };
-            }
-            NameStep::Found(m) => {
-                let name = m.name;
-                let name_end = m.name_end;
-                let value = m.value;
-                let found = row_of(table, &p[name..name_end], first, count);
-                let row = found.row;
-                let i = found.line;
-                let line = line_at(table, i);
-                let new = is_new(&state, row);
-                let judged = judge_member(&p[value..], table, new, i, line, place, level);
-                count_name(&mut state, row);
-                let least = judged.least;
-                leasts[row] = least;
-                at = next_place(p, value + judged.end);
-            }
-        }
+    while let Some(m) = pass_name(p, at) {
+        let found = row_of(table, &p[m.name..m.name_end], first, count);
+        let i = found.line;
+        let row = Row {
+            i,
+            line: line_at(table, i),
+        };
+        let new = slots.is_new(found.row);
+        let judged = judge_member(&p[m.value..], table, new, row, place, level);
+        let value_end = m.value + judged.end;
+        slots.put(found.row, m.value, value_end);
+        leasts[found.row] = judged.least;
+        at = next_place(p, value_end);
+    }
+    Judged {
+        least: judge_rows(table, &slots, &leasts, first, count, place),
+        end: closed_end(p, at),
     }
 }
 
@@ -287,14 +268,8 @@ pub fn judge_object(
     requires { (length p.now ≤ file_bytes) × (table.now ≡ bytes_of sheets) }
     ensures { Ends p.now result.end × Object (take result.end p.now) first count field place level result.least }
 {
-    if level == 0 {
-        return passed(p, Least::None);
-    }
-    if Line::COUNT < first {
-        return passed(p, Least::None);
-    }
-    if Line::COUNT - first < count {
-        return passed(p, Least::None);
+    if level == 0 || Line::COUNT < first || Line::COUNT - first < count {
+        return passed(p, None);
     }
     if brackets(p) != Line::OBJECT {
         return passed(p, place.broken(field, Kind::WRONG_TYPE));

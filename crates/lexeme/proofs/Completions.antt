@@ -11,8 +11,6 @@ use Rattle.notation.proofs.Booleans.{by_test}
 use Rattle.word.specs.Kinds.{not_json}
 use Rattle.lexeme.specs.declared.Next.{Next}
 use Rattle.lexeme.specs.declared.Next.TheVariants.{Quote, Character, Fault}
-use Rattle.lexeme.specs.declared.Trail.{Trail}
-use Rattle.lexeme.specs.declared.Trail.TheVariants.{Low, Other}
 use Rattle.lexeme.specs.Read.Read.{done}
 use Rattle.lexeme.specs.Character.{byte, within, char1, char2, char3, char4, bytes_of, utf2, utf3, utf4, encoded, hex_value, hexadecimal, quad, trail, combined, alone, high, unit, unicode, short, escape, next}
 use Rattle.lexeme.specs.inner.Lead.{Lead, lead, next_by}
@@ -24,6 +22,7 @@ use Rattle.lexeme.proofs.Steps.{made_reads, string-quote, string-character, stri
 use Rattle.lexeme.proofs.Rows.{front}
 use Rattle.lexeme.proofs.Local.{Spans, encoded_spans}
 use Rattle.lexeme.proofs.StrongPrefixes.{closes}
+use Rattle.std.specs.Prelude.{Option, Some, None}
 
 -- a text that is a string's rest, whole
 pub record Whole (l : List ℕ) : Type 0 where
@@ -102,7 +101,7 @@ module _ (l : List ℕ) (t : Lead) (led : lead (byte l 0) ≡ t) where
         (next_led lone _ led ∙ is (byte l 0 ∷ lo ∷ 0x80 ∷ 0x80 ∷ 0x22 ∷ []) ∙ rw (fit, continuation)) refl)))
 
 -- escapes; a lone one takes six bytes, whatever its value
-unit-alone : (m : List ℕ) (v : ℕ) → trail (drop 6 m) ≡ Other → unit lone m v ≡ encoded v 5
+unit-alone : (m : List ℕ) (v : ℕ) → trail (drop 6 m) ≡ None → unit lone m v ≡ encoded v 5
 unfolding unit high alone
 unit-alone m v e =
     by_test (within 0xdc00 0xdfff v) (λ a. rw a) λ a.
@@ -116,10 +115,10 @@ encoded_completes l v t = go (encoded v t) (encoded_spans v t)
     go (Character x) s = tt
     go (Fault k n) s = absurd s
 
-high_completes : (l : List ℕ) (v : ℕ) (t : Trail) → Completes l (high lone v t)
+high_completes : (l : List ℕ) (v : ℕ) (t : Option ℕ) → Completes l (high lone v t)
 unfolding high alone
-high_completes l v Other = encoded_completes l v 5
-high_completes l v (Low w) = encoded_completes l (combined v w) 11
+high_completes l v None = encoded_completes l v 5
+high_completes l v (Some w) = encoded_completes l (combined v w) 11
 
 unit_completes : (l : List ℕ) (v : ℕ) → Completes l (unit lone l v)
 unfolding unit alone

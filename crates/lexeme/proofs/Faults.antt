@@ -20,8 +20,8 @@ use Rattle.lexeme.specs.Character.Surrogates.{lone}
 use Rattle.lexeme.specs.Strings.{string}
 use Rattle.lexeme.specs.Numbers.{digit, either, digits, some_digits, optional, both, nothing, integer, minus, fraction, exponent, number}
 use Rattle.lexeme.specs.Tokens.{literal}
-use Rattle.lexeme.proofs.Reading.{Shrinks, Ok, Consumed, StrongPrefix, Faulted, Faults}
-use Rattle.lexeme.proofs.Reading.Ok.{alike}
+use Rattle.lexeme.proofs.Reading.{Shrinks, Settled, Consumed, StrongPrefix, Faulted, Faults}
+use Rattle.lexeme.proofs.Reading.Settled.{alike}
 use Rattle.lexeme.proofs.Steps.{bad-done, done-bad, bad_kind, bad-rest, made_reads, made_fails, made-done, made-bad, literal_match, literal_differs, digits_more, digits_stop, some_digits-more, some_digits-none, integer-zero, integer-digits, optional-there, optional-absent, both-reads, both_fails, string-empty, string-inside, string-quote, string-fault, string-character, string-skip}
 use Rattle.lexeme.proofs.Shrinks.{shrinks_to, optional_shrinks, nothing_shrinks, some_digits_shrinks, fraction_shrinks, both_shrinks}
 use Rattle.lexeme.proofs.StrongPrefixes.{Fits, begins, unless, Unless, optional_takes, nothing_takes, integer_takes, fraction_takes, unsigned, both-done, closes}
@@ -210,10 +210,10 @@ both-late first second shrinks lf ls l k r e = go (first l) refl
         let n : length m ≤ length l = shrinks_to first shrinks l h in
         let j : length r < length m = ls m k r i in omega arith
 
-late_ok : (f : List ℕ → Read (List ℕ)) → Late f → (m r : List ℕ) → f m ≡ bad not_json r → (u : Faulted f m r) → Ok m (u.part ++ u.ending)
+late_ok : (f : List ℕ → Read (List ℕ)) → Late f → (m r : List ℕ) → f m ≡ bad not_json r → (u : Faulted f m r) → Settled m (u.part ++ u.ending)
 late_ok f late m r e u = go u.part u.splits
   where
-    go : (p : List ℕ) → m ≡ p ++ r → Ok m (p ++ u.ending)
+    go : (p : List ℕ) → m ≡ p ++ r → Settled m (p ++ u.ending)
     go [] s = let n : length r < length m = late m not_json r e in let h : length m ≡ length r = ap length s in absurd (omega arith)
     go (c ∷ p) s = rw s alike
 
@@ -271,8 +271,8 @@ no-fraction-there = refl
 
 unsigned-faults : Faults unsigned
 unsigned-faults =
-    both-faults Ok integer _ (λ b v w. alike) integer_takes
-    (both-faults Ok fraction exponent (λ b v w. alike) fraction_takes exponent-faults (λ l r e. (fraction-faults l r e, no-exponent-there)) (late_ok exponent exponent-late))
+    both-faults Settled integer _ (λ b v w. alike) integer_takes
+    (both-faults Settled fraction exponent (λ b v w. alike) fraction_takes exponent-faults (λ l r e. (fraction-faults l r e, no-exponent-there)) (late_ok exponent exponent-late))
     (λ l r e. (integer-faults l r e, no-fraction-there))
     (late_ok _ (both-late fraction exponent fraction_shrinks fraction-late exponent-late))
 

@@ -13,10 +13,6 @@ use Rattle.word.specs.Kinds.{not_json, unpaired}
 use Rattle.lexeme.specs.declared.Char.{Char}
 use Rattle.lexeme.specs.declared.Next.{Next}
 use Rattle.lexeme.specs.declared.Next.TheVariants.{Quote, Character, Fault}
-use Rattle.lexeme.specs.declared.Quad.{Quad}
-use Rattle.lexeme.specs.declared.Quad.TheVariants.{Value, Short}
-use Rattle.lexeme.specs.declared.Trail.{Trail}
-use Rattle.lexeme.specs.declared.Trail.TheVariants.{Low, Other}
 use Rattle.notation.specs.Choice.{◌⇒◌else◌}
 use Rattle.notation.proofs.Booleans.{by_test, true-false}
 use Rattle.lexeme.specs.Character.{Surrogates, byte, within, char2, char3, char4, utf2, utf3, utf4, encoded, hex_value, hexadecimal, quad, low_of, trail, combined, alone, high, unit, unicode, short, escape, next}
@@ -25,6 +21,7 @@ use Rattle.lexeme.specs.Character.Surrogates.{paired, lone}
 use Rattle.lexeme.specs.inner.Lead.Lead.{plain, quote, backslash, wrong, two, three_e0, three, three_ed, four_f0, four, four_f4}
 use Rattle.lexeme.proofs.Leads.{next-by, next_led}
 use Rattle.lexeme.proofs.Rows.{here, passed, row, Strict, Decided, all_met, failed, decided}
+use Rattle.std.specs.Prelude.{Result, Option, Ok, Err, Some, None}
 
 -- l and m have the same bytes up to the one at n
 abbrev pub Agree : ℕ → List ℕ → List ℕ → Type 0
@@ -120,15 +117,15 @@ encoded-near : (f : List ℕ → Next) (l : List ℕ) (v t : ℕ) → t < length
 encoded-near f l v t = spans_near f l (encoded v t) (encoded_spans v t)
 
 -- escapes
-abbrev pub QuadNear : List ℕ → Quad → Type 0
-QuadNear l (Value v) = (4 ≤ length l) × ((m : List ℕ) → Agree 3 l m → quad m ≡ Value v)
-QuadNear l (Short n) = (n ≤ length l) × ((m : List ℕ) → Agree n l m → quad m ≡ Short n)
+abbrev pub QuadNear : List ℕ → Result ℕ ℕ → Type 0
+QuadNear l (Ok v) = (4 ≤ length l) × ((m : List ℕ) → Agree 3 l m → quad m ≡ Ok v)
+QuadNear l (Err n) = (n ≤ length l) × ((m : List ℕ) → Agree n l m → quad m ≡ Err n)
 
 pub quad-near : (l : List ℕ) → QuadNear l (quad l)
 unfolding quad row hexadecimal hex_value within
-quad-near l = go (decided Short (hexadecimal ∷ hexadecimal ∷ hexadecimal ∷ hexadecimal ∷ []) (refl, (refl, (refl, (refl, tt)))) 0 l (omega arith))
+quad-near l = go (decided {A = Result ℕ ℕ} Err (hexadecimal ∷ hexadecimal ∷ hexadecimal ∷ hexadecimal ∷ []) (refl, (refl, (refl, (refl, tt)))) 0 l (omega arith))
   where
-    go : Decided Short (hexadecimal ∷ hexadecimal ∷ hexadecimal ∷ hexadecimal ∷ []) 0 l → QuadNear l (quad l)
+    go : Decided {A = Result ℕ ℕ} Err (hexadecimal ∷ hexadecimal ∷ hexadecimal ∷ hexadecimal ∷ []) 0 l → QuadNear l (quad l)
     go (all_met p each e) =
         rw (e _ l (λ j k. refl))
         (p, λ m g. e _ m (λ j k. g j (omega arith)) ∙ rw (g 0 (omega arith), g 1 (omega arith), g 2 (omega arith), g 3 (omega arith)))
@@ -137,12 +134,12 @@ quad-near l = go (decided Short (hexadecimal ∷ hexadecimal ∷ hexadecimal ∷
 encoded_far : (v t : ℕ) → 5 ≤ t → Far (encoded v t)
 encoded_far v t h = let c = encoded-char v t in rw c.is (rw c.takes h)
 
-high_far : (ρ : Surrogates) (v : ℕ) (t : Trail) → Far (high ρ v t)
+high_far : (ρ : Surrogates) (v : ℕ) (t : Option ℕ) → Far (high ρ v t)
 unfolding high alone
-high_far paired v Other = refl
-high_far lone v Other = encoded_far v 5 (omega arith)
-high_far paired v (Low w) = encoded_far (combined v w) 11 (omega arith)
-high_far lone v (Low w) = encoded_far (combined v w) 11 (omega arith)
+high_far paired v None = refl
+high_far lone v None = encoded_far v 5 (omega arith)
+high_far paired v (Some w) = encoded_far (combined v w) 11 (omega arith)
+high_far lone v (Some w) = encoded_far (combined v w) 11 (omega arith)
 
 no_short : eqb (short 0) 0 ≡ true
 unfolding short
@@ -202,11 +199,11 @@ module _ (ρ : Surrogates) (f : List ℕ → Next) (l : List ℕ) where
   unfolding unicode
   unicode-way there h = go (quad (drop 2 l)) refl (quad-near (drop 2 l))
     where
-      go : (d : Quad) → quad (drop 2 l) ≡ d → QuadNear (drop 2 l) d → Way ρ f l (unicode ρ l d)
-      go (Short n) e s =
+      go : (d : Result ℕ ℕ) → quad (drop 2 l) ≡ d → QuadNear (drop 2 l) d → Way ρ f l (unicode ρ l d)
+      go (Err n) e s =
           let j : n ≤ length l - 2 = simp length-drop at s.0 in
           near (omega arith, λ k m g. h m (λ i p. g i (omega arith)) ∙ ap (unicode ρ m) (s.1 (drop 2 m) (agree_drop 2 n l m (λ i p. g i (omega arith)))))
-      go (Value v) e s =
+      go (Ok v) e s =
           let j : 4 ≤ length l - 2 = simp length-drop at s.0 in
           unit-way v (omega arith) (λ m g. h m (λ i p. g i (omega arith)) ∙ ap (unicode ρ m) (s.1 (drop 2 m) (agree_drop 2 3 l m g)))
 
@@ -316,22 +313,22 @@ character-same ρ n l m x some e h s = go (subst (Way ρ (next ρ) l) e (next_wa
         ∙ sym (w l (λ i p. refl)) ∙ e
 
 -- a low surrogate escape is told by its six bytes
-trail-near : (l m : List ℕ) (w : ℕ) → trail l ≡ Low w → Agree 5 l m → trail m ≡ Low w
+trail-near : (l m : List ℕ) (w : ℕ) → trail l ≡ Some w → Agree 5 l m → trail m ≡ Some w
 unfolding trail low_of
 trail-near l m w e g =
     by_test (eqb (byte l 0) 0x5c)
     (λ a. by_test (eqb (byte l 1) 0x75)
     (λ b. go (quad (drop 2 l)) refl (quad-near (drop 2 l)) a b)
-    (λ b. let f : Other ≡ Low w = rw (trail, a, b) at e in let z : ◌≡◌ {A = ℕ} 0 1 = cc in absurd (omega arith)))
-    (λ a. let f : Other ≡ Low w = rw (trail, a) at e in let z : ◌≡◌ {A = ℕ} 0 1 = cc in absurd (omega arith))
+    (λ b. let f : None ≡ Some w = rw (trail, a, b) at e in let z : ◌≡◌ {A = ℕ} 0 1 = cc in absurd (omega arith)))
+    (λ a. let f : None ≡ Some w = rw (trail, a) at e in let z : ◌≡◌ {A = ℕ} 0 1 = cc in absurd (omega arith))
   where
     later : Agree 3 (drop 2 l) (drop 2 m)
     later i h = get_or-drop 2 l i 0 ∙ g (2 + i) (omega arith) ∙ sym (get_or-drop 2 m i 0)
 
-    go : (v : Quad) → quad (drop 2 l) ≡ v → QuadNear (drop 2 l) v → eqb (byte l 0) 0x5c ≡ true → eqb (byte l 1) 0x75 ≡ true → trail m ≡ Low w
-    go (Short n) i s a b = let f : Other ≡ Low w = rw (trail, a, b, i) at e in let z : ◌≡◌ {A = ℕ} 0 1 = cc in absurd (omega arith)
-    go (Value v) i s a b =
-        let f : low_of (Value v) ≡ Low w = rw (trail, a, b, i) at e in
+    go : (v : Result ℕ ℕ) → quad (drop 2 l) ≡ v → QuadNear (drop 2 l) v → eqb (byte l 0) 0x5c ≡ true → eqb (byte l 1) 0x75 ≡ true → trail m ≡ Some w
+    go (Err n) i s a b = let f : None ≡ Some w = rw (trail, a, b, i) at e in let z : ◌≡◌ {A = ℕ} 0 1 = cc in absurd (omega arith)
+    go (Ok v) i s a b =
+        let f : low_of (Ok v) ≡ Some w = rw (trail, a, b, i) at e in
         rw (← g 0 (omega arith), ← g 1 (omega arith), a, b, s.1 (drop 2 m) later) f
 
 -- a character is told by the bytes that it takes
@@ -343,16 +340,16 @@ character-near l m x some e g = go (subst (Way paired (next paired) l) e (next_w
     go (near w) = w.1 m g
     go (far v f there w) = pair (trail (drop 6 l)) refl
       where
-        is : (t : Trail) → trail (drop 6 l) ≡ t → high paired v t ≡ Character x
+        is : (t : Option ℕ) → trail (drop 6 l) ≡ t → high paired v t ≡ Character x
         is t i = ap (high paired v) (sym i) ∙ sym (w l (λ k p. refl)) ∙ e
 
-        pair : (t : Trail) → trail (drop 6 l) ≡ t → next paired m ≡ Character x
-        pair Other i = let z : ◌≡◌ {A = ℕ} 0 1 = cc (is Other i) in absurd (omega arith)
-        pair (Low z) i =
-            let n : x.more ≡ 11 = subst (Spans 11) (is (Low z) i) (encoded_spans (combined v z) 11) in
+        pair : (t : Option ℕ) → trail (drop 6 l) ≡ t → next paired m ≡ Character x
+        pair None i = let z : ◌≡◌ {A = ℕ} 0 1 = cc (is None i) in absurd (omega arith)
+        pair (Some z) i =
+            let n : x.more ≡ 11 = subst (Spans 11) (is (Some z) i) (encoded_spans (combined v z) 11) in
             w m (λ k p. g k (omega arith))
             ∙ ap (high paired v) (trail-near (drop 6 l) (drop 6 m) z i (λ k p. get_or-drop 6 l k 0 ∙ g (6 + k) (omega arith) ∙ sym (get_or-drop 6 m k 0)))
-            ∙ is (Low z) i
+            ∙ is (Some z) i
 
 -- only a quote ends a string
 pub quote-byte : (ρ : Surrogates) (b : ℕ) (l : List ℕ) → next ρ (b ∷ l) ≡ Quote → b ≡ 0x22

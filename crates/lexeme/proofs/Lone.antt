@@ -12,10 +12,6 @@ use borrow.Author.Tests.{eqb-true}
 use Rattle.notation.proofs.Booleans.{by_test}
 use Rattle.lexeme.specs.declared.Char.{Char}
 use Rattle.lexeme.specs.declared.Next.TheVariants.{Character}
-use Rattle.lexeme.specs.declared.Quad.{Quad}
-use Rattle.lexeme.specs.declared.Quad.TheVariants.{Value, Short}
-use Rattle.lexeme.specs.declared.Trail.{Trail}
-use Rattle.lexeme.specs.declared.Trail.TheVariants.{Low, Other}
 use Rattle.lexeme.specs.Read.{Read, made}
 use Rattle.lexeme.specs.Read.Read.{done, bad}
 use Rattle.lexeme.specs.Character.{byte, within, bytes_of, encoded, quad, low_of, trail, combined, alone, high, unit, unicode, escape, next}
@@ -23,6 +19,7 @@ use Rattle.lexeme.specs.Character.Surrogates.{lone}
 use Rattle.lexeme.specs.Strings.{string}
 use Rattle.lexeme.proofs.Steps.{string-character, string-skip}
 use Rattle.lexeme.proofs.Local.{Agree, Way, near, far, next_way, encoded-char}
+use Rattle.std.specs.Prelude.{Result, Option, Ok, Err, Some, None}
 
 -- a reading without its value
 abbrev pub bare : {A : Type 0} → Read A → Read (Unit {0})
@@ -43,18 +40,18 @@ encoded_passes b q v n e =
     character_passes b q c.char (e ∙ c.is) ∙ ap (λ k. bare (string lone k q)) c.takes
 
 -- what follows a high surrogate escape as a low one is read alone as one too
-no-low : {A : Type 0} {w : ℕ} → Other ≡ Low w → A
+no-low : {A : Type 0} {w : ℕ} → None ≡ Some w → A
 no-low e = let n : ◌≡◌ {A = ℕ} 0 1 = cc in absurd (omega arith)
 
-low_of-low : (d : Quad) (w : ℕ) → low_of d ≡ Low w → (d ≡ Value w) × (within 0xdc00 0xdfff w ≡ true)
+low_of-low : (d : Result ℕ ℕ) (w : ℕ) → low_of d ≡ Some w → (d ≡ Ok w) × (within 0xdc00 0xdfff w ≡ true)
 unfolding low_of
-low_of-low (Short n) w e = no-low e
-low_of-low (Value v) w e =
+low_of-low (Err n) w e = no-low e
+low_of-low (Ok v) w e =
     by_test (within 0xdc00 0xdfff v)
-    (λ a. let f : Low v ≡ Low w = rw a at e in let n : v ≡ w = cc in (ap Value n, rw n at a))
+    (λ a. let f : Some v ≡ Some w = rw a at e in let n : v ≡ w = cc in (ap Ok n, rw n at a))
     (λ a. no-low (rw a at e))
 
-low-next : (m : List ℕ) (w : ℕ) → trail m ≡ Low w → next lone m ≡ encoded w 5
+low-next : (m : List ℕ) (w : ℕ) → trail m ≡ Some w → next lone m ≡ encoded w 5
 unfolding trail next escape unicode unit alone
 low-next m w e =
     by_test (eqb (byte m 0) 0x5c)
@@ -65,7 +62,7 @@ low-next m w e =
     (λ b. no-low (rw (a, b) at e)))
     (λ a. no-low (rw a at e))
 
-low_passes : (m : List ℕ) (w : ℕ) → trail m ≡ Low w → bare (string lone 0 m) ≡ bare (string lone 0 (drop 6 m))
+low_passes : (m : List ℕ) (w : ℕ) → trail m ≡ Some w → bare (string lone 0 m) ≡ bare (string lone 0 (drop 6 m))
 low_passes [] w e = unfold trail in no-low e
 low_passes (c ∷ m) w e = encoded_passes c m w 5 (low-next (c ∷ m) w e) ∙ ap bare (string-skip lone 5 m)
 
@@ -73,9 +70,9 @@ pub high_passes : (b : ℕ) (q : List ℕ) (v : ℕ) → next lone (b ∷ q) ≡
 unfolding high alone
 high_passes b q v e = go (trail (drop 5 q)) refl
   where
-    go : (t : Trail) → trail (drop 5 q) ≡ t → bare (string lone 0 (b ∷ q)) ≡ bare (string lone 5 q)
-    go Other h = encoded_passes b q v 5 (e ∙ ap (high lone v) h)
-    go (Low w) h =
+    go : (t : Option ℕ) → trail (drop 5 q) ≡ t → bare (string lone 0 (b ∷ q)) ≡ bare (string lone 5 q)
+    go None h = encoded_passes b q v 5 (e ∙ ap (high lone v) h)
+    go (Some w) h =
         encoded_passes b q (combined v w) 11 (e ∙ ap (high lone v) h)
         ∙ ap bare (string-skip lone 11 q) ∙ ap (λ m. bare (string lone 0 m)) (sym (drop-drop 6 5 q))
         ∙ sym (low_passes (drop 5 q) w h) ∙ sym (ap bare (string-skip lone 5 q))

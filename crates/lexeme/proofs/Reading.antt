@@ -40,10 +40,10 @@ abbrev pub Stops : List ℕ → Type 0
 Stops [] = Unit {0}
 Stops (b ∷ q) = numeric b ≡ false
 
-pub data Ok : List ℕ → List ℕ → Type 0 where
-  alike : {b : ℕ} {v w : List ℕ} → Ok (b ∷ v) (b ∷ w)
-  same_end : {r : List ℕ} → Ok r r
-  stops : {r q : List ℕ} → Stops q → Ok r q
+pub data Settled : List ℕ → List ℕ → Type 0 where
+  alike : {b : ℕ} {v w : List ℕ} → Settled (b ∷ v) (b ∷ w)
+  same_end : {r : List ℕ} → Settled r r
+  stops : {r q : List ℕ} → Stops q → Settled r q
 
 -- f read x off the front of l and left r: what it took, and that it takes this the same before any q that C lets follow
 pub record Consumed {A : Type 0} (C : List ℕ → List ℕ → Type 0) (f : List ℕ → Read A) (l : List ℕ) (x : A) (r : List ℕ) : Type 0 where

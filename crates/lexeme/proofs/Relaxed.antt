@@ -11,10 +11,6 @@ use Rattle.word.specs.Kinds.{unpaired}
 use Rattle.lexeme.specs.declared.Char.{Char}
 use Rattle.lexeme.specs.declared.Next.{Next}
 use Rattle.lexeme.specs.declared.Next.TheVariants.{Quote, Character, Fault}
-use Rattle.lexeme.specs.declared.Quad.{Quad}
-use Rattle.lexeme.specs.declared.Quad.TheVariants.{Value, Short}
-use Rattle.lexeme.specs.declared.Trail.{Trail}
-use Rattle.lexeme.specs.declared.Trail.TheVariants.{Low, Other}
 use Rattle.lexeme.specs.Read.{Read, then, made}
 use Rattle.lexeme.specs.Read.Read.{done, bad}
 use Rattle.lexeme.specs.Character.{byte, within, quad, trail, alone, high, unit, unicode, escape, next, bytes_of}
@@ -28,6 +24,7 @@ use Rattle.lexeme.proofs.Leads.{next-by}
 use Rattle.lexeme.proofs.Steps.{string-empty, string-inside, string-quote, string-fault, string-character}
 use Rattle.lexeme.proofs.Shrinks.{rest-made, string_shrinks}
 use Rattle.lexeme.proofs.Local.{encoded-char}
+use Rattle.std.specs.Prelude.{Result, Option, Ok, Err, Some, None}
 
 -- the combinators
 pub made_relaxed : {A B : Type 0} {D : ℕ → Type 0} {o p : Read A} (f : A → B) → Relaxed D o p → Relaxed D (made f o) (made f p)
@@ -58,10 +55,10 @@ alone_lax : (v : ℕ) → Lax (alone paired v) (alone lone v)
 unfolding alone
 alone_lax v = rw (encoded-char v 5).is lets
 
-high_lax : (v : ℕ) (t : Trail) → Lax (high paired v t) (high lone v t)
+high_lax : (v : ℕ) (t : Option ℕ) → Lax (high paired v t) (high lone v t)
 unfolding high
-high_lax v Other = alone_lax v
-high_lax v (Low w) = alike
+high_lax v None = alone_lax v
+high_lax v (Some w) = alike
 
 unit_lax : (l : List ℕ) (v : ℕ) → Lax (unit paired l v) (unit lone l v)
 unfolding unit
@@ -69,10 +66,10 @@ unit_lax l v =
     by_test (within 0xdc00 0xdfff v) (λ a. rw a (alone_lax v)) λ a.
     by_test (within 0xd800 0xdbff v) (λ b. rw (a, b) (high_lax v (trail (drop 6 l)))) (λ b. rw (a, b) alike)
 
-unicode_lax : (l : List ℕ) (d : Quad) → Lax (unicode paired l d) (unicode lone l d)
+unicode_lax : (l : List ℕ) (d : Result ℕ ℕ) → Lax (unicode paired l d) (unicode lone l d)
 unfolding unicode
-unicode_lax l (Short n) = alike
-unicode_lax l (Value v) = unit_lax l v
+unicode_lax l (Err n) = alike
+unicode_lax l (Ok v) = unit_lax l v
 
 escape_lax : (l : List ℕ) → Lax (escape paired l) (escape lone l)
 unfolding escape

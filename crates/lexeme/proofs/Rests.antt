@@ -12,9 +12,6 @@ use Rattle.lexeme.specs.Character.{byte}
 pub place_at : (s : List ℕ) (i : ℕ) → i ≤ length s → i ≡ length s - length (drop i s)
 place_at s i h = simp length-drop (omega arith)
 
-pub place_end : (s : List ℕ) (i : ℕ) → length s ≤ i → length s ≡ length s - length (drop i s)
-place_end s i h = simp length-drop (omega arith)
-
 pub next-drop : (s : List ℕ) (i : ℕ) → drop 1 (drop i s) ≡ drop (i + 1) s
 next-drop s i = drop-drop 1 i s
 

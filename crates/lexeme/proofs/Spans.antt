@@ -8,13 +8,13 @@ use native.Mathlib.Omega.{arith}
 use lib.ListN.{length, drop, get_or, drop_of_length-le}
 use Rattle.notation.proofs.Booleans.{by_test}
 use Rattle.notation.proofs.Lists.{at_cons}
-use Rattle.lexeme.specs.declared.Scan.TheVariants.{End}
 use Rattle.lexeme.specs.Read.{made, placed}
 use Rattle.lexeme.specs.Read.Read.{done}
 use Rattle.lexeme.specs.Numbers.{digit, digits}
 use Rattle.lexeme.specs.Tokens.{blank, blanks}
 use Rattle.lexeme.proofs.Placed.{ends}
 use Rattle.lexeme.proofs.Rests.{place_at, rest_at, rest-after}
+use Rattle.std.specs.Prelude.{Ok}
 
 unfoldable pub past : (ℕ → Bool) → List ℕ → List ℕ
 past test [] = []
@@ -76,5 +76,5 @@ digits-past (b ∷ r) =
     let w = digits-past r in
     by_test (digit b) (λ e. (b ∷ w.0, rw (e, digits, past, w.1))) (λ e. ([], rw (e, digits, past)))
 
-pub digits-end : (s l : List ℕ) {n : ℕ} → n ≡ length s - length (past digit l) → End n ≡ placed s (digits l)
+pub digits-end : (s l : List ℕ) {n : ℕ} → n ≡ length s - length (past digit l) → Ok n ≡ placed s (digits l)
 digits-end s l {n} e = let d = digits-past l in ends s (past digit l) n _ e d.0 d.1

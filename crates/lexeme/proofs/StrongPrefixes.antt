@@ -18,8 +18,8 @@ use Rattle.lexeme.specs.Character.{Surrogates, bytes_of, next}
 use Rattle.lexeme.specs.Strings.{string, decoded}
 use Rattle.lexeme.specs.Numbers.{digit, either, digits, some_digits, optional, both, nothing, integer, minus, fraction, exponent, number}
 use Rattle.lexeme.specs.Tokens.{blank, blanks, literal}
-use Rattle.lexeme.proofs.Reading.{Shrinks, Consumes, Any, numeric, Ok, Consumed, StrongPrefix}
-use Rattle.lexeme.proofs.Reading.Ok.{alike, same_end, stops}
+use Rattle.lexeme.proofs.Reading.{Shrinks, Consumes, Any, numeric, Settled, Consumed, StrongPrefix}
+use Rattle.lexeme.proofs.Reading.Settled.{alike, same_end, stops}
 use Rattle.lexeme.proofs.Steps.{bad-done, done_what, done-rest, made_reads, made-done, then-done, string-empty, string-inside, string-quote, string-fault, string-character, decoded-character, blanks_pass, blanks_stop, literal_match, literal_differs, digits_more, digits_stop, some_digits-more, some_digits-none, integer-zero, integer-digits, optional-there, optional-absent, both-reads}
 use Rattle.lexeme.proofs.Shrinks.{shrinks_to, digits_shrinks, both_shrinks, fraction_shrinks, exponent_shrinks, minus_shrinks}
 use Rattle.lexeme.proofs.Local.{quote-byte, halts_end, halts_quote, Same, character-same}
@@ -206,7 +206,7 @@ still begins h = h
 still ends h = h
 still (unless i) h = i
 
-pub fits_ok : (test : ℕ → Bool) → ((b : ℕ) → numeric b ≡ false → test b ≡ false) → (r q : List ℕ) → Ok r q → Fits test r q
+pub fits_ok : (test : ℕ → Bool) → ((b : ℕ) → numeric b ≡ false → test b ≡ false) → (r q : List ℕ) → Settled r q → Fits test r q
 fits_ok test no_number r q alike = begins
 fits_ok test no_number r q same_end = ends
 fits_ok test no_number r [] (stops s) = unless tt
@@ -242,7 +242,7 @@ unfolding digits
 digits-none [] h = refl
 digits-none (b ∷ q) h = digits_stop b q h
 
-pub digits_takes : StrongPrefix Ok digits
+pub digits_takes : StrongPrefix Settled digits
 digits_takes [] r x e = absent_took digits digit (fits_ok digit no_digit) digits-none [] r x tt e
 digits_takes (b ∷ l) r x e =
     let ih = digits_takes l r in
@@ -250,14 +250,14 @@ digits_takes (b ∷ l) r x e =
     (λ h. there_took digits digits b l r x (λ m. digits_more b m h) ih e)
     (λ h. absent_took digits digit (fits_ok digit no_digit) digits-none (b ∷ l) r x h e)
 
-pub some_digits_takes : StrongPrefix Ok some_digits
+pub some_digits_takes : StrongPrefix Settled some_digits
 some_digits_takes [] r x e = unfold some_digits in bad-done e
 some_digits_takes (b ∷ l) r x e =
     by_test (digit b)
     (λ h. there_took some_digits digits b l r x (λ m. some_digits-more b m h) (digits_takes l r) e)
     (λ h. bad-done (sym (some_digits-none b l h) ∙ e))
 
-pub integer_takes : StrongPrefix Ok integer
+pub integer_takes : StrongPrefix Settled integer
 integer_takes [] r x e = unfold integer in bad-done e
 integer_takes (b ∷ l) r x e =
     by_test (eqb b 0x30)
@@ -319,15 +319,15 @@ module _ (first second : List ℕ → Read (List ℕ)) where
       let n : length r ≤ length p.1 = shrinks_to second shrinks p.1 p.4 in
       let h : length p.1 < length l = consumes l p.1 p.0 p.3 in omega arith
 
-pub ok_part : (m r p q : List ℕ) → m ≡ p ++ r → Ok r q → Ok m (p ++ q)
+pub ok_part : (m r p q : List ℕ) → m ≡ p ++ r → Settled r q → Settled m (p ++ q)
 ok_part m r [] q e o = rw e o
 ok_part m r (c ∷ p) q e o = rw e alike
 
 -- an optional sign, and a number that has no sign
-signed_takes : (test : ℕ → Bool) (f : List ℕ → Read (List ℕ)) → Consumes f → StrongPrefix Ok f → StrongPrefix Ok (both (optional test nothing) f)
+signed_takes : (test : ℕ → Bool) (f : List ℕ → Read (List ℕ)) → Consumes f → StrongPrefix Settled f → StrongPrefix Settled (both (optional test nothing) f)
 signed_takes test f consumes takes = both_takes (optional test nothing) f (optional_takes test nothing (λ r q o. o) nothing_takes) takes joins
   where
-    joins : (m r z : List ℕ) → f m ≡ done z r → (p q : List ℕ) → m ≡ p ++ r → Ok r q → Fits test m (p ++ q)
+    joins : (m r z : List ℕ) → f m ≡ done z r → (p q : List ℕ) → m ≡ p ++ r → Settled r q → Fits test m (p ++ q)
     joins m r z e [] q s o = let n : length r < length m = consumes m r z e in let h : length m ≡ length r = ap length s in absurd (omega arith)
     joins m r z e (c ∷ p) q s o = rw s begins
 
@@ -347,11 +347,11 @@ integer_consumes (b ∷ l) r x e =
     (λ h. let f : done (b ∷ []) l ≡ done x r = sym (integer-zero b l h) ∙ e in let n : length l ≡ length r = ap length (done-rest f) in omega arith)
     (λ h. some_digits_consumes (b ∷ l) r x (sym (integer-digits b l h) ∙ e))
 
-pub fraction_takes : StrongPrefix Ok fraction
+pub fraction_takes : StrongPrefix Settled fraction
 unfolding fraction
 fraction_takes = optional_takes (λ b. eqb b 0x2e) some_digits (fits_ok (λ b. eqb b 0x2e) no-point) some_digits_takes
 
-pub exponent_takes : StrongPrefix Ok exponent
+pub exponent_takes : StrongPrefix Settled exponent
 unfolding exponent
 exponent_takes = optional_takes (either 0x65 0x45) _ (fits_ok (either 0x65 0x45) no-exponent) (signed_takes (either 0x2b 0x2d) some_digits some_digits_consumes some_digits_takes)
 
@@ -362,13 +362,13 @@ unsigned = both integer (both fraction exponent)
 pub unsigned_consumes : Consumes unsigned
 unsigned_consumes = both_consumes_first integer _ integer_consumes (both_shrinks fraction exponent fraction_shrinks exponent_shrinks)
 
-pub unsigned_takes : StrongPrefix Ok unsigned
+pub unsigned_takes : StrongPrefix Settled unsigned
 unsigned_takes =
     both_takes integer _ integer_takes
     (both_takes fraction exponent fraction_takes exponent_takes (λ m r z e p q. ok_part m r p q))
     (λ m r z e p q. ok_part m r p q)
 
-pub number_takes : StrongPrefix Ok number
+pub number_takes : StrongPrefix Settled number
 unfolding number minus
 number_takes = signed_takes (λ b. eqb b 0x2d) unsigned unsigned_consumes unsigned_takes
 

@@ -11,21 +11,18 @@ use Rattle.notation.proofs.Booleans.{by_test, true-false}
 use Rattle.lexeme.specs.declared.Char.{Char}
 use Rattle.lexeme.specs.declared.Next.{Next}
 use Rattle.lexeme.specs.declared.Next.TheVariants.{Quote, Character, Fault}
-use Rattle.lexeme.specs.declared.Quad.{Quad}
-use Rattle.lexeme.specs.declared.Quad.TheVariants.{Value, Short}
-use Rattle.lexeme.specs.declared.Trail.{Trail}
-use Rattle.lexeme.specs.declared.Trail.TheVariants.{Low, Other}
 use Rattle.lexeme.specs.Character.{Surrogates, paired, byte, within, char1, bytes_of, encoded, hex_value, hexadecimal, quad, low_of, trail, combined, alone, high, unit, unicode, short, escape, next}
 use Rattle.lexeme.specs.Utf8.{Scalar, Unescaped, bytes_in, utf8, code_point, Escape, Agreement}
 use Rattle.lexeme.proofs.Local.{encoded-char, choice}
 use Rattle.lexeme.proofs.StrongPrefixes.{closes}
 use Rattle.lexeme.proofs.Utf8Reads.{between, bounds, below, above, reads, single, control, escapes}
 use Rattle.lexeme.proofs.Utf8Values.{decodes, unique, encoded1, unescaped}
+use Rattle.std.specs.Prelude.{Result, Option, Ok, Err, Some, None}
 
 -- four digits make a value of four digits
-abbrev Small : Quad → Type 0
-Small (Value v) = v < 0x10000
-Small (Short n) = Unit {0}
+abbrev Small : Result ℕ ℕ → Type 0
+Small (Ok v) = v < 0x10000
+Small (Err n) = Unit {0}
 
 digit-small : (b : ℕ) → hexadecimal b ≡ true → hex_value b < 16
 unfolding hexadecimal
@@ -63,7 +60,7 @@ module _ (ρ : Surrogates) (v : ℕ) (l : List ℕ) (e : Escape v l) where
         escape-unit ∙ rw (narrower 0xd800 0xdfff 0xdc00 0xdfff v (omega arith) (omega arith) n, narrower 0xd800 0xdfff 0xd800 0xdbff v (omega arith) (omega arith) n),
       )
 
-low-trail : (w : ℕ) (l : List ℕ) → Escape w l → within 0xdc00 0xdfff w ≡ true → trail l ≡ Low w
+low-trail : (w : ℕ) (l : List ℕ) → Escape w l → within 0xdc00 0xdfff w ≡ true → trail l ≡ Some w
 unfolding trail low_of
 low-trail w l e i = rw (e.backslash, e.letter, e.digits, i)
 
@@ -130,10 +127,10 @@ short-coded : (v more : ℕ) → v < 0x80 → Coded (char1 v more)
 short-coded v more h =
     subst Coded (encoded1 v more h) (encoded-coded v more (record { most = omega arith; no_surrogate = below 0xd800 0xdfff v (omega arith) }))
 
-pair-coded : (v : ℕ) (t : Trail) → Coded (high paired v t)
+pair-coded : (v : ℕ) (t : Option ℕ) → Coded (high paired v t)
 unfolding high alone
-pair-coded v Other = tt
-pair-coded v (Low w) = encoded-coded (combined v w) 11 (combined-scalar v w)
+pair-coded v None = tt
+pair-coded v (Some w) = encoded-coded (combined v w) 11 (combined-scalar v w)
 
 neither : (v : ℕ) → within 0xdc00 0xdfff v ≡ false → within 0xd800 0xdbff v ≡ false → within 0xd800 0xdfff v ≡ false
 neither v a b =
@@ -144,10 +141,10 @@ neither v a b =
     (λ h. true-false (between 0xdc00 0xdfff v (ltb-false v 0xdc00 h) p.1) a))
     (λ e. e)
 
-unicode-coded : (l : List ℕ) (d : Quad) → Small d → Coded (unicode paired l d)
+unicode-coded : (l : List ℕ) (d : Result ℕ ℕ) → Small d → Coded (unicode paired l d)
 unfolding unicode unit alone
-unicode-coded l (Short n) s = tt
-unicode-coded l (Value v) s =
+unicode-coded l (Err n) s = tt
+unicode-coded l (Ok v) s =
     by_test (within 0xdc00 0xdfff v) (λ a. rw a tt) λ a.
     by_test (within 0xd800 0xdbff v) (λ b. rw (a, b) (pair-coded v (trail (drop 6 l)))) λ b.
     rw (a, b) (encoded-coded v 5 (record { most = omega arith; no_surrogate = neither v a b }))

@@ -1,15 +1,11 @@
 -- One character of a JSON string, as RFC 8259 spells it and RFC 3629 encodes it: found by looking at most twelve bytes ahead.
 -- Past the end of the text every byte reads as 0, and no place of a string admits a 0, so that a text which is cut off fails by the same tests.
-use Rattle.std.specs.Prelude.{Bool, false, not, List, [], ◌∷◌, ℕ, ◌+◌, ◌-◌, ◌*◌, ◌/◌, ◌%◌, drop, get_or, take, eqb, leb, ltb}
+use Rattle.std.specs.Prelude.{Bool, false, not, List, [], ◌∷◌, ℕ, ◌+◌, ◌-◌, ◌*◌, ◌/◌, ◌%◌, drop, get_or, take, eqb, leb, ltb, Result, Option, Ok, Err, Some, None}
 use Rattle.notation.specs.Choice.{◌⇒◌else◌}
 use Rattle.word.specs.Kinds.{not_json, unpaired}
 use Rattle.lexeme.specs.declared.Char.{Char}
 use Rattle.lexeme.specs.declared.Next.{Next}
 use Rattle.lexeme.specs.declared.Next.TheVariants.{Quote, Character, Fault}
-use Rattle.lexeme.specs.declared.Quad.{Quad}
-use Rattle.lexeme.specs.declared.Quad.TheVariants.{Value, Short}
-use Rattle.lexeme.specs.declared.Trail.{Trail}
-use Rattle.lexeme.specs.declared.Trail.TheVariants.{Low, Other}
 
 -- how surrogate escapes are read: a lone one is kind 3, as stage A has it; or lets pass, as kind 2's grammar has it
 pub data Surrogates : Type 0 where
@@ -75,24 +71,24 @@ unfoldable pub hexadecimal : ℕ → Bool
 hexadecimal b = ltb (hex_value b) 16
 
 -- the four hexadecimal digits at the front
-unfoldable pub quad : List ℕ → Quad
+unfoldable pub quad : List ℕ → Result ℕ ℕ
 quad l =
-    not (hexadecimal (byte l 0)) ⇒ Short 0 else
-    not (hexadecimal (byte l 1)) ⇒ Short 1 else
-    not (hexadecimal (byte l 2)) ⇒ Short 2 else
-    not (hexadecimal (byte l 3)) ⇒ Short 3 else
-    Value (hex_value (byte l 0) * 4096 + hex_value (byte l 1) * 256 + hex_value (byte l 2) * 16 + hex_value (byte l 3))
+    not (hexadecimal (byte l 0)) ⇒ Err 0 else
+    not (hexadecimal (byte l 1)) ⇒ Err 1 else
+    not (hexadecimal (byte l 2)) ⇒ Err 2 else
+    not (hexadecimal (byte l 3)) ⇒ Err 3 else
+    Ok (hex_value (byte l 0) * 4096 + hex_value (byte l 1) * 256 + hex_value (byte l 2) * 16 + hex_value (byte l 3))
 
 -- four digits as the value of a low surrogate, or anything else
-unfoldable pub low_of : Quad → Trail
-low_of (Short n) = Other
-low_of (Value w) = within 0xdc00 0xdfff w ⇒ Low w else Other
+unfoldable pub low_of : Result ℕ ℕ → Option ℕ
+low_of (Err n) = None
+low_of (Ok w) = within 0xdc00 0xdfff w ⇒ Some w else None
 
 -- a whole low surrogate escape at the front, or anything else
-unfoldable pub trail : List ℕ → Trail
+unfoldable pub trail : List ℕ → Option ℕ
 trail l =
-    not (eqb (byte l 0) 0x5c) ⇒ Other else
-    not (eqb (byte l 1) 0x75) ⇒ Other else
+    not (eqb (byte l 0) 0x5c) ⇒ None else
+    not (eqb (byte l 1) 0x75) ⇒ None else
     low_of (quad (drop 2 l))
 
 -- the code point of a high and a low surrogate
@@ -105,9 +101,9 @@ alone paired v = Fault unpaired 0
 alone lone v = encoded v 5
 
 -- a high surrogate escape of the value v, by what follows it
-unfoldable pub high : Surrogates → ℕ → Trail → Next
-high ρ v Other = alone ρ v
-high ρ v (Low w) = encoded (combined v w) 11
+unfoldable pub high : Surrogates → ℕ → Option ℕ → Next
+high ρ v None = alone ρ v
+high ρ v (Some w) = encoded (combined v w) 11
 
 -- the escape \u of the value v, its backslash at the front; surrogates pair from left to right
 unfoldable pub unit : Surrogates → List ℕ → ℕ → Next
@@ -117,9 +113,9 @@ unit ρ l v =
     encoded v 5
 
 -- the escape \u, by its four digits
-unfoldable pub unicode : Surrogates → List ℕ → Quad → Next
-unicode ρ l (Short n) = Fault not_json (n + 2)
-unicode ρ l (Value v) = unit ρ l v
+unfoldable pub unicode : Surrogates → List ℕ → Result ℕ ℕ → Next
+unicode ρ l (Err n) = Fault not_json (n + 2)
+unicode ρ l (Ok v) = unit ρ l v
 
 -- what the byte after a backslash stands for, or 0
 unfoldable pub short : ℕ → ℕ

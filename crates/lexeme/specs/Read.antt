@@ -1,8 +1,7 @@
 -- Reading from the front of a text, as all of stage A does it. A reader finds a value and the text after it,
 -- or a fault: its kind, and what is left from there. A fault's offset is thus the whole text's length less what is left.
-use Rattle.std.specs.Prelude.{ℕ, ◌-◌, List, length}
-use Rattle.lexeme.specs.declared.Scan.{Scan}
-use Rattle.lexeme.specs.declared.Scan.TheVariants.{End, Fault}
+use Rattle.std.specs.Prelude.{ℕ, ◌-◌, List, length, Result, Ok, Err}
+use Rattle.lexeme.specs.declared.SyntaxError.{SyntaxError}
 
 pub data Read (A : Type 0) : Type 0 where
   done : A → List ℕ → Read A
@@ -18,7 +17,10 @@ unfoldable pub made : {A B : Type 0} → (A → B) → Read A → Read B
 made f (done x r) = done (f x) r
 made f (bad k r) = bad k r
 
+abbrev pub wrong_at : {A : Type 0} → (kind offset : ℕ) → Result A SyntaxError
+wrong_at kind offset = Err (record { kind = kind; offset = offset })
+
 -- where reading ended in the whole text s
-unfoldable pub placed : {A : Type 0} → List ℕ → Read A → Scan
-placed s (done x r) = End (length s - length r)
-placed s (bad k r) = Fault k (length s - length r)
+unfoldable pub placed : {A : Type 0} → List ℕ → Read A → Result ℕ SyntaxError
+placed s (done x r) = Ok (length s - length r)
+placed s (bad k r) = wrong_at k (length s - length r)

@@ -1,11 +1,10 @@
 -- UTF-8 by RFC 3629, over all scalar values: the bytes that a string holds as an unescaped character are those that an escape of the same code point
 -- gives. Each field of `Agreement` is one sentence of this, with what it shuts out.
-use Rattle.std.specs.Prelude.{true, false, List, [], ◌∷◌, ◌++◌, ◌≡◌, ℕ, ◌+◌, ◌-◌, ◌*◌, ◌/◌, ◌%◌, ◌≤◌, ◌<◌, length, drop}
+use Rattle.std.specs.Prelude.{true, false, List, [], ◌∷◌, ◌++◌, ◌≡◌, ℕ, ◌+◌, ◌-◌, ◌*◌, ◌/◌, ◌%◌, ◌≤◌, ◌<◌, length, drop, Ok}
 use Rattle.word.specs.Kinds.{not_json}
 use Rattle.lexeme.specs.declared.Char.{Char}
 use Rattle.lexeme.specs.declared.Next.{Next}
 use Rattle.lexeme.specs.declared.Next.TheVariants.{Quote, Character, Fault}
-use Rattle.lexeme.specs.declared.Quad.TheVariants.{Value}
 use Rattle.lexeme.specs.Character.{Surrogates, paired, byte, within, bytes_of, encoded, quad, combined, escape, next}
 
 -- a scalar value: a code point that is no surrogate
@@ -48,7 +47,7 @@ pub record Stands (v : ℕ) (x : Char) (l : List ℕ) : Type 0 where
 pub record Escape (v : ℕ) (l : List ℕ) : Type 0 where
   pub backslash : byte l 0 ≡ 0x5c
   pub letter : byte l 1 ≡ 0x75
-  pub digits : quad (drop 2 l) ≡ Value v
+  pub digits : quad (drop 2 l) ≡ Ok v
 
 pub record Agreement : Type 0 where
   -- No code point is lost in its encoding, so no two share one. Shut out: a first byte with too few bits of the value.

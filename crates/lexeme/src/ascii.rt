@@ -3,29 +3,23 @@ ghost use Rattle.std.specs.Prelude.{◌≡◌};
 ghost use Rattle.lexeme.specs.Numbers.{digit, either};
 ghost use Rattle.lexeme.specs.Tokens.{blank};
 
+#[tactic(auto, unfolding(crate::specs::Numbers::either))]
 pub fn is_either(b: u8, x: u8, y: u8) -> bool
     ensures { result ≡ either x y b }
 {
-    if b == x {
-        return true;
-    }
-    b == y
+    b == x || b == y
 }
 
+#[tactic(auto, unfolding(crate::specs::Tokens::blank, crate::specs::Numbers::either))]
 pub fn is_blank(b: u8) -> bool
     ensures { result ≡ blank b }
 {
-    if is_either(b, b' ', b'\t') {
-        return true;
-    }
-    is_either(b, b'\n', b'\r')
+    matches!(b, b' ' | b'\t' | b'\n' | b'\r')
 }
 
+#[tactic(auto, unfolding(crate::specs::Numbers::digit, crate::specs::Character::within))]
 pub fn is_digit(b: u8) -> bool
     ensures { result ≡ digit b }
 {
-    if b < b'0' {
-        return false;
-    }
-    b <= b'9'
+    b.is_ascii_digit()
 }

@@ -3,7 +3,7 @@ ghost use Rattle.std.specs.Prelude.{◌≡◌};
 ghost use Rattle.lexeme.specs.inner.Class.{blank_of, Classed, Classifies};
 
 // The classes, numbered so that one test tells what a scanner asks most: those below QUOTE stand for themselves inside a string, and the odd ones
-// are blanks.
+// are blanks. They stay numbers, since those tests are one comparison and one bit for each byte of a file.
 #[derive(Clone, Copy)]
 pub struct Class {
     pub number: u8,
@@ -349,10 +349,11 @@ pub fn class_by(table: &[u8; 256], b: u8) -> u8
     requires { Classifies table.now }
     ensures { Classed b result }
 {
-    table[b as usize]
+    table[usize::from(b)]
 }
 
 // Whether a class is that of a blank.
+#[tactic(auto, unfolding(crate::specs::inner::Class::blank_of))]
 pub fn is_blank_class(class: u8) -> bool
     ensures { result ≡ blank_of class }
 {

@@ -6,13 +6,7 @@ ghost use Rattle.lexeme.specs.Character.{byte};
 pub fn byte_at(s: &[u8], at: usize, k: usize) -> u8
     ensures { result ≡ byte (drop at s.now) k }
 {
-    if s.len() <= at {
-        return 0;
-    }
-    if s.len() - at <= k {
-        return 0;
-    }
-    return s[at + k];
+    s.get(at.saturating_add(k)).copied().unwrap_or(0)
 }
 
 // The byte at `at`, or 0 past the end.
@@ -26,21 +20,12 @@ pub fn first(s: &[u8], at: usize) -> u8
 pub fn place(s: &[u8], at: usize) -> usize
     ensures { result ≡ length s.now - length (drop at s.now) }
 {
-    if s.len() <= at {
-        return s.len();
-    }
-    at
+    at.min(s.len())
 }
 
 // The offset k after `at`, or the end.
 pub fn ahead(s: &[u8], at: usize, k: usize) -> usize
     ensures { drop result s.now ≡ drop k (drop at s.now) }
 {
-    if s.len() <= at {
-        return s.len();
-    }
-    if s.len() - at <= k {
-        return s.len();
-    }
-    return at + k;
+    at.saturating_add(k).min(s.len())
 }

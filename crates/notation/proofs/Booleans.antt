@@ -1,5 +1,5 @@
 -- Laws of tests: each holds by the values that its first test can have.
-use mathlib.Core.Bool.{Bool, true, false, true≢false}
+use mathlib.Core.Bool.{Bool, true, false, true≢false, ◌&&◌, ◌||◌}
 use mathlib.Core.Path.{◌≡◌, refl, sym, ◌∙◌}
 use Rattle.notation.specs.Choice.{◌⇒◌else◌, ◌and◌}
 
@@ -39,3 +39,16 @@ and_assoc false b c = refl
 pub or_false : (a : Bool) → (a ⇒ true else false) ≡ a
 or_false true = refl
 or_false false = refl
+
+-- the code's `&&` and `||` are the definitions' choices
+pub both-is : (a b : Bool) → a && b ≡ (a ⇒ b else false)
+both-is true b = refl
+both-is false b = refl
+
+pub either-is : (a b : Bool) → a || b ≡ (a ⇒ true else b)
+either-is true b = refl
+either-is false b = refl
+
+pub and-is : (a b : Bool) → a && b ≡ (a and b)
+and-is true b = refl
+and-is false b = refl

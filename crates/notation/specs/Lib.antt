@@ -1,4 +1,4 @@
 pub mod Choice
 pub mod Ascii
-pub mod Maybe
+pub mod Given
 pub mod Case

@@ -23,12 +23,6 @@ use Rattle.walk.proofs.Parts.{item_of, items-whole}
 use Rattle.text.specs.Text.{text_of}
 use Rattle.decimal.specs.declared.Decimal.{Decimal}
 use Rattle.decimal.specs.declared.Amount.{Amount}
-use Rattle.decimal.specs.declared.Number.{Number}
-use Rattle.decimal.specs.declared.Number.TheVariants as number
-use Rattle.decimal.specs.declared.Price.{Price}
-use Rattle.decimal.specs.declared.Price.TheVariants as price
-use Rattle.decimal.specs.declared.Money.{Money}
-use Rattle.decimal.specs.declared.Money.TheVariants as money
 use Rattle.decimal.specs.Decimals.{number_of, has_point, price_of}
 use Rattle.decimal.specs.Exact.{natural, money_of}
 use Rattle.schema.specs.Shape as shape
@@ -38,7 +32,7 @@ use Rattle.scalar.specs.Scalars.{unless, formed_kinds, any_money, price_money, p
 use Rattle.fault.specs.declared.Place.{Place}
 use Rattle.judge.specs.Faults.{faults_by, faults}
 use Rattle.fault.specs.Fault.{faulty}
-use Rattle.document.specs.Document.{some, elements_of, field, field_items}
+use Rattle.document.specs.Document.{elements_of, field, field_items}
 use Rattle.document.proofs.Rows.{Lists}
 use Rattle.document.specs.inner.Items.{picked_items}
 use Rattle.document.proofs.Ways.{Requires, lists}
@@ -47,10 +41,13 @@ use Rattle.document.proofs.Values.{Holds, member-holds}
 use Rattle.document.proofs.FieldBytes.{field-items}
 use Rattle.clean.proofs.Faultless.{object-there, required_there, field-there, field-sound, items-few, array-there, items-there}
 use Rattle.quote.specs.inner.Clear.{Clear, ClearValue}
+use Rattle.std.specs.Prelude.{Option, Result, Some, None, Ok, Err}
+use Rattle.decimal.specs.declared.PriceError.{PriceError}
+use Rattle.decimal.specs.declared.PriceError.TheVariants.{Unformed, NoNumber}
 
 -- members
 
-clear-held : {σ : Shape} {q : List ℕ} (place : Place) (f : ℕ) (z : Json) → Holds σ q (some (pick σ z)) → faults σ place f (pick σ z) ≡ [] → Clear σ q
+clear-held : {σ : Shape} {q : List ℕ} (place : Place) (f : ℕ) (z : Json) → Holds σ q (Some (pick σ z)) → faults σ place f (pick σ z) ≡ [] → Clear σ q
 clear-held {σ} {q} place f z h e =
     record {
       whole = subst (Whole q) (sym (whole-tree h.1)) h.1;
@@ -97,7 +94,7 @@ module _ {f : ℕ} {name : List ℕ} {most : ℕ} {σ : Shape} {rows : Rows} {p 
       ⊎_elim (λ k. absurd (Memᴰ.not-nil (subst (Memᴰ y) (ap elements_of k) i)))
       (λ k.
       let a = array-there c.place f shape.subs (λ a b. refl) most σ k.0 k.2 in
-      items-there c.place f (λ q g z. faults σ q g z) shape.subs 0 a.0 a.3 y (subst (Memᴰ y) (ap elements_of (k.1 ∙ ap some a.1)) i))
+      items-there c.place f (λ q g z. faults σ q g z) shape.subs 0 a.0 a.3 y (subst (Memᴰ y) (ap elements_of (k.1 ∙ ap Some a.1)) i))
       (field-sound c.place c.field (part_tree p) c.clear l)
 
   pub items-clear : (m : Item) → Memᴰ m (items_of bytes) → Clear σ (item_of bytes m)
@@ -148,40 +145,40 @@ passes : (t : Bool) (k : ℕ) → unless t k ≡ [] → t ≡ true
 passes true k e = refl
 passes false k e = cons_nil e
 
-formed-value : (test : Decimal → Bool) (n : Number) → formed_kinds test n ≡ [] → (d : Decimal) × (n ≡ number.Value d) × (test d ≡ true)
+formed-value : (test : Decimal → Bool) (n : Option Decimal) → formed_kinds test n ≡ [] → (d : Decimal) × (n ≡ Some d) × (test d ≡ true)
 unfolding formed_kinds
-formed-value test (number.Value d) e = (d, refl, passes (test d) _ e)
-formed-value test number.Unformed e = cons_nil e
+formed-value test (Some d) e = (d, refl, passes (test d) _ e)
+formed-value test None e = cons_nil e
 
 -- money
 abbrev pub IsMoney : Decimal → Type 0
-IsMoney d = (a : Amount) × (money_of d ≡ money.Is a)
+IsMoney d = (a : Amount) × (money_of d ≡ Some a)
 
 money_true : (d : Decimal) → any_money d ≡ true → IsMoney d
 unfolding any_money
 money_true d e = go (money_of d) refl e
   where
-    go : (m : Money) → money_of d ≡ m → elim m [ money.Is a ↦ true | money.Outside ↦ false ] ≡ true → IsMoney d
-    go (money.Is a) h e = (a, h)
-    go money.Outside h e = let z : ◌≡◌ {A = ℕ} 0 1 = cc in absurd (omega arith)
+    go : (m : Option Amount) → money_of d ≡ m → elim m [ Some a ↦ true | None ↦ false ] ≡ true → IsMoney d
+    go (Some a) h e = (a, h)
+    go None h e = let z : ◌≡◌ {A = ℕ} 0 1 = cc in absurd (omega arith)
 
 price-true : (d : Decimal) → price_money d ≡ true → IsMoney d
 unfolding price_money
 price-true d e = money_true d (and_right (natural d) (any_money d) e)
 
 -- so each value is what its reader needs
-pub integer-clear : {q : List ℕ} → ClearValue shape.integer q → (kind_code (kind_at q) ≡ 2) × (d : Decimal) × (number_of q ≡ number.Value d)
+pub integer-clear : {q : List ℕ} → ClearValue shape.integer q → (kind_code (kind_at q) ≡ 2) × (d : Decimal) × (number_of q ≡ Some d)
 unfolding sort_kinds
 integer-clear {q} c =
     let n = number-clear shape.integer c (λ e. cons_nil e) (λ k. cons_nil (text-clear shape.integer c k)) in
     let v = go (has_point q) n.1 in
     (n.0, v.0, v.1)
   where
-    go : (t : Bool) → (t ⇒ wrong_type ∷ [] else formed_kinds natural (number_of q)) ≡ [] → (d : Decimal) × (number_of q ≡ number.Value d) × (natural d ≡ true)
+    go : (t : Bool) → (t ⇒ wrong_type ∷ [] else formed_kinds natural (number_of q)) ≡ [] → (d : Decimal) × (number_of q ≡ Some d) × (natural d ≡ true)
     go true e = cons_nil e
     go false e = formed-value natural (number_of q) e
 
-pub money_clear : {q : List ℕ} → ClearValue shape.money q → (kind_code (kind_at q) ≡ 2) × (d : Decimal) × (number_of q ≡ number.Value d) × IsMoney d
+pub money_clear : {q : List ℕ} → ClearValue shape.money q → (kind_code (kind_at q) ≡ 2) × (d : Decimal) × (number_of q ≡ Some d) × IsMoney d
 unfolding sort_kinds
 money_clear {q} c =
     let n = number-clear shape.money c (λ e. cons_nil e) (λ k. cons_nil (text-clear shape.money c k)) in
@@ -189,18 +186,18 @@ money_clear {q} c =
     (n.0, v.0, v.1, money_true v.0 v.2)
 
 module _ {q : List ℕ} (c : ClearValue shape.price q) where
-  pub price-number-clear : (kind_code (kind_at q) ≡ 3 → ⊥) → (kind_code (kind_at q) ≡ 2) × (d : Decimal) × (number_of q ≡ number.Value d) × IsMoney d
+  pub price-number-clear : (kind_code (kind_at q) ≡ 3 → ⊥) → (kind_code (kind_at q) ≡ 2) × (d : Decimal) × (number_of q ≡ Some d) × IsMoney d
   unfolding sort_kinds
   price-number-clear h =
       let n = number-clear shape.price c (λ e. cons_nil e) h in
       let v = formed-value price_money (number_of q) n.1 in
       (n.0, v.0, v.1, price-true v.0 v.2)
 
-  pub price-text-clear : kind_code (kind_at q) ≡ 3 → (d : Decimal) × (price_of (text_of (inside q)) ≡ price.Value d) × IsMoney d
+  pub price-text-clear : kind_code (kind_at q) ≡ 3 → (d : Decimal) × (price_of (text_of (inside q)) ≡ Ok d) × IsMoney d
   unfolding sort_kinds pricing
   price-text-clear h = go (price_of (text_of (inside q))) refl (text-clear shape.price c h)
     where
-      go : (n : Price) → price_of (text_of (inside q)) ≡ n → pricing n ≡ [] → (d : Decimal) × (price_of (text_of (inside q)) ≡ price.Value d) × IsMoney d
-      go (price.Value d) i e = (d, i, price-true d (passes (price_money d) _ e))
-      go price.Unformed i e = cons_nil e
-      go price.NoNumber i e = cons_nil e
+      go : (n : Result Decimal PriceError) → price_of (text_of (inside q)) ≡ n → pricing n ≡ [] → (d : Decimal) × (price_of (text_of (inside q)) ≡ Ok d) × IsMoney d
+      go (Ok d) i e = (d, i, price-true d (passes (price_money d) _ e))
+      go (Err Unformed) i e = cons_nil e
+      go (Err NoNumber) i e = cons_nil e

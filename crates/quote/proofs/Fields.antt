@@ -7,7 +7,9 @@ use Prim.Native.Nat.{ℕ, ◌+◌, ◌<◌}
 use native.Mathlib.Omega.{arith}
 use lib.Dec.{eqb}
 use borrow.Author.Tests.{ne_eqb}
+use Rattle.std.specs.Prelude.{None, Some}
 use Rattle.notation.specs.Ascii.{bytes}
+use Rattle.notation.specs.Choice.{◌⇒◌else◌}
 use Rattle.json_text.specs.Tree.{Json}
 use Rattle.walk.specs.Part.{Whole}
 use Rattle.schema.specs.Shape as shape
@@ -60,7 +62,7 @@ module _ {p : List ℕ} (c : ClearPlan p) where
 
 -- a segment, whatever its fields' numbers
 abbrev made : ℕ → Amount → ℕ → Bool → ℕ → Segment
-made start rate interval ended end = record { start = start; rate = rate; interval = interval; ended = ended; end = end }
+made start rate interval ended end = record { start = start; rate = rate; interval = interval; end = ended ⇒ Some end else None }
 
 same-segment : {a b c d e f : ℕ} {r s : Amount} {t u : Bool} → a ≡ b → r ≡ s → c ≡ d → t ≡ u → e ≡ f → made a r c t e ≡ made b s d u f
 same-segment h i j k l = rw (h, i, j, k, l)

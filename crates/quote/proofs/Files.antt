@@ -16,7 +16,6 @@ use Rattle.lexeme.specs.Read as read
 use Rattle.lexeme.specs.Tokens.{blanks}
 use Rattle.json_text.specs.Text.{text, value, value_by}
 use Rattle.walk.specs.declared.Item.{Item}
-use Rattle.walk.specs.declared.ItemStep.TheVariants as items
 use Rattle.walk.specs.Walk.{part, item_at, items_of}
 use Rattle.walk.specs.Part.{part_tree}
 use Rattle.walk.specs.inner.Skip.{skipped}
@@ -32,14 +31,13 @@ use Rattle.schema.specs.Records.{Key, record_in, record_shape, id_key, has_recor
 use Rattle.schema.specs.Pick.{Picked, pick}
 use Rattle.schema.proofs.Recorded.{ids-recorded}
 use Rattle.schema.proofs.SheetShapes.{at-tables, sheet_shape_lem}
+use Rattle.document.proofs.Along.{ends-same}
 use Rattle.document.specs.Document as document
-use Rattle.document.specs.Document.{none, some, given, field, along}
+use Rattle.document.specs.Document.{given, field, along}
 use Rattle.document.specs.inner.Spans.{RecordsFrom}
 use Rattle.document.specs.inner.Items.{picked, picked_items}
 use Rattle.document.specs.inner.Values.{is_id}
 use Rattle.document.proofs.Rests.{rest-picked}
-use Rattle.fault.specs.declared.outcome.Outcome.{Outcome}
-use Rattle.fault.specs.declared.outcome.Outcome.TheVariants.{Unbroken}
 use Rattle.judge.specs.Faults.{faults}
 use Rattle.ids.specs.inner.Ids.{id_field, has_id}
 use Rattle.ids.proofs.Picked.{id_picked}
@@ -51,6 +49,8 @@ use Rattle.quote.specs.Plan.{plan_of}
 use Rattle.quote.specs.inner.Clear.{ClearPlan}
 use Rattle.quote.specs.Quote.{most_seconds, most_metres, refused, plan_quote, clean_quote, short, of_clean, quote_of}
 use Rattle.quote.proofs.Plans.{plan-is, plan-none, plan-among}
+use Rattle.fault.specs.Outcome.{Outcome, unbroken}
+use Rattle.std.specs.Prelude.{Some, None}
 
 -- short rides
 module _ (seconds metres : ℕ) where
@@ -71,7 +71,7 @@ module _ (seconds metres : ℕ) where
 
 -- the bytes of an item, from its start to where its value is skipped to
 module _ (p : List ℕ) where
-  item-skipped : (at : ℕ) (m : Item) → item_at p at ≡ items.Found m → length p - length (skipped (drop m.value p)) ≡ m.value_end
+  item-skipped : (at : ℕ) (m : Item) → item_at p at ≡ Some m → length p - length (skipped (drop m.value p)) ≡ m.value_end
   item-skipped at m e =
       let f = (found-item p at m e).spelt in let k = f.placed in
       ap (λ (l : List ℕ). length p - length l) (skip-value depth _ (drop m.value p) _ f.reads) ∙ omega (arith, length-drop m.value_end p, k.next, k.inside)
@@ -90,16 +90,16 @@ plan-shape table = at-tables (λ (t : Table). record_in (file_shape t 5) ≡ pla
 abbrev plan_key : Key
 plan_key = record { field = 50; name = bytes "plan_id" }
 
-plan-key : (table : ℕ) → key.id_of (file_shape (table_at table) 5) ≡ some plan_key
+plan-key : (table : ℕ) → key.id_of (file_shape (table_at table) 5) ≡ Some plan_key
 unfolding identified
-plan-key table = at-tables (λ (t : Table). key.id_of (file_shape t 5) ≡ some plan_key) refl table
+plan-key table = at-tables (λ (t : Table). key.id_of (file_shape t 5) ≡ Some plan_key) refl table
 
 -- an absent file has no plans
 no-plans : (table : ℕ) → records_in (file_shape (table_at table) 5) [] ≡ []
 unfolding located records_of along field pick tree_of text blanks value value_by read.then
 no-plans table = at-tables (λ (t : Table). records_in (file_shape t 5) [] ≡ []) refl table
 
-plans-absent : (table : ℕ) (s id : List ℕ) → length s ≡ 0 → plan_of (records_in (file_shape (table_at table) 5) s) id ≡ none
+plans-absent : (table : ℕ) (s id : List ℕ) → length s ≡ 0 → plan_of (records_in (file_shape (table_at table) 5) s) id ≡ None
 unfolding plan_of
 plans-absent table [] id e = ap (λ (l : List Picked). plan_of l id) (no-plans table)
 plans-absent table (b ∷ s) id e = absurd (omega arith)
@@ -117,7 +117,7 @@ module _ (table : ℕ) {sheet : ℕ} (at : sheet ≡ sheet_of table 5) where
   record_plan : record_shape sheet ≡ plan
   record_plan = ap record_in plans-shape ∙ plan-shape table
 
-  keyed : id_key sheet ≡ some plan_key
+  keyed : id_key sheet ≡ Some plan_key
   keyed = ap key.id_of plans-shape ∙ plan-key table
 
   pub identifies : has_ids sheet ≡ true
@@ -134,7 +134,7 @@ module _ (table : ℕ) {sheet : ℕ} (at : sheet ≡ sheet_of table 5) where
   pub clean-by : (s : List ℕ) → clean_in (sheet_shape sheet) 5 s ≡ clean_of (table_at table) 5 s
   clean-by s = ap (λ (σ : Shape). clean_in σ 5 s) plans-shape
 
-  pub plans-sound : (s : List ℕ) → (length s ≡ 0 → ⊥) → clean_of (table_at table) 5 s ≡ Unbroken → Sound sheet s
+  pub plans-sound : (s : List ℕ) → (length s ≡ 0 → ⊥) → clean_of (table_at table) 5 s ≡ unbroken → Sound sheet s
   plans-sound s h c = clean-sound sheet 5 s h (clean-by s ∙ c)
 
   -- the rest of a sound file from its plans on
@@ -144,7 +144,7 @@ module _ (table : ℕ) {sheet : ℕ} (at : sheet ≡ sheet_of table 5) where
       record {
         inside = omega (arith, length-drop there.start s);
         none = λ e. true-false recorded e;
-        starts = λ reads from upto e. let i = there.is in let n : there.start ≡ from = cc in ap (λ (m : ℕ). drop m s) n;
+        starts = λ reads from upto e. ap (λ (m : ℕ). drop m s) (ends-same (sym there.is ∙ e)).0;
       }
 
   -- the file, and its rest p from the plans on
@@ -191,22 +191,22 @@ module _ (table : ℕ) {sheet : ℕ} (at : sheet ≡ sheet_of table 5) where
           (sym (ap (λ (l : List Picked). plan_of l id) plans-are ∙ plan-none id (picked plan p) (items_of p) (λ m i. sym (has-plan m i) ∙ h m i)))
 
       pub quote-some : (m : Item) → Memᴰ m (items_of p) → has_id sheet id (item_of p m) ≡ true → (seconds metres : ℕ)
-          → plan_quote seconds metres (some (picked plan p m)) ≡ clean_quote (records_in (file_shape (table_at table) 5) s) id seconds metres
+          → plan_quote seconds metres (Some (picked plan p m)) ≡ clean_quote (records_in (file_shape (table_at table) 5) s) id seconds metres
       unfolding clean_quote
       quote-some m i h seconds metres =
           ap (plan_quote seconds metres)
           (sym (ap (λ (l : List Picked). plan_of l id) plans-are ∙ plan-is id apart (picked plan p m) (Memᴰ.map (picked plan p) i) (sym (has-plan m i) ∙ h)))
 
-      pub plan-clear : (y : Picked) → plan_of (records_in (file_shape (table_at table) 5) s) id ≡ some y → (q : List ℕ) × ClearPlan q × (y ≡ pick plan (part_tree q))
+      pub plan-clear : (y : Picked) → plan_of (records_in (file_shape (table_at table) 5) s) id ≡ Some y → (q : List ℕ) × ClearPlan q × (y ≡ pick plan (part_tree q))
       plan-clear y e =
           let (m, i, h) = plan-among id (picked plan p) (items_of p) y (ap (λ (l : List Picked). plan_of l id) (sym plans-are) ∙ e) in (item_of p m, item-clear m i, h)
 
 -- so the plan of an id in a clean file is clear
-pub found-clear : (table : ℕ) (s id : List ℕ) (y : Picked) → clean_of (table_at table) 5 s ≡ Unbroken → plan_of (records_in (file_shape (table_at table) 5) s) id ≡ some y
+pub found-clear : (table : ℕ) (s id : List ℕ) (y : Picked) → clean_of (table_at table) 5 s ≡ unbroken → plan_of (records_in (file_shape (table_at table) 5) s) id ≡ Some y
     → (q : List ℕ) × ClearPlan q × (y ≡ pick plan (part_tree q))
 found-clear table s id y c e =
     by_test (eqb (length s) 0)
-    (λ t. let n : none ≡ some y = sym (plans-absent table s id (eqb-true _ _ t)) ∙ e in let z : ◌≡◌ {A = ℕ} 0 1 = cc in absurd (omega arith))
+    (λ t. let n : None ≡ Some y = sym (plans-absent table s id (eqb-true _ _ t)) ∙ e in let z : ◌≡◌ {A = ℕ} 0 1 = cc in absurd (omega arith))
     (λ t. let k = plans-sound table refl s (eqb-false _ _ t) c in plan-clear table refl k (plans-from table refl k) id y e)
 
 -- the question, by what is found of the ride and of the file

@@ -6,13 +6,13 @@ use mathlib.Core.Path.{◌≡◌, sym, ap, subst, ◌∙◌}
 use Prim.Native.Nat.{ℕ, ◌*◌, ◌/◌, ◌≤◌}
 use native.Mathlib.Omega.{arith}
 use Rattle.schema.specs.Pick.{Picked}
-use Rattle.document.specs.Document.{some}
 use Rattle.decimal.specs.Exact.{ten_thousandths}
 use Rattle.fare.specs.declared.Segment.{Segment}
 use Rattle.fare.specs.Charges.{minutes_of, kilometres_of, amount, all_ended, greatest_end, past}
 use Rattle.fare.proofs.Past.{past-set, amount-past-minutes, amount-past-kilometres}
 use Rattle.quote.specs.Plan.{price_at, per_minute, per_kilometre, plan_of, trip_amount, past_minutes, past_kilometres}
 use Rattle.quote.specs.Quote.{priced, plan_quote, clean_quote}
+use Rattle.std.specs.Prelude.{Some}
 
 -- the shortest ride at the greatest end
 abbrev pub last_seconds : Picked → ℕ
@@ -34,7 +34,7 @@ ended-marked {l} {ride} e =
     ap (λ (z : List Segment). past z ride) e.are
     ∙ past-set e.first e.others ride (ap all_ended (sym e.are) ∙ e.ended) (subst (λ (z : List Segment). greatest_end z ≤ ride) e.are e.late)
 
-module _ (plans : List Picked) (id : List ℕ) {plan : Picked} (found : plan_of plans id ≡ some plan) (seconds metres : ℕ) where
+module _ (plans : List Picked) (id : List ℕ) {plan : Picked} (found : plan_of plans id ≡ Some plan) (seconds metres : ℕ) where
   pub ended-minutes : Ended (per_minute plan) (minutes_of seconds).count
       → clean_quote plans id seconds metres ≡ priced (trip_amount plan (last_seconds plan) metres) true (past_kilometres plan metres)
   unfolding clean_quote trip_amount past_minutes

@@ -10,19 +10,20 @@ use Rattle.notation.proofs.Booleans.{by_test, true-false}
 use Rattle.text.specs.Text.{same}
 use Rattle.text.proofs.Laws.{same_true}
 use Rattle.schema.specs.Pick.{Picked}
-use Rattle.document.specs.Document.{Maybe, none, some, text}
+use Rattle.document.specs.Document.{text}
 use Rattle.document.specs.inner.Values.{is_id}
 use Rattle.clean.proofs.Apart.{Apart}
 use Rattle.quote.specs.Plan.{plan_of}
+use Rattle.std.specs.Prelude.{Option, None, Some}
 
 module _ (id : List ℕ) where
   -- a text that is the id
-  id_text : (o : Maybe (List ℕ)) → is_id id o ≡ true → (t : List ℕ) × (o ≡ some t) × (same t id ≡ true)
-  id_text none e = true-false e refl
-  id_text (some t) e = (t, refl, e)
+  id_text : (o : Option (List ℕ)) → is_id id o ≡ true → (t : List ℕ) × (o ≡ Some t) × (same t id ≡ true)
+  id_text None e = true-false e refl
+  id_text (Some t) e = (t, refl, e)
 
   -- the first record is the plan, or it is not
-  first-is : (x : Picked) (l : List Picked) → is_id id (text 50 x) ≡ true → plan_of (x ∷ l) id ≡ some x
+  first-is : (x : Picked) (l : List Picked) → is_id id (text 50 x) ≡ true → plan_of (x ∷ l) id ≡ Some x
   unfolding plan_of
   first-is x l e = let (t, h, i) = id_text (text 50 x) e in rw (plan_of, h, i)
 
@@ -30,11 +31,11 @@ module _ (id : List ℕ) where
   unfolding plan_of
   first-not x l = go (text 50 x) refl
     where
-      go : (o : Maybe (List ℕ)) → text 50 x ≡ o → is_id id o ≡ false → plan_of (x ∷ l) id ≡ plan_of l id
-      go none h e = rw (plan_of, h)
-      go (some t) h e = rw (plan_of, h, e)
+      go : (o : Option (List ℕ)) → text 50 x ≡ o → is_id id o ≡ false → plan_of (x ∷ l) id ≡ plan_of l id
+      go None h e = rw (plan_of, h)
+      go (Some t) h e = rw (plan_of, h, e)
 
-  pub plan-is : {l : List Picked} → Apart 50 l → (x : Picked) → Memᴰ x l → is_id id (text 50 x) ≡ true → plan_of l id ≡ some x
+  pub plan-is : {l : List Picked} → Apart 50 l → (x : Picked) → Memᴰ x l → is_id id (text 50 x) ≡ true → plan_of l id ≡ Some x
   plan-is Apart.no_record x i e = absurd (Memᴰ.not-nil i)
   plan-is (Apart.one_record {z} {l} apart a) x i e =
       let ih = plan-is a x in
@@ -43,21 +44,21 @@ module _ (id : List ℕ) where
       (λ h.
       let (t, q, u) = id_text (text 50 x) e in
       let (v, r, w) = id_text (text 50 z) h in
-      absurd (apart x t k q (r ∙ ap some (same_true v id w ∙ sym (same_true t id u)))))
+      absurd (apart x t k q (r ∙ ap Some (same_true v id w ∙ sym (same_true t id u)))))
       (λ h. first-not z l h ∙ ih k e))
       (Memᴰ.cases_cons i)
 
   module _ {A : Type 0} (g : A → Picked) where
-    pub plan-none : (ms : List A) → ((m : A) → Memᴰ m ms → is_id id (text 50 (g m)) ≡ false) → plan_of (map g ms) id ≡ none
+    pub plan-none : (ms : List A) → ((m : A) → Memᴰ m ms → is_id id (text 50 (g m)) ≡ false) → plan_of (map g ms) id ≡ None
     unfolding plan_of
     plan-none [] h = refl
     plan-none (m ∷ ms) h = first-not (g m) (map g ms) (h m (Memᴰ.head refl)) ∙ plan-none ms (λ n i. h n (Memᴰ.tail i))
 
-    pub plan-among : (ms : List A) (y : Picked) → plan_of (map g ms) id ≡ some y → (m : A) × Memᴰ m ms × (y ≡ g m)
+    pub plan-among : (ms : List A) (y : Picked) → plan_of (map g ms) id ≡ Some y → (m : A) × Memᴰ m ms × (y ≡ g m)
     unfolding plan_of
     plan-among [] y e = let z : ◌≡◌ {A = ℕ} 0 1 = cc in absurd (omega arith)
     plan-among (m ∷ ms) y e =
         let ih = plan-among ms y in
         by_test (is_id id (text 50 (g m)))
-        (λ h. let k : some (g m) ≡ some y = sym (first-is (g m) (map g ms) h) ∙ e in (m, Memᴰ.head refl, cc))
+        (λ h. let k : Some (g m) ≡ Some y = sym (first-is (g m) (map g ms) h) ∙ e in (m, Memᴰ.head refl, cc))
         (λ h. let (n, i, k) = ih (sym (first-not (g m) (map g ms) h) ∙ e) in (n, Memᴰ.tail i, k))

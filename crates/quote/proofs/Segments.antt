@@ -7,15 +7,13 @@ use mathlib.Core.Logic.{⊎_elim}
 use mathlib.Core.Path.{◌≡◌, refl, sym, ap, ap₂, subst, ◌∙◌}
 use Prim.Native.Nat.{ℕ, suc, ◌+◌, ◌*◌, ◌≤◌, ◌<◌}
 use native.Mathlib.Omega.{arith}
-use lib.ListN.{length, take, set, length-map, length-take, length-set}
+use lib.ListN.{length, take, set, length-map, length-set}
 use lib.Seq.{take-suc-set}
 use borrow.Author.Tests.{leb-true}
 use Rattle.notation.specs.Ascii.{bytes}
 use Rattle.notation.specs.Choice.{◌⇒◌else◌, ◌and◌}
 use Rattle.limits.specs.Ceilings.{segments}
 use Rattle.walk.specs.declared.Item.{Item}
-use Rattle.walk.specs.declared.ItemStep.{ItemStep}
-use Rattle.walk.specs.declared.ItemStep.TheVariants as step
 use Rattle.walk.specs.Walk.{items_of}
 use Rattle.walk.specs.Part.{Whole, part_tree}
 use Rattle.walk.specs.inner.Along.{ItemPassed}
@@ -24,18 +22,11 @@ use Rattle.walk.proofs.Parts.{item_of, items-whole}
 use Rattle.schema.specs.Pick.{Picked, pick}
 use Rattle.schema.specs.Table23 as table
 use Rattle.decimal.specs.declared.Decimal.{Decimal}
-use Rattle.decimal.specs.declared.Number.{Number}
-use Rattle.decimal.specs.declared.Number.TheVariants as number
-use Rattle.decimal.specs.declared.Price.{Price}
-use Rattle.decimal.specs.declared.Price.TheVariants as price
-use Rattle.decimal.specs.declared.Money.TheVariants as money
 use Rattle.decimal.specs.Decimals.{number_of, price_of}
 use Rattle.decimal.specs.Exact.{unit, size, in_range, amount_of, money_of}
 use Rattle.decimal.proofs.Tests.{within-is}
-use Rattle.document.specs.Document.{Maybe, none, some}
 use Rattle.document.specs.inner.Items.{picked_items}
 use Rattle.fare.specs.declared.Segment.{Segment}
-use Rattle.fare.specs.inner.Folds.{Fills}
 use Rattle.fare.specs.Bounds.{most_money}
 use Rattle.fare.specs.inner.Room.{Modest}
 use Rattle.quote.specs.Plan.{amount_in, number_amount, price_amount, money_in, price_in, plan_segment}
@@ -43,6 +34,9 @@ use Rattle.document.specs.inner.Values.{spelled_by, text_by, member_of}
 use Rattle.quote.specs.inner.Values.{price_by, segment_by, segments_by}
 use Rattle.quote.specs.inner.Clear.{ClearSegments}
 use Rattle.quote.proofs.Fields.{segment-is}
+use Rattle.std.specs.Prelude.{Option, Result, Some, None, Ok, Err}
+use Rattle.decimal.specs.declared.PriceError.{PriceError}
+use Rattle.decimal.specs.declared.PriceError.TheVariants.{Unformed, NoNumber}
 
 -- Amounts are bounded, whatever is read.
 
@@ -51,28 +45,28 @@ unfolding money_of
 money_most d = go (in_range 1_000_000 d) refl _
   where
     go : (a : Bool) → in_range 1_000_000 d ≡ a → (b : Bool)
-        → (amount_in (a and b ⇒ money.Is (amount_of d) else money.Outside)).size ≤ most_money
+        → (amount_in (a and b ⇒ Some (amount_of d) else None)).size ≤ most_money
     go false e b = omega arith
     go true e false = omega arith
     go true e true = let h : size d ≤ 1_000_000 * unit = leb-true _ _ (within-is 1_000_000 d ∙ e) in omega arith
 
-number-most : (n : Number) → (number_amount n).size ≤ most_money
-number-most (number.Value d) = money_most d
-number-most number.Unformed = omega arith
+number-most : (n : Option Decimal) → (number_amount n).size ≤ most_money
+number-most (Some d) = money_most d
+number-most None = omega arith
 
-quoted-most : (n : Price) → (price_amount n).size ≤ most_money
-quoted-most (price.Value d) = money_most d
-quoted-most price.Unformed = omega arith
-quoted-most price.NoNumber = omega arith
+quoted-most : (n : Result Decimal PriceError) → (price_amount n).size ≤ most_money
+quoted-most (Ok d) = money_most d
+quoted-most (Err Unformed) = omega arith
+quoted-most (Err NoNumber) = omega arith
 
-spelled-most : (o : Maybe (List ℕ)) → (money_in o).size ≤ most_money
-spelled-most none = omega arith
-spelled-most (some s) = number-most (number_of s)
+spelled-most : (o : Option (List ℕ)) → (money_in o).size ≤ most_money
+spelled-most None = omega arith
+spelled-most (Some s) = number-most (number_of s)
 
-either-most : (o t : Maybe (List ℕ)) → (price_in o t).size ≤ most_money
-either-most none none = omega arith
-either-most none (some t) = quoted-most (price_of t)
-either-most (some s) t = number-most (number_of s)
+either-most : (o t : Option (List ℕ)) → (price_in o t).size ≤ most_money
+either-most None None = omega arith
+either-most None (Some t) = quoted-most (price_of t)
+either-most (Some s) t = number-most (number_of s)
 
 pub price-most : (q : List ℕ) → (price_by q).size ≤ most_money
 unfolding price_by
@@ -109,14 +103,16 @@ module _ (p : List ℕ) where
   unfolding segments_by
   reading-start c list h = record { items = items_of p; left = left-start c.along; places = h; few = omega (arith, c.few); are = refl }
 
-  module _ {list : List Segment} {count at : ℕ} (g : Reading list count at) {s : ItemStep} (f : ItemPassed p at s) where
-    pub reading-end : s ≡ step.End → Fills (record { list = list; count = count }) (segments_by p)
+  module _ {list : List Segment} {count at : ℕ} (g : Reading list count at) {s : Option Item} (f : ItemPassed p at s) where
+    pub reading-end : s ≡ None → take count list ≡ segments_by p
     reading-end e =
         let none = left_end g.left f e in
-        let all : take count list ≡ segments_by p = sym (append-nil (take count list)) ∙ ap (λ (l : List Item). take count list ++ map (segment_of p) l) (sym none) ∙ g.are in
-        record { count = omega (arith, ap length all, length-take count list, g.places, g.few); are = all }
+        sym (append-nil (take count list)) ∙ ap (λ (l : List Item). take count list ++ map (segment_of p) l) (sym none) ∙ g.are
 
-    module _ {m : Item} (e : s ≡ step.Found m) where
+    pub reading_few : count ≤ segments
+    reading_few = omega (arith, g.few)
+
+    module _ {m : Item} (e : s ≡ Some m) where
       onward : Onward p m g.items
       onward = left-more g.left f e
 

@@ -9,19 +9,18 @@ use lib.IntN.{nat_abs}
 use Rattle.schema.specs.Shape.{Table, file_shape}
 use Rattle.schema.specs.Tables.{table_at}
 use Rattle.schema.specs.Pick.{Picked}
-use Rattle.document.specs.Document.{Maybe, none, some}
 use Rattle.fare.specs.Charges.{minutes_of, kilometres_of}
 use Rattle.fare.specs.Bounds.{most_sum}
 use Rattle.fare.specs.inner.Room.{Quotable}
 use Rattle.fare.proofs.Size.{sum-size, amount-size, sum_room}
-use Rattle.fault.specs.declared.outcome.Outcome.{Outcome}
-use Rattle.fault.specs.declared.outcome.Outcome.TheVariants.{Unbroken, Broken}
 use Rattle.clean.specs.Clean.{records_in, clean_of}
 use Rattle.quote.specs.Plan.{price_at, per_minute, per_kilometre, plan_of, trip_amount, past_minutes, past_kilometres}
 use Rattle.quote.specs.Quote.{Answer, priced, plan_quote, clean_quote, short, quote_of}
 use Rattle.quote.specs.Size.{PlanIn, trip_sum, Sized}
 use Rattle.quote.proofs.Files.{short-both, found-clear, quote-long, quote-of}
 use Rattle.quote.proofs.Trips.{quotable}
+use Rattle.fault.specs.Outcome.{Outcome, unbroken}
+use Rattle.std.specs.Prelude.{Err, Ok, Option, None, Some}
 
 -- what every quote keeps: its amount's size and its number
 record Kept (a : Answer) : Type 0 where
@@ -51,24 +50,24 @@ module _ (table : ℕ) where
     quoted : quote_of t s id seconds metres ≡ priced (trip_amount plan seconds metres) (past_minutes plan seconds) (past_kilometres plan metres)
     unfolding clean_quote
     quoted =
-        sym (quote-of t s id seconds metres brief Unbroken (sym p.clean)) ∙ ap (plan_quote seconds metres) p.found
+        sym (quote-of t s id seconds metres brief unbroken (sym p.clean)) ∙ ap (plan_quote seconds metres) p.found
 
   kept : (s id : List ℕ) (seconds metres : ℕ) → Kept (quote_of t s id seconds metres)
   unfolding clean_quote
   kept s id seconds metres = by-ride (short seconds metres) refl
     where
-      by-plan : short seconds metres ≡ true → clean_of t 5 s ≡ Unbroken → (o : Maybe Picked) → plan_of (records_in (file_shape t 5) s) id ≡ o → Kept (quote_of t s id seconds metres)
-      by-plan e c none f =
-          subst Kept (ap (plan_quote seconds metres) (sym f) ∙ quote-of t s id seconds metres e Unbroken (sym c))
+      by-plan : short seconds metres ≡ true → clean_of t 5 s ≡ unbroken → (o : Option Picked) → plan_of (records_in (file_shape t 5) s) id ≡ o → Kept (quote_of t s id seconds metres)
+      by-plan e c None f =
+          subst Kept (ap (plan_quote seconds metres) (sym f) ∙ quote-of t s id seconds metres e unbroken (sym c))
           (record { size = omega arith; number = Memᴰ.tail (Memᴰ.tail (Memᴰ.tail (Memᴰ.head refl))) })
-      by-plan e c (some plan) f =
+      by-plan e c (Some plan) f =
           let p : PlanIn t s id plan = record { clean = c; found = f } in
           subst Kept (sym (quoted p seconds metres e)) (record { size = trip_amount_lem p seconds metres e; number = Memᴰ.head refl })
 
       by-file : short seconds metres ≡ true → (x : Outcome) → x ≡ clean_of t 5 s → Kept (quote_of t s id seconds metres)
-      by-file e Unbroken c = by-plan e (sym c) (plan_of (records_in (file_shape t 5) s) id) refl
-      by-file e (Broken q) c =
-          subst Kept (quote-of t s id seconds metres e (Broken q) c) (record { size = omega arith; number = Memᴰ.tail (Memᴰ.tail (Memᴰ.head refl)) })
+      by-file e (Ok _) c = by-plan e (sym c) (plan_of (records_in (file_shape t 5) s) id) refl
+      by-file e (Err q) c =
+          subst Kept (quote-of t s id seconds metres e (Err q) c) (record { size = omega arith; number = Memᴰ.tail (Memᴰ.tail (Memᴰ.head refl)) })
 
       by-ride : (b : Bool) → short seconds metres ≡ b → Kept (quote_of t s id seconds metres)
       by-ride true e = by-file e (clean_of t 5 s) refl

@@ -11,15 +11,14 @@ use Rattle.limits.specs.Ceilings.{segments}
 use Rattle.walk.specs.Part.{part_tree}
 use Rattle.schema.specs.Pick.{Picked, pick}
 use Rattle.schema.specs.Table23 as table
-use Rattle.document.specs.Document.{some, field_items}
+use Rattle.document.specs.Document.{field_items}
 use Rattle.fare.specs.declared.Segment.{Segment}
-use Rattle.fare.specs.declared.Segments.{Segments}
 use Rattle.fare.specs.declared.Sum.{Sum}
 use Rattle.fare.specs.Charges as charges
 use Rattle.fare.specs.Charges.{minutes_of, kilometres_of}
-use Rattle.fare.specs.inner.Folds.{worth, of_price, with_charges, Fills, with_all}
+use Rattle.fare.specs.inner.Folds.{worth, of_price, with_charges, with_all}
 use Rattle.fare.specs.Bounds.{most_minutes, most_kilometres}
-use Rattle.fare.specs.inner.Room.{most_ride, Room, Modest, Chargeable, Quotable}
+use Rattle.fare.specs.inner.Room.{Room, Modest, Chargeable, Quotable}
 use Rattle.fare.proofs.Worth.{clamped-difference}
 use Rattle.fare.proofs.Fold.{sum_kept}
 use Rattle.fare.proofs.Bound.{minutes-short, kilometres-short, room-price, room_less, room-charges}
@@ -31,6 +30,7 @@ use Rattle.quote.specs.inner.Clear.{ClearPlan}
 use Rattle.quote.specs.Quote.{most_seconds, most_metres, priced, plan_quote}
 use Rattle.quote.proofs.Fields.{plan-price, plan-minutes, plan-kilometres, minutes-clear, kilometres-clear}
 use Rattle.quote.proofs.Segments.{price-most, segments-modest, segments-few, segments-picked}
+use Rattle.std.specs.Prelude.{Some}
 
 -- price and segments by the bytes of a plan
 abbrev pub price : List ℕ → Sum
@@ -47,17 +47,6 @@ by_minute p = segments_by (minute_bytes p)
 
 abbrev pub by_kilometre : List ℕ → List Segment
 by_kilometre p = segments_by (kilometre_bytes p)
-
--- places that these segments fill can be charged
-chargeable : {l : Segments} {s : List Segment} {sum : Sum} {ride : ℕ} → Fills l s → length s ≤ segments → Modest s → Room (length s) sum → ride ≤ most_ride → Chargeable sum l ride
-chargeable {l} {s} {sum} f few modest room short =
-    record {
-      few = omega (arith, f.count);
-      filled = f.count ∙ ap length (sym f.are);
-      room = subst (λ (n : ℕ). Room n sum) (sym f.count) room;
-      modest = subst Modest (sym f.are) modest;
-      short = short;
-    }
 
 module _ {p : List ℕ} (c : ClearPlan p) where
   abbrev plan : Picked
@@ -81,18 +70,18 @@ module _ {p : List ℕ} (c : ClearPlan p) where
   price-room : Room (segments + segments) (price p)
   price-room = room_less (segments + segments) (omega arith) (room-price (price_by (member_of p (bytes "price"))) (price-most (member_of p (bytes "price"))))
 
-  pub minutes_chargeable : {l : Segments} → Fills l (by_minute p) → (ride : ℕ) → ride ≤ most_minutes → Chargeable (price p) l ride
-  minutes_chargeable f ride h =
-      chargeable f few-minutes (segments-modest (minute_bytes p)) (room_less (length (by_minute p)) (omega (arith, few-minutes)) price-room) h
+  pub minutes_chargeable : (ride : ℕ) → ride ≤ most_minutes → Chargeable (price p) (by_minute p) ride
+  minutes_chargeable ride h =
+      record { room = room_less (length (by_minute p)) (omega (arith, few-minutes)) price-room; modest = segments-modest (minute_bytes p); short = h }
 
   pub timed_room : (ride : ℕ) → ride ≤ most_minutes → Room (length (by_kilometre p)) (with_charges (price p) (by_minute p) ride)
   timed_room ride h =
       room-charges (length (by_kilometre p)) (by_minute p) (price p) ride (segments-modest (minute_bytes p)) h
       (room_less (length (by_kilometre p) + length (by_minute p)) (omega (arith, few-minutes, few-kilometres)) price-room)
 
-  pub kilometres_chargeable : {l : Segments} → Fills l (by_kilometre p) → (ride far : ℕ) → ride ≤ most_minutes → far ≤ most_kilometres → Chargeable (with_charges (price p) (by_minute p) ride) l far
-  kilometres_chargeable f ride far h k =
-      chargeable f few-kilometres (segments-modest (kilometre_bytes p)) (timed_room ride h) (omega arith)
+  pub kilometres_chargeable : (ride far : ℕ) → ride ≤ most_minutes → far ≤ most_kilometres → Chargeable (with_charges (price p) (by_minute p) ride) (by_kilometre p) far
+  kilometres_chargeable ride far h k =
+      record { room = timed_room ride h; modest = segments-modest (kilometre_bytes p); short = omega arith }
 
   -- the plan is within the ceilings, for a ride that is
   pub quotable : (seconds metres : ℕ) → seconds ≤ most_seconds → metres ≤ most_metres
@@ -125,7 +114,7 @@ module _ {p : List ℕ} (c : ClearPlan p) where
         omega (arith, amount-size _ _ _ _ _ (quotable seconds metres short near))
 
     pub plan-quoted : let timed = with_all (price p) (by_minute p) (minutes_of seconds).count in let all = with_all timed.sum (by_kilometre p) (kilometres_of metres).count in
-        priced (charges.clamped (worth all.sum)) timed.past all.past ≡ plan_quote seconds metres (some plan)
+        priced (charges.clamped (worth all.sum)) timed.past all.past ≡ plan_quote seconds metres (Some plan)
     unfolding past_minutes past_kilometres
     plan-quoted =
         rw (amount-is, ap (λ (l : List Segment). charges.past l (minutes_of seconds).count) minutes-are, ap (λ (l : List Segment). charges.past l (kilometres_of metres).count) kilometres-are)

@@ -1,18 +1,16 @@
 -- The question "quote" of document 01, "Questions and their numbers", as document 02's W6 leaves it, in that table's numbers and order of checking. An
 -- amount, a mark or parts that an answer does not give are zero or no.
-use Rattle.std.specs.Prelude.{Bool, false, List, ℕ, leb, ℤ, pos}
+use Rattle.std.specs.Prelude.{Bool, false, List, ℕ, leb, ℤ, pos, Err, Ok, Result, Option, None, Some}
 use Rattle.notation.specs.Choice.{◌⇒◌else◌, ◌and◌}
 use Rattle.word.specs.declared.Parts.{Parts}
-use Rattle.word.specs.Word.{no_parts}
+use Rattle.word.specs.declared.refusal.Refusal.{Refusal}
+use Rattle.word.specs.Refusals.{no_parts, refusal_number, refusal_parts}
 use Rattle.schema.specs.Shape.{Table, file_shape}
 use Rattle.schema.specs.Pick.{Picked}
-use Rattle.document.specs.Document.{Maybe, none, some}
-use Rattle.fault.specs.declared.outcome.Outcome.{Outcome}
-use Rattle.fault.specs.declared.outcome.Outcome.TheVariants.{Unbroken, Broken}
 use Rattle.clean.specs.Clean.{records_in, clean_of}
 use Rattle.quote.specs.declared.Quote.{Quote}
-use Rattle.quote.specs.declared.Quote.TheVariants.{TooLong, NotClean, NoPlan, Fare}
 use Rattle.quote.specs.Plan.{plan_of, trip_amount, past_minutes, past_kilometres}
+use Rattle.fault.specs.Outcome.{Outcome}
 
 -- the longest ride
 abbrev pub most_seconds : ℕ
@@ -39,17 +37,19 @@ unclean p = record { number = 5; parts = p; amount = pos 0; past_minutes = false
 abbrev pub priced : ℤ → Bool → Bool → Answer
 priced z m k = record { number = 0; parts = no_parts; amount = z; past_minutes = m; past_kilometres = k }
 
--- the number and the values of each answer
-abbrev pub answer : Quote → Answer
-answer TooLong = refused 4
-answer (NotClean p) = unclean p
-answer NoPlan = refused 6
-answer (Fare z m k) = priced z m k
+-- the values of a quote; and the number and the values of each answer
+abbrev pub quoted : Quote → Answer
+quoted q = priced q.amount q.past_minutes q.past_kilometres
+
+abbrev pub answer : Result Quote Refusal → Answer
+answer (Ok q) = quoted q
+answer (Err r) =
+    record { number = refusal_number r; parts = refusal_parts r; amount = pos 0; past_minutes = false; past_kilometres = false }
 
 -- 6 where there is no such plan, and otherwise what the plan asks, with its marks
-abbrev pub plan_quote : ℕ → ℕ → Maybe Picked → Answer
-plan_quote seconds metres none = refused 6
-plan_quote seconds metres (some plan) = priced (trip_amount plan seconds metres) (past_minutes plan seconds) (past_kilometres plan metres)
+abbrev pub plan_quote : ℕ → ℕ → Option Picked → Answer
+plan_quote seconds metres None = refused 6
+plan_quote seconds metres (Some plan) = priced (trip_amount plan seconds metres) (past_minutes plan seconds) (past_kilometres plan metres)
 
 -- of a clean file of plans
 unfoldable pub clean_quote : (plans : List Picked) → List ℕ → ℕ → ℕ → Answer
@@ -61,8 +61,8 @@ short seconds metres = leb seconds most_seconds and leb metres most_metres
 
 -- 5 where the file is not clean
 abbrev pub of_clean : Outcome → Answer → Answer
-of_clean Unbroken next = next
-of_clean (Broken p) next = unclean p
+of_clean (Ok _) next = next
+of_clean (Err p) next = unclean p
 
 -- by a table, of the bytes s of file 5, and of an id: 4 where the ride is too long, before all else
 unfoldable pub quote_of : Table → (s id : List ℕ) → (seconds metres : ℕ) → Answer

@@ -1,24 +1,23 @@
 -- What document 02's request W6 lets a reader count on: the ceilings on money, segments, minutes and kilometres bound the sum of a plan's price and charges on
 -- either side of zero, and with it the amount of every quote; the bound has its place in signed 64 bits, so no quote is refused for its size.
 -- `proofs/Size` shows it.
-use Rattle.std.specs.Prelude.{true, ◌≡◌, ℕ, ◌^◌, ◌≤◌, ◌<◌, ℤ, nat_abs}
+use Rattle.std.specs.Prelude.{true, ◌≡◌, ℕ, ◌^◌, ◌≤◌, ◌<◌, ℤ, nat_abs, Some}
 use mathlib.Core.List.{List, [], ◌∷◌, Memᴰ}
 use Rattle.decimal.specs.Exact.{ten_thousandths}
 use Rattle.schema.specs.Shape.{Table, file_shape}
 use Rattle.schema.specs.Pick.{Picked}
-use Rattle.document.specs.Document.{some}
 use Rattle.fare.specs.Charges.{minutes_of, kilometres_of, sum}
 use Rattle.fare.specs.Bounds.{most_sum}
-use Rattle.fault.specs.declared.outcome.Outcome.TheVariants.{Unbroken}
 use Rattle.clean.specs.Clean.{records_in, clean_of}
 use Rattle.quote.specs.Plan.{price_at, per_minute, per_kilometre, plan_of, trip_amount, past_minutes, past_kilometres}
 use Rattle.quote.specs.Quote as quote
 use Rattle.quote.specs.Quote.{short, quote_of}
+use Rattle.fault.specs.Outcome.{unbroken}
 
 -- the plan of an id in a clean file, of the file's bytes
 pub record PlanIn (t : Table) (s id : List ℕ) (plan : Picked) : Type 0 where
-  pub clean : clean_of t 5 s ≡ Unbroken
-  pub found : plan_of (records_in (file_shape t 5) s) id ≡ some plan
+  pub clean : clean_of t 5 s ≡ unbroken
+  pub found : plan_of (records_in (file_shape t 5) s) id ≡ Some plan
 
 -- a plan's price and charges for a ride, negative where discounts make it so
 abbrev pub trip_sum : Picked → (seconds metres : ℕ) → ℤ

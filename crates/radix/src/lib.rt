@@ -4,23 +4,15 @@
 ghost use Rattle.std.specs.Prelude.{◌≡◌, ◌+◌, ◌*◌, ◌/◌, ◌%◌, ◌^◌, ◌≤◌, ◌<◌, length};
 ghost use Rattle.radix.specs.Fields.{bytes_number};
 
-fn widened(b: u8) -> u64
-    ensures { result ≡ b }
-{
-    b as u64
-}
-
 // What a byte string of up to eight bytes is worth as a number, its first byte counting most.
 // Shut out: the first byte left out; the last byte counting most.
 pub fn bytes_number(s: &[u8]) -> u64
     requires { length s.now ≤ 8 }
     ensures { result ≡ bytes_number s.now }
 {
-    let mut n: u64 = 0;
-    let mut i: usize = 0;
-    while i < s.len() {
-        n = n * 256 + widened(s[i]);
-        i += 1;
+    let mut n = 0;
+    for b in s {
+        n = n * 256 + u64::from(*b);
     }
     n
 }
@@ -49,7 +41,7 @@ pub fn field_in(s: &[u8], lower: usize, width: u32) -> u64
     ensures { result ≡ bytes_number s.now / 2 ^ lower % 2 ^ width }
 {
     let end = s.len() - lower / 8;
-    let start = end - (lower % 8 + (width as usize) + 7) / 8;
+    let start = end - (lower % 8 + width as usize).div_ceil(8);
     field_of(bytes_number(&s[start..end]), (lower % 8) as u32, width)
 }
 

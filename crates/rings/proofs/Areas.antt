@@ -15,8 +15,6 @@ use Rattle.geometry.specs.Ring.{sound}
 use Rattle.geometry.specs.inner.Outline.{sound_from}
 use Rattle.schema.specs.Pick.{Picked}
 use Rattle.fault.specs.declared.Fault.{Fault}
-use Rattle.fault.specs.declared.Least.{Least}
-use Rattle.fault.specs.declared.Least.TheVariants.{None, Is}
 use Rattle.fault.specs.Fault.{fault, lesser}
 use Rattle.fault.proofs.Order.{later-kind}
 use Rattle.fault.proofs.Leasts.{none_is, lesser-first, lesser-none, lesser_assoc}
@@ -26,6 +24,7 @@ use Rattle.rings.specs.inner.Parts.{fault_at, least_found, RingRead, area_least,
 use Rattle.rings.specs.declared.Field.{Field}
 use Rattle.rings.specs.declared.RingFound.{RingFound}
 use Rattle.rings.proofs.Found.{at-nothing, least_append, least-of-none, least-nothing, least-one, least-empty}
+use Rattle.std.specs.Prelude.{Option, None, Some}
 
 -- all are sound just where nothing is found
 pub sound-found : (n : ℕ) (l : List Picked) → all_sound l ≡ true → positions_found n l ≡ []
@@ -46,7 +45,7 @@ found-sound n (x ∷ l) e =
 
 -- the area
 module _ (q : Field) (n : ℕ) (r : RingFound) where
-  pub area_faulty : (f : Fault) → r.least ≡ Is f → None ≡ area_least q n r
+  pub area_faulty : (f : Fault) → r.least ≡ Some f → None ≡ area_least q n r
   unfolding area_least
   area_faulty f e = rw e
 
@@ -66,20 +65,20 @@ hidden q n false =
     ∙ lesser-first _ _ (later-kind (fault q.«record» q.field n too_many) (fault q.«record» q.field n bad_ring) refl refl refl (omega arith))
 
 module _ {q : Field} {n : ℕ} {l : List Picked} {r : RingFound} (h : RingRead q n l r) where
-  abbrev few : Least
+  abbrev few : Option Fault
   few = least_found q (found_at n (unless (leb 4 r.outline.count) bad_ring))
 
-  abbrev many : Least
+  abbrev many : Option Fault
   many = least_found q (found_at n (unless (leb r.outline.count positions) too_many))
 
-  abbrev area : Least
+  abbrev area : Option Fault
   area = least_found q (all_sound l ⇒ found_at n (unless (sound (map position l)) bad_ring) else [])
 
   -- where nothing is found they are sound
   all_sound_lem : r.least ≡ None → all_sound l ≡ true
   all_sound_lem e = found-sound n l (least-nothing q (positions_found n l) (sym h.least ∙ e))
 
-  unsound : (f : Fault) → r.least ≡ Is f → area ≡ None
+  unsound : (f : Fault) → r.least ≡ Some f → area ≡ None
   unsound f e = go (all_sound l) refl
     where
       go : (t : Bool) → all_sound l ≡ t → least_found q (t ⇒ found_at n (unless (sound (map position l)) bad_ring) else []) ≡ None
@@ -89,15 +88,15 @@ module _ {q : Field} {n : ℕ} {l : List Picked} {r : RingFound} (h : RingRead q
   asked : r.least ≡ None → area ≡ least_found q (found_at n (unless (sound (map position l)) bad_ring))
   asked e = rw (all_sound_lem e)
 
-  abbrev sofar : Least
+  abbrev sofar : Option Fault
   sofar = lesser (lesser few many) r.least
 
   -- with what the code asks, and with what the definition has
   as_asked : lesser sofar (area_least q n r) ≡ lesser sofar area
   as_asked = go r.least refl (leb r.outline.count positions) refl
     where
-      go : (f : Least) → r.least ≡ f → (t : Bool) → leb r.outline.count positions ≡ t → lesser sofar (area_least q n r) ≡ lesser sofar area
-      go (Is f) e t i = ap (lesser sofar) (sym (area_faulty q n r f e) ∙ sym (unsound f e))
+      go : (f : Option Fault) → r.least ≡ f → (t : Bool) → leb r.outline.count positions ≡ t → lesser sofar (area_least q n r) ≡ lesser sofar area
+      go (Some f) e t i = ap (lesser sofar) (sym (area_faulty q n r f e) ∙ sym (unsound f e))
       go None e true i =
           let c : r.outline.count ≤ positions = leb-true r.outline.count positions i in
           let same = h.sound (all_sound_lem e) (omega (arith, h.count)) in
@@ -118,7 +117,7 @@ module _ {q : Field} {n : ℕ} {l : List Picked} {r : RingFound} (h : RingRead q
       ∙ ap₂ lesser (least_append q _ _ ∙ ap₂ lesser (ap (λ k. least_found q (found_at n (unless (leb 4 k) bad_ring))) c)
       (ap (λ k. least_found q (found_at n (unless (leb k positions) too_many))) c)) (sym h.least)))
 
-  pub ring-judged : (found : Least) → found ≡ lesser (lesser (lesser few many) r.least) (area_least q n r)
+  pub ring-judged : (found : Option Fault) → found ≡ lesser (lesser (lesser few many) r.least) (area_least q n r)
       → record { items = r.outline.count; positions = r.outline.count; least = found } ≡ ring_judged q n l
   ring-judged found e = let f = e ∙ ring-found in λ i. record { items = h.count i; positions = h.count i; least = f i }
 

@@ -1,16 +1,19 @@
 -- What is found at positions, as faults of their field: the first of two lists together is the lesser of their firsts, and there is none just where
 -- nothing is found.
+use mathlib.Core.Bool.{Bool, true, false}
 use mathlib.Core.List.{List, [], ◌∷◌, ◌++◌}
 use mathlib.Core.Path.{◌≡◌, refl, ap, ◌∙◌}
 use Prim.Native.Nat.{ℕ}
 use native.Mathlib.Omega.{arith}
+use Rattle.notation.specs.Choice.{◌⇒◌else◌}
+use Rattle.scalar.specs.Scalars.{unless}
 use Rattle.fault.specs.declared.Fault.{Fault}
-use Rattle.fault.specs.declared.Least.TheVariants.{None}
 use Rattle.fault.specs.Fault.{fault, lesser, least}
 use Rattle.fault.proofs.Leasts as leasts
 use Rattle.rings.specs.Rings.{Found, found_at, numbered}
 use Rattle.rings.specs.inner.Parts.{fault_at, least_found}
 use Rattle.rings.specs.declared.Field.{Field}
+use Rattle.std.specs.Prelude.{None}
 
 module _ (rec field : ℕ) where
   pub numbered_append : (xs ys : List Found) → numbered rec field (xs ++ ys) ≡ numbered rec field xs ++ numbered rec field ys
@@ -53,6 +56,11 @@ module _ (q : Field) where
     pub least-empty : least_found q (found_at n []) ≡ None
     unfolding found_at
     least-empty = least-of-none
+
+    -- where a test fails, one kind; and none where it holds
+    pub least_unless : (t : Bool) (k : ℕ) → least_found q (found_at n (unless t k)) ≡ (t ⇒ None else fault_at q n k)
+    least_unless true k = least-empty
+    least_unless false k = least-one k
 
     pub least_at : (xs ys : List ℕ) → least_found q (found_at n (xs ++ ys)) ≡ lesser (least_found q (found_at n xs)) (least_found q (found_at n ys))
     least_at xs ys = ap (least_found q) (at_append n xs ys) ∙ least_append (found_at n xs) (found_at n ys)

@@ -15,14 +15,11 @@ use Rattle.walk.specs.Part.{Whole, kind_of}
 use Rattle.walk.specs.inner.Kind.{kind_at}
 use Rattle.walk.proofs.Wholes.{whole-kind, whole-number}
 use Rattle.decimal.specs.declared.Decimal.{Decimal}
-use Rattle.decimal.specs.declared.Number.TheVariants as number
 use Rattle.decimal.specs.Decimals.{number_of}
 use Rattle.decimal.specs.Exact.{in_range, millionths}
 use Rattle.decimal.proofs.Millionths.{millionths-within}
 use Rattle.schema.specs.Shape as shape
 use Rattle.schema.specs.Pick.{Picked, bare, items, slots, pick}
-use Rattle.fault.specs.declared.Least.{Least}
-use Rattle.fault.specs.declared.Least.TheVariants.{None}
 use Rattle.fault.proofs.Leasts.{none_is}
 use Rattle.scalar.specs.Scalars as scalar
 use Rattle.scalar.specs.Scalars.{unless, formed_kinds, kinds_of}
@@ -31,6 +28,8 @@ use Rattle.rings.specs.inner.Parts.{fault_at, least_found, number_shape, is_numb
 use Rattle.rings.specs.declared.Field.{Field}
 use Rattle.rings.specs.declared.CoordinateFound.{CoordinateFound}
 use Rattle.rings.proofs.Found.{least-one, least-empty}
+use Rattle.std.specs.Prelude.{Option, Some, None}
+use Rattle.fault.specs.declared.Fault.{Fault}
 
 -- the sorts
 pub longitude_kinds : (x : Picked) → coordinate_kinds shape.longitude x ≡ range_kinds 180 x
@@ -69,7 +68,7 @@ pub third-kinds : {p : List ℕ} {x : Json} → Whole p x → unless (is_number 
 third-kinds {p} {x} w = ap (λ k. unless (is_number k) wrong_type) (whole-kind w) ∙ third-tree x
 
 -- one fault
-pub measured_broken : (q : Field) (most n kind : ℕ) (x : Picked) (found : Least) (o : CoordinateFound) → range_kinds most x ≡ kind ∷ []
+pub measured_broken : (q : Field) (most n kind : ℕ) (x : Picked) (found : Option Fault) (o : CoordinateFound) → range_kinds most x ≡ kind ∷ []
     → found ≡ fault_at q n kind → o ≡ record { least = found; value = 0 } → FindsCoordinate q most n x o
 measured_broken q most n kind x found o h f e =
     rw e
@@ -120,11 +119,11 @@ inside-upto most v d f g =
     omega arith
 
 module _ (most : ℕ) {p : List ℕ} {x : Json} (w : Whole p x) (e : is_number (kind_at p) ≡ true) where
-  pub unformed-kinds : number_of p ≡ number.Unformed → range_kinds most (pick number_shape x) ≡ number_form ∷ []
+  pub unformed-kinds : number_of p ≡ None → range_kinds most (pick number_shape x) ≡ number_form ∷ []
   unfolding formed_kinds
   unformed-kinds h = ap (range_kinds most) (number-picked w e) ∙ ap (formed_kinds (in_range most)) h
 
-  module _ (d : Decimal) (h : number_of p ≡ number.Value d) where
+  module _ (d : Decimal) (h : number_of p ≡ Some d) where
     pub outside-kinds : in_range most d ≡ false → range_kinds most (pick number_shape x) ≡ out_of_range ∷ []
     unfolding formed_kinds
     outside-kinds f = ap (range_kinds most) (number-picked w e) ∙ ap (formed_kinds (in_range most)) h ∙ ap (λ t. unless t out_of_range) f

@@ -15,8 +15,6 @@ use Rattle.limits.specs.Ceilings.{positions}
 use Rattle.notation.specs.Choice.{◌and◌}
 use Rattle.json_text.specs.Tree.{Json}
 use Rattle.walk.specs.declared.Item.{Item}
-use Rattle.walk.specs.declared.ItemStep.{ItemStep}
-use Rattle.walk.specs.declared.ItemStep.TheVariants as step
 use Rattle.walk.specs.Walk.{items_of}
 use Rattle.walk.specs.Part.{Whole}
 use Rattle.walk.specs.inner.Along.{AlongItems, ItemPassed}
@@ -28,8 +26,6 @@ use Rattle.geometry.specs.inner.Outline.{no_outline, joined, Sized, sound_from}
 use Rattle.geometry.specs.declared.Outline.{Outline}
 use Rattle.geometry.proofs.Outlines.{sized-none, sized-next, sound-start, sound-next}
 use Rattle.schema.specs.Pick.{Picked, pick}
-use Rattle.fault.specs.declared.Least.{Least}
-use Rattle.fault.specs.declared.Least.TheVariants.{None}
 use Rattle.fault.specs.Fault.{lesser}
 use Rattle.document.specs.inner.Items.{picked, picked_items}
 use Rattle.rings.specs.Rings.{Found, found_at, position_kinds, position, no_kinds, all_sound, positions_found}
@@ -40,6 +36,8 @@ use Rattle.rings.specs.declared.PositionFound.{PositionFound}
 use Rattle.rings.specs.declared.Tally.{Tally}
 use Rattle.rings.proofs.Found.{least-empty}
 use Rattle.rings.proofs.Tallies.{Passed, passed_start, passed_within, passed_next, Tallies, tallies_start, tallies_end, tallies_more}
+use Rattle.std.specs.Prelude.{Option, Some, None}
+use Rattle.fault.specs.declared.Fault.{Fault}
 
 -- the points at items of p
 abbrev pub points : List ℕ → List Item → List Point
@@ -55,7 +53,7 @@ counted_start {p} most w h =
     subst (Comes p (λ ms. leb (0 + length ms) most) 1) (le-leb (0 + length (items_of p)) most few)
     (comes_start (λ ms. leb (0 + length ms) most) (λ n. AlongItems.start (w.whole n).1))
 
-module _ {p : List ℕ} (k most : ℕ) {at : ℕ} (w : Counted p k most at) {s : ItemStep} (f : ItemPassed p at s) {m : Item} (e : s ≡ step.Found m) where
+module _ {p : List ℕ} (k most : ℕ) {at : ℕ} (w : Counted p k most at) {s : Option Item} (f : ItemPassed p at s) {m : Item} (e : s ≡ Some m) where
   pub counted_less : k < most
   counted_less = go (dec_lt k most)
     where
@@ -104,10 +102,10 @@ unfolding positions_found found_in
 positions-found n [] = refl
 positions-found n (x ∷ l) = ap (λ (fs : List Found). found_at n (position_kinds x) ++ fs) (positions-found (n + 1) l)
 
-abbrev one_position : Least → Judged
+abbrev one_position : Option Fault → Judged
 one_position least = record { items = 0; positions = 1; least = least }
 
-abbrev tally_at : ℕ → Least → Tally
+abbrev tally_at : ℕ → Option Fault → Tally
 tally_at k least = record { count = k; items = 0; positions = k; least = least }
 
 -- what is known where a walk over the positions of p, the first with the number n, has come to a place
@@ -115,7 +113,7 @@ module _ (q : Field) (n : ℕ) (p : List ℕ) where
   abbrev all : List Picked
   all = picked_items position_shape p
 
-  pub record Reading (o : Outline) (least : Least) (at : ℕ) : Type 0 where
+  pub record Reading (o : Outline) (least : Option Fault) (at : ℕ) : Type 0 where
     pub passed : Passed p at o.count
     pub sized : Sized o
     tallies : Listing p → Tallies q position_found nothing single position_shape n p (tally_at o.count least) at
@@ -134,8 +132,8 @@ module _ (q : Field) (n : ℕ) (p : List ℕ) where
             (comes_start (λ ms. sound_from no_outline (points p ms)) (λ i. AlongItems.start (w.whole i).1));
       }
 
-  module _ {o : Outline} {least : Least} {at : ℕ} (r : Reading o least at) {s : ItemStep} (f : ItemPassed p at s) where
-    pub reading-end : s ≡ step.End → RingRoom (length p) (record { least = least; outline = o }) × (Listing p → RingRead q n all (record { least = least; outline = o }))
+  module _ {o : Outline} {least : Option Fault} {at : ℕ} (r : Reading o least at) {s : Option Item} (f : ItemPassed p at s) where
+    pub reading-end : s ≡ None → RingRoom (length p) (record { least = least; outline = o }) × (Listing p → RingRead q n all (record { least = least; outline = o }))
     reading-end e = (
       record { within = passed_within r.passed; sized = r.sized },
       λ w.
@@ -147,7 +145,7 @@ module _ (q : Field) (n : ℕ) (p : List ℕ) where
           },
     )
 
-    pub reading-more : {m : Item} → s ≡ step.Found m → (found : PositionFound) → OnMap found.point
+    pub reading-more : {m : Item} → s ≡ Some m → (found : PositionFound) → OnMap found.point
         → ((x : Json) → Whole (item_of p m) x → FindsPosition q (n + o.count) (position_kinds (pick position_shape x)) (position (pick position_shape x)) found)
         → Reading (joined o found.point) (lesser least found.least) m.next
     reading-more {m} e found on finds =

@@ -12,8 +12,6 @@ use Rattle.notation.specs.Choice.{◌and◌}
 use Rattle.word.specs.Kinds.{wrong_type, bad_ring}
 use Rattle.json_text.specs.Tree.{Json}
 use Rattle.walk.specs.declared.Item.{Item}
-use Rattle.walk.specs.declared.ItemStep.{ItemStep}
-use Rattle.walk.specs.declared.ItemStep.TheVariants as step
 use Rattle.walk.specs.Part.{Whole}
 use Rattle.walk.specs.inner.Kind.{kind_at}
 use Rattle.walk.specs.inner.Along.{ItemPassed}
@@ -24,8 +22,6 @@ use Rattle.geometry.specs.inner.Shifted.{OnMap, origin}
 use Rattle.geometry.specs.declared.Position.{Position}
 use Rattle.schema.specs.Shape as shape
 use Rattle.schema.specs.Pick.{Picked, pick}
-use Rattle.fault.specs.declared.Least.{Least}
-use Rattle.fault.specs.declared.Least.TheVariants.{None}
 use Rattle.fault.specs.Fault.{lesser}
 use Rattle.fault.proofs.Leasts.{none_is, lesser_comm, lesser_assoc, both-none}
 use Rattle.scalar.specs.Scalars.{unless}
@@ -38,8 +34,10 @@ use Rattle.rings.specs.declared.PositionFound.{PositionFound}
 use Rattle.rings.proofs.Found.{least-one, least-empty, least_at}
 use Rattle.rings.proofs.Picked.{array-picked, other-picked}
 use Rattle.rings.proofs.Numbers.{longitude_kinds, latitude_kinds, third-kinds}
+use Rattle.std.specs.Prelude.{Option, Some, None}
+use Rattle.fault.specs.declared.Fault.{Fault}
 
-abbrev first : Field → ℕ → List ℕ → Least
+abbrev first : Field → ℕ → List ℕ → Option Fault
 first q n ks = least_found q (found_at n ks)
 
 -- the numbers at items of p
@@ -47,23 +45,23 @@ abbrev pub numbers : List ℕ → List Item → List Picked
 numbers p ms = map (picked number_shape p) ms
 
 -- what follows lon and lat, at a place of p
-module _ (q : Field) {p : List ℕ} {at₀ : ℕ} (n : ℕ) {ms : List Item} (h : Left p at₀ ms) {o : ItemStep} (f : ItemPassed p at₀ o) where
-  pub rest-none : o ≡ step.End → None ≡ first q n (rest_kinds (numbers p ms))
+module _ (q : Field) {p : List ℕ} {at₀ : ℕ} (n : ℕ) {ms : List Item} (h : Left p at₀ ms) {o : Option Item} (f : ItemPassed p at₀ o) where
+  pub rest-none : o ≡ None → None ≡ first q n (rest_kinds (numbers p ms))
   unfolding rest_kinds
   rest-none e = sym (ap (λ k. first q n (rest_kinds (numbers p k))) (left_end h f e) ∙ least-empty q n)
 
-  module _ {m : Item} (e : o ≡ step.Found m) (t : Bool) (told : t ≡ is_number (kind_at (item_of p m))) {u : ItemStep} (g : ItemPassed p m.next u) where
+  module _ {m : Item} (e : o ≡ Some m) (t : Bool) (told : t ≡ is_number (kind_at (item_of p m))) {u : Option Item} (g : ItemPassed p m.next u) where
     third : unless t wrong_type ≡ coordinate_kinds shape.any_number (picked number_shape p m)
     third = ap (λ s. unless s wrong_type) told ∙ third-kinds (left-whole h f e)
 
-    pub rest-one : u ≡ step.End → first q n (unless t wrong_type) ≡ first q n (rest_kinds (numbers p ms))
+    pub rest-one : u ≡ None → first q n (unless t wrong_type) ≡ first q n (rest_kinds (numbers p ms))
     unfolding rest_kinds
     rest-one i =
         let o = left-more h f e in
         let z : ms ≡ m ∷ [] = o.is ∙ ap (λ k. m ∷ k) (left_end o.left g i) in
         ap (first q n) third ∙ sym (ap (λ k. first q n (rest_kinds (numbers p k))) z)
 
-    pub rest-two : {w : Item} → u ≡ step.Found w → lesser (fault_at q n bad_ring) (first q n (unless t wrong_type)) ≡ first q n (rest_kinds (numbers p ms))
+    pub rest-two : {w : Item} → u ≡ Some w → lesser (fault_at q n bad_ring) (first q n (unless t wrong_type)) ≡ first q n (rest_kinds (numbers p ms))
     unfolding rest_kinds
     rest-two {w} i =
         let o = left-more h f e in
@@ -83,11 +81,11 @@ unfolding list_kinds number_kinds_in
 one-kinds x = ap (λ ks. bad_ring ∷ ks) (longitude_kinds x)
 
 -- a fault in the third place comes to the front
-swap : (a b c : Least) → lesser a (lesser b c) ≡ lesser b (lesser a c)
+swap : (a b c : Option Fault) → lesser a (lesser b c) ≡ lesser b (lesser a c)
 swap a b c = sym (lesser_assoc a b c) ∙ ap (λ z. lesser z c) (lesser_comm a b) ∙ lesser_assoc b a c
 
 module _ (q : Field) (n : ℕ) (x y : Picked) where
-  abbrev three : List ℕ → Least
+  abbrev three : List ℕ → Option Fault
   three ks = lesser (first q n (range_kinds 180 x)) (lesser (first q n (range_kinds 90 y)) (first q n ks))
 
   three-kinds : (ks : List ℕ) → three ks ≡ first q n (coordinate_kinds shape.longitude x ++ coordinate_kinds shape.latitude y ++ ks)
@@ -115,20 +113,20 @@ module _ (q : Field) (n : ℕ) (x y : Picked) where
       ∙ ap (lesser bad) (three-kinds cs) ∙ sym (ap (λ s. first q n (unless s bad_ring ++ all)) t ∙ least_at q n (bad_ring ∷ []) all)
 
 -- a position with an equal fault
-pub finds_position_as : (q : Field) (n : ℕ) (kinds : List ℕ) (here : Point) (found first : Least) {p : Position} → found ≡ first
+pub finds_position_as : (q : Field) (n : ℕ) (kinds : List ℕ) (here : Point) (found first : Option Fault) {p : Position} → found ≡ first
     → FindsPosition q n kinds here (record { least = first; point = p }) → FindsPosition q n kinds here (record { least = found; point = p })
 finds_position_as q n kinds here found first {p} e s = rw e s
 
 -- a position that is not sound
-pub finds_position-broken : (q : Field) (n : ℕ) (kinds : List ℕ) (here : Point) (s : PositionFound) (found : Least)
+pub finds_position-broken : (q : Field) (n : ℕ) (kinds : List ℕ) (here : Point) (s : PositionFound) (found : Option Fault)
     → s ≡ record { least = found; point = origin } → found ≡ first q n kinds → (found ≡ None → ⊥) → FindsPosition q n kinds here s
 finds_position-broken q n kinds here s found e f never =
     rw e record { least = f; point = λ z. absurd (never z) }
 
-pub broken-map : (s : PositionFound) (found : Least) → s ≡ record { least = found; point = origin } → OnMap s.point
+pub broken-map : (s : PositionFound) (found : Option Fault) → s ≡ record { least = found; point = origin } → OnMap s.point
 broken-map s found e = rw e record { east = omega arith; north = omega arith }
 
-pub finds_position-empty : (q : Field) (n : ℕ) (l : List Picked) (here : Point) (s : PositionFound) (found : Least) → l ≡ []
+pub finds_position-empty : (q : Field) (n : ℕ) (l : List Picked) (here : Point) (s : PositionFound) (found : Option Fault) → l ≡ []
     → found ≡ fault_at q n bad_ring → s ≡ record { least = found; point = origin } → FindsPosition q n (list_kinds l) here s
 finds_position-empty q n l here s found h f e =
     finds_position-broken q n (list_kinds l) here s found e
@@ -139,7 +137,7 @@ point_at x y = record { lon = x; lat = y }
 
 -- lon, and what follows it
 module _ (q : Field) (n : ℕ) (x : Picked) (lon : CoordinateFound) (east : FindsCoordinate q 180 n x lon) where
-  pub finds_position-one : (l : List Picked) (here : Point) (s : PositionFound) (bad found : Least) → l ≡ [] → bad ≡ fault_at q n bad_ring
+  pub finds_position-one : (l : List Picked) (here : Point) (s : PositionFound) (bad found : Option Fault) → l ≡ [] → bad ≡ fault_at q n bad_ring
       → found ≡ lesser bad lon.least → s ≡ record { least = found; point = origin } → FindsPosition q n (list_kinds (x ∷ l)) here s
   finds_position-one l here s bad found h b f e =
       finds_position-broken q n (list_kinds (x ∷ l)) here s found e
@@ -147,7 +145,7 @@ module _ (q : Field) (n : ℕ) (x : Picked) (lon : CoordinateFound) (east : Find
       ∙ sym (ap (λ k. first q n (list_kinds (x ∷ k))) h ∙ ap (first q n) (one-kinds x) ∙ least_at q n (bad_ring ∷ []) (range_kinds 180 x)))
       (λ z. none_is (sym (both-none bad lon.least (sym f ∙ z)).0 ∙ b))
 
-  pub finds_position-more : (l : List Picked) (y : Picked) (r : List Picked) (lat : CoordinateFound) (rest : Least) → l ≡ y ∷ r → FindsCoordinate q 90 n y lat
+  pub finds_position-more : (l : List Picked) (y : Picked) (r : List Picked) (lat : CoordinateFound) (rest : Option Fault) → l ≡ y ∷ r → FindsCoordinate q 90 n y lat
       → rest ≡ first q n (rest_kinds r)
       → FindsPosition q n (list_kinds (x ∷ l)) (point_of (x ∷ l))
       (record { least = lesser lon.least (lesser lat.least rest); point = record { lon = lon.value; lat = lat.value } })
@@ -174,7 +172,7 @@ module _ {p : List ℕ} {x : Json} (w : Whole p x) (q : Field) (n : ℕ) (s : Po
       let k = array-picked shape.positions 3 number_shape x w e in
       rw k.picks (rw k.listed.parts (h k.listed.listing))
 
-  pub finds_position-other : (found : Least) → is_array (kind_at p) ≡ false → found ≡ fault_at q n wrong_type → s ≡ record { least = found; point = origin }
+  pub finds_position-other : (found : Option Fault) → is_array (kind_at p) ≡ false → found ≡ fault_at q n wrong_type → s ≡ record { least = found; point = origin }
       → FindsPosition q n (position_kinds (pick position_shape x)) (position (pick position_shape x)) s
   unfolding position_kinds
   finds_position-other found e f h =

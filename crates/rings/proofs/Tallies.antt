@@ -7,8 +7,6 @@ use native.Mathlib.Omega.{arith}
 use lib.ListN.{length, drop, length-take}
 use Rattle.json_text.specs.Tree.{Json}
 use Rattle.walk.specs.declared.Item.{Item}
-use Rattle.walk.specs.declared.ItemStep.{ItemStep}
-use Rattle.walk.specs.declared.ItemStep.TheVariants as step
 use Rattle.walk.specs.Walk.{items_of}
 use Rattle.walk.specs.Part.{Whole}
 use Rattle.walk.specs.inner.Along.{AlongItems, ItemPlaced, ItemPassed}
@@ -25,6 +23,7 @@ use Rattle.rings.specs.declared.Field.{Field}
 use Rattle.rings.specs.declared.Judged.{Judged}
 use Rattle.rings.specs.declared.Tally.{Tally}
 use Rattle.rings.proofs.Found.{least_append, least-of-none}
+use Rattle.std.specs.Prelude.{Option, Some, None}
 
 -- k of something were counted in the items of p that end before `at`
 pub record Passed (p : List ℕ) (at k : ℕ) : Type 0 where
@@ -159,11 +158,11 @@ module _ (φ : Field) (e : ℕ → Picked → List Found) (d c : Picked → ℕ)
     tallies_start w =
         subst (Comes p (tally_from no_tally) 1) (tally_all (items_of p)) (comes_start (tally_from no_tally) (λ h. AlongItems.start (w.whole h).1))
 
-    module _ (t : Tally) {at : ℕ} (w : Tallies t at) {s : ItemStep} (f : ItemPassed p at s) where
-      pub tallies_end : s ≡ step.End → t ≡ tally_of φ e d c n (picked_items σ p)
+    module _ (t : Tally) {at : ℕ} (w : Tallies t at) {s : Option Item} (f : ItemPassed p at s) where
+      pub tallies_end : s ≡ None → t ≡ tally_of φ e d c n (picked_items σ p)
       tallies_end h = sym (tally_none t) ∙ comes_end w f h
 
-      pub tallies_more : {m : Item} → s ≡ step.Found m → {j : Judged}
+      pub tallies_more : {m : Item} → s ≡ Some m → {j : Judged}
           → ((x : Json) → Whole (item_of p m) x → j ≡ judged_of φ (e (n + t.positions) (pick σ x)) (d (pick σ x)) (c (pick σ x)))
           → Tallies (tallied t j) m.next
       tallies_more {m} h {j} judged =
@@ -178,11 +177,11 @@ module _ (φ : Field) (e : ℕ → Picked → List Found) (d c : Picked → ℕ)
     pub tallying_start : Tallying no_tally 1
     tallying_start = record { passed = tally_passed_start p; tallies = tallies_start }
 
-    module _ {t : Tally} {at : ℕ} (w : Tallying t at) {s : ItemStep} (f : ItemPassed p at s) where
-      pub tallying_end : s ≡ step.End → TallyWithin (length p) t × (Listing p → t ≡ tally_of φ e d c n (picked_items σ p))
+    module _ {t : Tally} {at : ℕ} (w : Tallying t at) {s : Option Item} (f : ItemPassed p at s) where
+      pub tallying_end : s ≡ None → TallyWithin (length p) t × (Listing p → t ≡ tally_of φ e d c n (picked_items σ p))
       tallying_end h = (tally_within w.passed, λ i. tallies_end t (w.tallies i) f h)
 
-      module _ {m : Item} (h : s ≡ step.Found m) (few : n + length p < 2 ^ 32) where
+      module _ {m : Item} (h : s ≡ Some m) (few : n + length p < 2 ^ 32) where
         pub tallying_number : n + t.positions + length (item_of p m) < 2 ^ 32
         tallying_number = tally_number w.passed (f.placed m h) n few
 

@@ -12,7 +12,6 @@ use Rattle.walk.specs.inner.Kind.{kind_at}
 use Rattle.schema.specs.Shape as shape
 use Rattle.schema.specs.Table23.{coordinates}
 use Rattle.schema.specs.Pick.{Picked, PickedItems, items, pick, list_of}
-use Rattle.fault.specs.declared.Least.{Least}
 use Rattle.fault.specs.Fault.{lesser}
 use Rattle.scalar.specs.Scalars.{unless}
 use Rattle.rings.specs.Rings.{Found, found_at, count, ring, item_count, rings_found, item_total, polygon, polygon_positions, is_ring_count, are_zone_counts, polygons_found, coordinates_found}
@@ -23,6 +22,8 @@ use Rattle.rings.specs.declared.Judged.{Judged}
 use Rattle.rings.specs.declared.Tally.{Tally}
 use Rattle.rings.proofs.Found.{least_append, least-one}
 use Rattle.rings.proofs.Picked.{array-picked, other-picked, items-parts}
+use Rattle.std.specs.Prelude.{Option}
+use Rattle.fault.specs.declared.Fault.{Fault}
 
 -- the definitions, as items after another
 pub rings-found : (n : ℕ) (l : List Picked) → rings_found n l ≡ found_in ring item_count n l
@@ -40,7 +41,7 @@ unfolding polygons_found found_in
 polygons-found n [] = refl
 polygons-found n (x ∷ l) = ap (λ (fs : List Found). polygon n x ++ fs) (polygons-found (n + polygon_positions x) l)
 
-same-judged : {a b : Least} {i j k l : ℕ} → a ≡ b → i ≡ j → k ≡ l
+same-judged : {a b : Option Fault} {i j k l : ℕ} → a ≡ b → i ≡ j → k ≡ l
     → ◌≡◌ {A = Judged} (record { items = i; positions = k; least = a }) (record { items = j; positions = l; least = b })
 same-judged e h o = λ i. record { items = h i; positions = o i; least = e i }
 
@@ -53,7 +54,7 @@ module _ {p : List ℕ} {x : Json} (w : Whole p x) (q : Field) (n : ℕ) where
       h k.listed.listing ∙ ap (ring_judged q n) (sym k.listed.parts)
       ∙ ap (λ y. judged_of q (ring n y) (item_count y) (item_count y)) (sym k.picks)
 
-  pub ring-other : (found : Least) → is_array (kind_at p) ≡ false → found ≡ fault_at q n wrong_type
+  pub ring-other : (found : Option Fault) → is_array (kind_at p) ≡ false → found ≡ fault_at q n wrong_type
       → record { items = 0; positions = 0; least = found } ≡ judged_of q (ring n (pick ring_shape x)) (item_count (pick ring_shape x)) (item_count (pick ring_shape x))
   ring-other found e f =
       let k = other-picked shape.positions ceiling.positions position_shape x w e in
@@ -61,7 +62,7 @@ module _ {p : List ℕ} {x : Json} (w : Whole p x) (q : Field) (n : ℕ) where
       ∙ ap (λ y. judged_of q (ring n y) (item_count y) (item_count y)) (sym k.1)
 
   -- an item of the coordinates
-  pub polygon-array : {t : Tally} (found : Least) → is_array (kind_at p) ≡ true → (Listing p → t ≡ tally_of q ring item_count item_count n (picked_items ring_shape p))
+  pub polygon-array : {t : Tally} (found : Option Fault) → is_array (kind_at p) ≡ true → (Listing p → t ≡ tally_of q ring item_count item_count n (picked_items ring_shape p))
       → found ≡ lesser (least_found q (found_at n (unless (is_ring_count t.count) bad_ring))) t.least
       → record { items = t.count; positions = t.positions; least = found }
       ≡ judged_of q (polygon n (pick polygon_shape x)) (item_count (pick polygon_shape x)) (polygon_positions (pick polygon_shape x))
@@ -77,7 +78,7 @@ module _ {p : List ℕ} {x : Json} (w : Whole p x) (q : Field) (n : ℕ) where
       ∙ ap (λ ps. judged_of q (found_at n (unless (is_ring_count (length ps)) bad_ring) ++ rings_found n ps) (length ps) (item_total ps)) (sym k.listed.parts)
       ∙ ap (λ y. judged_of q (polygon n y) (item_count y) (polygon_positions y)) (sym k.picks)
 
-  pub polygon-other : (found : Least) → is_array (kind_at p) ≡ false → found ≡ fault_at q n wrong_type
+  pub polygon-other : (found : Option Fault) → is_array (kind_at p) ≡ false → found ≡ fault_at q n wrong_type
       → record { items = 0; positions = 0; least = found }
       ≡ judged_of q (polygon n (pick polygon_shape x)) (item_count (pick polygon_shape x)) (polygon_positions (pick polygon_shape x))
   unfolding item_total

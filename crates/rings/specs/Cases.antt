@@ -1,5 +1,5 @@
 -- Field 73 on cases, computed: every rule at its limit, with all that is found.
-use Rattle.std.specs.Prelude.{List, [], ◌∷◌, map, refl, ℕ, zero, suc}
+use Rattle.std.specs.Prelude.{List, [], ◌∷◌, map, refl, ℕ, zero, suc, Option, None, Some}
 use Prim.Native.String.{String}
 use Rattle.notation.specs.Ascii.{bytes}
 use Rattle.notation.specs.Case.{Case, Answers}
@@ -10,12 +10,11 @@ use Rattle.geometry.specs.Cases.{holding}
 use Rattle.schema.specs.Table23.{coordinates}
 use Rattle.schema.specs.Tables.{written}
 use Rattle.schema.specs.Pick.{Picked, PickedItems, bare, items, slots, no_item, item, pick_items, pick, list_of}
-use Rattle.fault.specs.declared.Least.{Least}
-use Rattle.fault.specs.declared.Least.TheVariants.{None, Is}
 use Rattle.fault.specs.Fault.{fault, before, lesser, least}
 use Rattle.scalar.specs.Scalars as scalar
 use Rattle.rings.specs.Rings.{Found, found_at, numbered, count, coordinate_kinds, number_kinds_in, position_kinds, point_of, position, no_kinds, all_sound, positions_found, ring_found, rings_found, item_total, polygons_found, coordinates_found}
 use Rattle.rings.specs.inner.Parts.{ring_shape, position_shape}
+use Rattle.fault.specs.declared.Fault.{Fault}
 
 -- opens every definition of this layer
 unfoldable pub ringing : Unit {0}
@@ -138,10 +137,10 @@ abbrev fourteen : List Picked → List Picked
 fourteen behind = repeated 7 (ringed 1 sound) behind
 
 -- a fault of field 73 in the first record
-abbrev At : (number kind : ℕ) → Least
-At number kind = Is (fault 1 73 number kind)
+abbrev At : (number kind : ℕ) → Option Fault
+At number kind = Some (fault 1 73 number kind)
 
-abbrev many : List (Case (List Picked) Least)
+abbrev many : List (Case (List Picked) (Option Fault))
 many =
     ("256 positions", polygon (triangle 253 "[0,0]" "[0,0]" ∷ []) ∷ [], None) ∷
     ("257", polygon (triangle 254 "[0,0]" "[0,0]" ∷ []) ∷ [], At 1 10) ∷

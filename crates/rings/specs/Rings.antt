@@ -1,11 +1,9 @@
 -- Field 73, coordinates: document 01's rules on polygons, rings and positions, with the numbers that positions count over the whole zone; how many rings
 -- a polygon and a zone may have is document 02's request W13.
-use Rattle.std.specs.Prelude.{Bool, true, false, List, [], ◌∷◌, ◌++◌, map, ℕ, ◌+◌, leb, length, ℤ, pos}
+use Rattle.std.specs.Prelude.{Bool, true, false, List, [], ◌∷◌, ◌++◌, map, ℕ, ◌+◌, leb, length, ℤ, pos, Option, Some, None}
 use Rattle.limits.specs.Ceilings.{polygons, rings, zone_rings, positions}
 use Rattle.notation.specs.Choice.{◌⇒◌else◌, ◌and◌}
 use Rattle.word.specs.Kinds.{wrong_type, too_many, bad_ring}
-use Rattle.decimal.specs.declared.Number.{Number}
-use Rattle.decimal.specs.declared.Number.TheVariants as number
 use Rattle.decimal.specs.Decimals.{number_of}
 use Rattle.decimal.specs.Exact.{millionths}
 use Rattle.geometry.specs.Ring.{Point, sound}
@@ -14,6 +12,7 @@ use Rattle.schema.specs.Pick.{Picked, PickedItems, bare, items, slots, list_of, 
 use Rattle.fault.specs.declared.Fault.{Fault}
 use Rattle.fault.specs.Fault.{fault}
 use Rattle.scalar.specs.Scalars.{unless, kinds_of}
+use Rattle.decimal.specs.declared.Decimal.{Decimal}
 
 -- what is found at a position's number: its kind
 pub record Found : Type 0 where
@@ -53,9 +52,9 @@ position_kinds (bare x) = wrong_type ∷ []
 position_kinds (slots ss) = wrong_type ∷ []
 
 -- the point of a sound position; the origin stands in for one that is not sound, and is never looked at
-abbrev pub in_millionths : Number → ℤ
-in_millionths (number.Value d) = millionths d
-in_millionths number.Unformed = pos 0
+abbrev pub in_millionths : Option Decimal → ℤ
+in_millionths (Some d) = millionths d
+in_millionths None = pos 0
 
 abbrev pub coordinate : Picked → ℤ
 coordinate x = by_value (λ b. pos 0) (λ s. in_millionths (number_of s)) (λ s. pos 0) (pos 0) x

@@ -2,11 +2,11 @@
 #![tactic(auto)]
 
 ghost use Rattle.std.specs.Prelude.{◌≡◌};
-ghost use Rattle.scalar.specs.Scalars.{unless as unlessOf};
+ghost use Rattle.scalar.specs.Scalars.{unless};
 ghost use Rattle.rings.specs.Rings.{found_at};
 ghost use Rattle.rings.specs.inner.Parts.{fault_at, least_found, no_tally, tallied, Countable};
 
-use fault::{Fault, Least, lesser};
+use fault::{Fault, lesser};
 use geometry::{Outline, Position};
 
 pub mod position;
@@ -14,7 +14,7 @@ pub mod ring;
 pub mod zone;
 
 // The field that has the coordinates for its value, and its record: the same for every fault.
-#[derive(Clone, Copy)]
+#[derive(Clone, Copy, Debug, PartialEq, Eq)]
 pub struct Field {
     pub record: u32,
     pub field: u8,
@@ -22,64 +22,66 @@ pub struct Field {
 
 impl Field {
     // One fault, at a position's number.
-    pub fn broken(self, number: u32, kind: u8) -> Least
+    pub fn broken(self, number: u32, kind: u8) -> Option<Fault>
         ensures { result ≡ fault_at self number kind }
     {
-        Least::Is(Fault {
+        Some(Fault {
             record: self.record,
             field: self.field,
             sub: number,
-            kind: kind,
+            kind,
         })
     }
 
     // A fault where the test fails, and none where it holds.
-    pub fn unless(self, test: bool, number: u32, kind: u8) -> Least
-        ensures { result ≡ least_found self (found_at number (unlessOf test kind)) }
+    #[tactic(auto, using(crate::proofs::Found::least_unless))]
+    pub fn unless(self, test: bool, number: u32, kind: u8) -> Option<Fault>
+        ensures { result ≡ least_found self (found_at number (unless test kind)) }
     {
         if test {
-            return Least::None;
+            None
+        } else {
+            self.broken(number, kind)
         }
-        self.broken(number, kind)
     }
 }
 
-// A number of a position: its first fault, or its value in millionths, moved up by half of its range.
+// A number of a position: its first fault, or its value in millionths, moved up by half of its range. No Result, since a position's parts all are read.
 #[derive(Clone, Copy)]
 pub struct CoordinateFound {
-    pub least: Least,
+    pub least: Option<Fault>,
     pub value: u64,
 }
 
-// A position: its first fault, or its point.
+// A position: its first fault, or its point. No Result: after a fault the others are still looked for, as the least of them counts, and the ring takes the origin.
 #[derive(Clone, Copy)]
 pub struct PositionFound {
-    pub least: Least,
+    pub least: Option<Fault>,
     pub point: Position,
 }
 
 // The positions of a ring: their first fault, and the outline of their points as far as a ring may have positions.
 #[derive(Clone, Copy)]
 pub struct RingFound {
-    pub least: Least,
+    pub least: Option<Fault>,
     pub outline: Outline,
 }
 
 // A ring or a polygon: how many items it has, how many positions, and its first fault.
-#[derive(Clone, Copy)]
+#[derive(Clone, Copy, Debug, PartialEq, Eq)]
 pub struct Judged {
     pub items: u32,
     pub positions: u32,
-    pub least: Least,
+    pub least: Option<Fault>,
 }
 
 // The rings of a polygon or the polygons of a zone: how many they are, how many items and positions they have in all, and their first fault.
-#[derive(Clone, Copy)]
+#[derive(Clone, Copy, Debug, PartialEq, Eq)]
 pub struct Tally {
     pub count: u32,
     pub items: u32,
     pub positions: u32,
-    pub least: Least,
+    pub least: Option<Fault>,
 }
 
 impl Tally {
@@ -91,7 +93,7 @@ impl Tally {
             count: 0,
             items: 0,
             positions: 0,
-            least: Least::None,
+            least: None,
         }
     }
 
@@ -100,13 +102,11 @@ impl Tally {
         requires { Countable (tallied self judged) }
         ensures { result ≡ tallied self judged }
     {
-        let found = self.least;
-        let first = judged.least;
         Tally {
             count: self.count + 1,
             items: self.items + judged.items,
             positions: self.positions + judged.positions,
-            least: lesser(found, first),
+            least: lesser(self.least, judged.least),
         }
     }
 }

@@ -12,12 +12,11 @@ ghost use Rattle.geometry.specs.inner.Shifted.{OnMap, origin, point};
 ghost use Rattle.rings.specs.inner.Parts.{least_found, number_shape, position_shape, Listing, is_array, is_number, FindsCoordinate, rest_kinds, FindsPosition, FindsNumbers};
 
 use crate::{CoordinateFound, Field, PositionFound};
-use decimal::Number;
 use decimal::spelling::read_decimal;
 use document::fields::{ARRAY, NUMBER, code_of};
-use fault::{Least, lesser};
+use fault::{Fault, lesser};
 use geometry::Position;
-use walk::{ItemStep, item_bytes, pass_item};
+use walk::{item_bytes, pass_item};
 use word::kind::Kind;
 
 pub fn is_array(p: &[u8]) -> bool
@@ -33,7 +32,7 @@ fn is_number(p: &[u8]) -> bool
 }
 
 impl CoordinateFound {
-    fn broken(least: Least) -> CoordinateFound
+    fn broken(least: Option<Fault>) -> CoordinateFound
         ensures { result ≡ record { least = least; value = 0 } }
     {
         CoordinateFound { least, value: 0 }
@@ -48,34 +47,32 @@ fn read_coordinate(p: &[u8], most: u64, field: Field, number: u32) -> Coordinate
     if !is_number(p) {
         return CoordinateFound::broken(field.broken(number, Kind::WRONG_TYPE));
     }
-    let Number::Value(d) = read_decimal(p) else {
+    let Some(d) = read_decimal(p) else {
         return CoordinateFound::broken(field.broken(number, Kind::NUMBER_FORM));
     };
     if !d.within(most) {
         return CoordinateFound::broken(field.broken(number, Kind::OUT_OF_RANGE));
     }
     CoordinateFound {
-        least: Least::None,
+        least: None,
         value: d.coordinate(most),
     }
 }
 
 // What follows lon and lat: nothing, or one number of any size.
-fn judge_rest(p: &[u8], at: usize, field: Field, number: u32) -> Least
+fn judge_rest(p: &[u8], at: usize, field: Field, number: u32) -> Option<Fault>
     ensures { (ms : List Item) → Left p.now at ms → result ≡ least_found field (found_at number (rest_kinds (map (picked number_shape p.now) ms))) }
 {
-    let ItemStep::Found(third) = pass_item(p, at) else {
-        return Least::None;
-    };
+    let third = pass_item(p, at)?;
     let least = field.unless(is_number(item_bytes(p, third)), number, Kind::WRONG_TYPE);
-    let ItemStep::Found(fourth) = pass_item(p, third.next) else {
+    let Some(_) = pass_item(p, third.next) else {
         return least;
     };
-    return lesser(field.broken(number, Kind::BAD_RING), least);
+    lesser(field.broken(number, Kind::BAD_RING), least)
 }
 
 impl PositionFound {
-    fn broken(least: Least) -> PositionFound
+    fn broken(least: Option<Fault>) -> PositionFound
         ensures { result ≡ record { least = least; point = origin } }
     {
         PositionFound {
@@ -98,15 +95,13 @@ fn judge_behind(
         ((x : Picked) (ms : List Item) → FindsCoordinate field 180 number x lon → Left p.now at ms
         → FindsNumbers field number (x ∷ map (picked number_shape p.now) ms) result) }
 {
-    let east = lon.least;
-    let ItemStep::Found(second) = pass_item(p, at) else {
-        return PositionFound::broken(lesser(field.broken(number, Kind::BAD_RING), east));
+    let Some(second) = pass_item(p, at) else {
+        return PositionFound::broken(lesser(field.broken(number, Kind::BAD_RING), lon.least));
     };
     let lat = read_coordinate(item_bytes(p, second), 90, field, number);
-    let north = lat.least;
     let rest = judge_rest(p, second.next, field, number);
     PositionFound {
-        least: lesser(east, lesser(north, rest)),
+        least: lesser(lon.least, lesser(lat.least, rest)),
         point: Position {
             lon: lon.value,
             lat: lat.value,
@@ -118,11 +113,11 @@ fn judge_numbers(p: &[u8], field: Field, number: u32) -> PositionFound
     ensures { OnMap result.point ×
         (Listing p.now → FindsNumbers field number (picked_items number_shape p.now) result) }
 {
-    let ItemStep::Found(first) = pass_item(p, 1) else {
+    let Some(first) = pass_item(p, 1) else {
         return PositionFound::broken(field.broken(number, Kind::BAD_RING));
     };
     let lon = read_coordinate(item_bytes(p, first), 180, field, number);
-    return judge_behind(p, first.next, lon, field, number);
+    judge_behind(p, first.next, lon, field, number)
 }
 
 // The least kind of a position, at its number; and its point, where it is sound.
@@ -132,20 +127,16 @@ pub fn judge_position(p: &[u8], field: Field, number: u32) -> PositionFound
     if !is_array(p) {
         return PositionFound::broken(field.broken(number, Kind::WRONG_TYPE));
     }
-    return judge_numbers(p, field, number);
+    judge_numbers(p, field, number)
 }
 
 // The point of a position that is sound.
 pub fn position_in(p: &[u8]) -> Position
     ensures { OnMap result × ((x : Json) → Whole p.now x → position_kinds (pick position_shape x) ≡ [] → point result ≡ position (pick position_shape x)) }
 {
-    let found = judge_position(
-        p,
-        Field {
-            record: 0,
-            field: 0,
-        },
-        0,
-    );
-    found.point
+    let field = Field {
+        record: 0,
+        field: 0,
+    };
+    judge_position(p, field, 0).point
 }

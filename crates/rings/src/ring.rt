@@ -10,10 +10,10 @@ ghost use Rattle.rings.specs.inner.Parts.{position_shape, ring_shape, Listing, R
 
 use crate::position::{is_array, judge_position};
 use crate::{Field, Judged, RingFound};
-use fault::{Least, lesser};
+use fault::{Fault, lesser};
 use geometry::Outline;
 use limits::Limits;
-use walk::{ItemStep, item_bytes, pass_item};
+use walk::{item_bytes, pass_item};
 use word::kind::Kind;
 
 // The positions of the ring p, the first with the number n. Each is read once.
@@ -22,40 +22,32 @@ fn read_ring(p: &[u8], field: Field, n: u32) -> RingFound
     ensures { RingRoom (length p.now) result × (Listing p.now → RingRead field n (picked_items position_shape p.now) result) }
 {
     let mut outline = Outline::none();
-    let mut least = Least::None;
+    let mut least = None;
     let mut at: usize = 1;
-    loop {
-        match pass_item(p, at) {
-            ItemStep::End => {
-                return RingFound { least, outline };
-            }
-            ItemStep::Found(m) => {
-                let position = judge_position(item_bytes(p, m), field, n + outline.count);
-                let first = position.least;
-                let point = position.point;
-                least = lesser(least, first);
-                outline = outline.with(point);
-                at = m.next;
-            }
-        }
+    while let Some(m) = pass_item(p, at) {
+        let position = judge_position(item_bytes(p, m), field, n + outline.count);
+        least = lesser(least, position.least);
+        outline = outline.with(position.point);
+        at = m.next;
     }
+    RingFound { least, outline }
 }
 
 // The area of a ring is asked for where its positions are all sound and not too many. With more of them kind 10 stands at the same number and comes before
 // kind 11.
-fn judge_area(r: RingFound, field: Field, n: u32) -> Least
+#[tactic(auto, using(crate::proofs::Areas::area_asked), unfolding(crate::specs::inner::Parts::area_least))]
+fn judge_area(r: RingFound, field: Field, n: u32) -> Option<Fault>
     requires { Sized r.outline }
     ensures { result ≡ area_least field n r }
 {
-    let least = r.least;
-    let outline = r.outline;
-    let Least::None = least else {
-        return Least::None;
-    };
-    if (Limits::POSITIONS as u32) < outline.count {
-        return Least::None;
+    match r.least {
+        None if r.outline.count <= Limits::POSITIONS as u32 => field.unless(
+            r.outline.is_sound(),
+            n,
+            Kind::BAD_RING,
+        ),
+        _ => None,
     }
-    return field.unless(outline.is_sound(), n, Kind::BAD_RING);
 }
 
 fn judge_positions(p: &[u8], field: Field, n: u32) -> Judged
@@ -63,12 +55,10 @@ fn judge_positions(p: &[u8], field: Field, n: u32) -> Judged
     ensures { Within (length p.now) result × (Listing p.now → result ≡ ring_judged field n (picked_items position_shape p.now)) }
 {
     let r = read_ring(p, field, n);
-    let outline = r.outline;
-    let count = outline.count;
+    let count = r.outline.count;
     let few = field.unless(4 <= count, n, Kind::BAD_RING);
     let many = field.unless(count <= Limits::POSITIONS as u32, n, Kind::TOO_MANY);
-    let found = r.least;
-    let least = lesser(lesser(lesser(few, many), found), judge_area(r, field, n));
+    let least = lesser(lesser(lesser(few, many), r.least), judge_area(r, field, n));
     Judged {
         items: count,
         positions: count,
@@ -89,5 +79,5 @@ pub fn judge_ring(p: &[u8], field: Field, n: u32) -> Judged
             least: field.broken(n, Kind::WRONG_TYPE),
         };
     }
-    return judge_positions(p, field, n);
+    judge_positions(p, field, n)
 }

@@ -1,5 +1,5 @@
 -- A single value against its sort: document 01, "Numbers", "Field table" and the paragraph on strings; of dates document 02, W1. The kinds that it breaks.
-use Rattle.std.specs.Prelude.{Bool, true, false, not, List, [], ◌∷◌, ℕ, eqb, ltb, length}
+use Rattle.std.specs.Prelude.{Bool, true, false, not, List, [], ◌∷◌, ℕ, eqb, ltb, length, Option, Result, Some, None, Ok, Err}
 use Rattle.limits.specs.Ceilings.{id_bytes}
 use Rattle.notation.specs.Choice.{◌⇒◌else◌, ◌and◌}
 use Rattle.word.specs.Kinds.{wrong_type, number_form, out_of_range}
@@ -7,17 +7,14 @@ use Rattle.lexeme.specs.Character.{within}
 use Rattle.json_text.specs.Tree as tree
 use Rattle.json_text.specs.Tree.{Json}
 use Rattle.decimal.specs.declared.Decimal.{Decimal}
-use Rattle.decimal.specs.declared.Number.{Number}
-use Rattle.decimal.specs.declared.Number.TheVariants as number
-use Rattle.decimal.specs.declared.Price.{Price}
-use Rattle.decimal.specs.declared.Price.TheVariants as price
-use Rattle.decimal.specs.declared.Money.TheVariants as money
 use Rattle.decimal.specs.Decimals.{number_of, has_point, price_of}
 use Rattle.decimal.specs.Exact.{natural, portion, in_range, money_of}
 use Rattle.calendar.specs.Written.{is_date}
 use Rattle.text.specs.Text.{same, same_word}
 use Rattle.schema.specs.Shape as sort
 use Rattle.schema.specs.Shape.{Sort}
+use Rattle.decimal.specs.declared.PriceError.{PriceError}
+use Rattle.decimal.specs.declared.PriceError.TheVariants.{Unformed, NoNumber}
 
 -- one kind where the test fails
 abbrev pub unless : Bool → ℕ → List ℕ
@@ -25,20 +22,20 @@ unless true kind = []
 unless false kind = kind ∷ []
 
 -- a number in the form of listed numbers, against a test of its exact value
-unfoldable pub formed_kinds : (Decimal → Bool) → Number → List ℕ
-formed_kinds test (number.Value d) = unless (test d) out_of_range
-formed_kinds test number.Unformed = number_form ∷ []
+unfoldable pub formed_kinds : (Decimal → Bool) → Option Decimal → List ℕ
+formed_kinds test (Some d) = unless (test d) out_of_range
+formed_kinds test None = number_form ∷ []
 
 unfoldable pub any_money : Decimal → Bool
-any_money d = elim (money_of d) [ money.Is a ↦ true | money.Outside ↦ false ]
+any_money d = elim (money_of d) [ Some a ↦ true | None ↦ false ]
 
 unfoldable pub price_money : Decimal → Bool
 price_money d = natural d and any_money d
 
-unfoldable pub pricing : Price → List ℕ
-pricing (price.Value d) = unless (price_money d) out_of_range
-pricing price.Unformed = number_form ∷ []
-pricing price.NoNumber = out_of_range ∷ []
+unfoldable pub pricing : Result Decimal PriceError → List ℕ
+pricing (Ok d) = unless (price_money d) out_of_range
+pricing (Err Unformed) = number_form ∷ []
+pricing (Err NoNumber) = out_of_range ∷ []
 
 -- one of the words, whatever the case
 unfoldable pub any_word : List (List ℕ) → List ℕ → Bool

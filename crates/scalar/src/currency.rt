@@ -3,7 +3,6 @@ ghost use Rattle.std.specs.Prelude.{◌≡◌};
 ghost use Rattle.text.specs.Text.{text_of};
 ghost use Rattle.scalar.specs.Scalars.{currency};
 
-use text::Step;
 use text::ascii::is_capital;
 use text::walk::{cursor_at, next_byte};
 
@@ -13,21 +12,12 @@ pub fn is_currency(spelled: &[u8]) -> bool
 {
     let mut c = cursor_at(0);
     let mut n: usize = 0;
-    loop {
-        match next_byte(spelled, c) {
-            Step::End => {
-                return n == 3;
-            }
-            Step::Byte(b, after) => {
-                if n == 3 {
-                    return false;
-                }
-                if !is_capital(b) {
-                    return false;
-                }
-                c = after;
-                n += 1;
-            }
+    while let Some((b, after)) = next_byte(spelled, c) {
+        if n == 3 || !is_capital(b) {
+            return false;
         }
+        c = after;
+        n += 1;
     }
+    n == 3
 }

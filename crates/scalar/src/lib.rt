@@ -28,9 +28,10 @@ fn boolean_kind(letter: u8) -> u8
     ensures { (σ : Sort) → sort_letter σ ≡ letter → boolean_kinds σ ≡ listed result }
 {
     if letter == Line::BOOLEAN {
-        return 0;
+        0
+    } else {
+        Kind::WRONG_TYPE
     }
-    Kind::WRONG_TYPE
 }
 
 // A string, with its quotation marks. A whole one has both.
@@ -40,8 +41,7 @@ fn string_kind(p: &[u8], letter: u8, line: usize) -> u8
     if p.len() < 2 {
         return 0;
     }
-    let end = p.len() - 1;
-    text_kind(&p[1..end], letter, line)
+    text_kind(&p[1..p.len() - 1], letter, line)
 }
 
 // The value p against the sort of a letter, whose words are those of a line.
@@ -49,11 +49,9 @@ pub fn judge_scalar(p: &[u8], letter: u8, line: usize) -> u8
     ensures { (σ : Sort) (x : Json) → sort_letter σ ≡ letter → words_at sheets line ≡ sort_words σ → Whole p.now x → kinds_of σ x ≡ listed result }
 {
     match value_kind(p) {
-        ValueKind::Null => Kind::WRONG_TYPE,
         ValueKind::Boolean => boolean_kind(letter),
         ValueKind::Number => number_kind(p, letter),
         ValueKind::String => string_kind(p, letter, line),
-        ValueKind::Array => Kind::WRONG_TYPE,
-        ValueKind::Object => Kind::WRONG_TYPE,
+        ValueKind::Null | ValueKind::Array | ValueKind::Object => Kind::WRONG_TYPE,
     }
 }

@@ -11,8 +11,8 @@ ghost use Rattle.scalar.specs.Scalars.{unless, formed_kinds, any_money, number_k
 ghost use Rattle.scalar.specs.inner.Bounds.{in_bounds};
 ghost use Rattle.word.specs.inner.Listed.{listed};
 
+use decimal::Decimal;
 use decimal::spelling::{has_point, read_decimal};
-use decimal::{Decimal, Money, Number};
 use schema::Line;
 use word::kind::Kind;
 
@@ -37,10 +37,7 @@ fn is_money(d: Decimal) -> bool
     requires { Formed d }
     ensures { result ≡ any_money d }
 {
-    match d.money() {
-        Money::Is(_) => true,
-        Money::Outside => false,
-    }
+    d.money().is_some()
 }
 
 // Whether a number keeps within its bounds.
@@ -53,12 +50,7 @@ pub fn keeps(bounds: Bounds, d: Decimal) -> bool
         Bounds::Portion => d.portion(),
         Bounds::Degrees(k) => d.within(k),
         Bounds::Money => is_money(d),
-        Bounds::Price => {
-            if !d.natural() {
-                return false;
-            }
-            is_money(d)
-        }
+        Bounds::Price => d.natural() && is_money(d),
     }
 }
 
@@ -66,10 +58,7 @@ pub fn keeps(bounds: Bounds, d: Decimal) -> bool
 pub fn range_kind(kept: bool) -> u8
     ensures { unless kept out_of_range ≡ listed result }
 {
-    if kept {
-        return 0;
-    }
-    Kind::OUT_OF_RANGE
+    if kept { 0 } else { Kind::OUT_OF_RANGE }
 }
 
 // A listed number's form, and then its range.
@@ -77,8 +66,8 @@ fn formed_kind(s: &[u8], bounds: Bounds) -> u8
     ensures { formed_kinds (in_bounds bounds) (number_of s.now) ≡ listed result }
 {
     match read_decimal(s) {
-        Number::Value(d) => range_kind(keeps(bounds, d)),
-        Number::Unformed => Kind::NUMBER_FORM,
+        Some(d) => range_kind(keeps(bounds, d)),
+        None => Kind::NUMBER_FORM,
     }
 }
 
@@ -88,9 +77,10 @@ fn integer_kind(s: &[u8]) -> u8
     ensures { has_point s.now ⇒ wrong_type ∷ [] else formed_kinds natural (number_of s.now) ≡ listed result }
 {
     if has_point(s) {
-        return Kind::WRONG_TYPE;
+        Kind::WRONG_TYPE
+    } else {
+        formed_kind(s, Bounds::Natural)
     }
-    formed_kind(s, Bounds::Natural)
 }
 
 // A number's spelling against the sort of a letter.
@@ -98,8 +88,7 @@ pub fn number_kind(s: &[u8], letter: u8) -> u8
     ensures { (σ : Sort) → sort_letter σ ≡ letter → number_kinds σ s.now ≡ listed result }
 {
     match letter {
-        Line::TIMESTAMP => integer_kind(s),
-        Line::INTEGER => integer_kind(s),
+        Line::TIMESTAMP | Line::INTEGER => integer_kind(s),
         Line::AMOUNT => formed_kind(s, Bounds::Natural),
         Line::PORTION => formed_kind(s, Bounds::Portion),
         Line::LATITUDE => formed_kind(s, Bounds::Degrees(Bounds::LATITUDE)),

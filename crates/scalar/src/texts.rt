@@ -11,7 +11,7 @@ ghost use Rattle.word.specs.inner.Listed.{listed};
 use crate::currency::is_currency;
 use crate::numbers::{Bounds, keeps, range_kind};
 use calendar::written::is_date;
-use decimal::Price;
+use decimal::PriceError;
 use decimal::quoted::read_price;
 use limits::Limits;
 use schema::Line;
@@ -24,9 +24,9 @@ fn price_kind(spelled: &[u8]) -> u8
     ensures { pricing (price_of (text_of spelled.now)) ≡ listed result }
 {
     match read_price(spelled) {
-        Price::Value(d) => range_kind(keeps(Bounds::Price, d)),
-        Price::Unformed => Kind::NUMBER_FORM,
-        Price::NoNumber => Kind::OUT_OF_RANGE,
+        Ok(d) => range_kind(keeps(Bounds::Price, d)),
+        Err(PriceError::Unformed) => Kind::NUMBER_FORM,
+        Err(PriceError::NoNumber) => Kind::OUT_OF_RANGE,
     }
 }
 
@@ -44,12 +44,10 @@ fn is_a_word(spelled: &[u8], line: usize) -> bool
 {
     let words = words_at(line);
     let end = words.first + words.count;
-    let mut k = words.first;
-    while k < end {
+    for k in words.first..end {
         if word_is(k, spelled) {
             return true;
         }
-        k += 1;
     }
     false
 }

@@ -4,14 +4,14 @@ use mathlib.Core.Path.{◌≡◌, refl, sym, ap, subst, ◌∙◌}
 use Prim.Native.Nat.{ℕ, zero, suc, ◌+◌}
 use native.Mathlib.Omega.{arith}
 use lib.ListN.{length, get_or, length-append}
-use Rattle.notation.specs.Maybe.{Maybe, none, some}
-use Rattle.notation.proofs.Maybes.{none-some, some-some}
+use Rattle.notation.proofs.Options.{none-some, some-some}
 use Rattle.schema.specs.Shape as shape
 use Rattle.schema.specs.Shape.{Shape, Rows, Need, Table, unlisted, file_shape}
 use Rattle.schema.specs.Records.{Way, way_in, way_through, record_in}
 use Rattle.schema.specs.inner.Line.{Entry, inside, entries, file_entries, entries_of, ranges_from, nowhere, file_ranges, file_lines}
 use Rattle.schema.specs.inner.RecordLines.{lines_before, lines_above, records_from, record_ranges, record_lines}
 use Rattle.schema.proofs.Walk.{Stands, stands-left, stands_right, LaidIn, file_lined}
+use Rattle.std.specs.Prelude.{Option, None, Some}
 
 -- so many entries stand before a part of a list
 record Behind (whole : List Entry) (before : ℕ) (part : List Entry) : Type 0 where
@@ -25,16 +25,16 @@ module _ (field : ℕ) (need : Need) (name : List ℕ) (σ : Shape) (rows : Rows
   abbrev entry : Entry
   entry = record { field = field; need = need; name = name; shape = σ }
 
-  abbrev above : Maybe Way → ℕ
-  above o = elim o [ none ↦ suc (length (inside σ) + lines_above rows) | some w ↦ suc (lines_before σ) ]
+  abbrev above : Option Way → ℕ
+  above o = elim o [ None ↦ suc (length (inside σ) + lines_above rows) | Some w ↦ suc (lines_before σ) ]
 
-  row_behind : {w : Way} (o : Maybe Way) → way_in σ ≡ o
-      → elim o [ none ↦ way_through rows | some u ↦ some (record { keys = record { field = field; name = name } ∷ u.keys; item = u.item }) ] ≡ some w
-      → ((u : Way) → way_in σ ≡ some u → Behind (inside σ) (lines_before σ) (inside u.item))
-      → (way_through rows ≡ some w → Behind (entries rows) (lines_above rows) (inside w.item))
+  row_behind : {w : Way} (o : Option Way) → way_in σ ≡ o
+      → elim o [ None ↦ way_through rows | Some u ↦ Some (record { keys = record { field = field; name = name } ∷ u.keys; item = u.item }) ] ≡ Some w
+      → ((u : Way) → way_in σ ≡ Some u → Behind (inside σ) (lines_before σ) (inside u.item))
+      → (way_through rows ≡ Some w → Behind (entries rows) (lines_above rows) (inside w.item))
       → Behind (entries (shape.row field need name σ rows)) (lines_above (shape.row field need name σ rows)) (inside w.item)
   unfolding entries lines_above
-  row_behind {w} none h e f g =
+  row_behind {w} None h e f g =
       let i = g e in
       record {
         front = entry ∷ (inside σ ++ i.front);
@@ -44,7 +44,7 @@ module _ (field : ℕ) (need : Need) (name : List ℕ) (σ : Shape) (rows : Rows
             let k : suc (length (inside σ ++ i.front)) ≡ suc (length (inside σ) + lines_above rows) = omega (arith, length-append (inside σ) i.front, i.many) in
             k ∙ sym (ap above h);
       }
-  row_behind {w} (some u) h e f g =
+  row_behind {w} (Some u) h e f g =
       let i = f u h in
       let item : inside u.item ≡ inside w.item = ap (λ (v : Way). inside v.item) (some-some e) in
       record {
@@ -61,7 +61,7 @@ module _ (field : ℕ) (need : Need) (name : List ℕ) (σ : Shape) (rows : Rows
 mutual
   unfolding way_in lines_before inside
 
-  way_behind : (σ : Shape) {w : Way} → way_in σ ≡ some w → Behind (inside σ) (lines_before σ) (inside w.item)
+  way_behind : (σ : Shape) {w : Way} → way_in σ ≡ Some w → Behind (inside σ) (lines_before σ) (inside w.item)
   way_behind shape.unlisted e = none-some e
   way_behind (shape.scalar sort) e = none-some e
   way_behind (shape.array shape.records most σ) e =
@@ -71,7 +71,7 @@ mutual
   way_behind (shape.array shape.positions most σ) e = none-some e
   way_behind (shape.object rows) e = way_above rows e
 
-  way_above : (rows : Rows) {w : Way} → way_through rows ≡ some w → Behind (entries rows) (lines_above rows) (inside w.item)
+  way_above : (rows : Rows) {w : Way} → way_through rows ≡ Some w → Behind (entries rows) (lines_above rows) (inside w.item)
   way_above shape.no_row e = none-some e
   way_above (shape.row field need name σ rows) e = row_behind field need name σ rows (way_in σ) refl e (λ u h. way_behind σ h) (λ h. way_above rows h)
 
@@ -100,7 +100,7 @@ module _ (t : Table) where
   record_count (suc i) = from-count 0 t i
 
   -- the lines that are inside a record
-  pub record_laid : (file : ℕ) {w : Way} → way_in (file_shape t file) ≡ some w → LaidIn t (record_lines t file).first w.item
+  pub record_laid : (file : ℕ) {w : Way} → way_in (file_shape t file) ≡ Some w → LaidIn t (record_lines t file).first w.item
   record_laid file {w} e =
       let b = way_behind (file_shape t file) e in
       let file' = subst (Stands (entries_of t) (file_lines t file).first) b.is (file_lined t file).laid in

@@ -1,7 +1,7 @@
 -- The first bytes of a text in an array: where the bytes in the array and those that are left are the text, the array has the text's first 32 bytes once it is full,
 -- or all of them once none is left.
 use mathlib.Core.List.{List, [], ◌∷◌, ◌++◌, append-nil}
-use mathlib.Core.Path.{◌≡◌, sym, ap, ◌∙◌}
+use mathlib.Core.Path.{◌≡◌, sym, ap, subst, ◌∙◌}
 use Prim.Native.Nat.{ℕ, ◌+◌, ◌≤◌, ◌<◌}
 use native.Mathlib.Omega.{arith}
 use lib.ListN.{length, take, drop, length-take}
@@ -27,11 +27,11 @@ module _ {whole bytes rest : List ℕ} {n : ℕ} (f : Filled whole bytes rest n)
             ∙ sym (take_all 32 whole (omega (arith, ended-length f e, f.few)));
       }
 
-  pub reads-full : 32 ≤ n → Reads whole (record { bytes = bytes; count = n })
+  pub reads-full : 32 ≤ n → Reads whole (record { bytes = bytes; count = 32 })
   reads-full h =
       let z : n ≡ 32 = omega (arith, f.few) in
       let l : length (take n bytes) ≡ 32 = length-take n bytes ∙ omega (arith, f.size) in
-      record { counted = counts; bytes = sym (ap (take 32) (sym f.joined) ∙ take_at (take n bytes) rest 32 l) }
+      subst (λ (k : ℕ). Reads whole (record { bytes = bytes; count = k })) z (record { counted = counts; bytes = sym (ap (take 32) (sym f.joined) ∙ take_at (take n bytes) rest 32 l) })
 
 -- what is read by a cursor from the text's begin on
 pub reads-front : (s : List ℕ) {c : Cursor} {r : Front} → c ≡ cursor_at 0 → Fronted s c 32 r → Reads (text_of s) (record { bytes = r.bytes; count = r.count })

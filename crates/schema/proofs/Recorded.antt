@@ -4,19 +4,20 @@ use mathlib.Core.Path.{◌≡◌, ap}
 use Prim.Native.Nat.{ℕ, ◌≤◌}
 use native.Mathlib.Decide.{ℕ_discrete}
 use native.Mathlib.Omega.{arith}
-use Rattle.notation.specs.Maybe.{none, given}
+use Rattle.notation.specs.Given.{given}
 use Rattle.notation.proofs.Booleans.{by_test, true-false}
-use Rattle.notation.proofs.Maybes.{given-none}
+use Rattle.notation.proofs.Options.{given-none}
 use Rattle.schema.specs.Shape.{Shape}
 use Rattle.schema.specs.Tables.{sheets}
 use Rattle.schema.specs.Records.{way_in, way_to, record_in, id_in, id_of, id_key, has_records, has_ids, located, identified}
 use Rattle.schema.specs.Later.{rows_of}
 use Rattle.schema.proofs.Computed.{no-file}
+use Rattle.std.specs.Prelude.{None}
 
-pub no_way : (n : ℕ) → has_records n ≡ false → way_to n ≡ none
+pub no_way : (n : ℕ) → has_records n ≡ false → way_to n ≡ None
 no_way n e = given-none (way_to n) e
 
-pub no_key : (n : ℕ) → has_ids n ≡ false → id_key n ≡ none
+pub no_key : (n : ℕ) → has_ids n ≡ false → id_key n ≡ None
 no_key n e = given-none (id_key n) e
 
 -- without records there are no ids

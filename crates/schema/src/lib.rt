@@ -1,7 +1,7 @@
 // The field table in lines: the rows of all files in one list, each with the rows of the object inside it right behind it.
 #![tactic(auto)]
 
-ghost use Rattle.std.specs.Prelude.{◌≡◌, ◌+◌, ◌*◌};
+ghost use Rattle.std.specs.Prelude.{◌≡◌, ◌+◌, ◌*◌, length, get_or};
 
 pub mod lines;
 pub mod names;
@@ -12,14 +12,30 @@ pub mod ways;
 pub mod words;
 
 // Part of a list: its first place, and how many places.
-#[derive(Clone, Copy)]
+#[derive(Clone, Copy, Debug, PartialEq, Eq)]
 pub struct Range {
     pub first: usize,
     pub count: usize,
 }
 
+impl Range {
+    // The range at a place, where firsts and counts stand in two columns; past their end the empty one.
+    fn of_columns(firsts: &[u8], counts: &[u8], i: usize) -> Range
+        requires { length firsts.now ≡ length counts.now }
+        ensures { result ≡ record { first = get_or firsts.now i 0; count = get_or counts.now i 0 } }
+    {
+        if firsts.len() <= i {
+            return Range { first: 0, count: 0 };
+        }
+        Range {
+            first: usize::from(firsts[i]),
+            count: usize::from(counts[i]),
+        }
+    }
+}
+
 // The first bytes of a text: as many of the array as `count` tells.
-#[derive(Clone, Copy)]
+#[derive(Clone, Copy, Debug, PartialEq, Eq)]
 pub struct Prefix {
     pub bytes: [u8; 32],
     pub count: usize,
@@ -27,7 +43,8 @@ pub struct Prefix {
 
 // What the table says of one member: its number in the word, whether it must be there, what it may be, what the items of an array may be and
 // how they are numbered and how many there may be, and how many lines stand inside.
-#[derive(Clone, Copy)]
+// The letters are not decoded to enums: other crates' contracts speak of a line by the bytes of the table.
+#[derive(Clone, Copy, Debug, PartialEq, Eq)]
 pub struct Line {
     pub field: u8,
     pub need: u8,
@@ -93,22 +110,9 @@ impl Line {
     pub const POSITIONS: u8 = b'p';
 }
 
-// A number of the table, as a place.
-fn from_u8(x: u8) -> usize
-    ensures { result ≡ x }
-{
-    x as usize
-}
-
-fn from_u16(x: u16) -> usize
-    ensures { result ≡ x }
-{
-    x as usize
-}
-
 // The number that two bytes are, the lower one first.
 fn two_bytes(low: u8, high: u8) -> u16
     ensures { result ≡ low + 256 * high }
 {
-    low as u16 + 256 * (high as u16)
+    u16::from(low) + 256 * u16::from(high)
 }

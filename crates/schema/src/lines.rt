@@ -5,7 +5,7 @@ ghost use Rattle.schema.specs.inner.Line.{lines_of, line_at, bytes_of, file_line
 ghost use Rattle.schema.specs.inner.RecordLines.{record_lines};
 
 use crate::table::{FILE_COUNTS, FILE_FIRSTS, RECORD_COUNTS, RECORD_FIRSTS, TABLE};
-use crate::{Line, Range, from_u8, two_bytes};
+use crate::{Line, Range, two_bytes};
 
 // The table, for a walk that takes it once and lends it: a constant is laid out anew wherever it is named.
 pub fn table_bytes() -> [u8; Line::TABLE_BYTES]
@@ -54,26 +54,12 @@ pub fn inside_at(table: &[u8; Line::TABLE_BYTES], i: usize) -> u8
 pub fn file_lines(sheet: u8) -> Range
     ensures { result ≡ file_lines sheets sheet }
 {
-    let i = sheet as usize;
-    if FILE_FIRSTS.len() <= i {
-        return Range { first: 0, count: 0 };
-    }
-    Range {
-        first: from_u8(FILE_FIRSTS[i]),
-        count: from_u8(FILE_COUNTS[i]),
-    }
+    Range::of_columns(&FILE_FIRSTS, &FILE_COUNTS, usize::from(sheet))
 }
 
 // The lines of the rows of a sheet's records, by the sheet's number from 1 on; none of another number, or where it has no records.
 pub fn record_lines(sheet: u8) -> Range
     ensures { result ≡ record_lines sheets sheet }
 {
-    let i = sheet as usize;
-    if RECORD_FIRSTS.len() <= i {
-        return Range { first: 0, count: 0 };
-    }
-    Range {
-        first: from_u8(RECORD_FIRSTS[i]),
-        count: from_u8(RECORD_COUNTS[i]),
-    }
+    Range::of_columns(&RECORD_FIRSTS, &RECORD_COUNTS, usize::from(sheet))
 }

@@ -6,7 +6,7 @@ ghost use Rattle.schema.specs.inner.Names.{name_by, place_count, place_of, place
 ghost use Rattle.schema.specs.inner.Line.{lines_of, bytes_of, name_at, each_name, number_of, number_at, name_range_by};
 
 use crate::spelling::read_prefix;
-use crate::{Line, Range, from_u8, from_u16, two_bytes};
+use crate::{Line, Range, two_bytes};
 use text::compare::same_bytes;
 
 // The number of a line's name, in the table that is lent; 0 past the last line.
@@ -25,14 +25,14 @@ fn range_of(table: &[u8; Line::TABLE_BYTES], number: u8) -> Range
     requires { table.now ≡ bytes_of sheets }
     ensures { result ≡ name_range_by sheets number }
 {
-    let n = from_u8(number);
+    let n = usize::from(number);
     if Line::NAMES < n {
         return Range { first: 0, count: 0 };
     }
     let at = Line::RANGES + n * 3;
     Range {
-        first: from_u16(two_bytes(table[at], table[at + 1])),
-        count: from_u8(table[at + 2]),
+        first: usize::from(two_bytes(table[at], table[at + 1])),
+        count: usize::from(table[at + 2]),
     }
 }
 
@@ -42,10 +42,7 @@ fn name_by<'t>(table: &'t [u8; Line::TABLE_BYTES], number: u8) -> &'t [u8]
     ensures { result.now ≡ name_by (each_name sheets) number }
 {
     let name = range_of(table, number);
-    let first = name.first;
-    let end = first + name.count;
-    let bytes = &table[..];
-    &bytes[first..end]
+    &table[name.first..name.first + name.count]
 }
 
 // The name of a line, as it stands in the table that is lent; no bytes past the last line.
@@ -72,13 +69,6 @@ fn placed_at(table: &[u8; Line::TABLE_BYTES], place: usize) -> u8
     table[Line::PLACES + place]
 }
 
-// A byte, as a number to reckon with.
-fn byte_value(b: u8) -> usize
-    ensures { (result ≡ b) × (result < 256) }
-{
-    b as usize
-}
-
 // The place of a name that has 1 to 31 bytes.
 fn place_of(x: &[u8]) -> usize
     requires { (0 < length x.now) × (length x.now < 32) }
@@ -86,9 +76,9 @@ fn place_of(x: &[u8]) -> usize
 {
     let n = x.len();
     (n * Line::LENGTH_WEIGHT
-        + byte_value(x[(n + 2) / 4]) * Line::EARLY_WEIGHT
-        + byte_value(x[n / 2]) * Line::MIDDLE_WEIGHT
-        + byte_value(x[3 * n / 4]) * Line::LATE_WEIGHT)
+        + usize::from(x[(n + 2) / 4]) * Line::EARLY_WEIGHT
+        + usize::from(x[n / 2]) * Line::MIDDLE_WEIGHT
+        + usize::from(x[3 * n / 4]) * Line::LATE_WEIGHT)
         % Line::PLACE_COUNT
 }
 
@@ -98,10 +88,7 @@ fn number_in(table: &[u8; Line::TABLE_BYTES], x: &[u8]) -> u8
     requires { table.now ≡ bytes_of sheets }
     ensures { result ≡ number_of sheets x.now }
 {
-    if x.len() < 1 {
-        return 0;
-    }
-    if 32 <= x.len() {
+    if x.is_empty() || 32 <= x.len() {
         return 0;
     }
     let number = placed_at(table, place_of(x));
@@ -122,7 +109,5 @@ pub fn name_number(table: &[u8; Line::TABLE_BYTES], spelled: &[u8]) -> u8
         return number;
     }
     let read = read_prefix(spelled);
-    let bytes = read.bytes;
-    let count = read.count;
-    number_in(table, &bytes[..count])
+    number_in(table, &read.bytes[..read.count])
 }

@@ -12,10 +12,7 @@ const FILES: u8 = 8;
 pub fn sheet_of(table: u8, file: u8) -> u8
     ensures { result ≡ sheet_of table file }
 {
-    if file == 0 {
-        return 0;
-    }
-    if FILES < file {
+    if file == 0 || FILES < file {
         return 0;
     }
     if TABLES <= table {

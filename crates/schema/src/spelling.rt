@@ -23,9 +23,8 @@ pub fn read_prefix(spelled: &[u8]) -> Prefix
     ensures { Reads (text_of spelled.now) result }
 {
     let mut bytes: [u8; 32] = [0; 32];
-    let mut count: usize = 0;
     let mut i: usize = 0;
-    while count < 32 {
+    for count in 0..32 {
         if spelled.len() <= i {
             return Prefix { bytes, count };
         }
@@ -40,7 +39,6 @@ pub fn read_prefix(spelled: &[u8]) -> Prefix
             bytes[count] = b;
             i += 6;
         }
-        count += 1;
     }
-    Prefix { bytes, count }
+    Prefix { bytes, count: 32 }
 }

@@ -1,11 +1,10 @@
 // The members that lead from a file's top value to its records, by their lines in the table.
 ghost use Rattle.schema.specs.inner.Ways.{LeadTo};
 
-use crate::from_u8;
 use crate::table::{WAY_COUNTS, WAY_FIRSTS, WAY_SECONDS, WAY_THIRDS};
 
 // How many members there are, three at most, and the line of each; 0 for a line that there is not.
-#[derive(Clone, Copy)]
+#[derive(Clone, Copy, Debug, PartialEq, Eq)]
 pub struct Steps {
     pub count: usize,
     pub first: usize,
@@ -17,7 +16,7 @@ pub struct Steps {
 pub fn steps_to(sheet: u8) -> Steps
     ensures { LeadTo sheet result }
 {
-    let i = sheet as usize;
+    let i = usize::from(sheet);
     if WAY_COUNTS.len() <= i {
         return Steps {
             count: 0,
@@ -27,9 +26,9 @@ pub fn steps_to(sheet: u8) -> Steps
         };
     }
     Steps {
-        count: from_u8(WAY_COUNTS[i]),
-        first: from_u8(WAY_FIRSTS[i]),
-        second: from_u8(WAY_SECONDS[i]),
-        third: from_u8(WAY_THIRDS[i]),
+        count: usize::from(WAY_COUNTS[i]),
+        first: usize::from(WAY_FIRSTS[i]),
+        second: usize::from(WAY_SECONDS[i]),
+        third: usize::from(WAY_THIRDS[i]),
     }
 }

@@ -2,3 +2,4 @@ pub mod Bytes
 pub mod Filling
 pub mod Giving
 pub mod Worked
+pub mod Told

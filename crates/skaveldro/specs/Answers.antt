@@ -1,7 +1,7 @@
 -- What an exported function answers: the number of document 01's table of questions, and the numbers that its buffer then holds. Number 0 gives all of its question's
 -- values and number 5 the parts of a word, 0 standing for the values that it doesn't give; every other number is a refusal, gives none and so needs no room. Files are
 -- judged by the table of version 2.3.
-use Rattle.std.specs.Prelude.{Bool, true, false, List, [], ◌∷◌, ◌++◌, ℕ, suc, ◌-◌, ◌^◌, ℤ, pos, negsuc, eqb}
+use Rattle.std.specs.Prelude.{Bool, true, false, List, [], ◌∷◌, ◌++◌, ℕ, suc, ◌-◌, ◌^◌, ℤ, pos, negsuc, eqb, is_some, unwrap_or}
 use Rattle.notation.specs.Choice.{◌⇒◌else◌}
 use Rattle.word.specs.declared.Parts.{Parts}
 use Rattle.word.specs.Word as word
@@ -64,7 +64,8 @@ quote_answer plans id seconds metres =
 
 -- zone rule: parts, then ride and through, the speed and parking, each of these two after whether it is given
 abbrev pub rule_values : Rule → List ℕ
-rule_values r = bit r.ride ∷ bit r.through ∷ bit r.speed_given ∷ r.speed ∷ bit r.parking_given ∷ bit r.parking ∷ []
+rule_values r =
+    bit r.ride ∷ bit r.through ∷ bit (is_some r.speed) ∷ unwrap_or r.speed 0 ∷ bit (is_some r.parking) ∷ bit (unwrap_or r.parking false) ∷ []
 
 abbrev pub zone_values : zone.Answer → List ℕ
 zone_values a = part_values a.parts ++ rule_values a.rule

@@ -47,10 +47,8 @@ fn put(values: &[u64], buffer: &mut [u8])
     requires { 8 * length values.now ≤ length buffer.old }
     ensures { buffer.new ≡ encoded values.now ++ drop (8 * length values.now) buffer.old }
 {
-    let mut i: usize = 0;
-    while i / 8 < values.len() {
+    for i in 0..8 * values.len() {
         buffer[i] = radix::byte_of(values[i / 8], (i % 8 * 8) as u32);
-        i += 1;
     }
 }
 
@@ -59,13 +57,11 @@ fn put(values: &[u64], buffer: &mut [u8])
 fn given(number: u8, values: usize) -> usize
     ensures { result ≡ (gives number ⇒ values else 0) }
 {
-    if number == 0 {
-        return values;
+    if number == 0 || number == 5 {
+        values
+    } else {
+        0
     }
-    if number == 5 {
-        return values;
-    }
-    0
 }
 
 // Answers with a number, and with the values that it gives in the buffer, the parts of a word and then the question's own; or with 2 where these have no room.

@@ -9,6 +9,7 @@ ghost use Rattle.skaveldro.specs.Answers.{verdict_answer, verdict_buffer, word_a
 
 use crate::encode::give;
 use word::Word;
+use word::refusal::{number_of, parts_of, read_parts};
 
 mod encode;
 mod quote_trip;
@@ -58,8 +59,8 @@ pub extern "C" fn skaveldro_read_word(word: &[u8], answer: &mut [u8]) -> u8
     ensures value { result ≡ told answer.old (word_answer word.now) }
     ensures answer_after { answer.new ≡ filled answer.old (word_answer word.now).values }
 {
-    let r = Word::read(word);
-    give(r.number(), r.word_parts(), &[], answer)
+    let reading = Word::read(word);
+    give(number_of(&reading), read_parts(reading), &[], answer)
 }
 
 // The question "quote", of the bytes of file 5. Nine values: the six parts of a word, the amount in two's complement, past minutes, past kilometres.
@@ -76,7 +77,7 @@ pub extern "C" fn skaveldro_quote(
     ensures answer_after { answer.new ≡ filled answer.old (quote_answer plans.now id.now seconds metres).values }
 {
     let q = quote::quote_trip(TABLE, plans, id, seconds, metres);
-    give(q.number(), q.word_parts(), &quote_trip::rest(q), answer)
+    give(number_of(&q), parts_of(&q), &quote_trip::rest(q), answer)
 }
 
 // The question "zone rule", of the bytes of file 6. Twelve values: the six parts of a word, ride, through, whether a speed is given, the speed, whether parking is
@@ -95,7 +96,7 @@ pub extern "C" fn skaveldro_zone_rule(
     ensures answer_after { answer.new ≡ filled answer.old (zone_answer zones.now (record { lon = lon; lat = lat }) type_id.now moment).values }
 {
     let r = zone::zone_rule(TABLE, zones, lon, lat, type_id, moment);
-    give(r.number(), r.word_parts(), &zone_rule::rest(r), answer)
+    give(number_of(&r), parts_of(&r), &zone_rule::rest(r), answer)
 }
 
 // The question "show record", of a file's number and bytes. Eight values: the six parts of a word, where the record begins, where it ends. The record is that part
@@ -113,8 +114,8 @@ pub extern "C" fn skaveldro_show_record(
 {
     let shown = clean::show_record(TABLE, file, record, bytes);
     give(
-        shown.number(),
-        shown.word_parts(),
+        number_of(&shown),
+        parts_of(&shown),
         &show_record::rest(shown),
         answer,
     )

@@ -4,23 +4,22 @@ ghost use Rattle.zone.specs.Answer.{answer};
 ghost use Rattle.skaveldro.specs.Answers.{rule_values};
 
 use crate::encode::bit;
-use zone::Ruling;
+use word::refusal::Refusal;
+use zone::Rule;
 
 // The values of an answer behind the parts of a word: what the rules say.
-pub fn rest(r: Ruling) -> [u64; 6]
+pub fn rest(r: Result<Rule, Refusal>) -> [u64; 6]
     ensures { result ≡ rule_values (answer r).rule }
 {
     match r {
-        Ruling::OffMap => [0; 6],
-        Ruling::NotClean(_) => [0; 6],
-        Ruling::NoRule => [0; 6],
-        Ruling::Is(rule) => [
+        Ok(rule) => [
             bit(rule.ride),
             bit(rule.through),
-            bit(rule.speed_given),
-            rule.speed,
-            bit(rule.parking_given),
-            bit(rule.parking),
+            bit(rule.speed.is_some()),
+            rule.speed.unwrap_or(0),
+            bit(rule.parking.is_some()),
+            bit(rule.parking.unwrap_or(false)),
         ],
+        Err(_) => [0; 6],
     }
 }

@@ -3,16 +3,15 @@
 use mathlib.Core.Bool.{Bool, true, false}
 use mathlib.Core.List.{List, [], ◌∷◌, foldl}
 use mathlib.Core.Path.{◌≡◌, refl, sym, ap, subst, ◌∙◌}
-use Prim.Native.Nat.{ℕ, ◌+◌, ◌≤◌, ◌<◌}
+use Prim.Native.Nat.{ℕ, zero, suc, ◌+◌, ◌≤◌, ◌<◌}
 use native.Mathlib.Decide.{ℕ_discrete}
 use native.Mathlib.Omega.{arith}
-use lib.Dec.{eqb, ltb}
-use lib.ListN.{length, get_or, set, length-set}
+use lib.Dec.{ltb}
+use lib.ListN.{length, get_or, set, length-set, replicate}
 use lib.Seq.{get_or-set_same, get_or-set_other}
 use borrow.Author.Tests.{lt-ltb, le-ltb, ltb-true, ltb-false}
 use Rattle.notation.specs.Choice.{◌⇒◌else◌}
 use Rattle.notation.proofs.Booleans.{by_test}
-use Rattle.notation.proofs.Lists.{zeros}
 use Rattle.json_text.specs.Tree.{Json, Members}
 use Rattle.text.specs.Text.{same}
 use Rattle.walk.specs.declared.Member.{Member}
@@ -29,120 +28,72 @@ use Rattle.slots.specs.declared.Slots.{Slots}
 use Rattle.slots.specs.Found.{one_more, noted, found_in}
 use Rattle.slots.specs.inner.Found.{Within}
 use Rattle.slots.specs.inner.Rows.{most_rows, names_in, line_names, row_named}
-use Rattle.slots.specs.inner.Slots.{slots_of, empty, slot_at, new_at, counted_in, put_in, absorbed, gathered, Gathered}
+use Rattle.slots.specs.inner.Slots.{empty, slot_at, is_missing, new_at, put_in, absorbed, gathered, Gathered}
 use Rattle.slots.proofs.Named.{Apart, distinct_apart, names-laid, named_by, named_else}
 
--- a slot by its state
+-- a slot, and whether it is new
 module _ (s : Slots) (row : ℕ) where
   pub slot-past : most_rows ≤ row → slot_at s row ≡ Missing
   unfolding slot_at
   slot-past h = rw (slot_at, le-ltb row most_rows h)
 
-  pub slot-missing : row < most_rows → eqb (get_or s.state row 0) 0 ≡ true → slot_at s row ≡ Missing
+  pub slot_here : row < most_rows → slot_at s row ≡ get_or s.rows row Missing
   unfolding slot_at
-  slot-missing h e = rw (slot_at, lt-ltb row most_rows h, e)
+  slot_here h = rw (slot_at, lt-ltb row most_rows h)
 
-  pub slot-once : row < most_rows → eqb (get_or s.state row 0) 0 ≡ false → eqb (get_or s.state row 0) 1 ≡ true
-      → slot_at s row ≡ Once (get_or s.from row 0) (get_or s.upto row 0)
-  unfolding slot_at
-  slot-once h e f = rw (slot_at, lt-ltb row most_rows h, e, f)
+  pub new-past : most_rows ≤ row → new_at s row ≡ false
+  unfolding new_at
+  new-past h = rw (new_at, le-ltb row most_rows h)
 
-  pub slot_twice : row < most_rows → eqb (get_or s.state row 0) 0 ≡ false → eqb (get_or s.state row 0) 1 ≡ false → slot_at s row ≡ Twice
-  unfolding slot_at
-  slot_twice h e f = rw (slot_at, lt-ltb row most_rows h, e, f)
+  pub new_here : row < most_rows → new_at s row ≡ is_missing (get_or s.rows row Missing)
+  unfolding new_at
+  new_here h = rw (new_at, lt-ltb row most_rows h)
 
--- one value more, by the state
+-- one value more
 module _ (s : Slots) (row from upto : ℕ) where
-  abbrev pub put_first : Slots
-  put_first = slots_of (set s.state row 1) (set s.from row from) (set s.upto row upto)
-
-  abbrev pub put_again : Slots
-  put_again = slots_of (set s.state row 2) s.from s.upto
+  abbrev put_more : Slots
+  put_more = record { rows = set s.rows row (one_more (get_or s.rows row Missing) from upto) }
 
   pub put-past : most_rows ≤ row → put_in s row from upto ≡ s
   unfolding put_in
   put-past h = rw (put_in, le-ltb row most_rows h)
 
-  pub put_first_lem : row < most_rows → eqb (get_or s.state row 0) 0 ≡ true → put_in s row from upto ≡ put_first
+  pub put_here : row < most_rows → put_in s row from upto ≡ record { rows = set s.rows row (one_more (get_or s.rows row Missing) from upto) }
   unfolding put_in
-  put_first_lem h e = rw (put_in, lt-ltb row most_rows h, e)
+  put_here h = rw (put_in, lt-ltb row most_rows h)
 
-  pub put-again : row < most_rows → eqb (get_or s.state row 0) 0 ≡ false → put_in s row from upto ≡ put_again
-  unfolding put_in
-  put-again h e = rw (put_in, lt-ltb row most_rows h, e)
-
--- a name that is met once more
-module _ (state : List ℕ) (row : ℕ) where
-  pub counted-past : most_rows ≤ row → counted_in state row ≡ state
-  unfolding counted_in
-  counted-past h = rw (counted_in, le-ltb row most_rows h)
-
-  pub counted-here : row < most_rows → counted_in state row ≡ set state row (eqb (get_or state row 0) 0 ⇒ 1 else 2)
-  unfolding counted_in
-  counted-here h = rw (counted_in, lt-ltb row most_rows h)
-
--- is counted as a value more
-pub put-counts : (s : Slots) (row from upto : ℕ) → counted_in s.state row ≡ (put_in s row from upto).state
-put-counts s row from upto =
-    by_test (ltb row most_rows) (λ t.
-    let h : row < most_rows = ltb-true row most_rows t in
-    by_test (eqb (get_or s.state row 0) 0)
-    (λ e. rw (put_first_lem s row from upto h e, counted-here s.state row h, e))
-    (λ e. rw (put-again s row from upto h e, counted-here s.state row h, e)))
-    (λ t. let h : most_rows ≤ row = ltb-false row most_rows t in rw (put-past s row from upto h, counted-past s.state row h))
-
--- the three columns have a place for each row
+-- there is a place for each row
 pub record Sized (s : Slots) : Type 0 where
-  state : length s.state ≡ most_rows
-  from : length s.from ≡ most_rows
-  upto : length s.upto ≡ most_rows
+  pub rows : length s.rows ≡ most_rows
 
 module _ (s : Slots) (row from upto : ℕ) (z : Sized s) where
   pub put-sized : Sized (put_in s row from upto)
   put-sized =
-      by_test (ltb row most_rows) (λ t.
-      let h : row < most_rows = ltb-true row most_rows t in
-      by_test (eqb (get_or s.state row 0) 0)
-      (λ e. rw (put_first_lem s row from upto h e)
-      (record { state = simp length-set z.state; from = simp length-set z.from; upto = simp length-set z.upto }))
-      (λ e. rw (put-again s row from upto h e) (record { state = simp length-set z.state; from = z.from; upto = z.upto })))
+      by_test (ltb row most_rows)
+      (λ t. rw (put_here s row from upto (ltb-true row most_rows t)) (record { rows = simp length-set z.rows }))
       (λ t. rw (put-past s row from upto (ltb-false row most_rows t)) z)
 
   put_same : row < most_rows → slot_at (put_in s row from upto) row ≡ one_more (slot_at s row) from upto
-  unfolding slot_at
   put_same h =
-      let k : row < length s.state = omega arith in
-      let l : row < length s.from = omega arith in
-      let m : row < length s.upto = omega arith in
-      by_test (eqb (get_or s.state row 0) 0)
-      (λ e. rw (put_first_lem s row from upto h e, slot-missing s row h e)
-      (simp (slot_at, lt-ltb row most_rows h, get_or-set_same)))
-      (λ e. by_test (eqb (get_or s.state row 0) 1)
-      (λ f. rw (put-again s row from upto h e, slot-once s row h e f) (simp (slot_at, lt-ltb row most_rows h, get_or-set_same)))
-      (λ f. rw (put-again s row from upto h e, slot_twice s row h e f) (simp (slot_at, lt-ltb row most_rows h, get_or-set_same))))
+      let k : row < length s.rows = omega (arith, z.rows) in
+      rw (put_here s row from upto h, slot_here s row h)
+      (slot_here (put_more s row from upto) row h ∙ get_or-set_same s.rows row (one_more (get_or s.rows row Missing) from upto) Missing k)
 
   put_other : (j : ℕ) → (j ≡ row → ⊥) → slot_at (put_in s row from upto) j ≡ slot_at s j
   unfolding slot_at
   put_other j n =
-      by_test (ltb row most_rows) (λ t.
-      let h : row < most_rows = ltb-true row most_rows t in
-      by_test (eqb (get_or s.state row 0) 0)
-      (λ e. rw (put_first_lem s row from upto h e) (simp (slot_at, get_or-set_other)))
-      (λ e. rw (put-again s row from upto h e) (simp (slot_at, get_or-set_other))))
+      by_test (ltb row most_rows)
+      (λ t. rw (put_here s row from upto (ltb-true row most_rows t)) (simp (slot_at, get_or-set_other)))
       (λ t. rw (put-past s row from upto (ltb-false row most_rows t)))
 
 -- a slot that holds one value after a put: it was put there, as the first of its row, or was there before
 pub data Put (s : Slots) (row from upto j a e : ℕ) : Type 0 where
-  here : j ≡ row → new_at s.state row ≡ true → a ≡ from → e ≡ upto → Put s row from upto j a e
+  here : j ≡ row → new_at s row ≡ true → a ≡ from → e ≡ upto → Put s row from upto j a e
   there : (j ≡ row → ⊥) → slot_at s j ≡ Once a e → Put s row from upto j a e
 
 module _ (s : Slots) (row from upto : ℕ) (z : Sized s) where
-  new_row : row < most_rows → slot_at s row ≡ Missing → new_at s.state row ≡ true
-  new_row h m =
-      by_test (eqb (get_or s.state row 0) 0) (λ e. rw (lt-ltb row most_rows h, e))
-      (λ e. by_test (eqb (get_or s.state row 0) 1)
-      (λ f. let k = slot-once s row h e f in let n : ◌≡◌ {A = ℕ} 0 1 = cc (m, k) in absurd (omega arith))
-      (λ f. let k = slot_twice s row h e f in let n : ◌≡◌ {A = ℕ} 0 1 = cc (m, k) in absurd (omega arith)))
+  new_row : row < most_rows → slot_at s row ≡ Missing → new_at s row ≡ true
+  new_row h m = new_here s row h ∙ ap is_missing (sym (slot_here s row h) ∙ m)
 
   pub put-once : (j a e : ℕ) → slot_at (put_in s row from upto) j ≡ Once a e → Put s row from upto j a e
   put-once j a e h = elim (ℕ_discrete j row) [ yes d ↦ in_row d (ltb row most_rows) refl | no d ↦ there d (sym (put_other s row from upto z j d) ∙ h) ]
@@ -181,12 +132,17 @@ module _ (names : List (List ℕ)) (apart : Apart names) (few : length names ≤
       ∙ ap (λ (o : Found). foldl (noted p (get_or names j [])) o ms) (absorb_one (name_of p m) s m.value m.value_end z)
 
 pub empty-sized : Sized empty
-empty-sized = record { state = refl; from = refl; upto = refl }
+empty-sized = record { rows = refl }
+
+get_or-replicate : (n j : ℕ) → get_or (replicate n Missing) j Missing ≡ Missing
+get_or-replicate zero j = refl
+get_or-replicate (suc n) zero = refl
+get_or-replicate (suc n) (suc j) = get_or-replicate n j
 
 pub empty-missing : (j : ℕ) → slot_at empty j ≡ Missing
 empty-missing j =
     by_test (ltb j most_rows)
-    (λ t. slot-missing empty j (ltb-true j most_rows t) (ap (λ (n : ℕ). eqb n 0) (zeros most_rows j)))
+    (λ t. slot_here empty j (ltb-true j most_rows t) ∙ get_or-replicate most_rows j)
     (λ t. slot-past empty j (ltb-false j most_rows t))
 
 filled : (p : List ℕ) (names : List (List ℕ)) → Apart names → length names ≤ most_rows → (j : ℕ) → j < length names

@@ -8,7 +8,6 @@ use lib.Dec.{ltb}
 use lib.ListN.{drop, get_or}
 use borrow.Author.Tests.{ltb-true, ltb-false}
 use Rattle.notation.proofs.Booleans.{by_test}
-use Rattle.text.specs.declared.Order.TheVariants.{Less, Equal, Greater}
 use Rattle.text.specs.Ordering.{order_of}
 use Rattle.text.specs.inner.Key.{key_of}
 use Rattle.text.proofs.Ordered.{turned, less_equal, greater_equal, order-equal, order-turned}
@@ -17,6 +16,7 @@ use Rattle.sorting.specs.inner.Keys.{Keyed, by_keys}
 use Rattle.sorting.specs.inner.Halves.{found_by, Ascending}
 use Rattle.sorting.proofs.Halving.{found_here, found_some}
 use Rattle.sorting.proofs.Keying.{keyed_telling, by_key, by-key_less, by-key_greater, by-key-same}
+use Rattle.std.specs.declared.cmp.Ordering.TheVariants.{Less, Equal, Greater}
 
 module _ {ids : ℕ → List ℕ} {n skip : ℕ} {keys : List ℕ} (up : Ascending ids n) (w : Keyed ids n skip keys) (id : List ℕ) (wanted : ℕ) where
   -- an id that is met

@@ -7,11 +7,11 @@ use native.Mathlib.Omega.{arith}
 use lib.Dec.{ltb}
 use borrow.Author.Tests.{lt-ltb, le-ltb, ltb-true, ltb-false}
 use Rattle.notation.proofs.Booleans.{by_test}
-use Rattle.text.specs.declared.Order.{Order}
-use Rattle.text.specs.declared.Order.TheVariants.{Less, Equal, Greater}
 use Rattle.sorting.specs.declared.Lookup.{Lookup}
 use Rattle.sorting.specs.inner.Halves.{middle, found_by}
 use Rattle.sorting.proofs.Records.{by_cases}
+use Rattle.std.specs.declared.cmp.Ordering.{Ordering}
+use Rattle.std.specs.declared.cmp.Ordering.TheVariants.{Less, Equal, Greater}
 
 -- half of what is left
 halve : (left d : ℕ) → 0 < d → d < 2 ^ left → (1 ≤ left) × (d / 2 < 2 ^ (left - 1))
@@ -21,7 +21,7 @@ halve (suc v) d g h = let e : suc v - 1 ≡ v = omega arith in (omega arith, rw 
 lookup_is : (m n left : ℕ) → m ≡ n → ◌≡◌ {A = Lookup} (record { met = m; left = left }) (record { met = n; left = left })
 lookup_is m n left e = ap (λ (k : ℕ). record { met = k; left = left }) e
 
-module _ (probe : ℕ → Order) where
+module _ (probe : ℕ → Ordering) where
   -- one step
   found_spent : (lo hi : ℕ) → found_by probe 0 lo hi ≡ record { met = 0; left = 0 }
   unfolding found_by

@@ -1,19 +1,22 @@
 -- Keys behind a front that all ids have in common tell the order of two ids where they differ. That holds of the ids in any order, so the keys may be moved
 -- with them.
 use mathlib.Core.List.{List}
-use mathlib.Core.Path.{◌≡◌, sym, ap, subst, ◌∙◌}
+use mathlib.Core.Path.{◌≡◌, refl, sym, ap, subst, ◌∙◌}
 use Prim.Native.Nat.{ℕ, ◌≤◌, ◌<◌}
 use native.Mathlib.Omega.{arith}
 use lib.Dec.{leb, ltb}
 use lib.ListN.{length, take, drop, get_or}
 use borrow.Author.Tests.{lt-ltb, le-ltb, le-leb, lt-leb, leb-true, leb-false, ltb-true, ltb-false}
 use Rattle.notation.proofs.Booleans.{by_test}
-use Rattle.text.specs.declared.Order.TheVariants.{Less, Equal, Greater}
 use Rattle.text.specs.Ordering.{order_of}
 use Rattle.text.specs.inner.Key.{key_of, Bytes}
 use Rattle.text.proofs.Keys.{key_less}
 use Rattle.text.proofs.Ordered.{turned, equal_less, greater_less, less_greater, equal_greater, order-turned}
 use Rattle.sorting.specs.inner.Keys.{Keyed, Telling, key_order, by_keys}
+use Rattle.std.specs.Cmp.{nat_cmp_is}
+use Rattle.std.specs.Ordering.{nat_cmp}
+use Rattle.std.specs.declared.cmp.Ordering.{Ordering}
+use Rattle.std.specs.declared.cmp.Ordering.TheVariants.{Less, Equal, Greater}
 
 module _ {ids : ℕ → List ℕ} {n skip : ℕ} {keys : List ℕ} (w : Keyed ids n skip keys) where
   pub keyed_telling : Telling ids n keys
@@ -111,3 +114,21 @@ module _ (ids : ℕ → List ℕ) (keys id : List ℕ) (wanted i : ℕ) where
     where
       same : wanted ≤ get_or keys i 0 → get_or keys i 0 ≤ wanted → get_or keys i 0 ≡ wanted
       same l m = omega arith
+
+-- the code's comparison of two keys says so
+pub say_both : (keys : List ℕ) (i j : ℕ) → i < length keys → j < length keys → nat_cmp (get_or keys i 0) (get_or keys j 0) ≡ key_order keys i j
+say_both keys i j g h =
+    let x = get_or keys i 0 in let y = get_or keys j 0 in
+    by_test (ltb x y) (λ t. let l = ltb-true x y t in sym (nat_cmp_is x y Less l) ∙ say_less keys i j g h l) λ t.
+    by_test (ltb y x) (λ u. let l = ltb-true y x u in sym (nat_cmp_is x y Greater l) ∙ say_greater keys i j g h l) λ u.
+    let a = ltb-false x y t in let b = ltb-false y x u in
+    sym (nat_cmp_is x y Equal (omega arith)) ∙ say_nothing keys i j g h a b
+
+pub ruleset say_rules = (say_first, say_second, say_both)
+
+-- where the keys tell, they tell the order of the ids
+pub told : (keys : List ℕ) (i j : ℕ) (ids : ℕ → List ℕ) → Telling ids (length keys) keys → (o : Ordering) → o ≡ key_order keys i j → (o ≡ Equal → ⊥)
+    → o ≡ order_of (ids i) (ids j)
+told keys i j ids t Less e n = sym (told_less keys i j ids t (sym e))
+told keys i j ids t Equal e n = absurd (n refl)
+told keys i j ids t Greater e n = sym (told_greater keys i j ids t (sym e))

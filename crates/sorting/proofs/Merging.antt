@@ -108,3 +108,6 @@ module _ (le : ℕ → ℕ → Bool) where
         where
           none_left : drop i a ≡ [] → drop j b ≡ [] → merge le (drop i a) (drop j b) ≡ []
           none_left e f = rw (e, f) (merge_none le [])
+
+-- what each test of `takes_first` decides
+pub ruleset leads_rules = (leads-none, leads-only, leads-both)

@@ -9,7 +9,6 @@ use lib.Dec.{ltb}
 use lib.ListN.{length, get_or}
 use borrow.Author.Tests.{lt-ltb, le-ltb, leb-true, ltb-true, ltb-false}
 use Rattle.notation.proofs.Booleans.{by_test, true-false}
-use Rattle.text.specs.declared.Order.TheVariants.{Less, Equal, Greater}
 use Rattle.text.specs.Text.{same}
 use Rattle.text.specs.Ordering.{order_of}
 use Rattle.text.proofs.Laws.{same_true, same_refl}
@@ -18,6 +17,7 @@ use Rattle.sorting.specs.Ids.{Ordered}
 use Rattle.sorting.specs.Repeats.{same_id, used_before}
 use Rattle.sorting.proofs.Records.{by_cases, after_equal}
 use Rattle.sorting.proofs.Orders.{stands, is_record, two_records, places-order, no_greater}
+use Rattle.std.specs.declared.cmp.Ordering.TheVariants.{Less, Equal, Greater}
 
 -- whether there is an id
 none-given : (x : List ℕ) → same x [] ≡ true → ltb 0 (length x) ≡ false

@@ -8,7 +8,6 @@ use lib.Dec.{ltb}
 use lib.ListN.{length, get_or}
 use borrow.Author.Tests.{ltb-true, ltb-false}
 use Rattle.notation.proofs.Booleans.{by_test, true-false}
-use Rattle.text.specs.declared.Order.TheVariants.{Greater}
 use Rattle.text.specs.Ordering.{order_of}
 use Rattle.text.proofs.Ordered.{greater_equal, order-refl}
 use Rattle.sorting.specs.Sorting.{numbers}
@@ -16,6 +15,7 @@ use Rattle.sorting.specs.Ids.{not_after, Ordered}
 use Rattle.sorting.specs.inner.Halves.{Ascending}
 use Rattle.sorting.proofs.InOrder.{Has, has-at, at_has, numbers-has, has-numbers, Apart, numbers_apart, apart-at, has-sorted, sorted-has, sorted_apart, InOrder, sorted-order, order-at}
 use Rattle.sorting.proofs.Records.{records_total, after_greater}
+use Rattle.std.specs.declared.cmp.Ordering.TheVariants.{Greater}
 
 module _ (ids : ℕ → List ℕ) (order : List ℕ) (o : Ordered ids order) where
   -- every record has a place

@@ -8,21 +8,21 @@ use lib.Dec.{leb}
 use lib.ListN.{drop, get_or}
 use borrow.Author.Tests.{leb-true, leb-false, le-leb}
 use Rattle.notation.proofs.Booleans.{true-false}
-use Rattle.text.specs.declared.Order.{Order}
-use Rattle.text.specs.declared.Order.TheVariants.{Less, Equal, Greater}
 use Rattle.text.specs.Text.{text_of}
 use Rattle.text.specs.Ordering.{order_of}
 use Rattle.text.proofs.Ordered.{turned, order-equal, order-turned, order_trans}
 use Rattle.sorting.specs.Ids.{id_at, by_order, not_after}
 use Rattle.sorting.proofs.Sorts.{Total}
+use Rattle.std.specs.declared.cmp.Ordering.{Ordering}
+use Rattle.std.specs.declared.cmp.Ordering.TheVariants.{Less, Equal, Greater}
 
-pub by_cases : {A : Type 0} (o : Order) → (o ≡ Less → A) → (o ≡ Equal → A) → (o ≡ Greater → A) → A
+pub by_cases : {A : Type 0} (o : Ordering) → (o ≡ Less → A) → (o ≡ Equal → A) → (o ≡ Greater → A) → A
 by_cases Less f g h = f refl
 by_cases Equal f g h = g refl
 by_cases Greater f g h = h refl
 
 -- what a comparison of the bytes from two ids on tells
-pub order-told : (p places : List ℕ) (i j : ℕ) {a b : List ℕ} {o r : Order} → a ≡ drop (get_or places i 0) p → b ≡ drop (get_or places j 0) p
+pub order-told : (p places : List ℕ) (i j : ℕ) {a b : List ℕ} {o r : Ordering} → a ≡ drop (get_or places i 0) p → b ≡ drop (get_or places j 0) p
     → o ≡ order_of (text_of a) (text_of b) → o ≡ r → order_of (id_at p places i) (id_at p places j) ≡ r
 order-told p places i j {a} {b} e f g h = ap (λ x. order_of (text_of x) (id_at p places j)) (sym e) ∙ ap (λ x. order_of (text_of a) (text_of x)) (sym f) ∙ sym g ∙ h
 

@@ -2,8 +2,6 @@
 use Rattle.std.specs.Prelude.{List, [], ◌∷◌, refl, ℕ, length, drop, get_or}
 use Rattle.notation.specs.Ascii.{bytes}
 use Rattle.notation.specs.Case.{Case, Answers}
-use Rattle.text.specs.declared.Order.{Order}
-use Rattle.text.specs.declared.Order.TheVariants.{Less, Equal, Greater}
 use Rattle.text.specs.inner.Key.{key_of}
 use Rattle.text.specs.Cases.{comparing}
 use Rattle.sorting.specs.Sorting.{insert, sorted, numbers}
@@ -12,6 +10,8 @@ use Rattle.sorting.specs.Ids.{id_at, not_after}
 use Rattle.sorting.specs.Repeats.{same_id, used_before, repeat_from, first_repeat}
 use Rattle.sorting.specs.inner.Keys.{key_order, by_keys}
 use Rattle.sorting.specs.inner.Halves.{found_by}
+use Rattle.std.specs.declared.cmp.Ordering.{Ordering}
+use Rattle.std.specs.declared.cmp.Ordering.TheVariants.{Less, Equal, Greater}
 
 -- opens every definition of this layer
 unfoldable pub sorting : Unit {0}
@@ -67,7 +67,7 @@ unfolding sorting
 lookups-answered = refl
 
 -- what the keys of two records say on their order
-abbrev keyed : List (Case (ℕ × ℕ) Order)
+abbrev keyed : List (Case (ℕ × ℕ) Ordering)
 keyed =
     ("the lesser first", (0, 1), Less) ∷
     ("the greater first", (1, 0), Greater) ∷

@@ -1,17 +1,17 @@
 -- The order of records by their ids: by the decoded bytes, and equal ids by record.
 use Rattle.std.specs.Prelude.{Bool, true, false, List, ◌≡◌, ℕ, leb, length, drop, get_or}
-use Rattle.text.specs.declared.Order.{Order}
-use Rattle.text.specs.declared.Order.TheVariants.{Less, Equal, Greater}
 use Rattle.text.specs.Text.{text_of}
 use Rattle.text.specs.Ordering.{order_of}
 use Rattle.sorting.specs.Sorting.{sorted, numbers}
+use Rattle.std.specs.declared.cmp.Ordering.{Ordering}
+use Rattle.std.specs.declared.cmp.Ordering.TheVariants.{Less, Equal, Greater}
 
 -- the id of the record k in the bytes p, where `places` tells for each record where the text of its id begins; the text ends at its quotation mark
 abbrev pub id_at : (p places : List ℕ) → ℕ → List ℕ
 id_at p places k = text_of (drop (get_or places k 0) p)
 
 -- of two records whose ids are in this order, the record i comes no later than the record j
-abbrev pub by_order : Order → ℕ → ℕ → Bool
+abbrev pub by_order : Ordering → ℕ → ℕ → Bool
 by_order Less i j = true
 by_order Equal i j = leb i j
 by_order Greater i j = false

@@ -14,13 +14,11 @@ pub fn common_front(p: &[u8], places: &[u32], n: usize) -> usize
 {
     let first = id_from(p, places, 0);
     let mut skip: usize = 255;
-    let mut k: usize = 1;
-    while k < n {
+    for k in 1..n {
         skip = shared(id_from(p, places, k), first, skip);
-        if skip < 1 {
+        if skip == 0 {
             return 0;
         }
-        k += 1;
     }
     skip
 }
@@ -30,9 +28,7 @@ pub fn fill_keys(p: &[u8], places: &[u32], skip: usize, keys: &mut [u32])
     requires { SameFront (id_at p.now places.now) (length keys.old) skip }
     ensures { Keyed (id_at p.now places.now) (length keys.old) skip keys.new }
 {
-    let mut k: usize = 0;
-    while k < keys.len() {
-        keys[k] = key_of(id_from(p, places, k), skip, false);
-        k += 1;
+    for (k, key) in keys.iter_mut().enumerate() {
+        *key = key_of(id_from(p, places, k), skip, false);
     }
 }

@@ -8,7 +8,8 @@ pub mod merge;
 pub mod repeat;
 pub mod sort;
 
-// What a search for an id finds in an order: the position of a record that has it, counted from 1, or 0 where none has it; and how many reads were left of 14.
+// What a search for an id finds in an order: the position of a record that has it, counted from 1, or 0 where none has it; and how many reads were left of 14. The
+// number is the one that the definitions of a search count with.
 #[derive(Clone, Copy)]
 pub struct Lookup {
     pub met: usize,

@@ -11,10 +11,6 @@ use Rattle.notation.proofs.Booleans.{by_test}
 use Rattle.lexeme.specs.declared.Char.{Char}
 use Rattle.lexeme.specs.declared.Next.{Next}
 use Rattle.lexeme.specs.declared.Next.TheVariants.{Quote, Character, Fault}
-use Rattle.lexeme.specs.declared.Quad.{Quad}
-use Rattle.lexeme.specs.declared.Quad.TheVariants.{Value, Short}
-use Rattle.lexeme.specs.declared.Trail.{Trail}
-use Rattle.lexeme.specs.declared.Trail.TheVariants.{Low, Other}
 use Rattle.lexeme.specs.Character.{byte, bytes_of, within, utf2, utf3, utf4, encoded, quad, trail, combined, alone, high, unit, unicode, short, escape, next}
 use Rattle.lexeme.specs.Character.Surrogates.{paired}
 use Rattle.lexeme.specs.inner.Lead.{Lead, lead, next_by}
@@ -26,6 +22,7 @@ use Rattle.text.specs.Text.{text_of}
 use Rattle.text.specs.inner.Key.{Bytes}
 use Rattle.text.proofs.Decoding.{text-quote, text-fault}
 use Rattle.text.proofs.Steps.{within-most}
+use Rattle.std.specs.Prelude.{Result, Option, Ok, Err, Some, None}
 
 -- lists of bytes
 pub bytes-none : Bytes []
@@ -69,10 +66,10 @@ encoded-small v more =
     by_test (ltb v 0x10000) (λ c. let h : v < 0x10000 = ltb-true v 0x10000 c in rw (a, b, c, encoded) (omega arith, omega arith, omega arith, omega arith)) λ c.
     rw (a, b, c, encoded) (omega arith, omega arith, omega arith, omega arith)
 
-high_small : (v : ℕ) (t : Trail) → Small (high paired v t)
+high_small : (v : ℕ) (t : Option ℕ) → Small (high paired v t)
 unfolding high alone
-high_small v Other = tt
-high_small v (Low w) = encoded-small (combined v w) 11
+high_small v None = tt
+high_small v (Some w) = encoded-small (combined v w) 11
 
 short-small : (b : ℕ) → short b < 256
 unfolding short
@@ -93,10 +90,10 @@ module _ (l : List ℕ) where
       by_test (within 0xdc00 0xdfff v) (λ a. rw (a, unit) tt) λ a.
       by_test (within 0xd800 0xdbff v) (λ b. rw (a, b, unit) (high_small v (trail (drop 6 l)))) λ b. rw (a, b, unit) (encoded-small v 5)
 
-  unicode-small : (q : Quad) → Small (unicode paired l q)
+  unicode-small : (q : Result ℕ ℕ) → Small (unicode paired l q)
   unfolding unicode
-  unicode-small (Short n) = tt
-  unicode-small (Value v) = unit-small v
+  unicode-small (Err n) = tt
+  unicode-small (Ok v) = unit-small v
 
   escape-small : Small (escape paired l)
   unfolding escape

@@ -3,9 +3,11 @@
 use mathlib.Core.Bool.{true}
 use mathlib.Core.List.{List, [], ◌∷◌, ◌++◌}
 use mathlib.Core.Path.{◌≡◌, refl, sym, ap, ◌∙◌}
-use Prim.Native.Nat.{ℕ, zero, suc, ◌+◌, ◌-◌, ◌≤◌, ◌<◌}
+use Prim.Native.Nat.{ℕ, zero, suc, ◌+◌, ◌-◌, ◌≤◌, ◌<◌, min}
 use native.Mathlib.Omega.{arith}
-use lib.Dec.{eqb, ltb}
+use lib.Dec.{eqb, ltb, leb}
+use borrow.Author.Tests.{leb-true, leb-false}
+use Rattle.lexeme.specs.declared.Next.{Next}
 use lib.ListN.{length, take, drop, drop_of_length-le}
 use lib.Seq.{take_all, drop-drop}
 use Rattle.notation.proofs.Booleans.{by_test, true-false}
@@ -19,12 +21,11 @@ use Rattle.lexeme.specs.Strings.{decoded}
 use Rattle.lexeme.proofs.Rests.{first_byte}
 use Rattle.lexeme.proofs.Steps.{decoded-character}
 use Rattle.text.specs.declared.Cursor.{Cursor}
-use Rattle.text.specs.declared.Step.{Step}
-use Rattle.text.specs.declared.Step.TheVariants.{End, Byte}
 use Rattle.text.specs.Text.{text_of}
 use Rattle.text.specs.inner.Walk.{cursor_at, left, told, alone}
 use Rattle.text.proofs.Whole.{next-whole}
 use Rattle.lexeme.proofs.Leads.{next_led}
+use Rattle.std.specs.Prelude.{Option, Some, None}
 
 -- k bytes into a character
 text-past : (k : ℕ) (l : List ℕ) → decoded paired k l ≡ text_of (drop k l)
@@ -48,6 +49,12 @@ unfolding decoded
 text-fault [] k n e = refl
 text-fault (b ∷ r) k n e = rw (e, decoded)
 
+-- where no character is read
+pub text-none : (l : List ℕ) (o : Next) → o ≡ next paired l → ((x : Char) → o ≡ Character x → ⊥) → text_of l ≡ []
+text-none l Quote e h = text-quote l (sym e)
+text-none l (Fault k n) e h = text-fault l k n (sym e)
+text-none l (Character x) e h = absurd (h x refl)
+
 -- a character's first byte, and the others, which move up
 first_of : (n b : ℕ) (r : List ℕ) → 0 < n → take n (b ∷ r) ≡ b ∷ drop 1 (take n (b ∷ r))
 first_of zero b r h = absurd (omega arith)
@@ -66,14 +73,19 @@ module _ (a b c d : ℕ) where
   others (suc (suc (suc (suc (suc n))))) m h e = absurd (omega arith)
 
 module _ (x : Char) where
-  pub tail-some : (m : ℕ) → x.len ≤ 4 → m ≡ x.len - 1 → take m (x.b1 ∷ x.b2 ∷ x.b3 ∷ 0 ∷ []) ≡ drop 1 (bytes_of x)
+  tail-some : (m : ℕ) → x.len ≤ 4 → m ≡ x.len - 1 → take m (x.b1 ∷ x.b2 ∷ x.b3 ∷ 0 ∷ []) ≡ drop 1 (bytes_of x)
   tail-some m = others x.b0 x.b1 x.b2 x.b3 x.len m
 
   pub bytes-four : 4 ≤ x.len → bytes_of x ≡ x.b0 ∷ x.b1 ∷ x.b2 ∷ x.b3 ∷ []
   bytes-four h = take_all x.len (x.b0 ∷ x.b1 ∷ x.b2 ∷ x.b3 ∷ []) h
 
-  pub tail-most : 4 ≤ x.len → take 3 (x.b1 ∷ x.b2 ∷ x.b3 ∷ 0 ∷ []) ≡ drop 1 (bytes_of x)
+  tail-most : 4 ≤ x.len → take 3 (x.b1 ∷ x.b2 ∷ x.b3 ∷ 0 ∷ []) ≡ drop 1 (bytes_of x)
   tail-most h = ap (drop 1) (sym (bytes-four h))
+
+  pub tail_min : {m n : ℕ} → m ≡ min x.len 4 → n ≡ m - 1 → take n (x.b1 ∷ x.b2 ∷ x.b3 ∷ 0 ∷ []) ≡ drop 1 (bytes_of x)
+  tail_min {m} {n} e f =
+      by_test (leb x.len 4) (λ t. let h = leb-true x.len 4 t in tail-some n h (omega arith))
+      λ t. let h = leb-false x.len 4 t in let z : n ≡ 3 = omega arith in rw z (tail-most (omega arith))
 
 -- a byte that stands for itself
 alone-plain : (b : ℕ) → alone b ≡ true → lead b ≡ Lead.plain
@@ -141,18 +153,18 @@ module _ (s : List ℕ) where
 
   -- what a step tells, of bytes that are known; and what the bytes are of which it tells
   module _ {x : List ℕ} where
-    pub step_end : x ≡ [] → told s End ≡ x
+    pub step_end : x ≡ [] → told s None ≡ x
     unfolding told
     step_end e = sym e
 
-    pub step-byte : {b : ℕ} (d : Cursor) → x ≡ b ∷ left s d → told s (Byte b d) ≡ x
+    pub step-byte : {b : ℕ} (d : Cursor) → x ≡ b ∷ left s d → told s (Some (b, d)) ≡ x
     unfolding told
     step-byte d e = sym e
 
-    pub no_byte : (r : Step) → told s r ≡ x → r ≡ End → x ≡ []
+    pub no_byte : (r : Option (ℕ × Cursor)) → told s r ≡ x → r ≡ None → x ≡ []
     unfolding told
     no_byte r e f = sym e ∙ ap (told s) f
 
-    pub one_byte : (r : Step) (b : ℕ) (d : Cursor) → told s r ≡ x → r ≡ Byte b d → x ≡ b ∷ left s d
+    pub one_byte : (r : Option (ℕ × Cursor)) (b : ℕ) (d : Cursor) → told s r ≡ x → r ≡ Some (b, d) → x ≡ b ∷ left s d
     unfolding told
     one_byte r b d e f = sym e ∙ ap (told s) f

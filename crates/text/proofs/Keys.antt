@@ -8,11 +8,11 @@ use native.Mathlib.Omega.{arith}
 use lib.ListN.{take, drop}
 use lib.Seq.{drop-nil}
 use Rattle.notation.proofs.Lists.{no_cons, cons_nil}
-use Rattle.text.specs.declared.Order.TheVariants.{Less}
 use Rattle.text.specs.Ordering.{order_of}
 use Rattle.text.specs.inner.Key.{key_by, key_of, Room, Bytes}
 use Rattle.text.proofs.Bytes.{bytes-none, bytes_drop}
 use Rattle.text.proofs.Ordered.{equal_less, greater_less, by_first, first_less, first-same}
+use Rattle.std.specs.declared.cmp.Ordering.TheVariants.{Less}
 
 -- one step
 pub key-done : (n key : ℕ) (l : List ℕ) → n ≡ 0 → key_by n key l ≡ key

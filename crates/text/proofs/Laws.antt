@@ -7,7 +7,8 @@ use Prim.Native.Nat.{ℕ}
 use lib.Dec.{eqb}
 use lib.ListN.{length}
 use borrow.Author.Tests.{eq-eqb, eqb-true}
-use Rattle.notation.proofs.Booleans.{by_test, true-false}
+use lib.Pointwise.{pointwise}
+use Rattle.notation.proofs.Booleans.{and-is, by_test, true-false}
 use Rattle.text.specs.Text.{same, lower, same_word}
 
 pub same_refl : (x : List ℕ) → same x x ≡ true
@@ -25,6 +26,14 @@ same_true (a ∷ x) (b ∷ y) e =
     by_test (eqb a b)
     (λ t. let h = eqb-true a b t in let g : x ≡ y = ih (rw (t, same) at e) in cc)
     λ t. true-false e (rw (t, same))
+
+-- the code's `==` at slices
+pub same-pairs : (x y : List ℕ) → pointwise eqb x y ≡ same x y
+unfolding same
+same-pairs [] [] = refl
+same-pairs [] (b ∷ y) = refl
+same-pairs (a ∷ x) [] = refl
+same-pairs (a ∷ x) (b ∷ y) = rw (same-pairs x y, same) (and-is (eqb a b) (same x y))
 
 pub same_false : (x y : List ℕ) → same x y ≡ false → x ≡ y → ⊥
 same_false x y e h = true-false (ap (same x) (sym h) ∙ same_refl x) e

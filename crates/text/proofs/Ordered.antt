@@ -7,34 +7,36 @@ use native.Mathlib.Omega.{arith}
 use lib.Dec.{ltb}
 use borrow.Author.Tests.{lt-ltb, le-ltb, ltb-true, ltb-false}
 use Rattle.notation.proofs.Booleans.{by_test}
-use Rattle.text.specs.declared.Order.{Order}
-use Rattle.text.specs.declared.Order.TheVariants.{Less, Equal, Greater}
 use Rattle.text.specs.Ordering.{order_of}
+use Rattle.std.specs.Cmp.{nat_cmp_is}
+use Rattle.std.specs.Ordering.{nat_cmp}
+use Rattle.std.specs.declared.cmp.Ordering.{Ordering}
+use Rattle.std.specs.declared.cmp.Ordering.TheVariants.{Less, Equal, Greater}
 
 -- the order the other way round
-abbrev pub turned : Order → Order
+abbrev pub turned : Ordering → Ordering
 turned Less = Greater
 turned Equal = Equal
 turned Greater = Less
 
 -- orders told apart
 module _ {A : Type 0} where
-  pub equal_less : ◌≡◌ {A = Order} Equal Less → A
+  pub equal_less : ◌≡◌ {A = Ordering} Equal Less → A
   equal_less e = let z : ◌≡◌ {A = ℕ} 0 1 = cc in absurd (omega arith)
 
-  pub greater_less : ◌≡◌ {A = Order} Greater Less → A
+  pub greater_less : ◌≡◌ {A = Ordering} Greater Less → A
   greater_less e = let z : ◌≡◌ {A = ℕ} 0 1 = cc in absurd (omega arith)
 
-  pub less_equal : ◌≡◌ {A = Order} Less Equal → A
+  pub less_equal : ◌≡◌ {A = Ordering} Less Equal → A
   less_equal e = let z : ◌≡◌ {A = ℕ} 0 1 = cc in absurd (omega arith)
 
-  pub less_greater : ◌≡◌ {A = Order} Less Greater → A
+  pub less_greater : ◌≡◌ {A = Ordering} Less Greater → A
   less_greater e = let z : ◌≡◌ {A = ℕ} 0 1 = cc in absurd (omega arith)
 
-  pub equal_greater : ◌≡◌ {A = Order} Equal Greater → A
+  pub equal_greater : ◌≡◌ {A = Ordering} Equal Greater → A
   equal_greater e = let z : ◌≡◌ {A = ℕ} 0 1 = cc in absurd (omega arith)
 
-  pub greater_equal : ◌≡◌ {A = Order} Greater Equal → A
+  pub greater_equal : ◌≡◌ {A = Ordering} Greater Equal → A
   greater_equal e = let z : ◌≡◌ {A = ℕ} 0 1 = cc in absurd (omega arith)
 
 -- two strings that begin with a byte each, by these bytes
@@ -82,6 +84,11 @@ module _ {x y : List ℕ} where
 
     pub order_greater : b < a → order_of x y ≡ Greater
     order_greater h = rw (e, f) (first_greater a u b v h)
+
+    pub order_differ : (a ≡ b → ⊥) → nat_cmp a b ≡ order_of x y
+    order_differ h =
+        by_test (ltb a b) (λ t. let g = ltb-true a b t in sym (nat_cmp_is a b Less g) ∙ sym (order_less g))
+        λ t. let g = ltb-false a b t in let d : b < a = omega arith in sym (nat_cmp_is a b Greater d) ∙ sym (order_greater d)
 
     pub order-next : a ≡ b → order_of x y ≡ order_of u v
     order-next h = rw (e, f) (first-same a u b v h)

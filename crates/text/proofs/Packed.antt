@@ -12,7 +12,6 @@ use borrow.Author.Tests.{lt-leb, ltb-true, ltb-false}
 use Rattle.notation.proofs.Booleans.{by_test}
 use Rattle.lexeme.specs.declared.Char.{Char}
 use Rattle.lexeme.specs.declared.Next.TheVariants.{Character}
-use Rattle.lexeme.specs.declared.Quad.TheVariants.{Value}
 use Rattle.lexeme.specs.Character.{byte, bytes_of, within, encoded, quad, short, next}
 use Rattle.lexeme.specs.Character.Surrogates.{paired}
 use Rattle.lexeme.specs.inner.Lead.{lead, next_by}
@@ -32,6 +31,7 @@ use Rattle.text.specs.inner.Code.{CharAt, char_of, packed, Small, Packs, Coded, 
 use Rattle.text.proofs.Decoding.{next-plain, text-character}
 use Rattle.text.proofs.Whole.{next-whole}
 use Rattle.text.proofs.Ordered.{order-past}
+use Rattle.std.specs.Prelude.{Ok}
 
 -- characters at a place
 module _ (s : List ℕ) (i : ℕ) (h : i < length s) {r : ℕ} where
@@ -47,7 +47,7 @@ module _ (s : List ℕ) (i : ℕ) (h : i < length s) {r : ℕ} where
       char-coded (char_of x 0 0 0 1 1) (sym (next-escape (drop i s) (first_byte s i) e (escape-short (drop i s) f (λ u. n (g ∙ ap short u)) g n)))
 
   -- an escape \u that is no surrogate
-  module _ {b v : ℕ} {m : List ℕ} (e : get_or s i 0 ≡ 0x5c) (f : b ≡ byte (drop i s) 1) (u : b ≡ 0x75) (d : m ≡ drop 2 (drop i s)) (q : quad m ≡ Value v) where
+  module _ {b v : ℕ} {m : List ℕ} (e : get_or s i 0 ≡ 0x5c) (f : b ≡ byte (drop i s) 1) (u : b ≡ 0x75) (d : m ≡ drop 2 (drop i s)) (q : quad m ≡ Ok v) where
     unit-coded : within 0xdc00 0xdfff v ≡ false → within 0xd800 0xdbff v ≡ false → CodedAs (encoded v 5) r → Coded s i r
     unit-coded x y c =
         char-coded c.char

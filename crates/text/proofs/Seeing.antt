@@ -14,10 +14,10 @@ use Rattle.lexeme.specs.Character.Surrogates.{paired}
 use Rattle.lexeme.specs.inner.Lead.{Lead, lead, next_by}
 use Rattle.lexeme.specs.Strings.{decoded}
 use Rattle.lexeme.proofs.Leads.{next_led}
-use Rattle.text.specs.declared.Order.TheVariants.{Less, Equal, Greater}
+use Rattle.std.specs.Cmp.{nat_cmp_is}
+use Rattle.std.specs.Ordering.{nat_cmp}
+use Rattle.std.specs.declared.cmp.Ordering.TheVariants.{Less, Equal, Greater}
 use Rattle.text.specs.declared.Cursor.{Cursor}
-use Rattle.text.specs.declared.Step.{Step}
-use Rattle.text.specs.declared.Step.TheVariants.{End, Byte}
 use Rattle.text.specs.Text.{text_of, meant}
 use Rattle.text.specs.Ordering.{order_of}
 use Rattle.text.specs.inner.Walk.{cursor_at, left, told, left_by, told_by, alone, seen, same_plain}
@@ -25,6 +25,8 @@ use Rattle.text.specs.inner.Key.{Bytes}
 use Rattle.text.proofs.Decoding.{text-quote, text-plain, left_at}
 use Rattle.text.proofs.Bytes.{bytes_drop}
 use Rattle.text.proofs.Ordered.{order-end, order-short, order-long, order_less, order_greater}
+use Rattle.std.specs.declared.cmp.Ordering.TheVariants.{Less, Equal, Greater}
+use Rattle.std.specs.Prelude.{Option, Some, None}
 
 not-quote : (b : ℕ) → alone b ≡ true → eqb b 0x22 ≡ false
 unfolding alone
@@ -111,20 +113,27 @@ seen-text false s i h e g = refl
 
 -- the order by what is seen at a place of two texts
 module _ (raw : Bool) (s t : List ℕ) (i : ℕ) {x y : ℕ} (e : x ≡ seen false (drop i s)) (f : y ≡ seen raw (drop i t)) where
-  pub seen_less : y ≤ 256 → x < y → order_of (text_of (drop i s)) (meant raw (drop i t)) ≡ Less
+  seen_less : y ≤ 256 → x < y → order_of (text_of (drop i s)) (meant raw (drop i t)) ≡ Less
   seen_less m h =
       let b = (seen-byte raw t i f (omega arith) m).1 in
       by_test (ltb x 1) (λ l. order-short (seen_end false (drop i s) (subst (λ z. z < 1) e (ltb-true x 1 l))) b) λ l.
       let g : 1 ≤ x = ltb-false x 1 l in order_less (seen-byte false s i e g (omega arith)).1 b (omega arith)
 
-  pub seen_greater : x ≤ 256 → y < x → order_of (text_of (drop i s)) (meant raw (drop i t)) ≡ Greater
+  seen_greater : x ≤ 256 → y < x → order_of (text_of (drop i s)) (meant raw (drop i t)) ≡ Greater
   seen_greater m h =
       let a = (seen-byte false s i e (omega arith) m).1 in
       by_test (ltb y 1) (λ l. order-long a (seen_end raw (drop i t) (subst (λ z. z < 1) f (ltb-true y 1 l)))) λ l.
       let g : 1 ≤ y = ltb-false y 1 l in order_greater a (seen-byte raw t i f g (omega arith)).1 (omega arith)
 
-  pub seen_same : x < 1 → y < 1 → order_of (text_of (drop i s)) (meant raw (drop i t)) ≡ Equal
+  seen_same : x < 1 → y < 1 → order_of (text_of (drop i s)) (meant raw (drop i t)) ≡ Equal
   seen_same g h = order-end (seen_end false (drop i s) (subst (λ z. z < 1) e g)) (seen_end raw (drop i t) (subst (λ z. z < 1) f h))
+
+  pub seen_order : x ≤ 256 → y ≤ 256 → (x ≡ y → x < 1) → nat_cmp x y ≡ order_of (text_of (drop i s)) (meant raw (drop i t))
+  seen_order m n o =
+      by_test (ltb x y) (λ l. let h = ltb-true x y l in sym (nat_cmp_is x y Less h) ∙ sym (seen_less n h)) λ l.
+      by_test (ltb y x) (λ k. let h = ltb-true y x k in sym (nat_cmp_is x y Greater h) ∙ sym (seen_greater m h)) λ k.
+      let h = ltb-false x y l in let g = ltb-false y x k in let z : x ≡ y = omega arith in let u = o z in
+      sym (nat_cmp_is x y Equal z) ∙ sym (seen_same u (omega arith))
 
 -- two spellings with the same byte at a place, which stands for itself
 module _ (s t : List ℕ) (i : ℕ) where
@@ -180,10 +189,10 @@ module _ (s t : List ℕ) (i : ℕ) where
 
 -- cursors over bytes that may be raw
 module _ (s : List ℕ) where
-  told-spelled : (r : Step) → told_by false s r ≡ told s r
+  told-spelled : (r : Option (ℕ × Cursor)) → told_by false s r ≡ told s r
   unfolding told_by left_by told
-  told-spelled End = refl
-  told-spelled (Byte b d) = refl
+  told-spelled None = refl
+  told-spelled (Some (b, d)) = refl
 
   pub left-meant : (raw : Bool) (i : ℕ) (c : Cursor) → c ≡ cursor_at i → left_by raw s c ≡ meant raw (drop i s)
   unfolding left_by
@@ -191,26 +200,31 @@ module _ (s : List ℕ) where
   left-meant false i c e = left_at s i c e
 
   module _ {raw : Bool} (c : Cursor) where
-    pub next-spelled : (r : Step) → raw ≡ false → told s r ≡ left s c → told_by raw s r ≡ left_by raw s c
+    pub next-spelled : (r : Option (ℕ × Cursor)) → raw ≡ false → told s r ≡ left s c → told_by raw s r ≡ left_by raw s c
     unfolding left_by
     next-spelled r e f = ap (λ t. told_by t s r) e ∙ told-spelled r ∙ f ∙ ap (λ t. left_by t s c) (sym e)
 
     module _ (e : raw ≡ true) where
-      pub raw_end : length s ≤ c.at → told_by raw s End ≡ left_by raw s c
+      pub raw_end : length s ≤ c.at → told_by raw s None ≡ left_by raw s c
       unfolding told_by left_by
       raw_end h = sym (ap (λ t. left_by t s c) e ∙ drop_of_length-le s h)
 
-      pub raw_byte : (d : Cursor) → c.at < length s → d ≡ cursor_at (c.at + 1) → told_by raw s (Byte (get_or s c.at 0) d) ≡ left_by raw s c
+      pub raw_byte : (d : Cursor) → c.at < length s → d ≡ cursor_at (c.at + 1) → told_by raw s (Some ((get_or s c.at 0), d)) ≡ left_by raw s c
       unfolding told_by left_by
       raw_byte d h f =
           ap (λ t. get_or s c.at 0 ∷ left_by t s d) e ∙ ap (λ z. get_or s c.at 0 ∷ drop z.at s) f ∙ sym (at_cons s c.at h) ∙ ap (λ t. left_by t s c) (sym e)
 
   -- what the bytes are of which a step tells
   module _ (raw : Bool) {x : List ℕ} where
-    pub no-meant : (r : Step) → told_by raw s r ≡ x → r ≡ End → x ≡ []
+    pub no-meant : (r : Option (ℕ × Cursor)) → told_by raw s r ≡ x → r ≡ None → x ≡ []
     unfolding told_by
     no-meant r e f = sym e ∙ ap (told_by raw s) f
 
-    pub one-meant : (r : Step) (b : ℕ) (d : Cursor) → told_by raw s r ≡ x → r ≡ Byte b d → x ≡ b ∷ left_by raw s d
+    pub one-meant : (r : Option (ℕ × Cursor)) (b : ℕ) (d : Cursor) → told_by raw s r ≡ x → r ≡ Some (b, d) → x ≡ b ∷ left_by raw s d
     unfolding told_by
     one-meant r b d e f = sym e ∙ ap (told_by raw s) f
+
+-- what each test of `peek` and of `same_plain` decides
+pub ruleset seen_rules = (seen-past, seen_raw, seen_plain, seen-quote, seen_other)
+
+pub ruleset plain_rules = (differ-first, differ-second, differ-here, plain_here)

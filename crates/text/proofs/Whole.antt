@@ -9,15 +9,12 @@ use Rattle.notation.proofs.Booleans.{by_test}
 use Rattle.lexeme.specs.declared.Char.{Char}
 use Rattle.lexeme.specs.declared.Next.{Next}
 use Rattle.lexeme.specs.declared.Next.TheVariants.{Quote, Character, Fault}
-use Rattle.lexeme.specs.declared.Quad.{Quad}
-use Rattle.lexeme.specs.declared.Quad.TheVariants.{Value, Short}
-use Rattle.lexeme.specs.declared.Trail.{Trail}
-use Rattle.lexeme.specs.declared.Trail.TheVariants.{Low, Other}
 use Rattle.lexeme.specs.Character.{byte, within, utf2, utf3, utf4, encoded, quad, trail, combined, alone, high, unit, unicode, short, escape, next}
 use Rattle.lexeme.specs.inner.Lead.{Lead, lead, next_by}
 use Rattle.lexeme.specs.Character.Surrogates.{paired}
 use Rattle.lexeme.specs.inner.Lead.Lead.{plain, quote, backslash, wrong, two, three_e0, three, three_ed, four_f0, four, four_f4}
 use Rattle.lexeme.proofs.Leads.{next-by}
+use Rattle.std.specs.Prelude.{Result, Option, Ok, Err, Some, None}
 
 abbrev Whole : Next → Type 0
 Whole Quote = Unit {0}
@@ -31,10 +28,10 @@ encoded-whole v more h =
     by_test (ltb v 0x800) (λ b. rw (a, b, encoded) (omega arith, omega arith)) λ b.
     by_test (ltb v 0x10000) (λ c. rw (a, b, c, encoded) (omega arith, omega arith)) λ c. rw (a, b, c, encoded) (omega arith, omega arith)
 
-high-whole : (v : ℕ) (t : Trail) → Whole (high paired v t)
+high-whole : (v : ℕ) (t : Option ℕ) → Whole (high paired v t)
 unfolding high alone
-high-whole v Other = tt
-high-whole v (Low w) = encoded-whole (combined v w) 11 (omega arith)
+high-whole v None = tt
+high-whole v (Some w) = encoded-whole (combined v w) 11 (omega arith)
 
 module _ (l : List ℕ) where
   unit-whole : (v : ℕ) → Whole (unit paired l v)
@@ -43,10 +40,10 @@ module _ (l : List ℕ) where
       by_test (within 0xdc00 0xdfff v) (λ a. rw (a, unit) tt) λ a.
       by_test (within 0xd800 0xdbff v) (λ b. rw (a, b, unit) (high-whole v (trail (drop 6 l)))) λ b. rw (a, b, unit) (encoded-whole v 5 (omega arith))
 
-  unicode-whole : (q : Quad) → Whole (unicode paired l q)
+  unicode-whole : (q : Result ℕ ℕ) → Whole (unicode paired l q)
   unfolding unicode
-  unicode-whole (Short n) = tt
-  unicode-whole (Value v) = unit-whole v
+  unicode-whole (Err n) = tt
+  unicode-whole (Ok v) = unit-whole v
 
   escape-whole : Whole (escape paired l)
   unfolding escape

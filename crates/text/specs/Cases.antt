@@ -4,11 +4,11 @@ use Rattle.notation.specs.Ascii.{bytes}
 use Rattle.notation.specs.Case.{Case, Answers}
 use Rattle.lexeme.specs.Cases.{lexing}
 use Rattle.text.specs.Text.{text_of, meant, same, lower, same_word}
-use Rattle.text.specs.declared.Order.{Order}
-use Rattle.text.specs.declared.Order.TheVariants.{Less, Equal, Greater}
 use Rattle.text.specs.Ordering.{order_of}
 use Rattle.text.specs.inner.Key.{key_by, key_of}
 use Rattle.text.specs.inner.Walk.{alone, seen, same_plain}
+use Rattle.std.specs.declared.cmp.Ordering.{Ordering}
+use Rattle.std.specs.declared.cmp.Ordering.TheVariants.{Less, Equal, Greater}
 
 -- opens every definition of this layer
 unfoldable pub comparing : Unit {0}
@@ -54,7 +54,7 @@ unfolding comparing
 comparisons-answered = refl
 
 -- how two spellings are in order
-abbrev orders : List (Case (List ℕ × List ℕ) Order)
+abbrev orders : List (Case (List ℕ × List ℕ) Ordering)
 orders =
     ("the first byte that differs", (bytes "ab1", bytes "ac0"), Less) ∷
     ("a text and one that goes on from it", (bytes "ab", bytes "ab0"), Less) ∷

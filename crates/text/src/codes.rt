@@ -1,11 +1,12 @@
-// Characters of a spelled text as numbers, so that two are compared at once and nothing goes through memory.
+// Characters of a spelled text as numbers, so that two are compared at once and nothing goes through memory. A 0 is no character: with an Option, one
+// comparison of two numbers would no longer tell both that there are characters and that they are the same.
 ghost use Rattle.std.specs.Prelude.{true, ◌≡◌, ◌+◌, ◌≤◌, ◌<◌, length, get_or};
 ghost use Rattle.lexeme.specs.Character.{encoded};
 ghost use Rattle.text.specs.inner.Code.{char_of, width_of, Packs, Coded, CodedAs, SameCodes, SameRun, SharedAt};
 
 use crate::ascii::{escaped, is_plain};
 use character::escape::short;
-use character::hex::quad_value;
+use character::hex::quad;
 use character::next_char;
 use character::wide::{tail_byte, wide_length};
 use lexeme::Next;
@@ -15,13 +16,13 @@ use lexeme::front::{ahead, byte_at};
 fn pack(b0: u8, b1: u8, b2: u8, b3: u8, len: usize, more: usize) -> u64
     ensures { 0 < result → Packs (char_of b0 b1 b2 b3 len more) result }
 {
-    if 4 < len {
+    if 4 < len || 11 < more {
         return 0;
     }
-    if 11 < more {
-        return 0;
-    }
-    let bytes = b0 as u64 + b1 as u64 * 0x100 + b2 as u64 * 0x1_0000 + b3 as u64 * 0x100_0000;
+    let bytes = u64::from(b0)
+        + u64::from(b1) * 0x100
+        + u64::from(b2) * 0x1_0000
+        + u64::from(b3) * 0x100_0000;
     bytes + len as u64 * 0x1_0000_0000 + (more as u64 + 1) * 0x100_0000_0000
 }
 
@@ -30,10 +31,9 @@ fn wide_code(s: &[u8], at: usize, b: u8) -> u64
     requires { (at < length s.now) × (b ≡ get_or s.now at 0) }
     ensures { 0 < result → Coded s.now at result }
 {
-    let n = wide_length(s, at, b);
-    if n < 1 {
+    let Some(n) = wide_length(s, at, b) else {
         return 0;
-    }
+    };
     pack(
         b,
         byte_at(s, at, 1),
@@ -49,17 +49,10 @@ fn char_code(s: &[u8], at: usize) -> u64
     requires { at < length s.now }
     ensures { 0 < result → Coded s.now at result }
 {
-    match next_char(s, at) {
-        Next::Quote => {
-            return 0;
-        }
-        Next::Fault(_, _) => {
-            return 0;
-        }
-        Next::Character(x) => {
-            return pack(x.b0, x.b1, x.b2, x.b3, x.len, x.more);
-        }
-    }
+    let Next::Character(x) = next_char(s, at) else {
+        return 0;
+    };
+    pack(x.b0, x.b1, x.b2, x.b3, x.len, x.more)
 }
 
 // The number of the character that an escape \u of the value v stands for, which is no surrogate.
@@ -91,17 +84,13 @@ fn unicode_code(s: &[u8], at: usize) -> u64
     if byte_at(s, at, 1) != b'u' {
         return 0;
     }
-    let v = quad_value(s, ahead(s, at, 2));
-    if v < 0xd800 {
-        return unit_code(v);
-    }
-    if v <= 0xdfff {
-        return char_code(s, at);
-    }
-    if 0xffff < v {
+    let Ok(v) = quad(s, ahead(s, at, 2)) else {
         return 0;
+    };
+    match v {
+        0xd800..=0xdfff => char_code(s, at),
+        _ => unit_code(v),
     }
-    unit_code(v)
 }
 
 // An escape of ASCII, its backslash at `at`: by six bytes or by two.
@@ -113,10 +102,9 @@ fn escape_code(s: &[u8], at: usize) -> u64
     if b < 128 {
         return pack(b, 0, 0, 0, 1, 5);
     }
-    let c = short(byte_at(s, at, 1));
-    if c == 0 {
+    let Some(c) = short(byte_at(s, at, 1)) else {
         return 0;
-    }
+    };
     pack(c, 0, 0, 0, 1, 1)
 }
 
@@ -153,10 +141,7 @@ pub fn code_at(s: &[u8], at: usize) -> u64
 pub fn same_code(x: u64, y: u64) -> bool
     ensures { result ≡ true → SameCodes x y }
 {
-    if x == 0 {
-        return false;
-    }
-    x % 0x100_0000_0000 == y % 0x100_0000_0000
+    x != 0 && x % 0x100_0000_0000 == y % 0x100_0000_0000
 }
 
 // How many bytes the spelling of a character has.
@@ -171,18 +156,13 @@ fn same_run(a: &[u8], b: &[u8], i: usize, j: usize, n: usize) -> bool
     requires { i + n ≤ length a.now }
     ensures { result ≡ true → SameRun a.now b.now i j n }
 {
-    if b.len() <= j {
+    if b.len() <= j || b.len() - j < n {
         return false;
     }
-    if b.len() - j < n {
-        return false;
-    }
-    let mut k: usize = 0;
-    while k < n {
+    for k in 0..n {
         if a[i + k] != b[j + k] {
             return false;
         }
-        k += 1;
     }
     true
 }
@@ -194,12 +174,8 @@ pub fn same_wide(a: &[u8], b: &[u8], i: usize, j: usize) -> usize
     if a.len() <= i {
         return 0;
     }
-    let n = wide_length(a, i, a[i]);
-    if n < 1 {
+    let Some(n) = wide_length(a, i, a[i]) else {
         return 0;
-    }
-    if same_run(a, b, i, j, n) {
-        return n;
-    }
-    0
+    };
+    if same_run(a, b, i, j, n) { n } else { 0 }
 }

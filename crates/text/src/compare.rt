@@ -4,28 +4,22 @@ ghost use Rattle.text.specs.Text.{text_of, same, same_word};
 ghost use Rattle.text.specs.inner.Packed.{four, eight, SameAt};
 ghost use Rattle.text.specs.inner.Walk.{agreeing, cased, left};
 
+use crate::Cursor;
 use crate::ascii::{is_plain, lower};
 use crate::walk::{cursor_at, next_byte};
-use crate::{Cursor, Step};
 
 // The same byte; or, where case is folded, the same letter.
 fn alike(fold: bool, a: u8, b: u8) -> bool
     ensures { result ≡ eqb (cased fold a) (cased fold b) }
 {
-    if fold {
-        return lower(a) == lower(b);
-    }
-    a == b
+    if fold { lower(a) == lower(b) } else { a == b }
 }
 
 // No byte is left at the cursor.
 fn ended(s: &[u8], c: Cursor) -> bool
     ensures { result ≡ same (left s.now c) [] }
 {
-    match next_byte(s, c) {
-        Step::End => true,
-        Step::Byte(_, _) => false,
-    }
+    next_byte(s, c).is_none()
 }
 
 // What is spelled from `from` on stands for the plain bytes from there on.
@@ -33,20 +27,14 @@ fn agrees(spelled: &[u8], plain: &[u8], from: usize, fold: bool) -> bool
     ensures { result ≡ agreeing fold (text_of (drop from spelled.now)) (drop from plain.now) }
 {
     let mut c = cursor_at(from);
-    let mut j = from;
-    while j < plain.len() {
-        match next_byte(spelled, c) {
-            Step::End => {
-                return false;
-            }
-            Step::Byte(b, after) => {
-                if !alike(fold, b, plain[j]) {
-                    return false;
-                }
-                c = after;
-                j += 1;
-            }
+    for j in from..plain.len() {
+        let Some((b, after)) = next_byte(spelled, c) else {
+            return false;
+        };
+        if !alike(fold, b, plain[j]) {
+            return false;
         }
+        c = after;
     }
     ended(spelled, c)
 }
@@ -58,20 +46,15 @@ fn reads_as(spelled: &[u8], plain: &[u8], fold: bool) -> bool
     if spelled.len() < plain.len() {
         return false;
     }
-    let mut i: usize = 0;
-    while i < spelled.len() {
-        if !is_plain(spelled[i]) {
+    for (i, b) in spelled.iter().enumerate() {
+        if !is_plain(*b) {
             return agrees(spelled, plain, i, fold);
         }
-        if plain.len() <= i {
+        if plain.len() <= i || !alike(fold, *b, plain[i]) {
             return false;
         }
-        if !alike(fold, spelled[i], plain[i]) {
-            return false;
-        }
-        i += 1;
     }
-    plain.len() <= i
+    true
 }
 
 // The text is the plain bytes.
@@ -88,19 +71,15 @@ pub fn word_is(spelled: &[u8], plain: &[u8]) -> bool
     reads_as(spelled, plain, true)
 }
 
-// A byte as a number of 64 bits.
-fn wide(b: u8) -> u64
-    ensures { (result ≡ b) × (result < 256) }
-{
-    b as u64
-}
-
 // The four bytes at `at` as one number.
 fn four_at(s: &[u8], at: usize) -> u64
     requires { at + 4 ≤ length s.now }
     ensures { (result ≡ four s.now at) × (result < 2 ^ 32) }
 {
-    wide(s[at]) + wide(s[at + 1]) * 256 + wide(s[at + 2]) * 65536 + wide(s[at + 3]) * 16777216
+    u64::from(s[at])
+        + u64::from(s[at + 1]) * 256
+        + u64::from(s[at + 2]) * 65536
+        + u64::from(s[at + 3]) * 16777216
 }
 
 // The eight bytes at `at` as one number. The compiler makes one load of these sums.
@@ -127,36 +106,15 @@ fn same_eight(a: &[u8], b: &[u8], at: usize) -> bool
     eight_at(a, at) == eight_at(b, at)
 }
 
-// The same bytes, one by one.
-fn same_each(a: &[u8], b: &[u8]) -> bool
-    ensures { result ≡ same a.now b.now }
-{
-    if a.len() != b.len() {
-        return false;
-    }
-    let mut i: usize = 0;
-    while i < a.len() {
-        if a[i] != b[i] {
-            return false;
-        }
-        i += 1;
-    }
-    true
-}
-
 // The same, of fewer than eight bytes: the first four and the last four have them all.
 fn same_few(a: &[u8], b: &[u8]) -> bool
     requires { (length a.now ≡ length b.now) × (length a.now < 8) }
     ensures { result ≡ same a.now b.now }
 {
     if a.len() < 4 {
-        return same_each(a, b);
+        return a == b;
     }
-    let last = a.len() - 4;
-    if !same_four(a, b, 0) {
-        return false;
-    }
-    same_four(a, b, last)
+    same_four(a, b, 0) && same_four(a, b, a.len() - 4)
 }
 
 // The bytes of two spellings are the same. Eight at once; the last eight overlap with those before them.

@@ -4,8 +4,8 @@ ghost use Rattle.text.specs.Text.{meant};
 ghost use Rattle.text.specs.inner.Key.{key_by, key_of, Room};
 ghost use Rattle.text.specs.inner.Walk.{left};
 
-use crate::walk::{cursor_at, next_byte, peek, widened};
-use crate::{Cursor, Step};
+use crate::Cursor;
+use crate::walk::{cursor_at, next_byte, peek};
 
 // The key with n zeros behind it.
 fn padded(key: u32, n: u8) -> u32
@@ -13,10 +13,8 @@ fn padded(key: u32, n: u8) -> u32
     ensures { result ≡ key_by n key [] }
 {
     let mut whole = key;
-    let mut more = n;
-    while 0 < more {
+    for _ in 0..n {
         whole *= 256;
-        more -= 1;
     }
     whole
 }
@@ -28,18 +26,12 @@ fn key_left(s: &[u8], c: Cursor, key: u32, n: u8) -> u32
 {
     let mut after = c;
     let mut whole = key;
-    let mut more = n;
-    while 0 < more {
-        match next_byte(s, after) {
-            Step::End => {
-                return padded(whole, more);
-            }
-            Step::Byte(b, next) => {
-                whole = whole * 256 + widened(b);
-                after = next;
-                more -= 1;
-            }
-        }
+    for k in 0..n {
+        let Some((b, next)) = next_byte(s, after) else {
+            return padded(whole, n - k);
+        };
+        whole = whole * 256 + u32::from(b);
+        after = next;
     }
     whole
 }
@@ -49,17 +41,11 @@ fn key_behind(s: &[u8], c: Cursor, skip: usize) -> u32
     ensures { result ≡ key_of (drop skip (left s.now c)) }
 {
     let mut after = c;
-    let mut more = skip;
-    while 0 < more {
-        match next_byte(s, after) {
-            Step::End => {
-                return 0;
-            }
-            Step::Byte(_, next) => {
-                after = next;
-                more -= 1;
-            }
-        }
+    for _ in 0..skip {
+        let Some((_, next)) = next_byte(s, after) else {
+            return 0;
+        };
+        after = next;
     }
     key_left(s, after, 0, 4)
 }
@@ -70,18 +56,16 @@ fn key_at(s: &[u8], at: usize, raw: bool) -> u32
 {
     let mut i = at;
     let mut whole: u32 = 0;
-    let mut more: u8 = 4;
-    while 0 < more {
+    for k in 0..4u8 {
         let b = peek(s, i, raw);
         if b < 1 {
-            return padded(whole, more);
+            return padded(whole, 4 - k);
         }
         if 256 < b {
-            return key_left(s, cursor_at(i), whole, more);
+            return key_left(s, cursor_at(i), whole, 4 - k);
         }
         whole = whole * 256 + (b - 1);
         i += 1;
-        more -= 1;
     }
     whole
 }
@@ -91,8 +75,7 @@ fn key_at(s: &[u8], at: usize, raw: bool) -> u32
 pub fn key_of(s: &[u8], skip: usize, raw: bool) -> u32
     ensures { result ≡ key_of (drop skip (meant raw s.now)) }
 {
-    let mut i: usize = 0;
-    while i < skip {
+    for i in 0..skip {
         let b = peek(s, i, raw);
         if b < 1 {
             return 0;
@@ -100,7 +83,6 @@ pub fn key_of(s: &[u8], skip: usize, raw: bool) -> u32
         if 256 < b {
             return key_behind(s, cursor_at(i), skip - i);
         }
-        i += 1;
     }
-    key_at(s, i, raw)
+    key_at(s, skip, raw)
 }

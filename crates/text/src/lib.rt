@@ -18,25 +18,10 @@ pub struct Cursor {
     pub at: usize,
 }
 
-// The byte at a cursor and the cursor after it; or the end of the text, where its spelling ends or has a fault.
-#[derive(Clone, Copy)]
-pub enum Step {
-    End,
-    Byte(u8, Cursor),
-}
-
 // The first bytes that a text stands for from a cursor on, `count` of them, and the cursor behind them.
 #[derive(Clone, Copy)]
 pub struct Front {
     pub bytes: [u8; 32],
     pub count: usize,
     pub after: Cursor,
-}
-
-// How one text stands to another: before it, the same, or after it.
-#[derive(Clone, Copy)]
-pub enum Order {
-    Less,
-    Equal,
-    Greater,
 }

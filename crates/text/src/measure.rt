@@ -11,10 +11,7 @@ use lexeme::{Char, Next};
 fn size(x: Char) -> usize
     ensures { result ≡ length (bytes_of x) }
 {
-    if 4 < x.len {
-        return 4;
-    }
-    x.len
+    x.len.min(4)
 }
 
 // The text has more bytes than `most`. It is never longer than its spelling. A byte that stands for itself is counted as it is; any other begins a character.
@@ -35,18 +32,11 @@ pub fn longer_than(spelled: &[u8], most: usize) -> bool
             n += 1;
             i += 1;
         } else {
-            match next_char(spelled, i) {
-                Next::Quote => {
-                    return false;
-                }
-                Next::Fault(_, _) => {
-                    return false;
-                }
-                Next::Character(x) => {
-                    n += size(x);
-                    i = i + 1 + x.more;
-                }
-            }
+            let Next::Character(x) = next_char(spelled, i) else {
+                return false;
+            };
+            n += size(x);
+            i = i + 1 + x.more;
         }
     }
     true

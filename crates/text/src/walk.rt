@@ -5,7 +5,7 @@ ghost use Rattle.text.specs.Text.{text_of};
 ghost use Rattle.text.specs.inner.Walk.{cursor_at, left, told, left_by, told_by, seen, Fronted};
 
 use crate::ascii::{escaped, is_plain};
-use crate::{Cursor, Front, Step};
+use crate::{Cursor, Front};
 use character::next_char;
 use lexeme::{Char, Next};
 
@@ -30,78 +30,64 @@ pub fn cursor_at(at: usize) -> Cursor
 fn tail(x: Char) -> Char
     ensures { bytes_of result ≡ drop 1 (bytes_of x) }
 {
-    let mut len: usize = 3;
-    if x.len <= 3 {
-        len = x.len;
-        if 0 < len {
-            len -= 1;
-        }
-    }
     Char {
         b0: x.b1,
         b1: x.b2,
         b2: x.b3,
         b3: 0,
-        len,
+        len: x.len.min(4).saturating_sub(1),
         more: x.more,
     }
 }
 
 // The first byte of what is spelled from `at` on. Characters of ASCII are told before any others.
-fn first_byte(s: &[u8], at: usize) -> Step
+fn first_byte(s: &[u8], at: usize) -> Option<(u8, Cursor)>
     ensures { told s.now result ≡ text_of (drop at s.now) }
 {
     if s.len() <= at {
-        return Step::End;
+        return None;
     }
     if is_plain(s[at]) {
-        return Step::Byte(s[at], cursor_at(at + 1));
+        return Some((s[at], cursor_at(at + 1)));
     }
     if s[at] == b'"' {
-        return Step::End;
+        return None;
     }
     let b = escaped(s, at);
     if b < 128 {
-        return Step::Byte(b, cursor_at(at + 6));
+        return Some((b, cursor_at(at + 6)));
     }
-    match next_char(s, at) {
-        Next::Quote => {
-            return Step::End;
-        }
-        Next::Fault(_, _) => {
-            return Step::End;
-        }
-        Next::Character(x) => {
-            return Step::Byte(
-                x.b0,
-                Cursor {
-                    begun: tail(x),
-                    at: at + 1 + x.more,
-                },
-            );
-        }
-    }
+    let Next::Character(x) = next_char(s, at) else {
+        return None;
+    };
+    Some((
+        x.b0,
+        Cursor {
+            begun: tail(x),
+            at: at + 1 + x.more,
+        },
+    ))
 }
 
 // The byte at the cursor.
-pub fn next_byte(s: &[u8], c: Cursor) -> Step
+pub fn next_byte(s: &[u8], c: Cursor) -> Option<(u8, Cursor)>
     ensures { told s.now result ≡ left s.now c }
 {
     let x = c.begun;
     if 0 < x.len {
-        return Step::Byte(
+        return Some((
             x.b0,
             Cursor {
                 begun: tail(x),
                 at: c.at,
             },
-        );
+        ));
     }
     first_byte(s, c.at)
 }
 
 // The byte at the cursor, of a spelling or of raw bytes.
-pub fn next_meant(s: &[u8], c: Cursor, raw: bool) -> Step
+pub fn next_meant(s: &[u8], c: Cursor, raw: bool) -> Option<(u8, Cursor)>
     ensures { told_by raw s.now result ≡ left_by raw s.now c }
 {
     if !raw {
@@ -109,35 +95,24 @@ pub fn next_meant(s: &[u8], c: Cursor, raw: bool) -> Step
     }
     let at = c.at;
     if s.len() <= at {
-        return Step::End;
+        return None;
     }
-    Step::Byte(s[at], cursor_at(at + 1))
+    Some((s[at], cursor_at(at + 1)))
 }
 
-// A byte as a number of 32 bits.
-pub fn widened(b: u8) -> u32
-    ensures { (result ≡ b) × (result < 256) }
-{
-    b as u32
-}
-
-// What is seen at a place, with nothing decoded: 0 where the text ends, one more than the byte where that stands for itself, and else 257.
+// What is seen at a place, with nothing decoded: 0 where the text ends, one more than the byte where that stands for itself, and else 257. As numbers these
+// are in the order of the texts, and an enum's would have to be written out.
+#[tactic(auto, using(crate::proofs::Seeing::seen_rules))]
 pub fn peek(s: &[u8], at: usize, raw: bool) -> u32
     ensures { result ≡ seen raw (drop at s.now) }
 {
     if s.len() <= at {
         return 0;
     }
-    if raw {
-        return widened(s[at]) + 1;
+    if raw || is_plain(s[at]) {
+        return u32::from(s[at]) + 1;
     }
-    if is_plain(s[at]) {
-        return widened(s[at]) + 1;
-    }
-    if s[at] == b'"' {
-        return 0;
-    }
-    257
+    if s[at] == b'"' { 0 } else { 257 }
 }
 
 // The first `most` bytes from a cursor on; fewer where the text ends before.
@@ -147,27 +122,21 @@ pub fn read_front(spelled: &[u8], c: Cursor, most: usize) -> Front
     ensures { Fronted spelled.now c most result }
 {
     let mut bytes: [u8; 32] = [0; 32];
-    let mut count: usize = 0;
     let mut after = c;
-    while count < most {
-        match next_byte(spelled, after) {
-            Step::End => {
-                return Front {
-                    bytes,
-                    count,
-                    after,
-                };
-            }
-            Step::Byte(b, next) => {
-                bytes[count] = b;
-                count += 1;
-                after = next;
-            }
-        }
+    for count in 0..most {
+        let Some((b, next)) = next_byte(spelled, after) else {
+            return Front {
+                bytes,
+                count,
+                after,
+            };
+        };
+        bytes[count] = b;
+        after = next;
     }
     Front {
         bytes,
-        count,
+        count: most,
         after,
     }
 }

@@ -11,9 +11,9 @@ use Rattle.word.specs.Form.{written_form, word_size}
 use Rattle.word.specs.Word.{word_of}
 use Rattle.word.proofs.Laws.{written-full, word-length}
 use Rattle.schema.specs.Shape.{Table}
-use Rattle.fault.specs.declared.outcome.Outcome.{Outcome}
 use Rattle.cross.specs.Stage.{Feeds}
 use Rattle.verdict.specs.Verdict.{verdict_of, said, accepts, verdict_number, buffer_of}
+use Rattle.fault.specs.Outcome.{Outcome}
 
 -- the number where there is room
 abbrev pub told : Outcome → ℕ

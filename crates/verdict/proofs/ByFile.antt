@@ -6,20 +6,14 @@ use Prim.Native.Nat.{ℕ, zero, suc, ◌+◌, ◌<◌}
 use native.Mathlib.Omega.{arith}
 use Rattle.notation.proofs.Booleans.{by_test}
 use Rattle.word.specs.declared.Parts.{Parts}
-use Rattle.json_text.specs.declared.Syntax.{Syntax}
-use Rattle.json_text.specs.declared.Syntax.TheVariants as syntax
 use Rattle.json_text.specs.Text.{syntax_of}
 use Rattle.schema.specs.Shape.{Table}
 use Rattle.fault.specs.declared.Fault.{Fault}
-use Rattle.fault.specs.declared.Least.{Least}
-use Rattle.fault.specs.declared.Least.TheVariants.{None, Is}
 use Rattle.fault.specs.Fault as fault
 use Rattle.fault.specs.Fault.{lesser, least}
 use Rattle.fault.proofs.Leasts.{lesser-first, lesser-second, lesser-none}
 use Rattle.judge.proofs.Holds.{All, none, more, only, all_append}
-use Rattle.fault.specs.declared.outcome.Outcome.{Outcome}
-use Rattle.fault.specs.declared.outcome.Outcome.TheVariants.{Unbroken, Broken}
-use Rattle.fault.specs.Outcome.{file_count, fault_parts, outcome_of, or_next}
+use Rattle.fault.specs.Outcome.{file_count, fault_parts, outcome_of, or_next, Outcome}
 use Rattle.clean.specs.Clean.{syntax_outcome}
 use Rattle.cross.specs.Cross.{cross_faults}
 use Rattle.cross.specs.inner.Stage.{first_of, from_file, first_c}
@@ -30,6 +24,8 @@ use Rattle.verdict.specs.inner.Stages.{staged, faults_b, stage_b, outcome_a, fir
 use Rattle.verdict.proofs.Every.{all-at, all_map}
 use Rattle.verdict.proofs.Order.{same-file, higher_file}
 use Rattle.verdict.proofs.First.{earlier-named, earlier-first, earlier-second, first-broken}
+use Rattle.std.specs.Prelude.{Result, Option, None, Some, Err, Ok}
+use Rattle.lexeme.specs.declared.SyntaxError.{SyntaxError}
 
 -- what is found first stays, whatever is next
 named-next : (p : Parts) (x y : Outcome) → or_next (earlier p x) y ≡ earlier p x
@@ -48,12 +44,12 @@ Of file l = All (λ p. p.file ≡ file) l
 abbrev Above : ℕ → List Parts → Type 0
 Above file l = All (λ p. file < p.file) l
 
-earlier-above : (p : Parts) (m : List Parts) → Above p.file m → earlier p (first m) ≡ Broken p
+earlier-above : (p : Parts) (m : List Parts) → Above p.file m → earlier p (first m) ≡ Err p
 earlier-above p m above = go (first m) refl
   where
-    go : (x : Outcome) → first m ≡ x → earlier p x ≡ Broken p
-    go Unbroken e = refl
-    go (Broken q) e = earlier-first p q (higher_file q p (all-at above (first-broken m q e).among))
+    go : (x : Outcome) → first m ≡ x → earlier p x ≡ Err p
+    go (Ok _) e = refl
+    go (Err q) e = earlier-first p q (higher_file q p (all-at above (first-broken m q e).among))
 
 first_append : (file : ℕ) (l m : List Parts) → Of file l → Above file m → first (l ++ m) ≡ or_next (first l) (first m)
 unfolding first
@@ -62,8 +58,8 @@ first_append file (p ∷ l) m (more h of) above =
     ap (earlier p) (first_append file l m of above) ∙ go (first l) ∙ sym (named-next p (first l) (first m))
   where
     go : (x : Outcome) → earlier p (or_next x (first m)) ≡ earlier p x
-    go Unbroken = earlier-above p m (rw h above)
-    go (Broken q) = refl
+    go (Ok _) = earlier-above p m (rw h above)
+    go (Err q) = refl
 
 -- The rules of the files from one on are above those before it.
 module _ (g : ℕ → List Parts) (of : (file : ℕ) → Of file (g file)) where
@@ -83,14 +79,14 @@ module _ (g : ℕ → List Parts) (of : (file : ℕ) → Of file (g file)) where
   first-files = first-from 1 file_count
 
 -- Faults of one file, in the order of faults.
-place-earlier : (file : ℕ) (a : Fault) (x : Least) → earlier (fault_parts file a) (outcome_of file x) ≡ outcome_of file (lesser (Is a) x)
-place-earlier file a None = ap (λ (x : Least). outcome_of file x) (sym (lesser-none (Is a)))
-place-earlier file a (Is b) =
+place-earlier : (file : ℕ) (a : Fault) (x : Option Fault) → earlier (fault_parts file a) (outcome_of file x) ≡ outcome_of file (lesser (Some a) x)
+place-earlier file a None = ap (λ (x : Option Fault). outcome_of file x) (sym (lesser-none (Some a)))
+place-earlier file a (Some b) =
     by_test (fault.before b a)
     (λ t. earlier-second (fault_parts file a) (fault_parts file b) (same-file (fault_parts file b) (fault_parts file a) refl ∙ t)
-    ∙ ap (λ (x : Least). outcome_of file x) (sym (lesser-second a b t)))
+    ∙ ap (λ (x : Option Fault). outcome_of file x) (sym (lesser-second a b t)))
     (λ f. earlier-first (fault_parts file a) (fault_parts file b) (same-file (fault_parts file b) (fault_parts file a) refl ∙ f)
-    ∙ ap (λ (x : Least). outcome_of file x) (sym (lesser-first a b f)))
+    ∙ ap (λ (x : Option Fault). outcome_of file x) (sym (lesser-first a b f)))
 
 first-least : (file : ℕ) (l : List Fault) → first (map (fault_parts file) l) ≡ outcome_of file (least l)
 unfolding first least
@@ -108,18 +104,18 @@ module _ (f : ℕ → List Fault) where
       first-files (λ file. map (fault_parts file) (f file)) (λ file. placed_of file (f file)) ∙ ap first_of (λ i file. first-least file (f file) i)
 
 -- Stage A: a file breaks one rule at most.
-syntax_of_lem : (file : ℕ) (x : Syntax) → Of file (syntax_rules file x)
-syntax_of_lem file syntax.Sound = none
-syntax_of_lem file (syntax.Fault kind offset) = only refl
+syntax_of_lem : (file : ℕ) (x : Result (Unit {0}) SyntaxError) → Of file (syntax_rules file x)
+syntax_of_lem file (Ok _) = none
+syntax_of_lem file (Err w) = only refl
 
 read_of : (file : ℕ) (s : List ℕ) → Of file (rules_a file s)
 read_of file [] = none
 read_of file (b ∷ s) = syntax_of_lem file (syntax_of (b ∷ s))
 
-first_syntax : (file : ℕ) (x : Syntax) → first (syntax_rules file x) ≡ syntax_outcome file x
+first_syntax : (file : ℕ) (x : Result (Unit {0}) SyntaxError) → first (syntax_rules file x) ≡ syntax_outcome file x
 unfolding first
-first_syntax file syntax.Sound = refl
-first_syntax file (syntax.Fault kind offset) = refl
+first_syntax file (Ok _) = refl
+first_syntax file (Err w) = refl
 
 first_read : (file : ℕ) (s : List ℕ) → first (rules_a file s) ≡ outcome_a file s
 unfolding first

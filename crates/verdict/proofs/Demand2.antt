@@ -10,8 +10,6 @@ use Rattle.word.specs.Word.{IsWord, read_word}
 use Rattle.word.proofs.Laws.{full1, word_read, read_word_lem, no-word}
 use Rattle.schema.specs.Shape.{Table}
 use Rattle.schema.specs.Tables.{table_at}
-use Rattle.fault.specs.declared.outcome.Outcome.{Outcome}
-use Rattle.fault.specs.declared.outcome.Outcome.TheVariants.{Unbroken, Broken}
 use Rattle.cross.specs.Stage.{Feeds}
 use Rattle.verdict.specs.Verdict.{broken_rules, verdict_of}
 use Rattle.verdict.specs.Demand2.{First, Demand2}
@@ -21,14 +19,16 @@ use Rattle.verdict.proofs.Says.{says}
 use Rattle.verdict.proofs.Moments.{charge-due}
 use Rattle.verdict.proofs.Prices.{price, price-given, no_credit_lem, marked-minutes-ends, marked-kilometres-ends, past-minutes, past-kilometres}
 use Rattle.verdict.proofs.Zones.{together-there, rule, no-rule, ruled, unruled}
+use Rattle.fault.specs.Outcome.{Outcome, unbroken}
+use Rattle.std.specs.Prelude.{Err, Ok}
 
 -- a set that breaks a rule breaks a first one
 some_first : (t : Table) (s : Feeds) → (broken_rules t s ≡ [] → ⊥) → (p : Parts) × First p (broken_rules t s)
 some_first t s n = go (verdict_of t s) refl
   where
     go : (x : Outcome) → verdict_of t s ≡ x → (p : Parts) × First p (broken_rules t s)
-    go Unbroken e = absurd (n (accepted-only t s e))
-    go (Broken p) e = (p, refused-first t s p e)
+    go (Ok _) e = absurd (n (accepted-only t s e))
+    go (Err p) e = (p, refused-first t s p e)
 
 -- bytes that are read are the word of what is read
 is_word_lem : (s : List ℕ) → Bytes s → (read_word s).number ≡ 0 → IsWord form1 (read_word s).parts s
@@ -40,10 +40,10 @@ unfolding read_word
 demand_2 table =
     let t = table_at table in
     record {
-      accepted = λ s e. says table s Unbroken (accepted t s e);
+      accepted = λ s e. says table s unbroken (accepted t s e);
       first = some_first t;
       only = λ s p q f g. broken-parts (sym (first-refused t s p f) ∙ first-refused t s q g);
-      not_accepted = λ s p f. says table s (Broken p) (first-refused t s p f);
+      not_accepted = λ s p f. says table s (Err p) (first-refused t s p f);
       word = λ s p w. word_read form1 full1 p s w;
       is_word = is_word_lem;
       no_word = λ s bytes none. no-word form1 full1 s bytes none;

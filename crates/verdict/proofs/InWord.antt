@@ -1,7 +1,7 @@
 -- What stages B and C find first in a file is within the word, in a set whose files are through the stages before: a file has no more records, nor a record
 -- more items, than the word can number.
 use mathlib.Core.List.{List, [], ◌∷◌}
-use mathlib.Core.Path.{◌≡◌, refl, ap, ◌∙◌}
+use mathlib.Core.Path.{◌≡◌, refl, sym, ap, ◌∙◌}
 use Prim.Native.Nat.{ℕ, ◌≤◌}
 use native.Mathlib.Omega.{arith}
 use lib.ListN.{drop, length-drop}
@@ -10,14 +10,13 @@ use Rattle.schema.specs.Shape.{Shape}
 use Rattle.schema.specs.Tables.{table_at, sheet_shape, sheet_of}
 use Rattle.schema.proofs.SheetShapes.{sheet_shape_lem}
 use Rattle.fault.specs.declared.Fault.{Fault}
-use Rattle.fault.specs.declared.Least.TheVariants.{Is}
 use Rattle.fault.specs.Fault.{least}
 use Rattle.fault.specs.Outcome.{file_count}
 use Rattle.judge.specs.Bounds.{greatest, fields}
 use Rattle.judge.specs.Faults.{file_faults}
 use Rattle.judge.proofs.Fits.{first_fits}
+use Rattle.document.proofs.Along.{ends-same}
 use Rattle.document.specs.declared.Span.{Span}
-use Rattle.document.specs.declared.Span.TheVariants as span
 use Rattle.document.specs.Spans.{records_span}
 use Rattle.document.specs.inner.Spans.{RecordsFrom}
 use Rattle.document.proofs.Along.{along-none}
@@ -28,6 +27,7 @@ use Rattle.cross.proofs.Files.{file-bytes}
 use Rattle.cross.proofs.Bounds as cross
 use Rattle.cross.specs.Stage.{Feeds, bytes_of, picked}
 use Rattle.verdict.specs.inner.Stages.{faults_b}
+use Rattle.std.specs.Prelude.{Some, Option, None}
 
 -- a fault that the word can say
 pub record InWord (f : Fault) : Type 0 where
@@ -38,7 +38,7 @@ pub record InWord (f : Fault) : Type 0 where
   pub high : f.kind ≤ sum_differs
 
 -- stage B: what is found by a file's shape is found by its sheet's
-pub faults_fit : (table file : ℕ) (s : List ℕ) (f : Fault) → least (faults_b (table_at table) file s) ≡ Is f → InWord f
+pub faults_fit : (table file : ℕ) (s : List ℕ) (f : Fault) → least (faults_b (table_at table) file s) ≡ Some f → InWord f
 unfolding least
 faults_fit table file [] f e = let z : ◌≡◌ {A = ℕ} 0 1 = cc in absurd (omega arith)
 faults_fit table file (b ∷ s) f e =
@@ -52,19 +52,19 @@ faults_fit table file (b ∷ s) f e =
 records-rest : (sheet : ℕ) (s : List ℕ) → (p : List ℕ) × RecordsFrom sheet s p
 records-rest sheet s = go (records_span (sheet_shape sheet) s) refl
   where
-    go : (o : Span) → records_span (sheet_shape sheet) s ≡ o → (p : List ℕ) × RecordsFrom sheet s p
-    go span.None e = ([], record { inside = omega arith; starts = λ h from upto i. let z : ◌≡◌ {A = ℕ} 0 1 = cc in absurd (omega arith); none = λ k. refl })
-    go (span.Is at end) e = (
-      drop at s,
+    go : (o : Option Span) → records_span (sheet_shape sheet) s ≡ o → (p : List ℕ) × RecordsFrom sheet s p
+    go None e = ([], record { inside = omega arith; starts = λ h from upto i. let z : ◌≡◌ {A = ℕ} 0 1 = cc in absurd (omega arith); none = λ k. refl })
+    go (Some p) e = (
+      drop p.from s,
       record {
-        inside = omega (arith, length-drop at s);
-        starts = λ h from upto i. let z : at ≡ from = cc in ap (λ (k : ℕ). drop k s) z;
+        inside = omega (arith, length-drop p.from s);
+        starts = λ h from upto i. ap (λ (k : ℕ). drop k s) (ends-same (sym e ∙ i)).0;
         none = λ k. let n = along-none sheet s k in let z : ◌≡◌ {A = ℕ} 0 1 = cc in absurd (omega arith);
       },
     )
 
 pub cross_fits : (table : ℕ) (s : Feeds) → AllPassAB table s → (file : ℕ) → 1 ≤ file → file ≤ file_count
-    → (f : Fault) → least (cross_faults (table_at table) (picked (table_at table) s) file) ≡ Is f → InWord f
+    → (f : Fault) → least (cross_faults (table_at table) (picked (table_at table) s) file) ≡ Some f → InWord f
 cross_fits table s through file h i f e =
     let sheet = sheet_of table file in
     let c =

@@ -9,6 +9,9 @@ use native.Mathlib.Nat.{zero-mul, mul-zero, suc-mul, le-mul_of_pos_right}
 use native.Mathlib.Omega.{arith}
 use lib.Dec.{eqb, leb, ltb}
 use borrow.Author.Tests.{leb-true, ltb-true, eqb-true, eqb-false, le-leb, lt-ltb}
+use Rattle.std.specs.Prelude.{Option, None, Some, IfSome}
+use Rattle.std.specs.Option.{option_map_or}
+use Rattle.std.proofs.lemmas.Option.{IfSome_then}
 use Rattle.notation.specs.Choice.{◌⇒◌else◌, ◌and◌}
 use Rattle.notation.proofs.Booleans.{by_test, and_left, and_right}
 use Rattle.fare.specs.declared.Segment.{Segment}
@@ -21,17 +24,21 @@ module _ (x : Segment) (ride : ℕ) where
   unfolding charged
   test_within t e = leb-true t ride (and_left (leb t ride) _ e)
 
-  test_unended : (t : ℕ) → charged x ride t ≡ true → x.ended ≡ true → t < x.end
+  test_unended : (t : ℕ) → charged x ride t ≡ true → IfSome x.end (λ end. t < end)
   unfolding charged
-  test_unended t e h = ltb-true t x.end (ap (λ (b : Bool). b ⇒ ltb t x.end else true) (sym h) ∙ and_right (leb t ride) _ e)
-
-  test_due : (t : ℕ) → t ≤ ride → (x.ended ≡ true → t < x.end) → charged x ride t ≡ true
-  unfolding charged
-  test_due t h k = ap (λ (b : Bool). b and (x.ended ⇒ ltb t x.end else true)) (le-leb t ride h) ∙ go x.ended k
+  test_unended t e = go x.end (and_right (leb t ride) _ e)
     where
-      go : (b : Bool) → (b ≡ true → t < x.end) → (b ⇒ ltb t x.end else true) ≡ true
-      go true h = lt-ltb t x.end (h refl)
-      go false h = refl
+      go : (o : Option ℕ) → option_map_or (λ end. ltb t end) o true ≡ true → IfSome o (λ end. t < end)
+      go None h = tt
+      go (Some end) h = ltb-true t end h
+
+  test_due : (t : ℕ) → t ≤ ride → IfSome x.end (λ end. t < end) → charged x ride t ≡ true
+  unfolding charged
+  test_due t h k = ap (λ (b : Bool). b and option_map_or (λ end. ltb t end) x.end true) (le-leb t ride h) ∙ go x.end k
+    where
+      go : (o : Option ℕ) → IfSome o (λ end. t < end) → option_map_or (λ end. ltb t end) o true ≡ true
+      go None h = refl
+      go (Some end) h = lt-ltb t end h
 
   -- one moment and those after it
   module _ (most t : ℕ) where
@@ -66,7 +73,7 @@ module _ (x : Segment) (ride : ℕ) where
       from_cases most t {P = λ (u : ℕ). t ≤ u} (λ c. omega arith) (λ v k. let h = next v k in omega arith) u m
 
   -- a due moment, so many intervals on
-  from_all : (most t n u : ℕ) → u ≡ t + n * x.interval → n < most → u ≤ ride → (x.ended ≡ true → u < x.end) → Memᴰ u (moments_from x ride most t)
+  from_all : (most t n u : ℕ) → u ≡ t + n * x.interval → n < most → u ≤ ride → IfSome x.end (λ end. u < end) → Memᴰ u (moments_from x ride most t)
   from_all zero t n u e h within unended = absurd (omega arith)
   from_all (suc most) t zero u e h within unended =
       let same : u ≡ t = omega (arith, zero-mul x.interval) in
@@ -74,7 +81,7 @@ module _ (x : Segment) (ride : ℕ) where
   from_all (suc most) t (suc n) u e h within unended =
       let step = suc-mul n x.interval in
       let later = from_all most (t + x.interval) n u (omega arith) (omega arith) within unended in
-      subst (Memᴰ u) (sym (from-here most t (test_due t (omega arith) (λ k. let z = unended k in omega arith)))) (mathlib.Core.List.Memᴰ.tail later)
+      subst (Memᴰ u) (sym (from-here most t (test_due t (omega arith) (IfSome_then x.end unended (λ end k. omega arith))))) (mathlib.Core.List.Memᴰ.tail later)
 
   rising-from : (most t : ℕ) → ((u : ℕ) → Memᴰ u (moments_from x ride most (t + x.interval)) → t < u) → Rising (moments_from x ride most (t + x.interval))
       → Rising (moments_from x ride (suc most) t)

@@ -15,8 +15,7 @@ use Rattle.schema.specs.Tables.{table_at}
 use Rattle.rings.specs.Rings.{coordinates_found}
 use Rattle.rings.specs.OneRing.{coordinates_of_one}
 use Rattle.document.specs.Spans.{record_span}
-use Rattle.fault.specs.declared.outcome.Outcome.{Outcome}
-use Rattle.fault.specs.Outcome.{file_count, fault_parts}
+use Rattle.fault.specs.Outcome.{file_count, fault_parts, Outcome}
 use Rattle.clean.specs.Clean.{records_in}
 use Rattle.clean.specs.Show.{of_span, of_clean, refused, shown_by, shown_of}
 use Rattle.quote.specs.Quote as quote

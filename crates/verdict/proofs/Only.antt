@@ -7,16 +7,12 @@ use mathlib.Core.Path.{◌≡◌, refl, sym, ap, subst, ◌∙◌}
 use Prim.Native.Nat.{ℕ}
 use native.Mathlib.Omega.{arith}
 use Rattle.word.specs.declared.Parts.{Parts}
-use Rattle.json_text.specs.declared.Syntax.{Syntax}
-use Rattle.json_text.specs.declared.Syntax.TheVariants as syntax
 use Rattle.json_text.specs.Text.{syntax_of}
 use Rattle.schema.specs.Shape.{Table}
 use Rattle.fault.specs.declared.Fault.{Fault}
 use Rattle.fault.proofs.Order as faults
 use Rattle.judge.proofs.Holds.{All, none, more, only}
-use Rattle.fault.specs.declared.outcome.Outcome.{Outcome}
-use Rattle.fault.specs.declared.outcome.Outcome.TheVariants.{Unbroken, Broken}
-use Rattle.fault.specs.Outcome.{fault_parts}
+use Rattle.fault.specs.Outcome.{fault_parts, Outcome}
 use Rattle.cross.specs.Cross.{cross_faults}
 use Rattle.cross.specs.Stage.{Feeds, bytes_of, picked}
 use Rattle.verdict.specs.Verdict.{syntax_rules, rules_a, every_file, stage_a, stage_b_by, stage_c, or_else, broken_rules_by, broken_rules, before, first, verdict_of}
@@ -25,6 +21,8 @@ use Rattle.verdict.specs.inner.Stages.{faults_b, stage_b}
 use Rattle.verdict.proofs.Every.{all-at, every_all}
 use Rattle.verdict.proofs.Order.{fault_of, same-file, not-before-file}
 use Rattle.verdict.proofs.First.{first-clean, first-broken}
+use Rattle.std.specs.Prelude.{Result, Err, Ok}
+use Rattle.lexeme.specs.declared.SyntaxError.{SyntaxError}
 
 -- what comes neither before nor after is the same but for its offset
 before_even : (p q : Parts) → (p.file ≡ q.file → p.offset ≡ q.offset) → before p q ≡ false → before q p ≡ false → p ≡ q
@@ -44,15 +42,15 @@ first-only l o p q f g =
     before_even p q (λ e. all-at o.are f.among ∙ ap o.at e ∙ sym (all-at o.are g.among)) (g.first p f.among) (f.first q g.among)
 
 -- stage A: one rule a file at most
-stopped : Syntax → ℕ
-stopped syntax.Sound = 0
-stopped (syntax.Fault kind offset) = offset
+stopped : Result (Unit {0}) SyntaxError → ℕ
+stopped (Ok _) = 0
+stopped (Err w) = w.offset
 
 module _ (at : ℕ → List ℕ) where
-  syntax_offset : (file : ℕ) (x : Syntax) → syntax_of (at file) ≡ x → All (λ p. p.offset ≡ stopped (syntax_of (at p.file))) (syntax_rules file x)
+  syntax_offset : (file : ℕ) (x : Result (Unit {0}) SyntaxError) → syntax_of (at file) ≡ x → All (λ p. p.offset ≡ stopped (syntax_of (at p.file))) (syntax_rules file x)
   unfolding stopped
-  syntax_offset file syntax.Sound e = none
-  syntax_offset file (syntax.Fault kind offset) e = only (sym (ap stopped e))
+  syntax_offset file (Ok _) e = none
+  syntax_offset file (Err w) e = only (sym (ap stopped e))
 
   read_offset : (file : ℕ) (s : List ℕ) → at file ≡ s → All (λ p. p.offset ≡ stopped (syntax_of (at p.file))) (rules_a file s)
   read_offset file [] e = none
@@ -80,10 +78,10 @@ offsets t s =
     (offsets_or_else (stage_b t s) (stage_c t s) (offsets_placed (λ file. faults_b t file (bytes_of s file))) (offsets_placed (cross_faults t (picked t s))))
 
 -- what has none before it is what the verdict names
-pub first-refused : (t : Table) (s : Feeds) (p : Parts) → First p (broken_rules t s) → verdict_of t s ≡ Broken p
+pub first-refused : (t : Table) (s : Feeds) (p : Parts) → First p (broken_rules t s) → verdict_of t s ≡ Err p
 unfolding verdict_of
 first-refused t s p f = go (first (broken_rules t s)) refl
   where
-    go : (x : Outcome) → first (broken_rules t s) ≡ x → first (broken_rules t s) ≡ Broken p
-    go Unbroken e = absurd (Memᴰ.not-nil (subst (Memᴰ p) (first-clean (broken_rules t s) e) f.among))
-    go (Broken q) e = e ∙ ap Broken (first-only (broken_rules t s) (offsets t s) q p (first-broken (broken_rules t s) q e) f)
+    go : (x : Outcome) → first (broken_rules t s) ≡ x → first (broken_rules t s) ≡ Err p
+    go (Ok _) e = absurd (Memᴰ.not-nil (subst (Memᴰ p) (first-clean (broken_rules t s) e) f.among))
+    go (Err q) e = e ∙ ap Err (first-only (broken_rules t s) (offsets t s) q p (first-broken (broken_rules t s) q e) f)

@@ -11,19 +11,17 @@ use lib.Dec.{eqb, leb}
 use lib.IntN.{pos}
 use lib.Signed.{le_z}
 use borrow.Author.Tests.{leb-true, le-leb, eq-eqb}
+use Rattle.std.specs.Prelude.{Option, None, Some, is_some, unwrap_or, IsSome, IfSome}
 use Rattle.word.specs.declared.Parts.{Parts}
 use Rattle.notation.proofs.Booleans.{true-false, and_left, and_right}
 use Rattle.schema.specs.Shape.{Table, file_shape}
 use Rattle.schema.specs.Pick.{Picked}
-use Rattle.document.specs.Document.{Maybe, none, some}
 use Rattle.decimal.specs.Exact.{ten_thousandths}
 use Rattle.fare.specs.declared.Segment.{Segment}
 use Rattle.fare.specs.Charges as charges
 use Rattle.fare.specs.Charges.{minutes_of, kilometres_of, sum, amount, all_ended, greatest_end}
 use Rattle.fare.proofs.Past as ends
 use Rattle.fare.proofs.Amounts.{amount-natural}
-use Rattle.fault.specs.declared.outcome.Outcome.{Outcome}
-use Rattle.fault.specs.declared.outcome.Outcome.TheVariants.{Unbroken, Broken}
 use Rattle.clean.specs.Clean.{records_in, clean_of}
 use Rattle.quote.specs.Plan.{price_at, per_minute, per_kilometre, trip_amount, past_minutes, past_kilometres}
 use Rattle.quote.specs.Quote.{Answer, plan_quote, clean_quote, short, quote_of, most_seconds, most_metres, refused, unclean}
@@ -31,53 +29,63 @@ use Rattle.quote.proofs.Asked.{asked, Passed, passed}
 use Rattle.quote.proofs.Past as past
 use Rattle.quote.proofs.Past.{ended-minutes, ended-kilometres}
 use Rattle.verdict.specs.Demand2.{plan_in, fare, PastEnds}
+use Rattle.fault.specs.Outcome.{Outcome, unbroken}
+use Rattle.std.specs.Prelude.{Err, Ok, Option, None, Some}
 
 -- whatever it answers, the amount is not negative
-asked_natural : (t : Bool) (c : Outcome) (m : Maybe Picked) (seconds metres : ℕ) → le_z (pos 0) (asked t c m seconds metres).amount ≡ true
+asked_natural : (t : Bool) (c : Outcome) (m : Option Picked) (seconds metres : ℕ) → le_z (pos 0) (asked t c m seconds metres).amount ≡ true
 unfolding trip_amount
 asked_natural false c m seconds metres = refl
-asked_natural true (Broken p) m seconds metres = refl
-asked_natural true Unbroken none seconds metres = refl
-asked_natural true Unbroken (some plan) seconds metres =
+asked_natural true (Err p) m seconds metres = refl
+asked_natural true (Ok _) None seconds metres = refl
+asked_natural true (Ok _) (Some plan) seconds metres =
     amount-natural (ten_thousandths (price_at plan)) (per_minute plan) (per_kilometre plan) (minutes_of seconds) (kilometres_of metres)
 
 -- a mark that a quote gives, and no refusal has, is its plan's
 asked_mark : (mark : Answer → Bool) → mark (refused 4) ≡ false → ((p : Parts) → mark (unclean p) ≡ false) → mark (refused 6) ≡ false
-    → (t : Bool) (c : Outcome) (m : Maybe Picked) (seconds metres : ℕ) (plan : Picked) → m ≡ some plan → mark (asked t c m seconds metres) ≡ true
-    → mark (plan_quote seconds metres (some plan)) ≡ true
+    → (t : Bool) (c : Outcome) (m : Option Picked) (seconds metres : ℕ) (plan : Picked) → m ≡ Some plan → mark (asked t c m seconds metres) ≡ true
+    → mark (plan_quote seconds metres (Some plan)) ≡ true
 asked_mark mark long broken absent t c m seconds metres plan f e =
     let p = passed mark long broken absent t c m seconds metres e in rw (p.brief, p.clean, f) at e
 
 -- segments that have all ended
-all-ended : (l : List Segment) → ((x : Segment) → Memᴰ x l → x.ended ≡ true) → all_ended l ≡ true
+all-ended : (l : List Segment) → ((x : Segment) → Memᴰ x l → IsSome x.end) → all_ended l ≡ true
 unfolding all_ended
 all-ended [] h = refl
 all-ended (x ∷ l) h = rw (h x (Memᴰ.head refl), all_ended) (all-ended l (λ y m. h y (Memᴰ.tail m)))
 
-greatest-end : (l : List Segment) (ride : ℕ) → ((x : Segment) → Memᴰ x l → x.end ≤ ride) → greatest_end l ≤ ride
+end_over : (o : Option ℕ) (n : ℕ) → IfSome o (λ end. end ≤ n) → unwrap_or o 0 ≤ n
+end_over None n h = omega arith
+end_over (Some end) n h = h
+
+over_end : (o : Option ℕ) (n : ℕ) → unwrap_or o 0 ≤ n → IfSome o (λ end. end ≤ n)
+over_end None n h = tt
+over_end (Some end) n h = h
+
+greatest-end : (l : List Segment) (ride : ℕ) → ((x : Segment) → Memᴰ x l → IfSome x.end (λ end. end ≤ ride)) → greatest_end l ≤ ride
 unfolding greatest_end
 greatest-end [] ride h = omega arith
 greatest-end (x ∷ l) ride h =
-    let a = h x (Memᴰ.head refl) in let b = greatest-end l ride (λ y m. h y (Memᴰ.tail m)) in omega arith
+    let a = end_over x.end ride (h x (Memᴰ.head refl)) in let b = greatest-end l ride (λ y m. h y (Memᴰ.tail m)) in omega arith
 
 past-ends : (l : List Segment) (ride : ℕ) → PastEnds l ride → past.Ended l ride
 past-ends [] ride e = absurd (e.there refl)
 past-ends (x ∷ l) ride e = record { first = x; others = l; are = refl; ended = all-ended (x ∷ l) e.ended; late = greatest-end (x ∷ l) ride e.over }
 
 -- a mark is set at and past every end of segments that all end
-ended-each : (l : List Segment) → all_ended l ≡ true → (x : Segment) → Memᴰ x l → x.ended ≡ true
+ended-each : (l : List Segment) → all_ended l ≡ true → (x : Segment) → Memᴰ x l → IsSome x.end
 unfolding all_ended
 ended-each [] e x m = absurd (Memᴰ.not-nil m)
 ended-each (y ∷ l) e x m =
-    let rest = ended-each l (and_right y.ended (all_ended l) e) x in
-    ⊎_elim (λ (p : x ≡ y). ap (λ (z : Segment). z.ended) p ∙ and_left y.ended (all_ended l) e) rest (Memᴰ.cases_cons m)
+    let rest = ended-each l (and_right (is_some y.end) (all_ended l) e) x in
+    ⊎_elim (λ (p : x ≡ y). ap (λ (z : Segment). is_some z.end) p ∙ and_left (is_some y.end) (all_ended l) e) rest (Memᴰ.cases_cons m)
 
-end-most : (l : List Segment) (x : Segment) → Memᴰ x l → x.end ≤ greatest_end l
+end-most : (l : List Segment) (x : Segment) → Memᴰ x l → unwrap_or x.end 0 ≤ greatest_end l
 unfolding greatest_end
 end-most [] x m = absurd (Memᴰ.not-nil m)
 end-most (y ∷ l) x m =
     let rest = end-most l x in
-    ⊎_elim (λ (p : x ≡ y). let q = ap (λ (z : Segment). z.end) p in omega arith) (λ (k : Memᴰ x l). let h = rest k in omega arith) (Memᴰ.cases_cons m)
+    ⊎_elim (λ (p : x ≡ y). let q = ap (λ (z : Segment). unwrap_or z.end 0) p in omega arith) (λ (k : Memᴰ x l). let h = rest k in omega arith) (Memᴰ.cases_cons m)
 
 some-marked : (l : List Segment) (ride : ℕ) → charges.past l ride ≡ true → l ≡ [] → ⊥
 unfolding charges.past
@@ -90,7 +98,7 @@ marked-ends l ride e =
     record {
       there = some-marked l ride e;
       ended = ended-each l k.0;
-      over = λ x m. let h = end-most l x m in omega (arith, k.1);
+      over = λ x m. let h = end-most l x m in over_end x.end ride (omega (arith, k.1));
     }
 
 -- the same of a ride of another length that is past the ends
@@ -102,12 +110,12 @@ module _ (t : Table) (s id : List ℕ) where
   abbrev plans : List Picked
   plans = records_in (file_shape t 5) s
 
-  quote-clean : (seconds metres : ℕ) → short seconds metres ≡ true → clean_of t 5 s ≡ Unbroken → quote_of t s id seconds metres ≡ clean_quote plans id seconds metres
+  quote-clean : (seconds metres : ℕ) → short seconds metres ≡ true → clean_of t 5 s ≡ unbroken → quote_of t s id seconds metres ≡ clean_quote plans id seconds metres
   unfolding quote_of
   quote-clean seconds metres h c = rw (h, c)
 
-  pub price : (seconds metres : ℕ) (plan : Picked) → seconds ≤ most_seconds → metres ≤ most_metres → clean_of t 5 s ≡ Unbroken
-      → plan_in t s id ≡ some plan → quote_of t s id seconds metres ≡ fare plan seconds metres
+  pub price : (seconds metres : ℕ) (plan : Picked) → seconds ≤ most_seconds → metres ≤ most_metres → clean_of t 5 s ≡ unbroken
+      → plan_in t s id ≡ Some plan → quote_of t s id seconds metres ≡ fare plan seconds metres
   unfolding short clean_quote trip_amount sum amount past_minutes past_kilometres
   price seconds metres plan a b c found =
       let brief : short seconds metres ≡ true = rw (le-leb seconds most_seconds a, le-leb metres most_metres b, short) in
@@ -117,14 +125,14 @@ module _ (t : Table) (s id : List ℕ) where
   unfolding quote_of clean_quote
   no_credit_lem seconds metres = asked_natural (short seconds metres) (clean_of t 5 s) (plan_in t s id) seconds metres
 
-  pub marked-minutes-ends : (seconds metres : ℕ) (plan : Picked) → plan_in t s id ≡ some plan → (quote_of t s id seconds metres).past_minutes ≡ true
+  pub marked-minutes-ends : (seconds metres : ℕ) (plan : Picked) → plan_in t s id ≡ Some plan → (quote_of t s id seconds metres).past_minutes ≡ true
       → PastEnds (per_minute plan) (seconds / 60)
   unfolding quote_of clean_quote past_minutes
   marked-minutes-ends seconds metres plan found e =
       marked-ends (per_minute plan) (seconds / 60)
       (asked_mark (λ (x : Answer). x.past_minutes) refl (λ p. refl) refl (short seconds metres) (clean_of t 5 s) (plan_in t s id) seconds metres plan found e)
 
-  pub marked-kilometres-ends : (seconds metres : ℕ) (plan : Picked) → plan_in t s id ≡ some plan → (quote_of t s id seconds metres).past_kilometres ≡ true
+  pub marked-kilometres-ends : (seconds metres : ℕ) (plan : Picked) → plan_in t s id ≡ Some plan → (quote_of t s id seconds metres).past_kilometres ≡ true
       → PastEnds (per_kilometre plan) (metres / 1000)
   unfolding quote_of clean_quote past_kilometres
   marked-kilometres-ends seconds metres plan found e =
@@ -141,15 +149,15 @@ module _ (t : Table) (s id : List ℕ) where
     by-plan : quote_of t s id seconds metres ≡ clean_quote plans id seconds metres
     by-plan = quote-clean seconds metres through.brief through.clean
 
-    pub price-given : (seconds ≤ most_seconds) × (metres ≤ most_metres) × (clean_of t 5 s ≡ Unbroken)
-        × (plan : Picked) × (plan_in t s id ≡ some plan) × (quote_of t s id seconds metres ≡ fare plan seconds metres)
+    pub price-given : (seconds ≤ most_seconds) × (metres ≤ most_metres) × (clean_of t 5 s ≡ unbroken)
+        × (plan : Picked) × (plan_in t s id ≡ Some plan) × (quote_of t s id seconds metres ≡ fare plan seconds metres)
     unfolding short clean_quote trip_amount sum amount past_minutes past_kilometres
     price-given =
         let a = leb-true seconds most_seconds (and_left (leb seconds most_seconds) _ through.brief) in
         let b = leb-true metres most_metres (and_right (leb seconds most_seconds) _ through.brief) in
         (a, b, through.clean, through.plan, through.found, by-plan ∙ ap (plan_quote seconds metres) through.found)
 
-    module _ (plan : Picked) (found : plan_in t s id ≡ some plan) where
+    module _ (plan : Picked) (found : plan_in t s id ≡ Some plan) where
       pub past-minutes : PastEnds (per_minute plan) (seconds / 60)
           → (quote_of t s id seconds metres ≡ quote_of t s id (greatest_end (per_minute plan) * 60) metres) × ((quote_of t s id seconds metres).past_minutes ≡ true)
       unfolding short

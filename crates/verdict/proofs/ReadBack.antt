@@ -11,18 +11,12 @@ use Rattle.word.specs.Form.{written_form, word_size}
 use Rattle.word.specs.Word.{Fits, keeps, read_word}
 use Rattle.word.proofs.Keeps.{by_offset, by_place}
 use Rattle.word.proofs.Laws.{written-full, word_read}
-use Rattle.json_text.specs.declared.Syntax.{Syntax}
-use Rattle.json_text.specs.declared.Syntax.TheVariants as syntax
 use Rattle.json_text.specs.Text.{syntax_of}
 use Rattle.schema.specs.Shape.{Table}
 use Rattle.schema.specs.Tables.{table_at}
 use Rattle.fault.specs.declared.Fault.{Fault}
-use Rattle.fault.specs.declared.Least.{Least}
-use Rattle.fault.specs.declared.Least.TheVariants.{None, Is}
 use Rattle.fault.specs.Fault.{least}
-use Rattle.fault.specs.declared.outcome.Outcome.{Outcome}
-use Rattle.fault.specs.declared.outcome.Outcome.TheVariants.{Unbroken, Broken}
-use Rattle.fault.specs.Outcome.{file_count, syntax_parts, fault_parts, outcome_of, or_next}
+use Rattle.fault.specs.Outcome.{file_count, syntax_parts, fault_parts, outcome_of, or_next, Outcome, unbroken}
 use Rattle.clean.specs.Clean.{syntax_outcome}
 use Rattle.clean.proofs.Judged.{offset_fits}
 use Rattle.cross.specs.Cross.{cross_faults}
@@ -37,13 +31,15 @@ use Rattle.verdict.proofs.ByFile.{verdict-staged}
 use Rattle.verdict.proofs.StagesPassed.{all-through}
 use Rattle.verdict.proofs.Answers.{word_room}
 use Rattle.verdict.proofs.InWord.{InWord, faults_fit, cross_fits}
+use Rattle.std.specs.Prelude.{Result, Option, None, Some, Err, Ok}
+use Rattle.lexeme.specs.declared.SyntaxError.{SyntaxError}
 
 -- parts that make a word
 record Said (p : Parts) : Type 0 where
   fits : Fits written_form p
   kept : keeps written_form p ≡ true
 
-said-clean : Said (said Unbroken)
+said-clean : Said (said unbroken)
 unfolding keeps
 said-clean =
     record {
@@ -70,24 +66,24 @@ module _ (file : ℕ) (h : 1 ≤ file) (i : file ≤ file_count) where
 abbrev Sayable : Outcome → Type 0
 Sayable x = Said (said x)
 
-sayable_next : (x y : Outcome) → Sayable x → (x ≡ Unbroken → Sayable y) → Sayable (or_next x y)
-sayable_next Unbroken y h k = k refl
-sayable_next (Broken p) y h k = h
+sayable_next : (x y : Outcome) → Sayable x → (x ≡ unbroken → Sayable y) → Sayable (or_next x y)
+sayable_next (Ok _) y h k = k refl
+sayable_next (Err p) y h k = h
 
 module _ (file : ℕ) (h : 1 ≤ file) (i : file ≤ file_count) where
-  sayable_syntax : (s : List ℕ) (x : Syntax) → syntax_of s ≡ x → Sayable (syntax_outcome file x)
-  sayable_syntax s syntax.Sound e = said-clean
-  sayable_syntax s (syntax.Fault k o) e = let b = syntax_kind s k o e in said_offset file h i k o b.0 b.1 (offset_fits s k o e)
+  sayable_syntax : (s : List ℕ) (x : Result (Unit {0}) SyntaxError) → syntax_of s ≡ x → Sayable (syntax_outcome file x)
+  sayable_syntax s (Ok _) e = said-clean
+  sayable_syntax s (Err w) e = let b = syntax_kind s w.kind w.offset e in said_offset file h i w.kind w.offset b.0 b.1 (offset_fits s w.kind w.offset e)
 
   sayable_read : (s : List ℕ) → Sayable (outcome_a file s)
   sayable_read [] = said-clean
   sayable_read (b ∷ s) = sayable_syntax (b ∷ s) (syntax_of (b ∷ s)) refl
 
-  sayable_least : (x : Least) → ((f : Fault) → x ≡ Is f → InWord f) → Sayable (outcome_of file x)
+  sayable_least : (x : Option Fault) → ((f : Fault) → x ≡ Some f → InWord f) → Sayable (outcome_of file x)
   sayable_least None w = said-clean
-  sayable_least (Is f) w = said-place file h i f (w f refl)
+  sayable_least (Some f) w = said-place file h i f (w f refl)
 
-sayable_faults : (faults : ℕ → List Fault) → ((file : ℕ) → 1 ≤ file → file ≤ file_count → (f : Fault) → least (faults file) ≡ Is f → InWord f)
+sayable_faults : (faults : ℕ → List Fault) → ((file : ℕ) → 1 ≤ file → file ≤ file_count → (f : Fault) → least (faults file) ≡ Some f → InWord f)
     → Sayable (first_of (λ file. outcome_of file (least (faults file))))
 sayable_faults faults w = first-all Sayable said-clean _ (λ file h i. sayable_least file h i (least (faults file)) (w file h i))
 
@@ -103,7 +99,7 @@ module _ (table : ℕ) (s : Feeds) where
   unfolding first_in
   sayable-B = sayable_faults (λ file. faults_b t file (bytes_of s file)) (λ file h i. faults_fit table file (bytes_of s file))
 
-  sayable-C : first_in t stage.A s ≡ Unbroken → first_in t stage.B s ≡ Unbroken → Sayable (first_c t (picked t s))
+  sayable-C : first_in t stage.A s ≡ unbroken → first_in t stage.B s ≡ unbroken → Sayable (first_c t (picked t s))
   unfolding first_c
   sayable-C a b = sayable_faults (cross_faults t (picked t s)) (cross_fits table s (all-through table s a b))
 

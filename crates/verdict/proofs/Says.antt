@@ -5,12 +5,12 @@ use Rattle.word.specs.Form.{written_form}
 use Rattle.word.specs.Word as word
 use Rattle.word.specs.Word.{word_of}
 use Rattle.schema.specs.Tables.{table_at}
-use Rattle.fault.specs.declared.outcome.Outcome.{Outcome}
 use Rattle.cross.specs.Stage.{Feeds}
 use Rattle.verdict.specs.Verdict.{verdict_of, said}
 use Rattle.verdict.specs.Demand2.{Says}
 use Rattle.verdict.proofs.Answers.{told, number-room, word_room}
 use Rattle.verdict.proofs.ReadBack.{verdict-read}
+use Rattle.fault.specs.Outcome.{Outcome}
 
 abbrev reads : Outcome → word.Answer
 reads x = record { number = 0; parts = said x }

@@ -4,16 +4,13 @@ use mathlib.Core.Path.{◌≡◌, refl, ap, ◌∙◌}
 use Prim.Native.Nat.{ℕ, ◌≤◌}
 use native.Mathlib.Omega.{arith}
 use lib.ListN.{length}
-use Rattle.json_text.specs.declared.Syntax.{Syntax}
-use Rattle.json_text.specs.declared.Syntax.TheVariants as syntax
 use Rattle.json_text.specs.Text.{syntax_of}
 use Rattle.schema.specs.Shape.{Shape, Table}
 use Rattle.schema.specs.Tables.{table_at, sheet_shape, sheet_of}
 use Rattle.schema.proofs.SheetShapes.{sheet_shape_lem}
 use Rattle.fault.specs.declared.Fault.{Fault}
 use Rattle.judge.specs.Faults.{file_faults}
-use Rattle.fault.specs.declared.outcome.Outcome.TheVariants.{Unbroken}
-use Rattle.fault.specs.Outcome.{file_count, fault_parts}
+use Rattle.fault.specs.Outcome.{file_count, fault_parts, unbroken}
 use Rattle.clean.specs.Clean.{tree_of}
 use Rattle.cross.specs.inner.Stage.{AllPassAB}
 use Rattle.cross.specs.Stage.{Feeds, bytes_of}
@@ -23,17 +20,19 @@ use Rattle.verdict.specs.inner.Stages.{faults_b, stage_b, first_in}
 use Rattle.verdict.proofs.Every.{every_none}
 use Rattle.verdict.proofs.First.{first-clean}
 use Rattle.verdict.proofs.ByFile.{first-stage_a, first-stage_b}
+use Rattle.std.specs.Prelude.{Result, Ok, Err}
+use Rattle.lexeme.specs.declared.SyntaxError.{SyntaxError}
 
-no_syntax : (file : ℕ) (x : Syntax) → syntax_rules file x ≡ [] → x ≡ syntax.Sound
-no_syntax file syntax.Sound e = refl
-no_syntax file (syntax.Fault k o) e = let z : ◌≡◌ {A = ℕ} 0 1 = cc in absurd (omega arith)
+no_syntax : (file : ℕ) (x : Result (Unit {0}) SyntaxError) → syntax_rules file x ≡ [] → x ≡ Ok tt
+no_syntax file (Ok _) e = refl
+no_syntax file (Err w) e = let z : ◌≡◌ {A = ℕ} 0 1 = cc in absurd (omega arith)
 
 no-places : (file : ℕ) (l : List Fault) → map (fault_parts file) l ≡ [] → l ≡ []
 no-places file [] e = refl
 no-places file (f ∷ l) e = let z : ◌≡◌ {A = ℕ} 0 1 = cc in absurd (omega arith)
 
 -- one file; of stage B, by the sheet that stage C asks
-reads : (file : ℕ) (s : List ℕ) → rules_a file s ≡ [] → (length s ≡ 0 → ⊥) → syntax_of s ≡ syntax.Sound
+reads : (file : ℕ) (s : List ℕ) → rules_a file s ≡ [] → (length s ≡ 0 → ⊥) → syntax_of s ≡ Ok tt
 reads file [] e h = absurd (h refl)
 reads file (b ∷ s) e h = no_syntax file (syntax_of (b ∷ s)) e
 
@@ -42,13 +41,13 @@ faultless table file [] e h = absurd (h refl)
 faultless table file (b ∷ s) e h = ap (λ (σ : Shape). file_faults σ (tree_of (b ∷ s))) (sheet_shape_lem table file) ∙ e
 
 -- all files
-pub all_read : (t : Table) (s : Feeds) → first_in t stage.A s ≡ Unbroken
-    → (file : ℕ) → 1 ≤ file → file ≤ file_count → (length (bytes_of s file) ≡ 0 → ⊥) → syntax_of (bytes_of s file) ≡ syntax.Sound
+pub all_read : (t : Table) (s : Feeds) → first_in t stage.A s ≡ unbroken
+    → (file : ℕ) → 1 ≤ file → file ≤ file_count → (length (bytes_of s file) ≡ 0 → ⊥) → syntax_of (bytes_of s file) ≡ Ok tt
 unfolding stage_a
 all_read t s a file h i =
     reads file (bytes_of s file) (every_none (λ n. rules_a n (bytes_of s n)) (first-clean (stage_a s) (first-stage_a t s ∙ a)) file h i)
 
-pub all-through : (table : ℕ) (s : Feeds) → first_in (table_at table) stage.A s ≡ Unbroken → first_in (table_at table) stage.B s ≡ Unbroken → AllPassAB table s
+pub all-through : (table : ℕ) (s : Feeds) → first_in (table_at table) stage.A s ≡ unbroken → first_in (table_at table) stage.B s ≡ unbroken → AllPassAB table s
 unfolding stage_b_by
 all-through table s a b file h i =
     let t = table_at table in

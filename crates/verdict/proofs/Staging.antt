@@ -4,23 +4,22 @@ use mathlib.Core.Path.{◌≡◌, refl, sym, ap, ◌∙◌}
 use Prim.Native.Nat.{ℕ}
 use native.Mathlib.Omega.{arith}
 use lib.ListN.{length}
-use Rattle.json_text.specs.declared.Syntax.TheVariants.{Sound}
 use Rattle.json_text.specs.Text.{syntax_of}
 use Rattle.schema.specs.Shape.{Shape, Table}
 use Rattle.schema.specs.Tables.{table_at, sheet_shape, sheet_of}
 use Rattle.schema.proofs.SheetShapes.{sheet_shape_lem}
 use Rattle.fault.specs.declared.Fault.{Fault}
-use Rattle.fault.specs.declared.outcome.Outcome.TheVariants.{Unbroken}
 use Rattle.fault.specs.Fault.{least}
-use Rattle.fault.specs.Outcome.{outcome_of}
+use Rattle.fault.specs.Outcome.{outcome_of, unbroken}
 use Rattle.judge.specs.Faults.{file_faults}
 use Rattle.clean.specs.Clean.{tree_of, syntax_outcome}
 use Rattle.verdict.specs.declared.stages.Stage.{Stage}
 use Rattle.verdict.specs.declared.stages.Stage.TheVariants as stage
 use Rattle.verdict.specs.inner.Stages.{outcome_in}
 use Rattle.verdict.proofs.Passed.{faults-there}
+use Rattle.std.specs.Prelude.{Ok}
 
-pub alone-absent : (t : Table) (x : Stage) (file : ℕ) (s : List ℕ) → length s ≡ 0 → Unbroken ≡ outcome_in t x file s
+pub alone-absent : (t : Table) (x : Stage) (file : ℕ) (s : List ℕ) → length s ≡ 0 → unbroken ≡ outcome_in t x file s
 unfolding least
 alone-absent t stage.A file [] e = refl
 alone-absent t stage.B file [] e = refl
@@ -31,7 +30,7 @@ alone-A t file [] h = absurd (h refl)
 alone-A t file (b ∷ s) h = refl
 
 -- by the sheet that the code asks
-pub alone-B : (table file : ℕ) {sheet : ℕ} (s : List ℕ) → sheet ≡ sheet_of table file → syntax_of s ≡ Sound
+pub alone-B : (table file : ℕ) {sheet : ℕ} (s : List ℕ) → sheet ≡ sheet_of table file → syntax_of s ≡ Ok tt
     → outcome_of file (least (file_faults (sheet_shape sheet) (tree_of s))) ≡ outcome_in (table_at table) stage.B file s
 alone-B table file s e h =
     ap (λ (l : List Fault). outcome_of file (least l))

@@ -6,7 +6,6 @@ use Prim.Native.Nat.{ℕ, ◌≤◌}
 use native.Mathlib.Omega.{arith}
 use Rattle.word.specs.Form.{written_form}
 use Rattle.word.specs.Word.{word_of}
-use Rattle.json_text.specs.declared.Syntax.TheVariants.{Sound}
 use Rattle.json_text.specs.Text.{syntax_of}
 use Rattle.json_text.specs.Tree.{Json}
 use Rattle.json_text.specs.Spelling.{Spells}
@@ -21,8 +20,7 @@ use Rattle.schema.proofs.Computed.{distinct}
 use Rattle.schema.proofs.SheetShapes.{sheet_shape_lem}
 use Rattle.fault.specs.Fault.{least, top}
 use Rattle.judge.specs.Faults.{faults, file_faults_by}
-use Rattle.fault.specs.declared.outcome.Outcome.{Outcome}
-use Rattle.fault.specs.Outcome.{file_count, fault_parts, outcome_of, or_next}
+use Rattle.fault.specs.Outcome.{file_count, fault_parts, outcome_of, or_next, Outcome}
 use Rattle.clean.specs.Clean.{tree_of, records_of, repeats, clean_of}
 use Rattle.clean.specs.inner.Judged.{judged}
 use Rattle.clean.proofs.Judged.{clean-there}
@@ -39,12 +37,13 @@ use Rattle.verdict.specs.Demand3.{LaterFile, LaterSet, Agree}
 use Rattle.verdict.proofs.Answers.{told, number-room, word_room}
 use Rattle.verdict.proofs.Every.{every_same}
 use Rattle.verdict.proofs.Passed.{there, tree-spelled, read-there, faults-there, file-there}
+use Rattle.std.specs.Prelude.{Ok}
 
 -- whether a file past stage A is clean, by what is picked of it
 abbrev on_picked : Table → (file : ℕ) → Picked → Outcome
 on_picked t file x = or_next (outcome_of file (least (faults (file_shape t file) top 0 x))) (outcome_of file (least (repeats (file_shape t file) x)))
 
-clean_of_lem : (t : Table) (file : ℕ) (s : List ℕ) → syntax_of s ≡ Sound → clean_of t file s ≡ on_picked t file (pick (file_shape t file) (tree_of s))
+clean_of_lem : (t : Table) (file : ℕ) (s : List ℕ) → syntax_of s ≡ Ok tt → clean_of t file s ≡ on_picked t file (pick (file_shape t file) (tree_of s))
 unfolding file_faults_by
 clean_of_lem t file s e = sym (clean-there (file_shape t file) file s (there s e)) ∙ ap (judged (file_shape t file) file s) e
 

@@ -14,8 +14,6 @@ use Rattle.word.specs.declared.Parts.{Parts}
 use Rattle.lexeme.specs.Read.Read.{done}
 use Rattle.lexeme.specs.Character.{lone}
 use Rattle.lexeme.proofs.Steps.{bad-done}
-use Rattle.json_text.specs.declared.Syntax.{Syntax}
-use Rattle.json_text.specs.declared.Syntax.TheVariants as syntax
 use Rattle.json_text.specs.Tree.{Json}
 use Rattle.json_text.specs.Text.{text, syntax_of}
 use Rattle.json_text.specs.Cases.{reading}
@@ -26,8 +24,6 @@ use Rattle.schema.specs.Shape.{Shape, Table, file_shape}
 use Rattle.schema.specs.Tables.{table_at, sheet_of}
 use Rattle.schema.proofs.SheetShapes.{sheet_shape_lem}
 use Rattle.fault.specs.declared.Fault.{Fault}
-use Rattle.fault.specs.declared.Least.{Least}
-use Rattle.fault.specs.declared.Least.TheVariants.{None, Is}
 use Rattle.fault.specs.Fault as order
 use Rattle.fault.specs.Fault.{fault, least}
 use Rattle.fault.proofs.Order.{by_record, by_field}
@@ -35,9 +31,7 @@ use Rattle.judge.specs.Bounds.{OfStageB}
 use Rattle.judge.specs.Faults.{file_faults}
 use Rattle.judge.proofs.Holds.{All, none, only}
 use Rattle.judge.proofs.Fits.{first_fits}
-use Rattle.fault.specs.declared.outcome.Outcome.{Outcome}
-use Rattle.fault.specs.declared.outcome.Outcome.TheVariants.{Unbroken, Broken}
-use Rattle.fault.specs.Outcome.{file_count, fault_parts, outcome_of}
+use Rattle.fault.specs.Outcome.{file_count, fault_parts, outcome_of, Outcome}
 use Rattle.clean.specs.Clean.{tree_of}
 use Rattle.cross.specs.Stage.{Feeds, bytes_of}
 use Rattle.cross.proofs.FromFile.{first-all}
@@ -53,6 +47,8 @@ use Rattle.verdict.proofs.ByFile.{first-stage_a, first-stage_b}
 use Rattle.verdict.proofs.StagesPassed.{all_read}
 use Rattle.verdict.proofs.Says.{says}
 use Rattle.verdict.proofs.Opening.{Opening, opening}
+use Rattle.std.specs.Prelude.{Result, Option, None, Some, Err, Ok}
+use Rattle.lexeme.specs.declared.SyntaxError.{SyntaxError}
 
 -- a JSON text has bytes
 no_text : (d : ℕ) (x : Json) → text lone d [] ≡ done x [] → ⊥
@@ -65,7 +61,7 @@ text-some [] t e = let g = grammar_reads t in no_text g.0 g.1 g.2
 text-some (b ∷ s) t e = omega arith
 
 -- a file of another version that stage A passes
-file_opens : (t : Table) → AsksVersion t → (file : ℕ) → 1 ≤ file → file ≤ file_count → (s : List ℕ) → OtherVersion s → syntax_of s ≡ syntax.Sound
+file_opens : (t : Table) → AsksVersion t → (file : ℕ) → 1 ≤ file → file ≤ file_count → (s : List ℕ) → OtherVersion s → syntax_of s ≡ Ok tt
     → Opening (faults_b t file s)
 file_opens t asks file h i s o e =
     let p = sound-spells s e in
@@ -90,9 +86,9 @@ module _ (k : ℕ) (f : Fault) (e : order.before (fault 0 1 0 k) f ≡ false) wh
 abbrev AllA : List Parts → Type 0
 AllA l = All (λ p. OfStageA p.kind) l
 
-syntax_kinds : (file : ℕ) (s : List ℕ) (x : Syntax) → syntax_of s ≡ x → AllA (syntax_rules file x)
-syntax_kinds file s syntax.Sound e = none
-syntax_kinds file s (syntax.Fault k o) e = let b = syntax_kind s k o e in only (record { least = b.0; most = b.1 })
+syntax_kinds : (file : ℕ) (s : List ℕ) (x : Result (Unit {0}) SyntaxError) → syntax_of s ≡ x → AllA (syntax_rules file x)
+syntax_kinds file s (Ok _) e = none
+syntax_kinds file s (Err w) e = let b = syntax_kind s w.kind w.offset e in only (record { least = b.0; most = b.1 })
 
 read-kinds : (file : ℕ) (s : List ℕ) → AllA (rules_a file s)
 read-kinds file [] = none
@@ -104,14 +100,14 @@ stage_a-kinds s = every_all (λ file. rules_a file (bytes_of s file)) (λ file h
 
 -- kinds of stage B
 abbrev OfB : Outcome → Type 0
-OfB Unbroken = Unit {0}
-OfB (Broken p) = OfStageB p.kind
+OfB (Ok _) = Unit {0}
+OfB (Err p) = OfStageB p.kind
 
-outcome_kind : (file : ℕ) (x : Least) → ((f : Fault) → x ≡ Is f → OfStageB f.kind) → OfB (outcome_of file x)
+outcome_kind : (file : ℕ) (x : Option Fault) → ((f : Fault) → x ≡ Some f → OfStageB f.kind) → OfB (outcome_of file x)
 outcome_kind file None h = tt
-outcome_kind file (Is f) h = h f refl
+outcome_kind file (Some f) h = h f refl
 
-fault-kind : (table file : ℕ) (s : List ℕ) (f : Fault) → least (faults_b (table_at table) file s) ≡ Is f → OfStageB f.kind
+fault-kind : (table file : ℕ) (s : List ℕ) (f : Fault) → least (faults_b (table_at table) file s) ≡ Some f → OfStageB f.kind
 unfolding least
 fault-kind table file [] f e = let z : ◌≡◌ {A = ℕ} 0 1 = cc in absurd (omega arith)
 fault-kind table file (b ∷ s) f e =
@@ -138,7 +134,7 @@ module _ (table : ℕ) (asks : AsksVersion (table_at table)) (s : Feeds) (file :
 
   -- where stage A finds nothing
   module _ (a : stage_a s ≡ []) where
-    sound : syntax_of (bytes_of s file) ≡ syntax.Sound
+    sound : syntax_of (bytes_of s file) ≡ Ok tt
     unfolding first
     sound = all_read t s (sym (first-stage_a t s) ∙ ap first a) file h i (text-some (bytes_of s file) o.json)
 
@@ -172,11 +168,11 @@ module _ (table : ℕ) (asks : AsksVersion (table_at table)) (s : Feeds) (file :
     refused-B =
         let m = subst (Memᴰ broken) (sym only-stage_b) in_stage_b in
         let n = first-named (broken_rules t s) broken m in
-        let b : first_in t stage.B s ≡ Broken n.parts = sym (first-stage_b t s) ∙ ap first (sym only-stage_b) ∙ n.is in
+        let b : first_in t stage.B s ≡ Err n.parts = sym (first-stage_b t s) ∙ ap first (sym only-stage_b) ∙ n.is in
         record {
           parts = n.parts;
           ahead = ahead n.parts (subst OfB b (stage_b-kind table s)) ((first-broken (broken_rules t s) n.parts n.is).first broken m);
-          told = says table s (Broken n.parts) n.is;
+          told = says table s (Err n.parts) n.is;
         }
 
   pub refused : Refused t s file
@@ -189,4 +185,4 @@ module _ (table : ℕ) (asks : AsksVersion (table_at table)) (s : Feeds) (file :
           let r = only-stage_a t s p l e in
           let n = first-named (broken_rules t s) p (subst (Memᴰ p) (sym (r ∙ e)) (Memᴰ.head refl)) in
           let m = subst (Memᴰ n.parts) r (first-broken (broken_rules t s) n.parts n.is).among in
-          record { parts = n.parts; ahead = malformed (all-at (stage_a-kinds s) m); told = says table s (Broken n.parts) n.is }
+          record { parts = n.parts; ahead = malformed (all-at (stage_a-kinds s) m); told = says table s (Err n.parts) n.is }

@@ -13,17 +13,18 @@ use Rattle.notation.proofs.Booleans.{by_test, true-false, and_left, and_right}
 use Rattle.word.specs.Word.{no_parts}
 use Rattle.schema.specs.Shape.{Table}
 use Rattle.schema.specs.Pick.{Picked, elements}
-use Rattle.document.specs.Document.{Maybe, none, some, field, field_items, spelling, truth, given}
+use Rattle.document.specs.Document.{field, field_items, spelling, truth, given}
 use Rattle.geometry.specs.Ring.{Point}
 use Rattle.geometry.specs.Held.{on_ring, odd, side_of, holds, on_any, in_any, polygon_holds}
 use Rattle.geometry.proofs.Any.{any-one, one-any}
 use Rattle.geometry.proofs.Polygon.{edge-held}
-use Rattle.fault.specs.declared.outcome.Outcome.{Outcome}
-use Rattle.fault.specs.declared.outcome.Outcome.TheVariants.{Unbroken, Broken}
 use Rattle.clean.specs.Clean.{clean_of}
-use Rattle.zone.specs.Zone.{outline, counts, rings_hold, polygons_hold_by, polygons_hold, polygons_of, applies, zone_rules_by, zone_rules, rules_by, rules, applicable, zones_of, rules_at, otherwise, first_given}
+use Rattle.std.specs.Option.{option_or}
+use Rattle.zone.specs.Zone.{outline, counts, rings_hold, polygons_hold_by, polygons_hold, polygons_of, applies, zone_rules_by, zone_rules, rules_by, rules, applicable, zones_of, rules_at, first_given}
 use Rattle.zone.specs.Answer.{Answer, refused, found, rule_of, values, on_map, of_rules, of_clean, ruling_of}
 use Rattle.verdict.specs.Demand2.{ZoneRule, every_rule, rules_in, HeldBy, on_edge, by_first, Holding, Applies, FirstWith, here, later, NoneWith, Giving, FirstValue, by, by_none, Together}
+use Rattle.fault.specs.Outcome.{Outcome, unbroken}
+use Rattle.std.specs.Prelude.{Err, Ok, Option, None, Some}
 
 -- a polygon's tests, in their order: on the first ring, on more of them, inside a further one, on the first one's side
 choose_first : (on more cut side : Bool) → (on ⇒ true else side) ≡ true → cut ≡ false → ((on ⇒ true else more) ⇒ true else cut ⇒ false else side) ≡ true
@@ -115,26 +116,26 @@ module _ {A : Type 0} {P : A → Type 0} where
   none_behind {y} {l} n h x m p = ⊎_elim (λ (e : x ≡ y). n (subst P e p)) (λ (k : Memᴰ x l). h x k p) (Memᴰ.cases_cons m)
 
 -- a value by the first rule that gives it
-module _ {A : Type 0} {value : Picked → Maybe A} {P : ZoneRule → Type 0} where
+module _ {A : Type 0} {value : Picked → Option A} {P : ZoneRule → Type 0} where
   -- is one value
-  value-only : {l : List ZoneRule} {a b : Maybe A} → FirstValue value P l a → FirstValue value P l b → a ≡ b
+  value-only : {l : List ZoneRule} {a b : Option A} → FirstValue value P l a → FirstValue value P l b → a ≡ b
   value-only (by r f) (by x g) = ap (λ (z : ZoneRule). value z.rule) (first-only f g)
   value-only (by r f) (by_none n) = absurd (n r (first-stands f) (first-has f))
   value-only (by_none n) (by x g) = absurd (n x (first-stands g) (first-has g))
   value-only (by_none n) (by_none k) = refl
 
-  value_behind : {y : ZoneRule} {l : List ZoneRule} {a : Maybe A} → (Giving value P y → ⊥) → FirstValue value P l a → FirstValue value P (y ∷ l) a
+  value_behind : {y : ZoneRule} {l : List ZoneRule} {a : Option A} → (Giving value P y → ⊥) → FirstValue value P l a → FirstValue value P (y ∷ l) a
   value_behind n (by r f) = by r (later n f)
   value_behind n (by_none h) = by_none (none_behind n h)
 
   -- of a rule that has the property, and the values behind it
-  value-here : (y : ZoneRule) {l : List ZoneRule} {a : Maybe A} → P y → FirstValue value P l a
-      → FirstValue value P (y ∷ l) (otherwise (value y.rule) a)
+  value-here : (y : ZoneRule) {l : List ZoneRule} {a : Option A} → P y → FirstValue value P l a
+      → FirstValue value P (y ∷ l) (option_or (value y.rule) a)
   value-here y {l} {a} p v = go (value y.rule) refl
     where
-      go : (m : Maybe A) → value y.rule ≡ m → FirstValue value P (y ∷ l) (otherwise m a)
-      go none e = value_behind (λ g. true-false g.1 (ap given e)) v
-      go (some x) e = subst (FirstValue value P (y ∷ l)) e (by y (here (p, ap given e)))
+      go : (m : Option A) → value y.rule ≡ m → FirstValue value P (y ∷ l) (option_or m a)
+      go None e = value_behind (λ g. true-false g.1 (ap given e)) v
+      go (Some x) e = subst (FirstValue value P (y ∷ l)) e (by y (here (p, ap given e)))
 
 module _ (q : Point) (type : List ℕ) (moment : ℕ) where
   abbrev Apply : ZoneRule → Type 0
@@ -156,7 +157,7 @@ module _ (q : Point) (type : List ℕ) (moment : ℕ) where
   one-applies (passed n o) = let r = one-applies o in (r.0, Memᴰ.tail r.1, r.2)
 
   -- a value that is first among them is first among all that apply
-  first-value : {A : Type 0} (value : Picked → Maybe A) {l : List ZoneRule} {k : List Picked} → Applying l k → FirstValue value Apply l (first_given value k)
+  first-value : {A : Type 0} (value : Picked → Option A) {l : List ZoneRule} {k : List Picked} → Applying l k → FirstValue value Apply l (first_given value k)
   unfolding first_given
   first-value value end = by_none (λ x m p. Memᴰ.not-nil m)
   first-value value (taken {y} p o) = value-here y p (first-value value o)
@@ -190,19 +191,19 @@ module _ (q : Point) (type : List ℕ) (moment : ℕ) where
 
   -- one zone and the others
   module _ (z : Picked) (zs : List Picked) where
-    every_none : field 74 z ≡ none → every_rule (z ∷ zs) ≡ every_rule zs
+    every_none : field 74 z ≡ None → every_rule (z ∷ zs) ≡ every_rule zs
     unfolding every_rule
     every_none e = rw (e, every_rule)
 
-    every_some : (p : Picked) → field 74 z ≡ some p → every_rule (z ∷ zs) ≡ map (in_zone z p) (field_items 77 p) ++ every_rule zs
+    every_some : (p : Picked) → field 74 z ≡ Some p → every_rule (z ∷ zs) ≡ map (in_zone z p) (field_items 77 p) ++ every_rule zs
     unfolding every_rule
     every_some p e = rw (e, every_rule)
 
-    rules-none : field 74 z ≡ none → rules (z ∷ zs) q moment ≡ rules zs q moment
+    rules-none : field 74 z ≡ None → rules (z ∷ zs) q moment ≡ rules zs q moment
     unfolding rules_by zone_rules_by
     rules-none e = let k : zone_rules z q moment ≡ [] = rw (e, zone_rules_by) in ap (λ (l : List Picked). l ++ rules zs q moment) k
 
-    module _ (p : Picked) (e : field 74 z ≡ some p) where
+    module _ (p : Picked) (e : field 74 z ≡ Some p) where
       abbrev holding : Bool
       holding = counts p moment and polygons_hold (polygons_of z) q
 
@@ -232,10 +233,10 @@ module _ (q : Point) (type : List ℕ) (moment : ℕ) where
   applying [] = end
   applying (z ∷ zs) = go (field 74 z) refl (applying zs)
     where
-      go : (f : Maybe Picked) → field 74 z ≡ f → Applying (every_rule zs) (applicable (rules zs q moment) type)
+      go : (f : Option Picked) → field 74 z ≡ f → Applying (every_rule zs) (applicable (rules zs q moment) type)
           → Applying (every_rule (z ∷ zs)) (applicable (rules (z ∷ zs) q moment) type)
-      go none e ih = applying_as z zs (every_none z zs e) (rules-none z zs e) ih
-      go (some p) e ih =
+      go None e ih = applying_as z zs (every_none z zs e) (rules-none z zs e) ih
+      go (Some p) e ih =
           let held = polygons_hold (polygons_of z) q in
           by_test (counts p moment and held)
           (λ t.
@@ -298,10 +299,10 @@ module _ (q : Point) (type : List ℕ) (moment : ℕ) where
         go [] o = absurd (none-applies o r m a)
         go (x ∷ k) o = together o
 
-    answered : on_map q ≡ true → clean_of t 6 s ≡ Unbroken → ruling_of t s q type moment ≡ of_rules those
+    answered : on_map q ≡ true → clean_of t 6 s ≡ unbroken → ruling_of t s q type moment ≡ of_rules those
     answered h c = in_order_lem ∙ rw (h, c)
 
-    pub rule : on_map q ≡ true → clean_of t 6 s ≡ Unbroken → (g : Together Apply (rules_in t s))
+    pub rule : on_map q ≡ true → clean_of t 6 s ≡ unbroken → (g : Together Apply (rules_in t s))
         → ruling_of t s q type moment ≡ found (rule_of g.ride g.through g.speed g.parking)
     rule h c g = answered h c ∙ go those listed
       where
@@ -309,7 +310,7 @@ module _ (q : Point) (type : List ℕ) (moment : ℕ) where
         go [] o = absurd (none-applies o g.one g.stands g.has)
         go (x ∷ k) o = ap found (together-only o g)
 
-    pub no-rule : on_map q ≡ true → clean_of t 6 s ≡ Unbroken → NoneWith Apply (rules_in t s) → ruling_of t s q type moment ≡ refused 9 no_parts
+    pub no-rule : on_map q ≡ true → clean_of t 6 s ≡ unbroken → NoneWith Apply (rules_in t s) → ruling_of t s q type moment ≡ refused 9 no_parts
     no-rule h c n = answered h c ∙ go those listed
       where
         go : (k : List Picked) → Applying (rules_in t s) k → of_rules k ≡ refused 9 no_parts
@@ -320,22 +321,22 @@ module _ (q : Point) (type : List ℕ) (moment : ℕ) where
     numbered : {n : ℕ} → (ruling_of t s q type moment).number ≡ n → (asked (on_map q) (clean_of t 6 s) those).number ≡ n
     numbered e = ap (λ (a : Answer). a.number) (sym in_order_lem) ∙ e
 
-    pub ruled : (ruling_of t s q type moment).number ≡ 0 → (on_map q ≡ true) × (clean_of t 6 s ≡ Unbroken) × Together Apply (rules_in t s)
+    pub ruled : (ruling_of t s q type moment).number ≡ 0 → (on_map q ≡ true) × (clean_of t 6 s ≡ unbroken) × Together Apply (rules_in t s)
     ruled e = go (on_map q) (clean_of t 6 s) those listed (numbered e)
       where
         go : (on : Bool) (c : Outcome) (k : List Picked) → Applying (rules_in t s) k → (asked on c k).number ≡ 0
-            → (on ≡ true) × (c ≡ Unbroken) × Together Apply (rules_in t s)
+            → (on ≡ true) × (c ≡ unbroken) × Together Apply (rules_in t s)
         go false c k o i = absurd (omega arith)
-        go true (Broken p) k o i = absurd (omega arith)
-        go true Unbroken [] o i = absurd (omega arith)
-        go true Unbroken (x ∷ k) o i = (refl, refl, together o)
+        go true (Err p) k o i = absurd (omega arith)
+        go true (Ok _) [] o i = absurd (omega arith)
+        go true (Ok _) (x ∷ k) o i = (refl, refl, together o)
 
-    pub unruled : (ruling_of t s q type moment).number ≡ 9 → (on_map q ≡ true) × (clean_of t 6 s ≡ Unbroken) × NoneWith Apply (rules_in t s)
+    pub unruled : (ruling_of t s q type moment).number ≡ 9 → (on_map q ≡ true) × (clean_of t 6 s ≡ unbroken) × NoneWith Apply (rules_in t s)
     unruled e = go (on_map q) (clean_of t 6 s) those listed (numbered e)
       where
         go : (on : Bool) (c : Outcome) (k : List Picked) → Applying (rules_in t s) k → (asked on c k).number ≡ 9
-            → (on ≡ true) × (c ≡ Unbroken) × NoneWith Apply (rules_in t s)
+            → (on ≡ true) × (c ≡ unbroken) × NoneWith Apply (rules_in t s)
         go false c k o i = absurd (omega arith)
-        go true (Broken p) k o i = absurd (omega arith)
-        go true Unbroken [] o i = (refl, refl, none-applies o)
-        go true Unbroken (x ∷ k) o i = absurd (omega arith)
+        go true (Err p) k o i = absurd (omega arith)
+        go true (Ok _) [] o i = (refl, refl, none-applies o)
+        go true (Ok _) (x ∷ k) o i = absurd (omega arith)

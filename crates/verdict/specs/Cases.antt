@@ -1,5 +1,5 @@
 -- Verdicts on sets, computed: what comes ahead of what. Document 01's own readings (k) and (l) stand in the table of all of them.
-use Rattle.std.specs.Prelude.{List, [], ◌∷◌, ◌++◌, refl, ℕ}
+use Rattle.std.specs.Prelude.{List, [], ◌∷◌, ◌++◌, refl, ℕ, Err}
 use Prim.Native.String.{String}
 use Rattle.notation.specs.Case.{Case, Answers, json}
 use Rattle.schema.specs.Records.{identified}
@@ -7,13 +7,12 @@ use Rattle.schema.specs.Tables.{table_at}
 use Rattle.schema.specs.Pick as pick
 use Rattle.document.specs.Document as document
 use Rattle.judge.specs.Cases.{judging, in_data}
-use Rattle.fault.specs.declared.outcome.Outcome.{Outcome}
-use Rattle.fault.specs.declared.outcome.Outcome.TheVariants.{Unbroken, Broken}
 use Rattle.clean.specs.Clean as clean
 use Rattle.ids.specs.References as references
 use Rattle.cross.specs.Cross as cross
 use Rattle.cross.specs.Stage.{Feeds}
 use Rattle.verdict.specs.Verdict.{each_from, stage_a, stage_b_by, stage_c, broken_rules_by, before, first, verdict_of}
+use Rattle.fault.specs.Outcome.{Outcome, unbroken}
 
 -- opens every definition of a verdict
 unfoldable pub judging_sets : Unit {0}
@@ -37,7 +36,7 @@ with_system types stations bikes = types ∷ stations ∷ [] ∷ bikes ∷ [] �
 
 abbrev pub broken : (file kind field rec sub offset : ℕ) → Outcome
 broken file kind field rec sub offset =
-    Broken (record { file = file; kind = kind; field = field; «record» = rec; sub = sub; offset = offset })
+    Err (record { file = file; kind = kind; field = field; «record» = rec; sub = sub; offset = offset })
 
 -- the bikes of document 01's run, of which the last has nothing
 abbrev pub three_bikes : List ℕ
@@ -52,7 +51,7 @@ later_bikes =
 -- vehicle types, stations and bikes, with the system's own file
 abbrev sets : List (Case (List ℕ × List ℕ × List ℕ) Outcome)
 sets =
-    ("no bike, but a list of them", ([], [], listing "bikes" ""), Unbroken) ∷
+    ("no bike, but a list of them", ([], [], listing "bikes" ""), unbroken) ∷
     ("neither stations nor bikes", ([], [], []), broken 4 14 0 0 0 0) ∷
     ("stations call for their statuses", ([], listing "stations" "", []), broken 3 14 0 0 0 0) ∷
     ("stage A of file 4 ahead of stage B of file 1", (json "{'version':'2.2'}", [], json "[1,]"), broken 4 2 0 0 0 3) ∷
@@ -88,7 +87,7 @@ regions =
     ("the system's own file is missing", bikes_alone (listing "bikes" ""), broken 7 14 0 0 0 0) ∷
     ("stage B of file 4 ahead of that", bikes_alone three_bikes, broken 4 6 40 3 0 0) ∷
     ("that ahead of file 8", [] ∷ [] ∷ [] ∷ listing "bikes" "" ∷ [] ∷ [] ∷ [] ∷ two_alike ∷ [], broken 7 14 0 0 0 0) ∷
-    ("a station in a region", with_regions (station_in "r") one_region, Unbroken) ∷
+    ("a station in a region", with_regions (station_in "r") one_region, unbroken) ∷
     ("a region that is not there, though a station has its id", with_regions (station_in "s") one_region, broken 2 13 25 1 0 0) ∷
     ("a region without a file of regions", with_regions (station_in "r") [], broken 2 13 25 1 0 0) ∷
     ("a region twice", with_regions (station_in "r") two_alike, broken 8 12 100 2 0 0) ∷

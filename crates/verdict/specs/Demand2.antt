@@ -1,6 +1,6 @@
 -- Demand 2: what the answers say, by any field table t. Each field of the record is one sentence of it, over the definitions of the verdict, the word, the quote
 -- and the zone rule, with what it shuts out.
-use Rattle.std.specs.Prelude.{Bool, true, false, ◌≡◌, ℕ, ◌+◌, ◌*◌, ◌/◌, ◌≤◌, ◌<◌, pos, ◌+ℤ◌, ◌*ℤ◌, length, take}
+use Rattle.std.specs.Prelude.{Bool, true, false, IsSome, IfSome, ◌≡◌, ℕ, ◌+◌, ◌*◌, ◌/◌, ◌≤◌, ◌<◌, pos, ◌+ℤ◌, ◌*ℤ◌, length, take, Option, Some, None}
 use mathlib.Core.List.{List, [], ◌∷◌, ◌++◌, map, Memᴰ}
 use Rattle.std.specs.Int.Signed.{le_z}
 use Rattle.radix.specs.Fields.{Bytes}
@@ -9,14 +9,12 @@ use Rattle.word.specs.Form.{form1, written_form, word_size}
 use Rattle.word.specs.Word.{no_parts, word_of, IsWord, read_word}
 use Rattle.schema.specs.Shape.{Table, file_shape}
 use Rattle.schema.specs.Pick.{Picked, elements}
-use Rattle.document.specs.Document as document
-use Rattle.document.specs.Document.{Maybe, some, field, field_items, spelling, truth, given}
+use Rattle.document.specs.Document.{field, field_items, spelling, truth, given}
 use Rattle.decimal.specs.Exact.{ten_thousandths}
 use Rattle.fare.specs.declared.Segment.{Segment}
 use Rattle.fare.specs.Charges.{charge, charges, clamped, greatest_end, past}
 use Rattle.geometry.specs.Ring.{Point}
 use Rattle.geometry.specs.Held.{on_ring, odd, holds}
-use Rattle.fault.specs.declared.outcome.Outcome.TheVariants.{Unbroken}
 use Rattle.clean.specs.Clean.{records_in, clean_of}
 use Rattle.quote.specs.Plan.{price_at, per_minute, per_kilometre, plan_of}
 use Rattle.quote.specs.Quote as quote
@@ -26,6 +24,7 @@ use Rattle.zone.specs.Answer as zone
 use Rattle.zone.specs.Answer.{rule_of, on_map, ruling_of}
 use Rattle.cross.specs.Stage.{Feeds}
 use Rattle.verdict.specs.Verdict.{broken_rules, before, verdict_number, buffer_of}
+use Rattle.fault.specs.Outcome.{unbroken}
 
 -- The verdict: p is among the rules, and none of them comes before it.
 pub record First (p : Parts) (l : List Parts) : Type 0 where
@@ -44,7 +43,7 @@ pub record Due (x : Segment) (ride m : ℕ) : Type 0 where
   pub intervals : ℕ
   pub at : m ≡ x.start + intervals * x.interval
   pub within : m ≤ ride
-  pub unended : x.ended ≡ true → m < x.end
+  pub unended : IfSome x.end (λ end. m < end)
 
 -- each is less than all after it
 pub data Rising : List ℕ → Type 0 where
@@ -60,7 +59,7 @@ pub record DueCharges (x : Segment) (ride : ℕ) : Type 0 where
   pub sum : charge x ride ≡ ten_thousandths x.rate *ℤ pos (length moments)
 
 -- the plan of an id, of the bytes of file 5
-abbrev pub plan_in : Table → (s id : List ℕ) → Maybe Picked
+abbrev pub plan_in : Table → (s id : List ℕ) → Option Picked
 plan_in t s id = plan_of (records_in (file_shape t 5) s) id
 
 -- a plan's price and the charges of its segments, by whole minutes and kilometres, and zero where that sum is negative; and whether the ride is past the
@@ -78,8 +77,8 @@ fare plan seconds metres =
 -- there are segments, all of them end, and a ride of this length is at or past every end
 pub record PastEnds (l : List Segment) (ride : ℕ) : Type 0 where
   pub there : l ≡ [] → ⊥
-  pub ended : (x : Segment) → Memᴰ x l → x.ended ≡ true
-  pub over : (x : Segment) → Memᴰ x l → x.end ≤ ride
+  pub ended : (x : Segment) → Memᴰ x l → IsSome x.end
+  pub over : (x : Segment) → Memᴰ x l → IfSome x.end (λ end. end ≤ ride)
 
 -- The zone rule: a rule with its zone and the properties that it stands in; all those of a file, in its order.
 pub record ZoneRule : Type 0 where
@@ -91,8 +90,8 @@ unfoldable pub every_rule : List Picked → List ZoneRule
 every_rule [] = []
 every_rule (z ∷ zs) =
     elim (field 74 z) [
-      | document.none ↦ every_rule zs
-      | some p ↦ map (λ r. record { zone = z; properties = p; rule = r }) (field_items 77 p) ++ every_rule zs
+      | None ↦ every_rule zs
+      | Some p ↦ map (λ r. record { zone = z; properties = p; rule = r }) (field_items 77 p) ++ every_rule zs
     ]
 
 abbrev pub rules_in : Table → List ℕ → List ZoneRule
@@ -126,23 +125,23 @@ abbrev pub NoneWith : {A : Type 0} → (A → Type 0) → List A → Type 0
 NoneWith {A} P l = (x : A) → Memᴰ x l → P x → ⊥
 
 -- a rule with this property gives a value: the member is there, and not as ""
-abbrev pub Giving : {A : Type 0} → (Picked → Maybe A) → (ZoneRule → Type 0) → ZoneRule → Type 0
+abbrev pub Giving : {A : Type 0} → (Picked → Option A) → (ZoneRule → Type 0) → ZoneRule → Type 0
 Giving value P r = P r × (given (value r.rule) ≡ true)
 
 -- a value as the first rule that has the property and gives it has it, and none where no such rule stands in the list
-pub data FirstValue {A : Type 0} (value : Picked → Maybe A) (P : ZoneRule → Type 0) (l : List ZoneRule) : Maybe A → Type 0 where
+pub data FirstValue {A : Type 0} (value : Picked → Option A) (P : ZoneRule → Type 0) (l : List ZoneRule) : Option A → Type 0 where
   by : (r : ZoneRule) → FirstWith (Giving value P) r l → FirstValue value P l (value r.rule)
-  by_none : NoneWith (Giving value P) l → FirstValue value P l document.none
+  by_none : NoneWith (Giving value P) l → FirstValue value P l None
 
 -- what the rules of a list that have the property give together, where one has it: fields 79 to 82, each by the first that gives it
 pub record Together (P : ZoneRule → Type 0) (l : List ZoneRule) : Type 0 where
   pub one : ZoneRule
   pub stands : Memᴰ one l
   pub has : P one
-  pub ride : Maybe Bool
-  pub through : Maybe Bool
-  pub speed : Maybe (List ℕ)
-  pub parking : Maybe Bool
+  pub ride : Option Bool
+  pub through : Option Bool
+  pub speed : Option (List ℕ)
+  pub parking : Option Bool
   pub ride_by : FirstValue (truth 79) P l ride
   pub through_by : FirstValue (truth 80) P l through
   pub speed_by : FirstValue (spelling 81) P l speed
@@ -171,40 +170,40 @@ pub record Demand2 (t : Table) : Type 0 where
   -- no other quote gives a price.
   -- Shut out: one amount for everything; a ride rounded up to the next minute; a quote that always refuses, or refuses a large amount; a price out of a file
   -- that is not clean.
-  pub price : (s id : List ℕ) (seconds metres : ℕ) (plan : Picked) → seconds ≤ most_seconds → metres ≤ most_metres → clean_of t 5 s ≡ Unbroken
-      → plan_in t s id ≡ some plan → quote_of t s id seconds metres ≡ fare plan seconds metres
+  pub price : (s id : List ℕ) (seconds metres : ℕ) (plan : Picked) → seconds ≤ most_seconds → metres ≤ most_metres → clean_of t 5 s ≡ unbroken
+      → plan_in t s id ≡ Some plan → quote_of t s id seconds metres ≡ fare plan seconds metres
   pub priced : (s id : List ℕ) (seconds metres : ℕ) → (quote_of t s id seconds metres).number ≡ 0
-      → (seconds ≤ most_seconds) × (metres ≤ most_metres) × (clean_of t 5 s ≡ Unbroken)
-      × (plan : Picked) × (plan_in t s id ≡ some plan) × (quote_of t s id seconds metres ≡ fare plan seconds metres)
+      → (seconds ≤ most_seconds) × (metres ≤ most_metres) × (clean_of t 5 s ≡ unbroken)
+      × (plan : Picked) × (plan_in t s id ≡ Some plan) × (quote_of t s id seconds metres ≡ fare plan seconds metres)
   -- No amount is negative.
   -- Shut out: a credit where discounts outweigh the price.
   pub no_credit : (s id : List ℕ) (seconds metres : ℕ) → le_z (pos 0) (quote_of t s id seconds metres).amount ≡ true
   -- At and past the greatest end of a plan's segments per minute, where all end, every ride costs what it costs at that end, and the mark says so;
   -- and likewise per kilometre.
   -- Shut out: a price that goes on rising past the ends, or has no mark there.
-  pub ended_minutes : (s id : List ℕ) (seconds metres : ℕ) (plan : Picked) → (quote_of t s id seconds metres).number ≡ 0 → plan_in t s id ≡ some plan
+  pub ended_minutes : (s id : List ℕ) (seconds metres : ℕ) (plan : Picked) → (quote_of t s id seconds metres).number ≡ 0 → plan_in t s id ≡ Some plan
       → PastEnds (per_minute plan) (seconds / 60)
       → (quote_of t s id seconds metres ≡ quote_of t s id (greatest_end (per_minute plan) * 60) metres) × ((quote_of t s id seconds metres).past_minutes ≡ true)
-  pub ended_kilometres : (s id : List ℕ) (seconds metres : ℕ) (plan : Picked) → (quote_of t s id seconds metres).number ≡ 0 → plan_in t s id ≡ some plan
+  pub ended_kilometres : (s id : List ℕ) (seconds metres : ℕ) (plan : Picked) → (quote_of t s id seconds metres).number ≡ 0 → plan_in t s id ≡ Some plan
       → PastEnds (per_kilometre plan) (metres / 1000)
       → (quote_of t s id seconds metres ≡ quote_of t s id seconds (greatest_end (per_kilometre plan) * 1000)) × ((quote_of t s id seconds metres).past_kilometres ≡ true)
   -- A mark is set for no other ride.
   -- Shut out: a mark from the first minute on.
-  pub marked_minutes : (s id : List ℕ) (seconds metres : ℕ) (plan : Picked) → plan_in t s id ≡ some plan
+  pub marked_minutes : (s id : List ℕ) (seconds metres : ℕ) (plan : Picked) → plan_in t s id ≡ Some plan
       → (quote_of t s id seconds metres).past_minutes ≡ true → PastEnds (per_minute plan) (seconds / 60)
-  pub marked_kilometres : (s id : List ℕ) (seconds metres : ℕ) (plan : Picked) → plan_in t s id ≡ some plan
+  pub marked_kilometres : (s id : List ℕ) (seconds metres : ℕ) (plan : Picked) → plan_in t s id ≡ Some plan
       → (quote_of t s id seconds metres).past_kilometres ≡ true → PastEnds (per_kilometre plan) (metres / 1000)
   -- Where a rule applies, there is what the rules that apply give together.
   pub together : (s : List ℕ) (q : Point) (type : List ℕ) (moment : ℕ) (r : ZoneRule) → Memᴰ r (rules_in t s) → Applies q type moment r
       → Together (Applies q type moment) (rules_in t s)
   -- At a point in range where rules apply, a clean file answers with the values that they give together, and with 9 where none applies; and only there.
   -- Shut out: a zone's value outside of it, or inside one of its holes; a later rule's value, or none where a later rule gives one; 9 for everything.
-  pub rule : (s : List ℕ) (q : Point) (type : List ℕ) (moment : ℕ) → on_map q ≡ true → clean_of t 6 s ≡ Unbroken
+  pub rule : (s : List ℕ) (q : Point) (type : List ℕ) (moment : ℕ) → on_map q ≡ true → clean_of t 6 s ≡ unbroken
       → (g : Together (Applies q type moment) (rules_in t s))
       → ruling_of t s q type moment ≡ zone.found (rule_of g.ride g.through g.speed g.parking)
-  pub no_rule : (s : List ℕ) (q : Point) (type : List ℕ) (moment : ℕ) → on_map q ≡ true → clean_of t 6 s ≡ Unbroken
+  pub no_rule : (s : List ℕ) (q : Point) (type : List ℕ) (moment : ℕ) → on_map q ≡ true → clean_of t 6 s ≡ unbroken
       → NoneWith (Applies q type moment) (rules_in t s) → ruling_of t s q type moment ≡ zone.refused 9 no_parts
   pub ruled : (s : List ℕ) (q : Point) (type : List ℕ) (moment : ℕ) → (ruling_of t s q type moment).number ≡ 0
-      → (on_map q ≡ true) × (clean_of t 6 s ≡ Unbroken) × Together (Applies q type moment) (rules_in t s)
+      → (on_map q ≡ true) × (clean_of t 6 s ≡ unbroken) × Together (Applies q type moment) (rules_in t s)
   pub unruled : (s : List ℕ) (q : Point) (type : List ℕ) (moment : ℕ) → (ruling_of t s q type moment).number ≡ 9
-      → (on_map q ≡ true) × (clean_of t 6 s ≡ Unbroken) × NoneWith (Applies q type moment) (rules_in t s)
+      → (on_map q ≡ true) × (clean_of t 6 s ≡ unbroken) × NoneWith (Applies q type moment) (rules_in t s)

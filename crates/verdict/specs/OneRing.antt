@@ -7,8 +7,7 @@ use Rattle.schema.specs.Shape.{Table, file_shape}
 use Rattle.geometry.specs.Ring.{Point}
 use Rattle.rings.specs.OneRing.{coordinates_of_one}
 use Rattle.document.specs.Spans.{record_span}
-use Rattle.fault.specs.declared.outcome.Outcome.{Outcome}
-use Rattle.fault.specs.Outcome.{file_count}
+use Rattle.fault.specs.Outcome.{file_count, Outcome}
 use Rattle.clean.specs.Clean.{records_in}
 use Rattle.clean.specs.Show.{of_span, of_clean, refused, shown_of}
 use Rattle.quote.specs.Quote as quote

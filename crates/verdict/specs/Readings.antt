@@ -10,8 +10,6 @@ use Rattle.word.specs.Word as reading
 use Rattle.schema.specs.Tables.{table_at}
 use Rattle.geometry.specs.Ring.{Point}
 use Rattle.geometry.specs.Cases.{degrees}
-use Rattle.fault.specs.declared.outcome.Outcome.{Outcome}
-use Rattle.fault.specs.declared.outcome.Outcome.TheVariants.{Unbroken}
 use Rattle.quote.specs.Quote as quote
 use Rattle.quote.specs.Cases.{quoting, quote_by, fare, ended_fare}
 use Rattle.zone.specs.Answer as zone
@@ -19,6 +17,7 @@ use Rattle.zone.specs.Cases.{ruled, ruling, bare, none, square}
 use Rattle.cross.specs.Stage.{Feeds}
 use Rattle.verdict.specs.Verdict.{verdict_of, said}
 use Rattle.verdict.specs.Cases.{judging_sets, listing, bikes_alone, with_system, broken, three_bikes}
+use Rattle.fault.specs.Outcome.{Outcome, unbroken}
 
 -- what is asked: the verdict on a set, its word, what bytes say as a word, what a plan asks for a ride of so many seconds, and the rule of a zone of these
 -- polygons at a point
@@ -101,9 +100,9 @@ table =
     ("(k) the third bike has no id", judge (bikes_alone three_bikes), judged (broken 4 6 40 3 0 0)) ∷
     ("(k) as a word", word_for (bikes_alone three_bikes), bytes k) ∷
     ("(k) read back", read_word k, says (record { number = 0; parts = said (broken 4 6 40 3 0 0) })) ∷
-    ("(l) a sound set", judge one_bike, judged Unbroken) ∷
+    ("(l) a sound set", judge one_bike, judged unbroken) ∷
     ("(l) as a word", word_for one_bike, bytes l) ∷
-    ("(l) read back", read_word l, says (record { number = 0; parts = said Unbroken })) ∷
+    ("(l) read back", read_word l, says (record { number = 0; parts = said unbroken })) ∷
     []
 
 readings : Answers answered table

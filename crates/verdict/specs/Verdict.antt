@@ -1,32 +1,29 @@
 -- The verdict on a feed set: document 01, "Kinds" and the first row of the table of questions. Stage by stage, file by file, the first broken rule is
 -- named; `broken_rules` lists all that count, and `before` is their order.
-use Rattle.std.specs.Prelude.{Bool, true, false, List, [], ◌∷◌, ◌++◌, map, ℕ, zero, suc, ◌+◌, ltb, length, drop}
+use Rattle.std.specs.Prelude.{Bool, true, false, List, [], ◌∷◌, ◌++◌, map, ℕ, zero, suc, ◌+◌, ltb, length, drop, Result, Err, Ok}
 use Rattle.notation.specs.Choice.{◌⇒◌else◌}
 use Rattle.word.specs.declared.Parts.{Parts}
 use Rattle.word.specs.Form.{written_form, word_size}
 use Rattle.word.specs.Word.{no_parts, word_of}
-use Rattle.json_text.specs.declared.Syntax.{Syntax}
-use Rattle.json_text.specs.declared.Syntax.TheVariants as syntax
 use Rattle.json_text.specs.Text.{syntax_of}
 use Rattle.schema.specs.Shape.{Table, file_shape}
 use Rattle.schema.specs.Pick.{PickedItems}
 use Rattle.fault.specs.declared.Fault.{Fault}
 use Rattle.fault.specs.Fault as fault
-use Rattle.fault.specs.Outcome.{file_count, syntax_parts, fault_parts}
+use Rattle.fault.specs.Outcome.{file_count, syntax_parts, fault_parts, Outcome, unbroken}
 use Rattle.rings.specs.Rings.{Found, coordinates_found}
 use Rattle.judge.specs.Faults.{file_faults_by}
-use Rattle.fault.specs.declared.outcome.Outcome.{Outcome}
-use Rattle.fault.specs.declared.outcome.Outcome.TheVariants.{Unbroken, Broken}
 use Rattle.clean.specs.Clean.{tree_of}
 use Rattle.cross.specs.Cross.{cross_faults}
 use Rattle.cross.specs.Stage.{Feeds, bytes_of, picked}
 use Rattle.verdict.specs.declared.Acceptance.{Acceptance}
 use Rattle.verdict.specs.declared.Acceptance.TheVariants.{NoRoom, Accepted, NotAccepted}
+use Rattle.lexeme.specs.declared.SyntaxError.{SyntaxError}
 
 -- what a file breaks in stage A, and by a table in stages B and C; an absent file breaks nothing in A and B
-abbrev pub syntax_rules : ℕ → Syntax → List Parts
-syntax_rules file syntax.Sound = []
-syntax_rules file (syntax.Fault kind offset) = syntax_parts file kind offset ∷ []
+abbrev pub syntax_rules : ℕ → Result (Unit {0}) SyntaxError → List Parts
+syntax_rules file (Ok _) = []
+syntax_rules file (Err w) = syntax_parts file w.kind w.offset ∷ []
 
 abbrev pub rules_a : ℕ → List ℕ → List Parts
 rules_a file [] = []
@@ -74,11 +71,11 @@ before p q =
 
 -- the first of them
 abbrev pub earlier : Parts → Outcome → Outcome
-earlier p Unbroken = Broken p
-earlier p (Broken q) = before q p ⇒ Broken q else Broken p
+earlier p (Ok _) = Err p
+earlier p (Err q) = before q p ⇒ Err q else Err p
 
 unfoldable pub first : List Parts → Outcome
-first [] = Unbroken
+first [] = unbroken
 first (p ∷ l) = earlier p (first l)
 
 unfoldable pub verdict_of : Table → Feeds → Outcome
@@ -86,12 +83,12 @@ verdict_of t s = first (broken_rules t s)
 
 -- an accepting word says nothing else
 abbrev pub said : Outcome → Parts
-said Unbroken = no_parts
-said (Broken p) = p
+said (Ok _) = no_parts
+said (Err p) = p
 
 abbrev pub accepts : Outcome → Bool
-accepts Unbroken = true
-accepts (Broken p) = false
+accepts (Ok _) = true
+accepts (Err p) = false
 
 -- The question "verdict": its number in the order of checking, and the buffer after the call: as it was without room for a word, else the word in front of its rest.
 unfoldable pub verdict_number : Table → Feeds → (buffer : List ℕ) → ℕ

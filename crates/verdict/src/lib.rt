@@ -1,11 +1,12 @@
 // The verdict on a feed set: whether it is accepted, and the word that says why not.
 #![tactic(auto)]
 
-ghost use Rattle.std.specs.Prelude.{◌++◌, map, ◌≡◌, ◌≤◌, length, drop};
+ghost use Rattle.std.specs.Prelude.{◌++◌, ◌≡◌, ◌≤◌, length, drop};
 ghost use Rattle.word.specs.Form.{written_form, word_size};
 ghost use Rattle.word.specs.Word.{Fits, word_of};
 ghost use Rattle.schema.specs.Tables.{table_at};
 ghost use Rattle.verdict.specs.Verdict.{said, number, verdict_number, buffer_of};
+ghost use Rattle.cross.specs.Stage.{contents};
 
 use crate::stages::judge;
 use cross::set::FILES;
@@ -40,8 +41,8 @@ fn parts_in(c: Outcome) -> Parts
     ensures { result ≡ said c }
 {
     match c {
-        Outcome::Broken(p) => p,
-        Outcome::Unbroken => Parts::NONE,
+        Err(p) => p,
+        Ok(()) => Parts::NONE,
     }
 }
 
@@ -51,12 +52,7 @@ fn put(parts: Parts, buffer: &mut [u8])
     ensures { buffer.new ≡ word_of written_form parts ++ drop word_size buffer.old }
 {
     let word = Word::of(parts);
-    let bytes = word.bytes;
-    let mut i: usize = 0;
-    while i < Word::SIZE {
-        buffer[i] = bytes[i];
-        i += 1;
-    }
+    buffer[..Word::SIZE].copy_from_slice(&word.bytes);
 }
 
 // By the table of a number, the verdict on a set of eight files, of which one without bytes is absent. The word stands in the first eight bytes of the buffer, and the
@@ -64,8 +60,8 @@ fn put(parts: Parts, buffer: &mut [u8])
 // Shut out: a set refused that breaks no rule, or for another rule than its first; a word written anywhere else in the buffer.
 #[tactic(auto, using(crate::proofs::Answers::shorts))]
 pub fn verdict<'a>(table: u8, files: [&'a [u8]; FILES], buffer: &mut [u8]) -> Acceptance
-    ensures result_value { number result ≡ verdict_number (table_at table) (map (λ x. x.now) files.entry) buffer.old }
-    ensures buffer_after { buffer.new ≡ buffer_of (table_at table) (map (λ x. x.now) files.entry) buffer.old }
+    ensures result_value { number result ≡ verdict_number (table_at table) (contents files.entry) buffer.old }
+    ensures buffer_after { buffer.new ≡ buffer_of (table_at table) (contents files.entry) buffer.old }
 {
     if buffer.len() < Word::SIZE {
         return Acceptance::NoRoom;
@@ -73,7 +69,7 @@ pub fn verdict<'a>(table: u8, files: [&'a [u8]; FILES], buffer: &mut [u8]) -> Ac
     let c = judge(table, files);
     put(parts_in(c), buffer);
     match c {
-        Outcome::Unbroken => Acceptance::Accepted,
-        Outcome::Broken(_) => Acceptance::NotAccepted,
+        Ok(()) => Acceptance::Accepted,
+        Err(_) => Acceptance::NotAccepted,
     }
 }

@@ -1,11 +1,9 @@
 // The stages of a set: A and B file by file, then C.
-ghost use Rattle.std.specs.Prelude.{map, ◌≡◌, length};
-ghost use Rattle.json_text.specs.declared.Syntax.TheVariants.{Sound};
+ghost use Rattle.std.specs.Prelude.{◌≡◌, length};
 ghost use Rattle.json_text.specs.Text.{syntax_of};
 ghost use Rattle.schema.specs.Tables.{table_at};
-ghost use Rattle.fault.specs.declared.outcome.Outcome.TheVariants.{Unbroken};
-ghost use Rattle.fault.specs.Outcome.{or_next};
-ghost use Rattle.cross.specs.Stage.{picked};
+ghost use Rattle.fault.specs.Outcome.{or_next, unbroken};
+ghost use Rattle.cross.specs.Stage.{picked, contents};
 ghost use Rattle.cross.specs.inner.Stage.{first_c};
 ghost use Rattle.verdict.specs.declared.stages.Stage.TheVariants as stages;
 ghost use Rattle.verdict.specs.Verdict.{verdict_of};
@@ -27,11 +25,11 @@ pub enum Stage {
 
 // Such a stage of a file, by the table of a number; where nothing is there, it passes. Stage B is for files that stage A passes.
 fn judge_alone(table: u8, stage: Stage, file: u8, s: &[u8]) -> Outcome
-    requires { stage ≡ stages.B → (length s.now ≡ 0 → ⊥) → syntax_of s.now ≡ Sound }
+    requires { stage ≡ stages.B → (length s.now ≡ 0 → ⊥) → syntax_of s.now ≡ Ok tt }
     ensures { result ≡ outcome_in (table_at table) stage file s.now }
 {
     if s.len() == 0 {
-        return Outcome::Unbroken;
+        return Ok(());
     }
     match stage {
         Stage::A => check_text(file, s),
@@ -41,41 +39,29 @@ fn judge_alone(table: u8, stage: Stage, file: u8, s: &[u8]) -> Outcome
 
 // The first file that breaks a rule of such a stage. Stage B is for sets that stage A passes.
 fn first_in<'a>(table: u8, stage: Stage, files: [&'a [u8]; FILES]) -> Outcome
-    requires { stage ≡ stages.B → first_in (table_at table) stages.A (map (λ x. x.now) files) ≡ Unbroken }
-    ensures { result ≡ first_in (table_at table) stage (map (λ x. x.now) files.entry) }
+    requires { stage ≡ stages.B → first_in (table_at table) stages.A (contents files) ≡ unbroken }
+    ensures { result ≡ first_in (table_at table) stage (contents files.entry) }
 {
-    let mut file: u8 = 1;
-    while file <= Word::FILES {
-        match judge_alone(table, stage, file, file_in(files, file)) {
-            Outcome::Broken(p) => {
-                return Outcome::Broken(p);
-            }
-            Outcome::Unbroken => {
-                file += 1;
-            }
-        }
+    for file in 1..=Word::FILES {
+        judge_alone(table, stage, file, file_in(files, file))?;
     }
-    Outcome::Unbroken
+    Ok(())
 }
 
 // Stages B and C of a set that is through stage A.
 fn judge_read<'a>(table: u8, files: [&'a [u8]; FILES]) -> Outcome
-    requires { first_in (table_at table) stages.A (map (λ x. x.now) files) ≡ Unbroken }
-    ensures { result ≡ or_next (first_in (table_at table) stages.B (map (λ x. x.now) files.entry))
-        (first_c (table_at table) (picked (table_at table) (map (λ x. x.now) files.entry))) }
+    requires { first_in (table_at table) stages.A (contents files) ≡ unbroken }
+    ensures { result ≡ or_next (first_in (table_at table) stages.B (contents files.entry))
+        (first_c (table_at table) (picked (table_at table) (contents files.entry))) }
 {
-    match first_in(table, Stage::B, files) {
-        Outcome::Broken(p) => Outcome::Broken(p),
-        Outcome::Unbroken => judge_set(table, files),
-    }
+    first_in(table, Stage::B, files)?;
+    judge_set(table, files)
 }
 
 // The first broken rule of a set, stage by stage, by the table of a number.
 pub fn judge<'a>(table: u8, files: [&'a [u8]; FILES]) -> Outcome
-    ensures { result ≡ verdict_of (table_at table) (map (λ x. x.now) files.entry) }
+    ensures { result ≡ verdict_of (table_at table) (contents files.entry) }
 {
-    match first_in(table, Stage::A, files) {
-        Outcome::Broken(p) => Outcome::Broken(p),
-        Outcome::Unbroken => judge_read(table, files),
-    }
+    first_in(table, Stage::A, files)?;
+    judge_read(table, files)
 }

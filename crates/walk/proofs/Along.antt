@@ -30,8 +30,6 @@ use Rattle.json_text.proofs.StrongPrefixes.{bracketed_takes}
 use Rattle.json_text.proofs.Values.{value_none}
 use Rattle.json_text.proofs.Spellings.{expect-done}
 use Rattle.walk.specs.declared.Member.{Member}
-use Rattle.walk.specs.declared.MemberStep.{MemberStep}
-use Rattle.walk.specs.declared.MemberStep.TheVariants as members
 use Rattle.walk.specs.Walk.{onward, member_at, members_of}
 use Rattle.walk.specs.Part.{Whole}
 use Rattle.walk.specs.inner.Along.{AlongItems, AlongMembers, MemberPassed}
@@ -40,6 +38,7 @@ use Rattle.walk.proofs.Folds as Folds
 use Rattle.walk.proofs.Folds.{Walk, walk_more, walk_end, member_steps}
 use Rattle.walk.proofs.Wholes.{whole-some, whole-array, whole-object}
 use Rattle.walk.proofs.Trees.{Elements, next-closes, next-begins, leaves, deepen, items_within, member-reads, members_within}
+use Rattle.std.specs.Prelude.{Option, Some, None}
 
 -- l begins with the closing bracket, or with elements up to it; q stands behind it
 data Stands {A : Type 0} (close : ℕ) (element : List ℕ → Read A) (q l : List ℕ) : Type 0 where
@@ -221,15 +220,15 @@ module _ (p : List ℕ) {A : Type 0} (g : A → Member → A) where
   pub members-along : {ms : Members} → Whole p (Json.object ms) → (s : A) → MembersAlong s 1 (foldl g s (members_of p))
   members-along w s = (AlongMembers.start w, Folds.members-start p g s)
 
-  pub members-along-next : (s : A) (at : ℕ) (r : A) (m : Member) → member_at p at ≡ members.Found m → MembersAlong s at r → MembersAlong (g s m) m.next r
+  pub members-along-next : (s : A) (at : ℕ) (r : A) (m : Member) → member_at p at ≡ Some m → MembersAlong s at r → MembersAlong (g s m) m.next r
   members-along-next s at r m f (a, k) = (AlongMembers.next a f, walk_more (member_steps p) g s at r m f k)
 
-  pub members-along-more : (s : A) (at : ℕ) (r : A) {o : MemberStep} {m : Member} → MemberPassed p at o → o ≡ members.Found m → MembersAlong s at r
+  pub members-along-more : (s : A) (at : ℕ) (r : A) {o : Option Member} {m : Member} → MemberPassed p at o → o ≡ Some m → MembersAlong s at r
       → MembersAlong (g s m) m.next r
   members-along-more s at r {m = m} h e i = members-along-next s at r m (sym (h.same i.0) ∙ e) i
 
-  pub members-along-last : (s : A) (at : ℕ) (r : A) → member_at p at ≡ members.End → MembersAlong s at r → s ≡ r
+  pub members-along-last : (s : A) (at : ℕ) (r : A) → member_at p at ≡ None → MembersAlong s at r → s ≡ r
   members-along-last s at r e (a, k) = walk_end (member_steps p) g s at r e k
 
-  pub members-along-end : (s : A) (at : ℕ) (r : A) {o : MemberStep} → MemberPassed p at o → o ≡ members.End → MembersAlong s at r → s ≡ r
+  pub members-along-end : (s : A) (at : ℕ) (r : A) {o : Option Member} → MemberPassed p at o → o ≡ None → MembersAlong s at r → s ≡ r
   members-along-end s at r h e i = members-along-last s at r (sym (h.same i.0) ∙ e) i

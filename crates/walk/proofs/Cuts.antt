@@ -1,32 +1,16 @@
--- Parts of a list: a part of a part is a part of the whole, and places past the end cut nothing off.
+-- Parts of a list: their lengths, and a part of a part is a part of the whole.
 use mathlib.Core.List.{List, [], ◌∷◌}
 use mathlib.Core.Path.{◌≡◌, sym, ap, ◌∙◌}
 use Prim.Native.Nat.{ℕ, zero, suc, ◌+◌, ◌-◌, ◌≤◌}
 use native.Mathlib.Omega.{arith}
-use lib.ListN.{length, take, drop, length-take, length-drop, drop_of_length-le}
-use lib.Seq.{take_all, take-nil, take-take, drop-drop, drop-length}
+use lib.ListN.{length, take, drop, length-take, length-drop}
+use lib.Seq.{take_all, take-nil, take-take, drop-drop}
 use Rattle.walk.specs.Walk.{part}
 
 pub part-rest : (s : List ℕ) (from : ℕ) → part s from (length s) ≡ drop from s
 part-rest s from = take_all (length s - from) (drop from s) (omega (arith, length-drop from s))
 
 module _ (s : List ℕ) (from upto : ℕ) where
-  -- nothing, from the end on
-  nothing : part s (length s) (length s) ≡ []
-  nothing = ap (take (length s - length s)) (drop-length s) ∙ take-nil (length s - length s)
-
-  pub cut-reversed : upto ≤ from → part s (length s) (length s) ≡ part s from upto
-  cut-reversed h = let z : 0 ≡ upto - from = omega arith in nothing ∙ ap (λ (n : ℕ). take n (drop from s)) z
-
-  pub cut-past : length s ≤ from → part s (length s) (length s) ≡ part s from upto
-  cut-past h = nothing ∙ sym (ap (take (upto - from)) (drop_of_length-le s h) ∙ take-nil (upto - from))
-
-  pub cut-rest : length s ≤ upto → part s from (length s) ≡ part s from upto
-  cut-rest h =
-      let n = length-drop from s in
-      let b : length (drop from s) ≤ upto - from = omega arith in
-      part-rest s from ∙ sym (take_all (upto - from) (drop from s) b)
-
   pub part_length : length (part s from upto) ≤ upto - from
   part_length = omega (arith, length-take (upto - from) (drop from s))
 

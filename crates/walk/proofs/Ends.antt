@@ -11,37 +11,22 @@ use lib.ListN.{length, drop, drop_of_length-le, length-append, length-drop}
 use borrow.Author.Tests.{eqb-true, eq-eqb, ne_eqb}
 use Rattle.notation.proofs.Booleans.{by_test, true-false}
 use Rattle.notation.proofs.Lists.{at_cons}
-use Rattle.lexeme.specs.declared.Scan.TheVariants as scan
 use Rattle.lexeme.specs.Read.{placed}
 use Rattle.lexeme.specs.Character.{byte, within}
 use Rattle.lexeme.specs.Numbers.{either, digit, number}
 use Rattle.lexeme.specs.inner.Start.{Start, start}
-use Rattle.lexeme.proofs.Reading.{Ok}
+use Rattle.lexeme.proofs.Reading.{Settled}
 use Rattle.lexeme.proofs.Placed.{takes_leaves, lands}
 use Rattle.lexeme.proofs.Rests.{place_at, first_byte, rest_at, rest-after}
 use Rattle.lexeme.proofs.NumberParts.{digit-inside, either-inside, equal-inside}
 use Rattle.lexeme.proofs.StrongPrefixes.{number_takes}
 use Rattle.lexeme.proofs.Starts.{digit-starts}
 use Rattle.walk.specs.inner.Skip.{quoted, outside, enclosed, numbered, skipped}
-use Rattle.walk.proofs.Quotes.{Itself, quoted-mark, escape-begins}
+use Rattle.walk.proofs.Quotes.{quoted-mark, escape-begins}
 use Rattle.walk.proofs.Skips.{Between, enclosed-between, enclosed_opens, enclosed-closes, enclosed-end, enclosed-mark, numbered-done, numbered-bad, skipped-string, skipped-number, skipped-array, skipped-object, skipped-true, skipped-false, skipped-null, skipped-none}
 use Rattle.walk.proofs.Finding.{failed}
-
--- bytes by comparisons
-pub above_itself : (b : ℕ) → 0x5c < b → Itself b
-above_itself b h = (ne_eqb b 0x22 (λ e. omega arith), ne_eqb b 0x5c (λ e. omega arith))
-
-pub below-between : (b : ℕ) → b < 0x5b → (b ≡ 0x22 → ⊥) → Between b
-unfolding either
-below-between b h n =
-    let o : eqb b 0x5b ≡ false = ne_eqb b 0x5b (λ e. omega arith) in
-    let p : eqb b 0x7b ≡ false = ne_eqb b 0x7b (λ e. omega arith) in
-    let c : eqb b 0x5d ≡ false = ne_eqb b 0x5d (λ e. omega arith) in
-    let d : eqb b 0x7d ≡ false = ne_eqb b 0x7d (λ e. omega arith) in
-    record { mark = ne_eqb b 0x22 n; opens = rw (o, p); closes = rw (c, d) }
-
-pub no-mark : (b : ℕ) → 0x5b ≤ b → eqb b 0x22 ≡ false
-no-mark b h = ne_eqb b 0x22 (λ e. omega arith)
+use Rattle.std.specs.Prelude.{Ok, Err}
+use Rattle.lexeme.specs.declared.SyntaxError.{SyntaxError}
 
 -- strings
 module _ (s : List ℕ) (i : ℕ) where
@@ -126,13 +111,13 @@ brackets-cut s i n h = ap (enclosed n outside) (drop_of_length-le s h) ∙ enclo
 
 -- numbers
 module _ (s : List ℕ) (at : ℕ) where
-  pub number-ends : (e : ℕ) → scan.End e ≡ placed s (number (drop at s)) → e ≡ length s - length (numbered (drop at s))
+  pub number-ends : (e : ℕ) → Ok e ≡ placed s (number (drop at s)) → e ≡ length s - length (numbered (drop at s))
   number-ends e h =
-      let k = lands number s at e (takes_leaves Ok number number_takes) h in
+      let k = lands number s at e (takes_leaves Settled number number_takes) h in
       place_at s e k.upto ∙ ap (λ (l : List ℕ). length s - length l) (sym (numbered-done (drop at s) k.reads))
 
-  pub number_stays : (k n : ℕ) → scan.Fault k n ≡ placed s (number (drop at s)) → length s - length (drop at s) ≡ length s - length (numbered (drop at s))
-  number_stays k n h = ap (λ (l : List ℕ). length s - length l) (sym (numbered-bad (drop at s) (failed s k n (number (drop at s)) h).1))
+  pub number_stays : (w : SyntaxError) → Err w ≡ placed s (number (drop at s)) → length s - length (drop at s) ≡ length s - length (numbered (drop at s))
+  number_stays w h = ap (λ (l : List ℕ). length s - length l) (sym (numbered-bad (drop at s) (failed s w (number (drop at s)) h).1))
 
 -- values by their first byte b
 module _ (b : ℕ) (l : List ℕ) where

@@ -10,14 +10,11 @@ use lib.Dec.{ltb}
 use borrow.Author.Tests.{ltb-false}
 use Rattle.limits.specs.Ceilings.{file_bytes, depth}
 use Rattle.notation.proofs.Booleans.{by_test}
-use Rattle.lexeme.specs.declared.Scan.TheVariants as scan
-use Rattle.lexeme.specs.Read.{Read, placed}
+use Rattle.lexeme.specs.Read.{Read, placed, wrong_at}
 use Rattle.lexeme.specs.Read.Read.{done, bad}
 use Rattle.lexeme.specs.Character.{paired}
 use Rattle.lexeme.specs.Tokens.{blanks}
 use Rattle.lexeme.proofs.Steps.{bad-done, done_what, done-rest, then-done}
-use Rattle.json_text.specs.declared.Syntax.{Syntax}
-use Rattle.json_text.specs.declared.Syntax.TheVariants as syntax
 use Rattle.json_text.specs.Tree.{Json}
 use Rattle.json_text.specs.Text.{value, finish, text, syntax_by, syntax_of}
 use Rattle.json_text.proofs.Local.{value-part}
@@ -26,6 +23,8 @@ use Rattle.lexeme.proofs.Placed.{ends}
 use Rattle.walk.specs.Walk.{offset_of, part}
 use Rattle.walk.specs.Part.{Whole}
 use Rattle.walk.proofs.Rests.{Rest, rest-drop, rest-blanks, rest_read, rest-inside, rest-there}
+use Rattle.std.specs.Prelude.{Result, Ok}
+use Rattle.lexeme.specs.declared.SyntaxError.{SyntaxError}
 
 -- where the value of a file begins
 abbrev pub value_start : List ℕ → ℕ
@@ -38,7 +37,7 @@ pub record Passed (s : List ℕ) : Type 0 where
   pub whole : Whole (part s (value_start s) end) tree
   pub some : value_start s < end
   pub inside : end ≤ length s
-  pub found : scan.End end ≡ placed s (value paired depth (drop (value_start s) s))
+  pub found : Ok end ≡ placed s (value paired depth (drop (value_start s) s))
   pub after : blanks (drop end s) ≡ []
   pub short : length s ≤ file_bytes
 
@@ -74,16 +73,16 @@ in_text s r x e short =
       short = short;
     }
 
-pub passed : (s : List ℕ) → syntax_of s ≡ syntax.Sound → Passed s
+pub passed : (s : List ℕ) → syntax_of s ≡ Ok tt → Passed s
 unfolding syntax_of syntax_by placed
 passed s e = by_test (ltb file_bytes (length s)) long read
   where
     long : ltb file_bytes (length s) ≡ true → Passed s
     long h =
-        let p : ◌≡◌ {A = Syntax} (syntax.Fault _ 0) syntax.Sound = rw (h, syntax_of) at e in
+        let p : ◌≡◌ {A = Result (Unit {0}) SyntaxError} (wrong_at _ 0) (Ok tt) = rw (h, syntax_of) at e in
         absurd (let z : ◌≡◌ {A = ℕ} 0 1 = cc in omega arith)
 
-    go : (o : Read Json) → text paired depth s ≡ o → syntax_by (placed s o) ≡ syntax.Sound → length s ≤ file_bytes → Passed s
+    go : (o : Read Json) → text paired depth s ≡ o → syntax_by (placed s o) ≡ Ok tt → length s ≤ file_bytes → Passed s
     go (done x r) h i n = in_text s r x h n
     go (bad k r) h i n = absurd (let z : ◌≡◌ {A = ℕ} 0 1 = cc in omega arith)
 

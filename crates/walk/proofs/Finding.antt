@@ -7,13 +7,12 @@ use lib.ListN.{length, drop}
 use lib.Dec.{eqb}
 use borrow.Author.Tests.{eq-eqb, ne_eqb}
 use Rattle.limits.specs.Ceilings.{depth}
-use Rattle.lexeme.specs.declared.Scan.TheVariants as scan
 use Rattle.lexeme.specs.Read.{Read, placed}
 use Rattle.lexeme.specs.Read.Read.{done, bad}
 use Rattle.lexeme.specs.Character.{paired, byte}
 use Rattle.lexeme.specs.Strings
 use Rattle.lexeme.specs.Tokens.{blanks}
-use Rattle.lexeme.proofs.Reading.{Ok}
+use Rattle.lexeme.proofs.Reading.{Settled}
 use Rattle.lexeme.proofs.Placed.{takes_leaves, Lands, lands}
 use Rattle.lexeme.proofs.NumberParts.{equal-inside}
 use Rattle.lexeme.proofs.Rests.{next-drop, place_at, shows}
@@ -22,10 +21,10 @@ use Rattle.json_text.specs.Tree.{Json}
 use Rattle.json_text.specs.Text.{expect, value}
 use Rattle.json_text.proofs.StrongPrefixes.{value_takes}
 use Rattle.json_text.proofs.Values.{expect-there, expect-absent}
-use Rattle.walk.specs.declared.MemberStep.TheVariants as members
-use Rattle.walk.specs.declared.ItemStep.TheVariants as items
 use Rattle.walk.specs.Walk.{offset_of, onward, member_in, member_at, item_in, item_at}
 use Rattle.walk.proofs.Steps.{onward-end, onward-comma, onward-other, Reads, member_unvalued, member-found, item-found}
+use Rattle.std.specs.Prelude.{Some, None, Ok, Err}
+use Rattle.lexeme.specs.declared.SyntaxError.{SyntaxError}
 
 abbrev quoted : List ℕ → Read (List ℕ)
 quoted = expect 0x22 (Strings.string paired 0)
@@ -34,13 +33,14 @@ abbrev whole : List ℕ → Read Json
 whole = value paired depth
 
 -- a reading by where it ended
-pub valued_at : (p : List ℕ) (i j : ℕ) → scan.End j ≡ placed p (whole (drop i p)) → Lands whole p i j
-valued_at p i j = lands whole p i j (takes_leaves Ok whole (value_takes paired depth))
+pub valued_at : (p : List ℕ) (i j : ℕ) → Ok j ≡ placed p (whole (drop i p)) → Lands whole p i j
+valued_at p i j = lands whole p i j (takes_leaves Settled whole (value_takes paired depth))
 
-pub failed : {A : Type 0} (p : List ℕ) (k n : ℕ) (o : Read A) → scan.Fault k n ≡ placed p o → (r : List ℕ) × (o ≡ bad k r)
+pub failed : {A : Type 0} (p : List ℕ) (w : SyntaxError) (o : Read A) → Err w ≡ placed p o → (r : List ℕ) × (o ≡ bad w.kind r)
 unfolding placed
-failed p k n (done x r) e = let z : ◌≡◌ {A = ℕ} 0 1 = cc in absurd (omega arith)
-failed p k n (bad j r) e = let w : j ≡ k = cc in (r, ap (λ (i : ℕ). bad i r) w)
+failed p w (done x r) e = let z : ◌≡◌ {A = ℕ} 0 1 = cc in absurd (omega arith)
+failed p w (bad j r) e =
+    let i : w ≡ record { kind = j; offset = length p - length r } = cc in (r, sym (ap (λ (z : SyntaxError). bad z.kind r) i))
 
 module _ (p : List ℕ) (at i : ℕ) (k : Skipped p at i) where
   -- the place after an element
@@ -62,7 +62,7 @@ module _ (p : List ℕ) (at i : ℕ) (k : Skipped p at i) where
   unfolding item_at
   item-here = ap (item_in p) (sym k.rest)
 
-  pub item-there : (e n : ℕ) → Lands whole p i e → n ≡ onward p (blanks (drop e p)) → items.Found (record { value = i; value_end = e; next = n }) ≡ item_at p at
+  pub item-there : (e n : ℕ) → Lands whole p i e → n ≡ onward p (blanks (drop e p)) → Some (record { value = i; value_end = e; next = n }) ≡ item_at p at
   item-there e n v h =
       let a : i ≡ offset_of p (drop i p) = place_at p i k.upto in
       let b : e ≡ offset_of p (drop e p) = place_at p e v.upto in
@@ -74,7 +74,7 @@ module _ (p : List ℕ) (at i : ℕ) (k : Skipped p at i) where
   member-here = ap (member_in p) (sym k.rest)
 
   module _ (j c : ℕ) (named : Lands quoted p i j) (w : Skipped p j c) where
-    pub member_colonless : (byte (drop c p) 0 ≡ 0x3a → ⊥) → members.End ≡ member_at p at
+    pub member_colonless : (byte (drop c p) 0 ≡ 0x3a → ⊥) → None ≡ member_at p at
     member_colonless n =
         sym (member-here ∙ member_unvalued p (drop i p) named.reads (ap (expect 0x3a _) (sym w.rest) ∙ expect-absent 0x3a _ p c n))
 
@@ -83,7 +83,7 @@ module _ (p : List ℕ) (at i : ℕ) (k : Skipped p at i) where
       after-colon = ap (expect 0x3a _) (sym w.rest) ∙ expect-there 0x3a _ p c refl colon ∙ ap whole (sym u.rest)
 
       pub member-there : (e n : ℕ) → Lands whole p v e → n ≡ onward p (blanks (drop e p))
-          → members.Found (record { name = i + 1; name_end = j - 1; value = v; value_end = e; next = n }) ≡ member_at p at
+          → Some (record { name = i + 1; name_end = j - 1; value = v; value_end = e; next = n }) ≡ member_at p at
       member-there e n x h =
           let r : Reads (drop i p) named.what x.what (drop j p) (drop e p) = record { named = named.reads; valued = after-colon ∙ x.reads } in
           let a : i ≡ offset_of p (drop i p) = place_at p i k.upto in

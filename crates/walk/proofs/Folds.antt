@@ -10,12 +10,9 @@ use native.Mathlib.Omega.{arith}
 use lib.ListN.{length}
 use Rattle.walk.specs.declared.Member.{Member}
 use Rattle.walk.specs.declared.Item.{Item}
-use Rattle.walk.specs.declared.MemberStep.{MemberStep}
-use Rattle.walk.specs.declared.MemberStep.TheVariants as members
-use Rattle.walk.specs.declared.ItemStep.{ItemStep}
-use Rattle.walk.specs.declared.ItemStep.TheVariants as items
 use Rattle.walk.specs.Walk.{member_at, member_then, members_from, members_of, item_at, item_then, items_from}
 use Rattle.walk.proofs.Places.{member-placed, item-placed}
+use Rattle.std.specs.Prelude.{Option, Some, None}
 
 -- steps through a text of n bytes: what one finds at a place, where the next is looked for, and all that is found from a place on
 pub record Steps (n : ℕ) (M : Type 0) : Type 1 where
@@ -86,9 +83,9 @@ module _ {n : ℕ} {M S : Type 0} (look : ℕ → S) (end : S) (found : M → S)
       }
 
 -- members
-abbrev members-either : (s : MemberStep) → (s ≡ members.End) ⊎ ((m : Member) × (s ≡ members.Found m))
-members-either members.End = inl refl
-members-either (members.Found m) = inr (m, refl)
+abbrev members-either : (s : Option Member) → (s ≡ None) ⊎ ((m : Member) × (s ≡ Some m))
+members-either None = inl refl
+members-either (Some m) = inr (m, refl)
 
 module _ (p : List ℕ) where
   pub members-none : (at : ℕ) → members_from zero p at ≡ []
@@ -101,7 +98,7 @@ module _ (p : List ℕ) where
 
   abbrev pub member_steps : Steps (length p) Member
   member_steps =
-      steps_by (member_at p) members.End members.Found (λ m. m.next) members-either
+      steps_by (member_at p) None Some (λ m. m.next) members-either
       (λ at m e. let i = member-placed p at m e in (omega arith, i.inside)) (λ k at. members_from k p at) member_then (λ rest. refl) (λ rest m. refl) members-none members-some
 
   pub members-start : {A : Type 0} (g : A → Member → A) (s : A) → Walk member_steps g s 1 (foldl g s (members_of p))
@@ -109,9 +106,9 @@ module _ (p : List ℕ) where
   members-start g s = walk_start member_steps g s 1
 
 -- items
-abbrev items-either : (s : ItemStep) → (s ≡ items.End) ⊎ ((m : Item) × (s ≡ items.Found m))
-items-either items.End = inl refl
-items-either (items.Found m) = inr (m, refl)
+abbrev items-either : (s : Option Item) → (s ≡ None) ⊎ ((m : Item) × (s ≡ Some m))
+items-either None = inl refl
+items-either (Some m) = inr (m, refl)
 
 module _ (p : List ℕ) where
   pub items-none : (at : ℕ) → items_from zero p at ≡ []
@@ -124,8 +121,8 @@ module _ (p : List ℕ) where
 
   abbrev pub item_steps : Steps (length p) Item
   item_steps =
-      steps_by (item_at p) items.End items.Found (λ m. m.next) items-either
+      steps_by (item_at p) None Some (λ m. m.next) items-either
       (λ at m e. let i = item-placed p at m e in (omega arith, i.inside)) (λ k at. items_from k p at) item_then (λ rest. refl) (λ rest m. refl) items-none items-some
 
-  pub items-end : (k at : ℕ) → item_at p at ≡ items.End → items_from k p at ≡ []
+  pub items-end : (k at : ℕ) → item_at p at ≡ None → items_from k p at ≡ []
   items-end = item_steps.end

@@ -21,9 +21,6 @@ use Rattle.json_text.specs.Text.{value}
 use Rattle.json_text.proofs.Local.{value_local}
 use Rattle.json_text.proofs.StrongPrefixes.{value_consumes, value_takes}
 use Rattle.walk.specs.declared.Named.{Named}
-use Rattle.walk.specs.declared.NameStep.TheVariants as names
-use Rattle.walk.specs.declared.MemberStep.TheVariants as members
-use Rattle.walk.specs.declared.ItemStep.TheVariants as items
 use Rattle.walk.specs.Walk.{offset_of, part, onward, member_at, item_at}
 use Rattle.walk.specs.Part.{Whole, kind_of}
 use Rattle.walk.specs.inner.Kind.{kind_at}
@@ -40,6 +37,7 @@ use Rattle.walk.proofs.Trees.{item_stops}
 use Rattle.walk.proofs.Along.{along-item, along-member, items-closed, members-closed}
 use Rattle.walk.proofs.Passing.{placed-next, from_at, front-end, front-found, member_is}
 use Rattle.walk.proofs.Open.{front-step, front-items-along, front_closing, front-member, front-along, front-part}
+use Rattle.std.specs.Prelude.{Some, None}
 
 module _ {p : List ℕ} {x : Json} where
   -- what is read off the front, up to the rest t
@@ -112,14 +110,14 @@ item-later p at v e k f h next j =
 module _ (p : List ℕ) (n at : ℕ) where
   -- an item at v, if there is one
   module _ (v e : ℕ) (k : Skipped p at v) (f : Ends (drop v p) e) where
-    pub item-ended : e ≡ 0 → AlongItems (take n p) at → item_at (take n p) at ≡ items.End
+    pub item-ended : e ≡ 0 → AlongItems (take n p) at → item_at (take n p) at ≡ None
     item-ended z a =
         sym (front-step p n a)
         ∙ ⊎_elim (λ y. item_stops p at y.0 y.1)
         (λ y. absurd (omega (arith, ends-later p v e f y.0 y.1 (ap (value paired depth) k.rest ∙ y.2)))) (along-item p (front-items-along p n a))
 
     pub item_met : 0 < e → (next : ℕ) → next ≡ onward p (blanks (drop (v + e) p)) → AlongItems (take n p) at
-        → item_at (take n p) at ≡ items.Found (record { value = v; value_end = v + e; next = next })
+        → item_at (take n p) at ≡ Some (record { value = v; value_end = v + e; next = next })
     unfolding start digit within
     item_met h next j a =
         sym (front-step p n a)
@@ -128,12 +126,12 @@ module _ (p : List ℕ) (n at : ℕ) where
         (along-item p (front-items-along p n a))
 
   -- a member
-  pub member-ended : NamePassed p at names.End → AlongMembers (take n p) at → member_at (take n p) at ≡ members.End
+  pub member-ended : NamePassed p at None → AlongMembers (take n p) at → member_at (take n p) at ≡ None
   member-ended f a = sym (front-member p n a) ∙ sym (front-end (member_at p at) (f.same (front-along p n a)))
 
-  pub member_met : (m : Named) (e next : ℕ) → NamePassed p at (names.Found m) → Ends (drop m.value p) e → next ≡ onward p (blanks (drop (m.value + e) p))
+  pub member_met : (m : Named) (e next : ℕ) → NamePassed p at (Some m) → Ends (drop m.value p) e → next ≡ onward p (blanks (drop (m.value + e) p))
       → AlongMembers (take n p) at
-      → member_at (take n p) at ≡ members.Found (record { name = m.name; name_end = m.name_end; value = m.value; value_end = m.value + e; next = next })
+      → member_at (take n p) at ≡ Some (record { name = m.name; name_end = m.name_end; value = m.value; value_end = m.value + e; next = next })
   member_met m e next f g j a =
       let (o, i, h) = front-found (member_at p at) m (f.same (front-along p n a)) in
       let s = found-member p at o i in
@@ -153,13 +151,13 @@ module _ (p : List ℕ) (n at : ℕ) where
         c ∙ ap (λ (l : List ℕ). length p - length (drop 1 l)) (front_closing p n at b q k) ∙ ap (λ (l : List ℕ). length p - length (l ++ drop n p)) (sym z)
         ∙ sym (place_at p n h)
 
-    pub items-end : {is : Items} → Whole (take n p) (Json.array is) → AlongItems (take n p) at → item_at (take n p) at ≡ items.End → e ≡ n
+    pub items-end : {is : Items} → Whole (take n p) (Json.array is) → AlongItems (take n p) at → item_at (take n p) at ≡ None → e ≡ n
     unfolding item_at
     items-end w a i =
         ⊎_elim (λ y. closed_at 0x5d y.0 (items-closed (take n p) w a y.0 y.1) y.1)
         (λ y. let o = item-found (take n p) (blanks (drop at (take n p))) y.2 in let z : ◌≡◌ {A = ℕ} 0 1 = cc (i, o) in absurd (omega arith)) (along-item (take n p) a)
 
-    pub members-end : {ms : Members} → Whole (take n p) (Json.object ms) → AlongMembers (take n p) at → member_at (take n p) at ≡ members.End → e ≡ n
+    pub members-end : {ms : Members} → Whole (take n p) (Json.object ms) → AlongMembers (take n p) at → member_at (take n p) at ≡ None → e ≡ n
     unfolding member_at
     members-end w a i =
         ⊎_elim (λ y. closed_at 0x7d y.0 (members-closed (take n p) w a y.0 y.1) y.1)

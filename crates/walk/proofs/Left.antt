@@ -8,20 +8,19 @@ use native.Mathlib.Decide.{dec_lt}
 use native.Mathlib.Omega.{arith}
 use lib.ListN.{length}
 use Rattle.walk.specs.declared.Item.{Item}
-use Rattle.walk.specs.declared.ItemStep.{ItemStep}
-use Rattle.walk.specs.declared.ItemStep.TheVariants as step
 use Rattle.walk.specs.Walk.{item_at, items_from, items_of}
 use Rattle.walk.specs.Part.{Whole, part_tree}
 use Rattle.walk.specs.inner.Along.{AlongItems, ItemPlaced, ItemPassed}
 use Rattle.walk.proofs.Folds.{item_steps, one_more_lem, items-end}
 use Rattle.walk.proofs.Places.{item-placed}
 use Rattle.walk.proofs.Parts.{item_of, item-whole}
+use Rattle.std.specs.Prelude.{Option, Some, None}
 
-module _ {p : List ℕ} {at : ℕ} {s : ItemStep} (f : ItemPassed p at s) where
+module _ {p : List ℕ} {at : ℕ} {s : Option Item} (f : ItemPassed p at s) where
   -- behind the last byte nothing is found
-  behind : length p ≤ at → (o : ItemStep) → ((m : Item) → o ≡ step.Found m → ItemPlaced p at m) → o ≡ step.End
-  behind n step.End g = refl
-  behind n (step.Found m) g = let k = g m refl in absurd (omega (arith, k.later, k.value, k.next, k.inside))
+  behind : length p ≤ at → (o : Option Item) → ((m : Item) → o ≡ Some m → ItemPlaced p at m) → o ≡ None
+  behind n None g = refl
+  behind n (Some m) g = let k = g m refl in absurd (omega (arith, k.later, k.value, k.next, k.inside))
 
   pub passed_read : (at < length p → AlongItems p at) → s ≡ item_at p at
   passed_read a = go (dec_lt at (length p))
@@ -31,7 +30,7 @@ module _ {p : List ℕ} {at : ℕ} {s : ItemStep} (f : ItemPassed p at s) where
       go (no n) = let i : length p ≤ at = omega (arith, n) in behind i s f.placed ∙ sym (behind i (item_at p at) (item-placed p at))
 
   -- a step goes on
-  pub nearer : {m : Item} → s ≡ step.Found m → length p - m.next < length p - at
+  pub nearer : {m : Item} → s ≡ Some m → length p - m.next < length p - at
   nearer {m} e = let k = f.placed m e in omega (arith, k.later, k.value, k.next, k.inside)
 
 -- ms are the items of p from `at` on
@@ -52,12 +51,12 @@ pub left-start : {p : List ℕ} → (0 < length p → AlongItems p 1) → Left p
 unfolding items_of
 left-start {p} a = record { along = λ h. a (omega arith); most = length p; enough = omega arith; are = refl; among = λ m i. i }
 
-module _ {p : List ℕ} {at : ℕ} {ms : List Item} (w : Left p at ms) {s : ItemStep} (f : ItemPassed p at s) where
-  pub left_end : s ≡ step.End → ms ≡ []
+module _ {p : List ℕ} {at : ℕ} {ms : List Item} (w : Left p at ms) {s : Option Item} (f : ItemPassed p at s) where
+  pub left_end : s ≡ None → ms ≡ []
   left_end e = sym w.are ∙ items-end p w.most at (sym (passed_read f w.along) ∙ e)
 
-  module _ {m : Item} (e : s ≡ step.Found m) where
-    pub left-found : item_at p at ≡ step.Found m
+  module _ {m : Item} (e : s ≡ Some m) where
+    pub left-found : item_at p at ≡ Some m
     left-found = sym (passed_read f w.along) ∙ e
 
     pub left-whole : Whole (item_of p m) (part_tree (item_of p m))
@@ -92,11 +91,11 @@ pub record Comes {R : Type 0} (p : List ℕ) (comes : List Item → R) (at : ℕ
 pub comes_start : {R : Type 0} {p : List ℕ} (comes : List Item → R) → (0 < length p → AlongItems p 1) → Comes p comes 1 (comes (items_of p))
 comes_start comes a = record { items = _; left = left-start a; makes = refl }
 
-module _ {R : Type 0} {p : List ℕ} {comes : List Item → R} {at : ℕ} {r : R} (w : Comes p comes at r) {s : ItemStep} (f : ItemPassed p at s) where
-  pub comes_end : s ≡ step.End → comes [] ≡ r
+module _ {R : Type 0} {p : List ℕ} {comes : List Item → R} {at : ℕ} {r : R} (w : Comes p comes at r) {s : Option Item} (f : ItemPassed p at s) where
+  pub comes_end : s ≡ None → comes [] ≡ r
   comes_end e = ap comes (sym (left_end w.left f e)) ∙ w.makes
 
-  module _ {m : Item} (e : s ≡ step.Found m) where
+  module _ {m : Item} (e : s ≡ Some m) where
     pub comes_here : {b : R} → ((l : List Item) → comes (m ∷ l) ≡ b) → b ≡ r
     comes_here t = let o = left-more w.left f e in sym (t o.rest) ∙ ap comes (sym o.is) ∙ w.makes
 

@@ -8,7 +8,6 @@ pub mod Runs
 pub mod Places
 pub mod Finding
 pub mod Ends
-pub mod FirstByte
 pub mod Folds
 pub mod Wholes
 pub mod Parts
@@ -21,3 +20,4 @@ pub mod Tails
 pub mod Memberless
 pub mod Open
 pub mod Fronts
+pub mod Tests

@@ -3,14 +3,14 @@
 use mathlib.Core.Bool.{Bool, true, false}
 use mathlib.Core.List.{List, [], ◌∷◌}
 use mathlib.Core.Path.{◌≡◌, refl, sym, ap, ap₂, ◌∙◌}
-use Prim.Native.Nat.{ℕ, zero, suc, ◌+◌, ◌*◌, ◌/◌, ◌%◌, ◌^◌, ◌<◌, ◌≤◌}
-use native.Mathlib.Nat.{zero-add, suc-add, mul_assoc, pow-suc, mul-mod_left, mul-div_cancel, zero-lt-suc}
+use Prim.Native.Nat.{ℕ, zero, suc, ◌+◌, ◌*◌, ◌/◌, ◌%◌, ◌<◌, ◌≤◌}
+use native.Mathlib.Nat.{mul-mod_left, mul-div_cancel, zero-lt-suc}
 use native.Mathlib.Omega.{arith}
 use lib.Bits.{bit_and, bit_or, bit_xor, and_block, or_block, xor_block, and_le_r, and_lt, or_lt, xor_lt}
 use lib.Count.{count_trailing_zeros}
 use lib.Dec.{eqb}
 use lib.ListN.{length, take, drop, get_or, length-take, length-drop}
-use lib.Seq.{get_or-drop, drop-drop}
+use lib.Seq.{get_or-drop}
 use borrow.Author.Tests.{eqb-true}
 use Rattle.notation.specs.Choice.{◌⇒◌else◌}
 use Rattle.notation.proofs.Booleans.{by_test}
@@ -35,31 +35,19 @@ bytes-at k s at h = bytes-front k (drop at s) (λ i. rw get_or-drop (h (at + i))
 one_more_lem : (k : ℕ) (s : List ℕ) (at next : ℕ) → at < length s → at + 1 ≡ next → take (suc k) (drop at s) ≡ get_or s at 0 ∷ take k (drop next s)
 one_more_lem k s at next h e = ap (take (suc k)) (at_cons s at h) ∙ ap (λ (i : ℕ). get_or s at 0 ∷ take k (drop i s)) e
 
-pub four-at : (s : List ℕ) (at : ℕ) → at + 4 ≤ length s
-    → packed (take 4 (drop at s)) ≡ get_or s at 0 + get_or s (at + 1) 0 * 256 + get_or s (at + 2) 0 * 65536 + get_or s (at + 3) 0 * 16777216
+pub eight-at : (s : List ℕ) (at : ℕ) → at + 8 ≤ length s
+    → packed (take 8 (drop at s)) ≡ get_or s at 0 + get_or s (at + 1) 0 * 256 + get_or s (at + 2) 0 * 65536 + get_or s (at + 3) 0 * 16777216
+    + get_or s (at + 4) 0 * 4294967296 + get_or s (at + 5) 0 * 1099511627776 + get_or s (at + 6) 0 * 281474976710656 + get_or s (at + 7) 0 * 72057594037927936
 unfolding packed
-four-at s at h =
-    ap packed (one_more_lem 3 s at (at + 1) (omega arith) refl
-    ∙ ap (λ (l : List ℕ). get_or s at 0 ∷ l) (one_more_lem 2 s (at + 1) (at + 2) (omega arith) (omega arith)
-    ∙ ap (λ (l : List ℕ). get_or s (at + 1) 0 ∷ l) (one_more_lem 1 s (at + 2) (at + 3) (omega arith) (omega arith)
-    ∙ ap (λ (l : List ℕ). get_or s (at + 2) 0 ∷ l) (one_more_lem 0 s (at + 3) (at + 4) (omega arith) (omega arith))))) ∙ omega arith
-
--- the first k bytes count least
-halves : (k : ℕ) (l : List ℕ) → k ≤ length l → (n : ℕ) → packed (take (k + n) l) ≡ packed (take k l) + packed (take n (drop k l)) * 256 ^ k
-unfolding packed
-halves zero l h n = rw zero-add (omega arith)
-halves (suc k) [] h n = absurd (omega arith)
-halves (suc k) (b ∷ l) h n =
-    let ih : packed (take (k + n) l) ≡ packed (take k l) + packed (take n (drop k l)) * 256 ^ k = halves k l (omega arith) n in
-    rw (suc-add k n, ih, pow-suc 256 k) (shifted (packed (take k l)) (packed (take n (drop k l))) (256 ^ k))
-  where
-    shifted : (x y p : ℕ) → (x + y * p) * 256 + b ≡ x * 256 + b + y * (p * 256)
-    shifted x y p = rw (← mul_assoc y p 256) (omega arith)
-
-pub eight-at : (s : List ℕ) (at : ℕ) → at + 8 ≤ length s → packed (take 8 (drop at s)) ≡ packed (take 4 (drop at s)) + packed (take 4 (drop (at + 4) s)) * 4294967296
 eight-at s at h =
-    halves 4 (drop at s) (omega (arith, length-drop at s)) 4
-    ∙ ap (λ (l : List ℕ). packed (take 4 (drop at s)) + packed (take 4 l) * 4294967296) (drop-drop 4 at s)
+    ap packed (one_more_lem 7 s at (at + 1) (omega arith) refl
+    ∙ ap (λ (l : List ℕ). get_or s at 0 ∷ l) (one_more_lem 6 s (at + 1) (at + 2) (omega arith) (omega arith)
+    ∙ ap (λ (l : List ℕ). get_or s (at + 1) 0 ∷ l) (one_more_lem 5 s (at + 2) (at + 3) (omega arith) (omega arith)
+    ∙ ap (λ (l : List ℕ). get_or s (at + 2) 0 ∷ l) (one_more_lem 4 s (at + 3) (at + 4) (omega arith) (omega arith)
+    ∙ ap (λ (l : List ℕ). get_or s (at + 3) 0 ∷ l) (one_more_lem 3 s (at + 4) (at + 5) (omega arith) (omega arith)
+    ∙ ap (λ (l : List ℕ). get_or s (at + 4) 0 ∷ l) (one_more_lem 2 s (at + 5) (at + 6) (omega arith) (omega arith)
+    ∙ ap (λ (l : List ℕ). get_or s (at + 5) 0 ∷ l) (one_more_lem 1 s (at + 6) (at + 7) (omega arith) (omega arith)
+    ∙ ap (λ (l : List ℕ). get_or s (at + 6) 0 ∷ l) (one_more_lem 0 s (at + 7) (at + 8) (omega arith) (omega arith))))))))) ∙ omega arith
 
 -- k bytes of c
 abbrev each : ℕ → ℕ → ℕ

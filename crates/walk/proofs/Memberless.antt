@@ -27,7 +27,6 @@ use Rattle.json_text.specs.Tree.{Json, Members}
 use Rattle.json_text.specs.Text.{expect, value}
 use Rattle.json_text.proofs.Steps.{expect-end, expect-here, expect-other}
 use Rattle.json_text.proofs.Spellings.{expect-done}
-use Rattle.walk.specs.declared.MemberStep.TheVariants as members
 use Rattle.walk.specs.declared.ValueKind.TheVariants as kind
 use Rattle.walk.specs.Walk.{member_at, members_of}
 use Rattle.walk.specs.Part.{Whole, kind_of}
@@ -40,17 +39,18 @@ use Rattle.walk.proofs.Steps.{member_unnamed, member-from}
 use Rattle.walk.proofs.Folds.{member_steps}
 use Rattle.walk.proofs.Wholes.{whole-kind, whole-null, whole_word, number_read, string-read}
 use Rattle.walk.proofs.Along.{along-item}
+use Rattle.std.specs.Prelude.{None}
 
 -- what begins with another byte than a quotation mark begins no member
-unmarked : (p : List ℕ) (c : ℕ) (m : List ℕ) → blanks (drop 1 p) ≡ c ∷ m → eqb c 0x22 ≡ false → member_at p 1 ≡ members.End
+unmarked : (p : List ℕ) (c : ℕ) (m : List ℕ) → blanks (drop 1 p) ≡ c ∷ m → eqb c 0x22 ≡ false → member_at p 1 ≡ None
 unfolding member_at
 unmarked p c m e h = member_unnamed p (blanks (drop 1 p)) (ap (expect 0x22 (Strings.string paired 0)) e ∙ expect-other 0x22 _ c m h)
 
-unbegun : (p : List ℕ) → blanks (drop 1 p) ≡ [] → member_at p 1 ≡ members.End
+unbegun : (p : List ℕ) → blanks (drop 1 p) ≡ [] → member_at p 1 ≡ None
 unfolding member_at
 unbegun p e = member_unnamed p (blanks (drop 1 p)) (ap (expect 0x22 (Strings.string paired 0)) e ∙ expect-end 0x22 _)
 
-second : (p : List ℕ) (c : ℕ) (m : List ℕ) → drop 1 p ≡ c ∷ m → blank c ≡ false → eqb c 0x22 ≡ false → member_at p 1 ≡ members.End
+second : (p : List ℕ) (c : ℕ) (m : List ℕ) → drop 1 p ≡ c ∷ m → blank c ≡ false → eqb c 0x22 ≡ false → member_at p 1 ≡ None
 second p c m e b h = unmarked p c m (ap blanks e ∙ blanks_stop c m b) h
 
 -- the second byte of a number goes on with it: a digit is a number by itself, and behind a minus stands one
@@ -91,7 +91,7 @@ number-next : (c : ℕ) → numeric c ≡ true → (blank c ≡ false) × (eqb c
 unfolding numeric digit within either
 number-next c h = (by_test (blank c) (λ t. true-false h (blank_stops c t)) (λ t. t), apart numeric 0x22 refl c h)
 
-numberless : (p s : List ℕ) → number p ≡ done s [] → member_at p 1 ≡ members.End
+numberless : (p s : List ℕ) → number p ≡ done s [] → member_at p 1 ≡ None
 unfolding blanks
 numberless [] s e = unbegun [] refl
 numberless (b ∷ []) s e = unbegun (b ∷ []) refl
@@ -106,11 +106,11 @@ quoted-blanks (b ∷ l) =
     by_test (blank b) (λ h. quoted_itself l b (itself blank refl refl b h) ∙ ih ∙ ap (quoted false) (sym (blanks_pass b l h)))
     (λ h. ap (quoted false) (sym (blanks_stop b l h)))
 
-stringless : (p y : List ℕ) → Strings.string paired 0 (drop 1 p) ≡ done y [] → member_at p 1 ≡ members.End
+stringless : (p y : List ℕ) → Strings.string paired 0 (drop 1 p) ≡ done y [] → member_at p 1 ≡ None
 unfolding member_at
 stringless p y e = go (blanks (drop 1 p)) refl
   where
-    go : (l : List ℕ) → blanks (drop 1 p) ≡ l → member_at p 1 ≡ members.End
+    go : (l : List ℕ) → blanks (drop 1 p) ≡ l → member_at p 1 ≡ None
     go [] h = unbegun p h
     go (b ∷ m) h =
         by_test (eqb b 0x22)
@@ -122,7 +122,7 @@ stringless p y e = go (blanks (drop 1 p)) refl
         (λ t. unmarked p b m h t)
 
 -- an item that is a string ends where a member's name would, and no colon follows it
-itemless : (p : List ℕ) → AlongItems p 1 → member_at p 1 ≡ members.End
+itemless : (p : List ℕ) → AlongItems p 1 → member_at p 1 ≡ None
 unfolding member_at start either
 itemless p a =
     ⊎_elim (λ y. unmarked p 0x5d y.0 y.1 refl)
@@ -166,7 +166,7 @@ first-object {p} {x} w e = go x (sym (whole-kind w) ∙ ap (λ (b : ℕ). kind_f
     go (Json.array is) h = let z : ◌≡◌ {A = ℕ} 0 1 = cc in absurd (omega arith)
 
 -- The law.
-memberless : (p : List ℕ) (x : Json) → Whole p x → (byte p 0 ≡ 0x7b → ⊥) → member_at p 1 ≡ members.End
+memberless : (p : List ℕ) (x : Json) → Whole p x → (byte p 0 ≡ 0x7b → ⊥) → member_at p 1 ≡ None
 unfolding blank either
 memberless p Json.null w n = second p 0x75 _ (ap (drop 1) (whole-null w)) refl refl
 memberless p (Json.boolean true) w n = second p 0x72 _ (ap (drop 1) (whole_word w)) refl refl

@@ -16,7 +16,7 @@ use Rattle.lexeme.specs.Read.Read.{done}
 use Rattle.lexeme.specs.Character.{paired}
 use Rattle.lexeme.specs.Strings
 use Rattle.lexeme.specs.Tokens.{blanks}
-use Rattle.lexeme.proofs.Reading.{Ok, alike, StrongPrefix}
+use Rattle.lexeme.proofs.Reading.{Settled, alike, StrongPrefix}
 use Rattle.lexeme.proofs.Shrinks.{blanks_shrinks}
 use Rattle.lexeme.proofs.StrongPrefixes.{blanks-of, solid-first, string_takes}
 use Rattle.json_text.specs.Tree.{Json, Items}
@@ -24,8 +24,6 @@ use Rattle.json_text.specs.Text.{expect, value}
 use Rattle.json_text.proofs.StrongPrefixes.{blanks_takes, expect_takes, value_consumes, value_takes}
 use Rattle.json_text.proofs.Spellings.{expect-done}
 use Rattle.walk.specs.declared.Item.{Item}
-use Rattle.walk.specs.declared.MemberStep.TheVariants as members
-use Rattle.walk.specs.declared.ItemStep.TheVariants as items
 use Rattle.walk.specs.Walk.{offset_of, part, onward, member_in, member_at, item_in, item_at, items_from, items_of}
 use Rattle.walk.specs.Part.{Whole}
 use Rattle.walk.specs.inner.Along.{AlongItems, AlongMembers}
@@ -36,6 +34,7 @@ use Rattle.walk.proofs.Folds.{each, one_more_lem, item_steps, items-end}
 use Rattle.walk.proofs.Parts.{item_of}
 use Rattle.walk.proofs.Trees.{item_stops, member_stops}
 use Rattle.walk.proofs.Along.{along-item, along-member}
+use Rattle.std.specs.Prelude.{Some}
 
 -- with t behind it: blanks, what is read up to more text, and places
 module _ (t : List ℕ) where
@@ -52,12 +51,12 @@ module _ (t : List ℕ) where
       go [] e = absurd (omega (arith, ap length e))
       go (b ∷ r) e = blanks-on m b r e ∙ ap (λ (l : List ℕ). l ++ t) (sym e)
 
-  goes_on : (r : List ℕ) {b : ℕ} {w : List ℕ} → blanks r ≡ b ∷ w → Ok r (r ++ t)
+  goes_on : (r : List ℕ) {b : ℕ} {w : List ℕ} → blanks r ≡ b ∷ w → Settled r (r ++ t)
   unfolding blanks
   goes_on [] e = no_cons e
   goes_on (c ∷ r) e = alike
 
-  read-on : {A : Type 0} (f : List ℕ → Read A) → StrongPrefix Ok f → (l r : List ℕ) (x : A) {b : ℕ} {w : List ℕ} → f l ≡ done x r → blanks r ≡ b ∷ w
+  read-on : {A : Type 0} (f : List ℕ → Read A) → StrongPrefix Settled f → (l r : List ℕ) (x : A) {b : ℕ} {w : List ℕ} → f l ≡ done x r → blanks r ≡ b ∷ w
       → f (l ++ t) ≡ done x (r ++ t)
   read-on f takes l r x e h =
       let k = takes l r x e in
@@ -126,7 +125,7 @@ module _ (q t : List ℕ) where
       let v = read-on t (value paired depth) (value_takes paired depth) l r y.0 y.2 y.3.there in
       ap (item_in (q ++ t)) e ∙ item-found (q ++ t) (l ++ t) v ∙ same l r y.3.by y.3.behind y.3.there ∙ sym (item-found q l y.2)) (along-item q a)
     where
-      same : (l r : List ℕ) (b : ℕ) (w : List ℕ) → blanks r ≡ b ∷ w → items.Found (step.item_of (q ++ t) (l ++ t) (r ++ t)) ≡ items.Found (step.item_of q l r)
+      same : (l r : List ℕ) (b : ℕ) (w : List ℕ) → blanks r ≡ b ∷ w → Some (step.item_of (q ++ t) (l ++ t) (r ++ t)) ≡ Some (step.item_of q l r)
       same l r b w f = let a = place-on t q l in let e = place-on t q r in let g = onward-on t q r b w f in rw (a, e, g)
 
   member-on : {at : ℕ} → AlongMembers q at → member_at (q ++ t) at ≡ member_at q at
@@ -137,7 +136,7 @@ module _ (q t : List ℕ) where
       let l = blanks (drop at q) in
       let some : 0 < length l = omega (arith, ap length (expect-done 0x22 (Strings.string paired 0) l y.2 y.0 y.4.named).1) in
       ap (member_in (q ++ t)) (front-on at some) ∙ member-found (q ++ t) (l ++ t) (reads_on t y.4 y.5.there)
-      ∙ ap members.Found (member_as t y.4 y.5.there q) ∙ sym (member-found q l y.4)) (along-member q a)
+      ∙ ap Some (member_as t y.4 y.5.there q) ∙ sym (member-found q l y.4)) (along-member q a)
 
   -- an array or object at the front of q is at the front of the longer text
   front-taken : (n : ℕ) → take (length (take n q)) (q ++ t) ≡ take n q

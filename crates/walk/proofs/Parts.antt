@@ -16,13 +16,12 @@ use Rattle.json_text.specs.Text.{value}
 use Rattle.json_text.proofs.Local.{value-part}
 use Rattle.walk.specs.declared.Member.{Member}
 use Rattle.walk.specs.declared.Item.{Item}
-use Rattle.walk.specs.declared.MemberStep.TheVariants as members
-use Rattle.walk.specs.declared.ItemStep.TheVariants as items
 use Rattle.walk.specs.Walk.{part, member_at, item_at, items_of}
 use Rattle.walk.specs.Part.{Whole, part_tree}
 use Rattle.walk.proofs.Places.{Spelt, ItemSpelt, found-member, found-item}
 use Rattle.walk.proofs.Folds.{each, item_steps}
 use Rattle.walk.proofs.Wholes.{whole-tree}
+use Rattle.std.specs.Prelude.{Some}
 
 -- the parts of p that a member or item tells
 module _ (p : List ℕ) where
@@ -63,10 +62,10 @@ module _ {p : List ℕ} {at : ℕ} {m : Item} {x : Json} (s : ItemSpelt p at m x
 
 -- whatever a step found
 module _ (p : List ℕ) where
-  pub member-whole : (at : ℕ) (m : Member) → member_at p at ≡ members.Found m → Whole (value_of p m) (part_tree (value_of p m))
+  pub member-whole : (at : ℕ) (m : Member) → member_at p at ≡ Some m → Whole (value_of p m) (part_tree (value_of p m))
   member-whole at m e = let f = found-member p at m e in subst (Whole (value_of p m)) (sym (spelt_tree f.spelt)) (spelt_value f.spelt)
 
-  pub item-whole : (at : ℕ) (m : Item) → item_at p at ≡ items.Found m → Whole (item_of p m) (part_tree (item_of p m))
+  pub item-whole : (at : ℕ) (m : Item) → item_at p at ≡ Some m → Whole (item_of p m) (part_tree (item_of p m))
   item-whole at m e = let f = found-item p at m e in subst (Whole (item_of p m)) (sym (item-tree f.spelt)) (item-value f.spelt)
 
   pub items-whole : (m : Item) → Memᴰ m (items_of p) → Whole (item_of p m) (part_tree (item_of p m))

@@ -27,10 +27,6 @@ use Rattle.json_text.proofs.Spellings.{expect-done}
 use Rattle.walk.specs.declared.Member.{Member}
 use Rattle.walk.specs.declared.Item.{Item}
 use Rattle.walk.specs.declared.Named.{Named}
-use Rattle.walk.specs.declared.NameStep.TheVariants as names
-use Rattle.walk.specs.declared.MemberStep.{MemberStep}
-use Rattle.walk.specs.declared.MemberStep.TheVariants as members
-use Rattle.walk.specs.declared.ItemStep.TheVariants as items
 use Rattle.walk.specs.Walk.{offset_of, onward, member_at}
 use Rattle.walk.specs.inner.Skip.{quoted, skipped}
 use Rattle.walk.specs.inner.Along.{Placed, NamePlaced, ItemPlaced, ItemPassed, MemberPassed, front_of, NamePassed}
@@ -43,6 +39,7 @@ use Rattle.walk.proofs.Ends.{Ended}
 use Rattle.walk.proofs.Finding.{item-there, member-here, member_colonless, member-there}
 use Rattle.walk.proofs.Trees.{item_stops, member_stops}
 use Rattle.walk.proofs.Along.{along-item, along-member}
+use Rattle.std.specs.Prelude.{Option, Some, None}
 
 -- the place after an element that ends at e
 pub placed-next : (p : List ℕ) (e n : ℕ) → e ≤ length p → n ≡ onward p (blanks (drop e p)) → (e ≤ n) × (n ≤ length p)
@@ -56,13 +53,13 @@ pub from_at : (p : List ℕ) (at i : ℕ) → Skipped p at i → i < length p �
 from_at p at i k h = omega (arith, ap length k.rest, blanks_shrinks (drop at p), length-drop at p, length-drop i p)
 
 -- what is found is placed where it was put
-item_as : (p : List ℕ) (at : ℕ) {r : Item} (m : Item) → items.Found r ≡ items.Found m → ItemPlaced p at r → ItemPlaced p at m
+item_as : (p : List ℕ) (at : ℕ) {r : Item} (m : Item) → Some r ≡ Some m → ItemPlaced p at r → ItemPlaced p at m
 item_as p at {r} m e h = let same : r ≡ m = cc in subst (ItemPlaced p at) same h
 
-name_as : (p : List ℕ) (at : ℕ) {r : Named} (m : Named) → names.Found r ≡ names.Found m → NamePlaced p at r → NamePlaced p at m
+name_as : (p : List ℕ) (at : ℕ) {r : Named} (m : Named) → Some r ≡ Some m → NamePlaced p at r → NamePlaced p at m
 name_as p at {r} m e h = let same : r ≡ m = cc in subst (NamePlaced p at) same h
 
-member_as : (p : List ℕ) (at : ℕ) {r : Member} (m : Member) → members.Found r ≡ members.Found m → Placed p at r → Placed p at m
+member_as : (p : List ℕ) (at : ℕ) {r : Member} (m : Member) → Some r ≡ Some m → Placed p at r → Placed p at m
 member_as p at {r} m e h = let same : r ≡ m = cc in subst (Placed p at) same h
 
 -- a value that is read at i and skipped to e
@@ -91,7 +88,7 @@ skips_none p i e c q o h v k =
     v ∙ ap (offset_of p) (skipped-none (drop i p) (ap (λ (l : List ℕ). start (byte l 0)) h ∙ o)) ∙ sym (place_at p i k)
 
 module _ (p : List ℕ) (at i : ℕ) (k : Skipped p at i) (e : ℕ) (v : e ≡ length p - length (skipped (drop i p))) where
-  pub item_unpassed : e ≤ i → ItemPassed p at items.End
+  pub item_unpassed : e ≤ i → ItemPassed p at None
   item_unpassed h =
       record {
         placed = λ m c. let z : ◌≡◌ {A = ℕ} 0 1 = cc in absurd (omega arith);
@@ -100,7 +97,7 @@ module _ (p : List ℕ) (at i : ℕ) (k : Skipped p at i) (e : ℕ) (v : e ≡ l
             (λ y. absurd (omega (arith, read-later p i e v y.0 y.1 (ap (value paired depth) k.rest ∙ y.2)))) (along-item p a);
       }
 
-  pub item_passed : i < e → (n : ℕ) → n ≡ onward p (blanks (drop e p)) → ItemPassed p at (items.Found (record { value = i; value_end = e; next = n }))
+  pub item_passed : i < e → (n : ℕ) → n ≡ onward p (blanks (drop e p)) → ItemPassed p at (Some (record { value = i; value_end = e; next = n }))
   unfolding start digit within
   item_passed h n j =
       let upto : e ≤ length p = omega arith in
@@ -114,17 +111,17 @@ module _ (p : List ℕ) (at i : ℕ) (k : Skipped p at i) (e : ℕ) (v : e ≡ l
       }
 
 -- the front of a member, and back from it to what was found
-pub front-end : (o : MemberStep) → names.End ≡ front_of o → members.End ≡ o
-front-end members.End e = refl
-front-end (members.Found m) e = let z : ◌≡◌ {A = ℕ} 0 1 = cc in absurd (omega arith)
+pub front-end : (o : Option Member) → None ≡ front_of o → None ≡ o
+front-end None e = refl
+front-end (Some m) e = let z : ◌≡◌ {A = ℕ} 0 1 = cc in absurd (omega arith)
 
-pub front-found : (o : MemberStep) (n : Named) → names.Found n ≡ front_of o
-    → (m : Member) × (o ≡ members.Found m) × (n ≡ record { name = m.name; name_end = m.name_end; value = m.value })
-front-found members.End n e = let z : ◌≡◌ {A = ℕ} 0 1 = cc in absurd (omega arith)
-front-found (members.Found m) n e = (m, refl, cc)
+pub front-found : (o : Option Member) (n : Named) → Some n ≡ front_of o
+    → (m : Member) × (o ≡ Some m) × (n ≡ record { name = m.name; name_end = m.name_end; value = m.value })
+front-found None n e = let z : ◌≡◌ {A = ℕ} 0 1 = cc in absurd (omega arith)
+front-found (Some m) n e = (m, refl, cc)
 
 module _ (p : List ℕ) (at i : ℕ) (k : Skipped p at i) where
-  pub name-unmarked : (byte (drop i p) 0 ≡ 0x22 → ⊥) → NamePassed p at names.End
+  pub name-unmarked : (byte (drop i p) 0 ≡ 0x22 → ⊥) → NamePassed p at None
   name-unmarked n =
       record {
         placed = λ m c. let z : ◌≡◌ {A = ℕ} 0 1 = cc in absurd (omega arith);
@@ -157,7 +154,7 @@ module _ (p : List ℕ) (at i : ℕ) (k : Skipped p at i) where
           let (m, h, f) = expect-done 0x3a (λ r. value paired depth (blanks r)) (blanks q) t x r.valued in
           ap (value paired depth) (u.rest ∙ ap blanks (sym (next-drop p c) ∙ ap (drop 1) (w.rest ∙ ap blanks after-name ∙ h))) ∙ f
 
-    pub name_uncoloned : (byte (drop c p) 0 ≡ 0x3a → ⊥) → NamePassed p at names.End
+    pub name_uncoloned : (byte (drop c p) 0 ≡ 0x3a → ⊥) → NamePassed p at None
     name_uncoloned n =
         record {
           placed = λ m h. let z : ◌≡◌ {A = ℕ} 0 1 = cc in absurd (omega arith);
@@ -166,7 +163,7 @@ module _ (p : List ℕ) (at i : ℕ) (k : Skipped p at i) where
         }
 
     pub name_passed : (s : ℕ) → Skipped p (c + 1) s → byte (drop i p) 0 ≡ 0x22 → byte (drop c p) 0 ≡ 0x3a
-        → NamePassed p at (names.Found (record { name = i + 1; name_end = j - 1; value = s }))
+        → NamePassed p at (Some (record { name = i + 1; name_end = j - 1; value = s }))
     name_passed s u quote colon =
         let here : i < length p = equal-inside 0x22 refl p i quote in
         let there : c < length p = equal-inside 0x3a refl p c colon in
@@ -186,25 +183,25 @@ module _ (p : List ℕ) (at i : ℕ) (k : Skipped p at i) where
         }
 
 -- a member from its front on
-pub member-absent : (p : List ℕ) (at : ℕ) → NamePassed p at names.End → MemberPassed p at members.End
+pub member-absent : (p : List ℕ) (at : ℕ) → NamePassed p at None → MemberPassed p at None
 member-absent p at f =
     record { placed = λ m c. let z : ◌≡◌ {A = ℕ} 0 1 = cc in absurd (omega arith); same = λ a. front-end (member_at p at) (f.same a) }
 
 -- where the value of a member that is found was read
-module _ (p : List ℕ) (at : ℕ) (m : Member) (f : member_at p at ≡ members.Found m) where
+module _ (p : List ℕ) (at : ℕ) (m : Member) (f : member_at p at ≡ Some m) where
   value_read : (x : Json) × (value paired depth (drop m.value p) ≡ done x (drop m.value_end p))
   value_read = let s = found-member p at m f in (s.tree, s.spelt.reads)
 
 pub member_is : (n : Named) (e next : ℕ) (m : Member) → n ≡ record { name = m.name; name_end = m.name_end; value = m.value } → e ≡ m.value_end → next ≡ m.next
-    → members.Found (record { name = n.name; name_end = n.name_end; value = n.value; value_end = e; next = next }) ≡ members.Found m
+    → Some (record { name = n.name; name_end = n.name_end; value = n.value; value_end = e; next = next }) ≡ Some m
 member_is n e next m j ends on =
     let one : n.name ≡ m.name = ap (λ (k : Named). k.name) j in
     let two : n.name_end ≡ m.name_end = ap (λ (k : Named). k.name_end) j in
     let three : n.value ≡ m.value = ap (λ (k : Named). k.value) j in
     rw (one, two, three, ends, on)
 
-module _ (p : List ℕ) (n : Named) (e : ℕ) (v : e ≡ length p - length (skipped (drop n.value p))) (at : ℕ) (f : NamePassed p at (names.Found n)) where
-  pub member_unpassed : e ≤ n.value → MemberPassed p at members.End
+module _ (p : List ℕ) (n : Named) (e : ℕ) (v : e ≡ length p - length (skipped (drop n.value p))) (at : ℕ) (f : NamePassed p at (Some n)) where
+  pub member_unpassed : e ≤ n.value → MemberPassed p at None
   member_unpassed h =
       record {
         placed = λ m c. let z : ◌≡◌ {A = ℕ} 0 1 = cc in absurd (omega arith);
@@ -215,7 +212,7 @@ module _ (p : List ℕ) (n : Named) (e : ℕ) (v : e ≡ length p - length (skip
       }
 
   pub member_passed : n.value < e → (next : ℕ) → next ≡ onward p (blanks (drop e p))
-      → MemberPassed p at (members.Found (record { name = n.name; name_end = n.name_end; value = n.value; value_end = e; next = next }))
+      → MemberPassed p at (Some (record { name = n.name; name_end = n.name_end; value = n.value; value_end = e; next = next }))
   member_passed h next z =
       let upto : e ≤ length p = omega arith in
       let o = placed-next p e next upto z in

@@ -20,12 +20,11 @@ use Rattle.json_text.proofs.StrongPrefixes.{blanks_takes, expect_takes, value_co
 use Rattle.json_text.proofs.Spellings.{expect-done}
 use Rattle.walk.specs.declared.Member.{Member}
 use Rattle.walk.specs.declared.Item.{Item}
-use Rattle.walk.specs.declared.MemberStep.TheVariants as members
-use Rattle.walk.specs.declared.ItemStep.TheVariants as items
 use Rattle.walk.specs.Walk.{offset_of, onward, member_at, item_at}
 pub use Rattle.walk.specs.inner.Along.{Placed, ItemPlaced}
 use Rattle.walk.proofs.Rests.{Rest, rest-drop, rest-next, rest-blanks, rest_read, rest-inside, rest-there}
 use Rattle.walk.proofs.Steps.{onward-end, onward-comma, onward-other, Reads, member_of, item_of, member-from, item_from}
+use Rattle.std.specs.Prelude.{Some}
 
 -- what stands at the places of a member
 pub record Spelt (p : List ℕ) (at : ℕ) (m : Member) (text : List ℕ) (x : Json) : Type 0 where
@@ -113,26 +112,26 @@ module _ (p : List ℕ) (at : ℕ) where
     pub tree : Json
     pub spelt : ItemSpelt p at m tree
 
-  pub found-member : (m : Member) → member_at p at ≡ members.Found m → FoundMember m
+  pub found-member : (m : Member) → member_at p at ≡ Some m → FoundMember m
   unfolding member_at
   found-member m e =
       let f = member-from p (blanks (drop at p)) m e in
       record { text = f.name; tree = f.tree; spelt = subst (λ (z : Member). Spelt p at z f.name f.tree) (sym f.is) (member_spelt f.reads) }
 
-  pub found-item : (m : Item) → item_at p at ≡ items.Found m → FoundItem m
+  pub found-item : (m : Item) → item_at p at ≡ Some m → FoundItem m
   unfolding item_at
   found-item m e =
       let f = item_from p (blanks (drop at p)) m e in
       record { tree = f.tree; spelt = subst (λ (z : Item). ItemSpelt p at z f.tree) (sym f.is) (item_spelt f.reads) }
 
-  pub member-placed : (m : Member) → member_at p at ≡ members.Found m → Placed p at m
+  pub member-placed : (m : Member) → member_at p at ≡ Some m → Placed p at m
   member-placed m e = (found-member m e).spelt.placed
 
-  pub item-placed : (m : Item) → item_at p at ≡ items.Found m → ItemPlaced p at m
+  pub item-placed : (m : Item) → item_at p at ≡ Some m → ItemPlaced p at m
   item-placed m e = (found-item m e).spelt.placed
 
   -- the next member is looked for behind the value
-  pub next-found : (m : Member) → member_at p at ≡ members.Found m → m.next ≡ onward p (blanks (drop m.value_end p))
+  pub next-found : (m : Member) → member_at p at ≡ Some m → m.next ≡ onward p (blanks (drop m.value_end p))
   unfolding member_at
   next-found m e =
       let f = member-from p (blanks (drop at p)) m e in

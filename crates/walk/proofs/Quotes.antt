@@ -13,10 +13,6 @@ use Rattle.notation.proofs.Booleans.{by_test, true-false}
 use Rattle.notation.proofs.Lists.{at_cons}
 use Rattle.lexeme.specs.declared.Next.{Next}
 use Rattle.lexeme.specs.declared.Next.TheVariants.{Quote, Character, Fault}
-use Rattle.lexeme.specs.declared.Quad.{Quad}
-use Rattle.lexeme.specs.declared.Quad.TheVariants.{Value, Short}
-use Rattle.lexeme.specs.declared.Trail.{Trail}
-use Rattle.lexeme.specs.declared.Trail.TheVariants.{Low, Other}
 use Rattle.lexeme.specs.Read.Read.{done}
 use Rattle.lexeme.specs.Character.{paired, byte, bytes_of, within, utf2, utf3, utf4, encoded, hex_value, hexadecimal, quad, low_of, trail, combined, alone, high, unit, unicode, short, escape, next}
 use Rattle.lexeme.specs.inner.Lead.{Lead, lead, next_by}
@@ -26,6 +22,7 @@ use Rattle.lexeme.proofs.Steps.{bad-done, done-rest, made-done, string-empty, st
 use Rattle.lexeme.proofs.Local.{choice, encoded-char, quote-byte}
 use Rattle.walk.specs.inner.Skip.{quoted}
 use Rattle.lexeme.proofs.Leads.{next-by}
+use Rattle.std.specs.Prelude.{Result, Option, Ok, Err, Some, None}
 
 -- a byte that a test admits is none that the test refuses
 pub apart : (test : ℕ → Bool) (c : ℕ) → test c ≡ false → (b : ℕ) → test b ≡ true → eqb b c ≡ false
@@ -115,13 +112,13 @@ CharacterPassed l Quote = Unit {0}
 CharacterPassed l (Character x) = Passed (suc x.more) l
 CharacterPassed l (Fault k n) = Unit {0}
 
-abbrev QuadPassed : List ℕ → Quad → Type 0
-QuadPassed l (Value v) = Passed 4 l
-QuadPassed l (Short n) = Unit {0}
+abbrev QuadPassed : List ℕ → Result ℕ ℕ → Type 0
+QuadPassed l (Ok v) = Passed 4 l
+QuadPassed l (Err n) = Unit {0}
 
-abbrev TrailPassed : List ℕ → Trail → Type 0
-TrailPassed l (Low w) = Passed 6 l
-TrailPassed l Other = Unit {0}
+abbrev TrailPassed : List ℕ → Option ℕ → Type 0
+TrailPassed l (Some w) = Passed 6 l
+TrailPassed l None = Unit {0}
 
 passed_more : (m n : ℕ) (l : List ℕ) → Passed m l → Passed n (drop m l) → Passed (m + n) l
 passed_more m n l h k = h ∙ k ∙ ap (quoted false) (drop-drop n m l)
@@ -178,9 +175,9 @@ trail_passed l =
     (λ a. by_test (eqb (byte l 1) 0x75) (λ b. rw (a, b) (go a (quad (drop 2 l)) (quad_passed (drop 2 l)))) (λ b. rw (a, b) tt))
     (λ a. rw a tt)
   where
-    go : eqb (byte l 0) 0x5c ≡ true → (q : Quad) → QuadPassed (drop 2 l) q → TrailPassed l (low_of q)
-    go a (Short n) h = tt
-    go a (Value w) h = choice (TrailPassed l) (within 0xdc00 0xdfff w) (passed_more 2 4 l (escape-begins l a) h) tt
+    go : eqb (byte l 0) 0x5c ≡ true → (q : Result ℕ ℕ) → QuadPassed (drop 2 l) q → TrailPassed l (low_of q)
+    go a (Err n) h = tt
+    go a (Ok w) h = choice (TrailPassed l) (within 0xdc00 0xdfff w) (passed_more 2 4 l (escape-begins l a) h) tt
 
 -- an escape, and any character
 module _ (l : List ℕ) where
@@ -190,9 +187,9 @@ module _ (l : List ℕ) where
       by_test (within 0xdc00 0xdfff v) (λ a. rw a tt) λ a. rw a
       (by_test (within 0xd800 0xdbff v) (λ b. rw b (go (trail (drop 6 l)) (trail_passed (drop 6 l)))) λ b. rw b (encoded_passed l v 5 h))
     where
-      go : (t : Trail) → TrailPassed (drop 6 l) t → CharacterPassed l (high paired v t)
-      go Other k = tt
-      go (Low w) k = encoded_passed l (combined v w) 11 (passed_more 6 6 l h k)
+      go : (t : Option ℕ) → TrailPassed (drop 6 l) t → CharacterPassed l (high paired v t)
+      go None k = tt
+      go (Some w) k = encoded_passed l (combined v w) 11 (passed_more 6 6 l h k)
 
   escape_passed : eqb (byte l 0) 0x5c ≡ true → CharacterPassed l (escape paired l)
   unfolding escape unicode
@@ -200,9 +197,9 @@ module _ (l : List ℕ) where
       by_test (eqb (byte l 1) 0x75) (λ a. rw a (go (quad (drop 2 l)) (quad_passed (drop 2 l)))) λ a. rw a
       (choice (CharacterPassed l) (eqb (short (byte l 1)) 0) tt (escape-begins l h))
     where
-      go : (q : Quad) → QuadPassed (drop 2 l) q → CharacterPassed l (unicode paired l q)
-      go (Short n) k = tt
-      go (Value v) k = unit_passed (passed_more 2 4 l (escape-begins l h) k) v
+      go : (q : Result ℕ ℕ) → QuadPassed (drop 2 l) q → CharacterPassed l (unicode paired l q)
+      go (Err n) k = tt
+      go (Ok v) k = unit_passed (passed_more 2 4 l (escape-begins l h) k) v
 
   character_passed : CharacterPassed l (next paired l)
   unfolding next_by within

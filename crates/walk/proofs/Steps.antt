@@ -16,11 +16,8 @@ use Rattle.json_text.specs.Tree.{Json}
 use Rattle.json_text.specs.Text.{expect, value}
 use Rattle.walk.specs.declared.Member.{Member}
 use Rattle.walk.specs.declared.Item.{Item}
-use Rattle.walk.specs.declared.MemberStep.{MemberStep}
-use Rattle.walk.specs.declared.ItemStep.{ItemStep}
-use Rattle.walk.specs.declared.MemberStep.TheVariants as members
-use Rattle.walk.specs.declared.ItemStep.TheVariants as items
 use Rattle.walk.specs.Walk.{offset_of, onward, member_in, item_in}
+use Rattle.std.specs.Prelude.{Option, Some, None}
 
 -- where the next element is looked for
 module _ (p : List ℕ) {l : List ℕ} where
@@ -57,24 +54,24 @@ abbrev pub item_of : List ℕ → List ℕ → List ℕ → Item
 item_of p l t = record { value = offset_of p l; value_end = offset_of p t; next = onward p (blanks t) }
 
 module _ (p l : List ℕ) where
-  pub member_unnamed : {k : ℕ} {r : List ℕ} → expect 0x22 (Strings.string paired 0) l ≡ bad k r → member_in p l ≡ members.End
+  pub member_unnamed : {k : ℕ} {r : List ℕ} → expect 0x22 (Strings.string paired 0) l ≡ bad k r → member_in p l ≡ None
   unfolding member_in
   member_unnamed e = rw (member_in, e)
 
   pub member_unvalued : {name q r : List ℕ} {k : ℕ} → expect 0x22 (Strings.string paired 0) l ≡ done name q
-      → expect 0x3a (λ r. value paired depth (blanks r)) (blanks q) ≡ bad k r → member_in p l ≡ members.End
+      → expect 0x3a (λ r. value paired depth (blanks r)) (blanks q) ≡ bad k r → member_in p l ≡ None
   unfolding member_in
   member_unvalued e h = rw (member_in, e, h)
 
-  pub member-found : {name q t : List ℕ} {x : Json} → Reads l name x q t → member_in p l ≡ members.Found (member_of p l q t)
+  pub member-found : {name q t : List ℕ} {x : Json} → Reads l name x q t → member_in p l ≡ Some (member_of p l q t)
   unfolding member_in
   member-found r = rw (member_in, r.named, r.valued)
 
-  pub item-none : {k : ℕ} {r : List ℕ} → value paired depth l ≡ bad k r → item_in p l ≡ items.End
+  pub item-none : {k : ℕ} {r : List ℕ} → value paired depth l ≡ bad k r → item_in p l ≡ None
   unfolding item_in
   item-none e = rw (item_in, e)
 
-  pub item-found : {x : Json} {t : List ℕ} → value paired depth l ≡ done x t → item_in p l ≡ items.Found (item_of p l t)
+  pub item-found : {x : Json} {t : List ℕ} → value paired depth l ≡ done x t → item_in p l ≡ Some (item_of p l t)
   unfolding item_in
   item-found e = rw (item_in, e)
 
@@ -93,19 +90,19 @@ pub record ItemFrom (p l : List ℕ) (m : Item) : Type 0 where
   pub reads : value paired depth l ≡ done tree after_value
   pub is : m ≡ item_of p l after_value
 
-no_member : {A : Type 0} {o : MemberStep} {m : Member} → o ≡ members.Found m → o ≡ members.End → A
+no_member : {A : Type 0} {o : Option Member} {m : Member} → o ≡ Some m → o ≡ None → A
 no_member e h = let n : ◌≡◌ {A = ℕ} 0 1 = cc in absurd (omega arith)
 
-no_item : {A : Type 0} {o : ItemStep} {m : Item} → o ≡ items.Found m → o ≡ items.End → A
+no_item : {A : Type 0} {o : Option Item} {m : Item} → o ≡ Some m → o ≡ None → A
 no_item e h = let n : ◌≡◌ {A = ℕ} 0 1 = cc in absurd (omega arith)
 
-same-member : {o : MemberStep} {m n : Member} → o ≡ members.Found m → o ≡ members.Found n → m ≡ n
+same-member : {o : Option Member} {m n : Member} → o ≡ Some m → o ≡ Some n → m ≡ n
 same-member e h = cc
 
-same_item : {o : ItemStep} {m n : Item} → o ≡ items.Found m → o ≡ items.Found n → m ≡ n
+same_item : {o : Option Item} {m n : Item} → o ≡ Some m → o ≡ Some n → m ≡ n
 same_item e h = cc
 
-pub member-from : (p l : List ℕ) (m : Member) → member_in p l ≡ members.Found m → MemberFrom p l m
+pub member-from : (p l : List ℕ) (m : Member) → member_in p l ≡ Some m → MemberFrom p l m
 member-from p l m e = first (expect 0x22 (Strings.string paired 0) l) refl
   where
     second : (name q : List ℕ) → expect 0x22 (Strings.string paired 0) l ≡ done name q
@@ -119,7 +116,7 @@ member-from p l m e = first (expect 0x22 (Strings.string paired 0) l) refl
     first (bad k r) h = no_member e (member_unnamed p l h)
     first (done name q) h = second name q h (expect 0x3a (λ r. value paired depth (blanks r)) (blanks q)) refl
 
-pub item_from : (p l : List ℕ) (m : Item) → item_in p l ≡ items.Found m → ItemFrom p l m
+pub item_from : (p l : List ℕ) (m : Item) → item_in p l ≡ Some m → ItemFrom p l m
 item_from p l m e = go (value paired depth l) refl
   where
     go : (o : Read Json) → value paired depth l ≡ o → ItemFrom p l m

@@ -17,7 +17,7 @@ use Rattle.lexeme.specs.Strings
 use Rattle.lexeme.specs.Numbers.{digit}
 use Rattle.lexeme.specs.Tokens.{blanks}
 use Rattle.lexeme.specs.inner.Start.{start}
-use Rattle.lexeme.proofs.Reading.{Consumes, Ok, StrongPrefix}
+use Rattle.lexeme.proofs.Reading.{Consumes, Settled, StrongPrefix}
 use Rattle.lexeme.proofs.Steps.{bad-done, done_what, made-done, then-done, blanks_stop}
 use Rattle.lexeme.proofs.StrongPrefixes.{solid-first}
 use Rattle.json_text.specs.Tree
@@ -32,8 +32,6 @@ use Rattle.json_text.proofs.Values.{value_none}
 use Rattle.json_text.proofs.Spellings.{expect-done}
 use Rattle.walk.specs.declared.Member.{Member}
 use Rattle.walk.specs.declared.Item.{Item}
-use Rattle.walk.specs.declared.MemberStep.TheVariants as members
-use Rattle.walk.specs.declared.ItemStep.TheVariants as items
 use Rattle.walk.specs.Walk.{offset_of, onward, member_at, members_of, item_at, items_of}
 use Rattle.walk.specs.Part.{Whole, part_tree}
 use Rattle.walk.proofs.Rests.{Rest, rest-drop, rest-next, rest-blanks, rest_read, rest-there}
@@ -42,6 +40,7 @@ use Rattle.walk.proofs.Places.{member_spelt, item_spelt}
 use Rattle.walk.proofs.Folds.{Steps, one_more_lem, member_steps, item_steps}
 use Rattle.walk.proofs.Wholes.{whole-array, whole-object}
 use Rattle.walk.proofs.Parts.{name_of, value_of, item_of, spelt_name, spelt_tree, item-tree}
+use Rattle.std.specs.Prelude.{None}
 
 -- a step at `at` finds the element that reads as x up to the rest r
 pub record Meets {M A : Type 0} (p : List ℕ) (w : Steps (length p) M) (f : M → A) (at : ℕ) (x : A) (r : List ℕ) : Type 0 where
@@ -66,7 +65,7 @@ module _ (p : List ℕ) (close : ℕ) where
       ap (λ (z : ℕ). blanks (drop z p)) (n ∙ onward-comma p b q i c) ∙ ap blanks (rest-there (rest-next b q i (rest-blanks r s)))
 
 -- what an element leaves is a rest of p
-pub leaves : {A : Type 0} (p : List ℕ) (element : List ℕ → Read A) → StrongPrefix Ok element
+pub leaves : {A : Type 0} (p : List ℕ) (element : List ℕ → Read A) → StrongPrefix Settled element
     → (at : ℕ) (x : A) (r : List ℕ) → element (blanks (drop at p)) ≡ done x r → Rest p r
 leaves p element takes at x r e = rest_read element takes (blanks (drop at p)) r x e (rest-blanks (drop at p) (rest-drop at))
 
@@ -78,7 +77,7 @@ pub record Elements (p : List ℕ) (M A : Type 0) : Type 1 where
   pub apart : eqb close 0x2c ≡ false
   pub element : List ℕ → Read A
   pub consumes : Consumes element
-  pub takes : StrongPrefix Ok element
+  pub takes : StrongPrefix Settled element
   pub meets : (at : ℕ) (x : A) (r : List ℕ) → element (blanks (drop at p)) ≡ done x r → Meets p steps of at x r
   pub stops : (at : ℕ) (q : List ℕ) → blanks (drop at p) ≡ close ∷ q → steps.Ends at
 
@@ -136,7 +135,7 @@ module _ (p : List ℕ) where
       let g = deepen d h l r x e in
       record { what = _; finds = item-found p l g; is = item-tree (item_spelt p at g); next = refl }
 
-  pub item_stops : (at : ℕ) (q : List ℕ) → blanks (drop at p) ≡ 0x5d ∷ q → item_at p at ≡ items.End
+  pub item_stops : (at : ℕ) (q : List ℕ) → blanks (drop at p) ≡ 0x5d ∷ q → item_at p at ≡ None
   unfolding item_at start digit within
   item_stops at q e = item-none p (blanks (drop at p)) (ap (value paired depth) e ∙ value_none depth (0x5d ∷ q) refl)
 
@@ -195,7 +194,7 @@ module _ (p : List ℕ) where
         next = refl;
       }
 
-  pub member_stops : (at : ℕ) (q : List ℕ) → blanks (drop at p) ≡ 0x7d ∷ q → member_at p at ≡ members.End
+  pub member_stops : (at : ℕ) (q : List ℕ) → blanks (drop at p) ≡ 0x7d ∷ q → member_at p at ≡ None
   unfolding member_at
   member_stops at q e = member_unnamed p (blanks (drop at p)) (ap (expect 0x22 (Strings.string paired 0)) e ∙ expect-other 0x22 _ 0x7d q refl)
 

@@ -1,6 +1,6 @@
 -- The one-level split of an object's or array's bytes: the places of its members and items. A place is counted from the front of p, the
 -- bytes from the opening bracket to the closing one. Whatever is no member or item, as the closing bracket, ends the walk.
-use Rattle.std.specs.Prelude.{List, [], ◌∷◌, ℕ, zero, suc, ◌+◌, ◌-◌, eqb, length, drop, take}
+use Rattle.std.specs.Prelude.{List, [], ◌∷◌, ℕ, zero, suc, ◌+◌, ◌-◌, eqb, length, drop, take, Option, Some, None}
 use Rattle.limits.specs.Ceilings.{depth}
 use Rattle.notation.specs.Choice.{◌⇒◌else◌}
 use Rattle.lexeme.specs.Read.Read.{done, bad}
@@ -10,10 +10,6 @@ use Rattle.lexeme.specs.Tokens.{blanks}
 use Rattle.json_text.specs.Text.{expect, value}
 use Rattle.walk.specs.declared.Member.{Member}
 use Rattle.walk.specs.declared.Item.{Item}
-use Rattle.walk.specs.declared.MemberStep.{MemberStep}
-use Rattle.walk.specs.declared.ItemStep.{ItemStep}
-use Rattle.walk.specs.declared.MemberStep.TheVariants as members
-use Rattle.walk.specs.declared.ItemStep.TheVariants as items
 
 -- where the rest l of p begins
 abbrev pub offset_of : List ℕ → List ℕ → ℕ
@@ -29,15 +25,15 @@ onward p [] = length p
 onward p (b ∷ r) = eqb b 0x2c ⇒ offset_of p r else offset_of p (b ∷ r)
 
 -- the member that begins at the rest l of p
-unfoldable pub member_in : List ℕ → List ℕ → MemberStep
+unfoldable pub member_in : List ℕ → List ℕ → Option Member
 member_in p l =
     elim (expect 0x22 (Strings.string paired 0) l) [
-      | bad k r ↦ members.End
+      | bad k r ↦ None
       | done name q ↦
           elim (expect 0x3a (λ r. value paired depth (blanks r)) (blanks q)) [
-            | bad k r ↦ members.End
+            | bad k r ↦ None
             | done x t ↦
-                members.Found (record {
+                Some (record {
                   name = offset_of p l + 1;
                   name_end = offset_of p q - 1;
                   value = offset_of p (blanks (drop 1 (blanks q)));
@@ -47,32 +43,32 @@ member_in p l =
           ]
     ]
 
-unfoldable pub member_at : List ℕ → ℕ → MemberStep
+unfoldable pub member_at : List ℕ → ℕ → Option Member
 member_at p at = member_in p (blanks (drop at p))
 
 -- the item that begins at the rest l of p
-unfoldable pub item_in : List ℕ → List ℕ → ItemStep
+unfoldable pub item_in : List ℕ → List ℕ → Option Item
 item_in p l =
     elim (value paired depth l) [
-      | bad k r ↦ items.End
-      | done x t ↦ items.Found (record { value = offset_of p l; value_end = offset_of p t; next = onward p (blanks t) })
+      | bad k r ↦ None
+      | done x t ↦ Some (record { value = offset_of p l; value_end = offset_of p t; next = onward p (blanks t) })
     ]
 
-unfoldable pub item_at : List ℕ → ℕ → ItemStep
+unfoldable pub item_at : List ℕ → ℕ → Option Item
 item_at p at = item_in p (blanks (drop at p))
 
 -- all members from a place on, at most `most` of them
-abbrev pub member_then : (ℕ → List Member) → MemberStep → List Member
-member_then rest members.End = []
-member_then rest (members.Found m) = m ∷ rest m.next
+abbrev pub member_then : (ℕ → List Member) → Option Member → List Member
+member_then rest None = []
+member_then rest (Some m) = m ∷ rest m.next
 
 unfoldable pub members_from : ℕ → List ℕ → ℕ → List Member
 members_from zero p at = []
 members_from (suc most) p at = member_then (members_from most p) (member_at p at)
 
-abbrev pub item_then : (ℕ → List Item) → ItemStep → List Item
-item_then rest items.End = []
-item_then rest (items.Found m) = m ∷ rest m.next
+abbrev pub item_then : (ℕ → List Item) → Option Item → List Item
+item_then rest None = []
+item_then rest (Some m) = m ∷ rest m.next
 
 unfoldable pub items_from : ℕ → List ℕ → ℕ → List Item
 items_from zero p at = []

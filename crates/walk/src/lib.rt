@@ -6,10 +6,8 @@ ghost use Rattle.lexeme.specs.Tokens.{blanks};
 ghost use Rattle.walk.specs.Walk.{part, onward};
 ghost use Rattle.walk.specs.inner.Kind.{kind_at};
 ghost use Rattle.walk.specs.inner.Along.{ItemPassed, MemberPassed, NamePassed};
-ghost use Rattle.walk.specs.declared.NameStep.TheVariants as names;
 
 use crate::skip::{skip_value, string_end};
-use lexeme::ascii::{is_digit, is_either};
 use lexeme::blank::skip_blanks;
 use lexeme::front::{ahead, first, place};
 
@@ -18,7 +16,7 @@ pub mod skip;
 pub mod tail;
 
 // A member of an object: where the text of its name stands, without the quotation marks; where its value stands; where the next member is looked for.
-#[derive(Clone, Copy)]
+#[derive(Clone, Copy, Debug, PartialEq, Eq)]
 pub struct Member {
     pub name: usize,
     pub name_end: usize,
@@ -28,41 +26,23 @@ pub struct Member {
 }
 
 // Its front: where the text of its name stands, and where its value begins.
-#[derive(Clone, Copy)]
+#[derive(Clone, Copy, Debug, PartialEq, Eq)]
 pub struct Named {
     pub name: usize,
     pub name_end: usize,
     pub value: usize,
 }
 
-#[derive(Clone, Copy)]
-pub enum NameStep {
-    End,
-    Found(Named),
-}
-
-#[derive(Clone, Copy)]
-pub enum MemberStep {
-    End,
-    Found(Member),
-}
-
 // An item of an array: where it stands, and where the next one is looked for.
-#[derive(Clone, Copy)]
+#[derive(Clone, Copy, Debug, PartialEq, Eq)]
 pub struct Item {
     pub value: usize,
     pub value_end: usize,
     pub next: usize,
 }
 
-#[derive(Clone, Copy)]
-pub enum ItemStep {
-    End,
-    Found(Item),
-}
-
 // What kind of value stands somewhere.
-#[derive(Clone, Copy)]
+#[derive(Clone, Copy, Debug, PartialEq, Eq)]
 pub enum ValueKind {
     Null,
     Boolean,
@@ -74,33 +54,27 @@ pub enum ValueKind {
 
 // The member of the object `p` that is looked for at `at`, with name and value passed over and not read: the member there for an object that stage A
 // passed, and in order in any bytes.
-pub fn pass_member(p: &[u8], at: usize) -> MemberStep
+pub fn pass_member(p: &[u8], at: usize) -> Option<Member>
     ensures { MemberPassed p.now at result }
 {
-    match pass_name(p, at) {
-        NameStep::End => {
-            return MemberStep::End;
-        }
-        NameStep::Found(n) => {
-            return pass_value(p, n);
-        }
-    }
+    let n = pass_name(p, at)?;
+    pass_value(p, n)
 }
 
 // The front of a member alone.
-pub fn pass_name(p: &[u8], at: usize) -> NameStep
+pub fn pass_name(p: &[u8], at: usize) -> Option<Named>
     ensures { NamePassed p.now at result }
 {
     let quote = skip_blanks(p, at);
     if first(p, quote) != b'"' {
-        return NameStep::End;
+        return None;
     }
     let closed = string_end(p, quote + 1);
     let colon = skip_blanks(p, closed);
     if first(p, colon) != b':' {
-        return NameStep::End;
+        return None;
     }
-    NameStep::Found(Named {
+    Some(Named {
         name: quote + 1,
         name_end: closed - 1,
         value: skip_blanks(p, colon + 1),
@@ -108,35 +82,35 @@ pub fn pass_name(p: &[u8], at: usize) -> NameStep
 }
 
 // The member whose name has been read, with its value passed over.
-pub fn pass_value(p: &[u8], n: Named) -> MemberStep
-    ensures { (at : ℕ) → NamePassed p.now at (names.Found n) → MemberPassed p.now at result }
+pub fn pass_value(p: &[u8], n: Named) -> Option<Member>
+    ensures { (at : ℕ) → NamePassed p.now at (Some n) → MemberPassed p.now at result }
 {
     let value_end = skip_value(p, n.value);
     if value_end <= n.value {
-        return MemberStep::End;
+        return None;
     }
-    MemberStep::Found(Member {
+    Some(Member {
         name: n.name,
         name_end: n.name_end,
         value: n.value,
-        value_end: value_end,
+        value_end,
         next: next_place(p, value_end),
     })
 }
 
 // The item of the array `p` that is looked for at `at`, with its value passed over and not read: the item there for an array that stage A passed, and in
 // order in any bytes.
-pub fn pass_item(p: &[u8], at: usize) -> ItemStep
+pub fn pass_item(p: &[u8], at: usize) -> Option<Item>
     ensures { ItemPassed p.now at result }
 {
     let value = skip_blanks(p, at);
     let value_end = skip_value(p, value);
     if value_end <= value {
-        return ItemStep::End;
+        return None;
     }
-    ItemStep::Found(Item {
-        value: value,
-        value_end: value_end,
+    Some(Item {
+        value,
+        value_end,
         next: next_place(p, value_end),
     })
 }
@@ -145,17 +119,7 @@ pub fn pass_item(p: &[u8], at: usize) -> ItemStep
 pub fn cut(s: &[u8], from: usize, upto: usize) -> &[u8]
     ensures { result.now ≡ part s.now from upto }
 {
-    let n = s.len();
-    if upto <= from {
-        return &s[n..];
-    }
-    if n <= from {
-        return &s[n..];
-    }
-    if n <= upto {
-        return &s[from..];
-    }
-    &s[from..upto]
+    s.get(from..upto.min(s.len())).unwrap_or(&[])
 }
 
 // The bytes of an item.
@@ -185,27 +149,16 @@ pub fn closed_end(p: &[u8], at: usize) -> usize
 }
 
 // The kind of the value `p`, by its first byte. By plain tests: the table of classes would be laid out for each value.
+#[tactic(auto, unfolding(crate::specs::inner::Kind::kind_at, lexeme::specs::inner::Start::start, lexeme::specs::Numbers::digit, lexeme::specs::Character::within))]
 pub fn value_kind(p: &[u8]) -> ValueKind
     ensures { result ≡ kind_at p.now }
 {
-    let b = first(p, 0);
-    if b == b'"' {
-        return ValueKind::String;
+    match first(p, 0) {
+        b'"' => ValueKind::String,
+        b'[' => ValueKind::Array,
+        b'{' => ValueKind::Object,
+        b'-' | b'0'..=b'9' => ValueKind::Number,
+        b't' | b'f' => ValueKind::Boolean,
+        _ => ValueKind::Null,
     }
-    if b == b'[' {
-        return ValueKind::Array;
-    }
-    if b == b'{' {
-        return ValueKind::Object;
-    }
-    if b == b'-' {
-        return ValueKind::Number;
-    }
-    if is_digit(b) {
-        return ValueKind::Number;
-    }
-    if is_either(b, b't', b'f') {
-        return ValueKind::Boolean;
-    }
-    ValueKind::Null
 }

@@ -4,29 +4,21 @@ ghost use Rattle.std.specs.Int.Bits.{bit_and, bit_xor};
 ghost use Rattle.std.specs.Int.Count.{count_trailing_zeros};
 ghost use Rattle.walk.specs.inner.Mark.{packed, before, string_mark, bracket_mark};
 
-fn widened(b: u8) -> u64
-    ensures { (result ≡ b) × (result < 256) }
-{
-    b as u64
-}
-
-// The four bytes at `at` as one number, the first counting least.
-fn half_at(s: &[u8], at: usize) -> u64
-    requires { at + 4 ≤ length s.now }
-    ensures { (result ≡ packed (take 4 (drop at s.now))) × (result < 2 ^ 32) }
-{
-    widened(s[at])
-        + widened(s[at + 1]) * 256
-        + widened(s[at + 2]) * 65536
-        + widened(s[at + 3]) * 16777216
-}
-
-// The eight bytes at `at` as one number. The compiler makes one load of these sums.
+// The eight bytes at `at` as one number, the first counting least. The compiler makes one load of it.
 fn word_at(s: &[u8], at: usize) -> u64
     requires { at + 8 ≤ length s.now }
     ensures { result ≡ packed (take 8 (drop at s.now)) }
 {
-    half_at(s, at) + half_at(s, at + 4) * 4294967296
+    u64::from_le_bytes([
+        s[at],
+        s[at + 1],
+        s[at + 2],
+        s[at + 3],
+        s[at + 4],
+        s[at + 5],
+        s[at + 6],
+        s[at + 7],
+    ])
 }
 
 // Bit 7 of each byte tells that the byte of `w`, under that of `mask`, is not that of `value`. No sum leaves its byte where the bytes of both are below 128.
@@ -37,7 +29,7 @@ fn unlike(w: u64, mask: u64, value: u64) -> u64
     ((w & mask) ^ value) + 0x7f7f_7f7f_7f7f_7f7f
 }
 
-// How many bytes of `w` stand below the lowest whose bit 7 is not set.
+// How many bytes of `w` stand below the lowest whose bit 7 is not set. Where all have it, one test tells that before any count.
 fn first_clear(w: u64) -> usize
     ensures { result ≡ count_trailing_zeros 64 (bit_xor (bit_and w 0x8080808080808080) 0x8080808080808080) / 8 }
 {
@@ -45,7 +37,7 @@ fn first_clear(w: u64) -> usize
     if found == 0 {
         return 8;
     }
-    (u64::trailing_zeros(found) / 8) as usize
+    (found.trailing_zeros() / 8) as usize
 }
 
 // How many of the eight bytes at `at` stand before the first quotation mark or backslash.

@@ -4,31 +4,22 @@ ghost use Rattle.walk.specs.inner.Skip.{quoted, outside, enclosed, numbered, ski
 ghost use Rattle.walk.specs.inner.Mark.{Reaches};
 
 use crate::mark::{before_bracket_mark, before_string_mark};
-use lexeme::Scan;
-use lexeme::ascii::{is_digit, is_either};
+use lexeme::ascii::is_either;
 use lexeme::front::{ahead, first, place};
 use lexeme::number::read_number;
 
-// Just past the quotation mark that closes a string, whose text goes on at `at`, byte by byte. Most of its bytes are letters, and those are above the backslash.
+// Just past the quotation mark that closes a string, whose text goes on at `at`, byte by byte: the last few of a text.
 #[tactic(auto, using(crate::proofs::Ends::escape_falls, crate::proofs::Ends::escape_on))]
 fn string_end_bytewise(s: &[u8], at: usize) -> usize
     ensures { result ≡ length s.now - length (quoted false (drop at s.now)) }
 {
     let mut i = at;
     while i < s.len() {
-        let b = s[i];
-        if b > b'\\' {
-            i += 1;
-            continue;
+        match s[i] {
+            b'"' => return i + 1,
+            b'\\' => i = ahead(s, i, 2),
+            _ => i += 1,
         }
-        if b == b'"' {
-            return i + 1;
-        }
-        if b == b'\\' {
-            i = ahead(s, i, 2);
-            continue;
-        }
-        i += 1;
     }
     s.len()
 }
@@ -61,10 +52,7 @@ fn string_end_wordwise(s: &[u8], at: usize) -> usize
 fn lacks(s: &[u8], at: usize, n: usize) -> bool
     ensures { result ≡ ltb (length s.now) (at + n) }
 {
-    if s.len() < n {
-        return true;
-    }
-    s.len() - n < at
+    s.len() < n || s.len() - n < at
 }
 
 // Just past the quotation mark that closes a string, whose text goes on at `at`. Most strings are short: where nine bytes hold the mark, no loop is needed.
@@ -84,7 +72,7 @@ pub fn string_end(s: &[u8], at: usize) -> usize
     string_end_wordwise(s, j)
 }
 
-// Just past the bracket that closes one which was opened before `at`, where `more` others stand open, byte by byte. Most bytes outside strings are below the brackets.
+// Just past the bracket that closes one which was opened before `at`, where `more` others stand open, byte by byte: the last few of a text.
 fn brackets_end_bytewise(s: &[u8], at: usize, more: usize) -> usize
     requires { more ≤ at }
     ensures { result ≡ length s.now - length (enclosed (suc more) outside (drop at s.now)) }
@@ -92,29 +80,21 @@ fn brackets_end_bytewise(s: &[u8], at: usize, more: usize) -> usize
     let mut inner = more;
     let mut i = at;
     while i < s.len() {
-        let b = s[i];
-        if b < b'[' {
-            if b == b'"' {
-                i = string_end(s, i + 1);
-                continue;
+        match s[i] {
+            b'"' => i = string_end(s, i + 1),
+            b'[' | b'{' => {
+                inner += 1;
+                i += 1;
             }
-            i += 1;
-            continue;
-        }
-        if is_either(b, b'[', b'{') {
-            inner += 1;
-            i += 1;
-            continue;
-        }
-        if is_either(b, b']', b'}') {
-            if inner == 0 {
-                return i + 1;
+            b']' | b'}' => {
+                if inner == 0 {
+                    return i + 1;
+                }
+                inner -= 1;
+                i += 1;
             }
-            inner -= 1;
-            i += 1;
-            continue;
+            _ => i += 1,
         }
-        i += 1;
     }
     s.len()
 }
@@ -180,8 +160,8 @@ fn number_end(s: &[u8], at: usize) -> usize
     ensures { result ≡ length s.now - length (numbered (drop at s.now)) }
 {
     match read_number(s, at) {
-        Scan::End(end) => end,
-        Scan::Fault(_, _) => place(s, at),
+        Ok(end) => end,
+        Err(_) => place(s, at),
     }
 }
 
@@ -189,24 +169,12 @@ fn number_end(s: &[u8], at: usize) -> usize
 pub fn skip_value(s: &[u8], at: usize) -> usize
     ensures { result ≡ length s.now - length (skipped (drop at s.now)) }
 {
-    let b = first(s, at);
-    if b == b'"' {
-        return string_end(s, at + 1);
+    match first(s, at) {
+        b'"' => string_end(s, at + 1),
+        b'[' | b'{' => brackets_end(s, at + 1),
+        b'-' | b'0'..=b'9' => number_end(s, at),
+        b't' | b'n' => place(s, ahead(s, at, 4)),
+        b'f' => place(s, ahead(s, at, 5)),
+        _ => place(s, at),
     }
-    if is_either(b, b'[', b'{') {
-        return brackets_end(s, at + 1);
-    }
-    if b == b'-' {
-        return number_end(s, at);
-    }
-    if is_digit(b) {
-        return number_end(s, at);
-    }
-    if is_either(b, b't', b'n') {
-        return place(s, ahead(s, at, 4));
-    }
-    if b == b'f' {
-        return place(s, ahead(s, at, 5));
-    }
-    place(s, at)
 }

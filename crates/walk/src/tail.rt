@@ -16,12 +16,10 @@ use lexeme::front::first;
 fn solid_end(s: &[u8]) -> usize
     ensures { Tail s.now result }
 {
-    let mut i = s.len();
-    while 0 < i {
-        if !is_blank(s[i - 1]) {
-            return i;
+    for i in (0..s.len()).rev() {
+        if !is_blank(s[i]) {
+            return i + 1;
         }
-        i -= 1;
     }
     0
 }

@@ -13,7 +13,8 @@ use Rattle.notation.proofs.Booleans.{and_both}
 use Rattle.radix.specs.Fields.{bases, bits, bytes_number, unpacked, Bytes}
 use Rattle.radix.proofs.Packing.{digits_fit, digits-length, packed-length, unpacked-packed, packed-unpacked}
 use Rattle.word.specs.declared.Parts.{Parts}
-use Rattle.word.specs.declared.Reading.TheVariants.{NoWord, Word}
+use Rattle.word.specs.declared.refusal.Refusal.TheVariants.{NoWord}
+use Rattle.std.specs.Prelude.{Ok, Err}
 use Rattle.word.specs.Form.{Form, form1, written_form}
 use Rattle.word.specs.Word.{values_of, parts_of, keeps, word_of, IsWord, Answer, answer, judged, read}
 
@@ -34,7 +35,7 @@ pub word-length : (φ : Form) → Full φ → (p : Parts) → length (word_of φ
 unfolding word_of
 word-length φ full p = packed-length φ.widths φ.size full.filled (values_of φ p)
 
-chosen : (t : Bool) (r : Answer) (p : Parts) → (t ⇒ r else answer NoWord) ≡ answer (Word p) → (t ≡ true) × (r ≡ answer (Word p))
+chosen : (t : Bool) (r : Answer) (p : Parts) → (t ⇒ r else answer (Err NoWord)) ≡ answer (Ok p) → (t ≡ true) × (r ≡ answer (Ok p))
 chosen true r p e = (refl, e)
 chosen false r p e = let z : ◌≡◌ {A = ℕ} 3 0 = ap (λ (a : Answer). a.number) e in absurd (omega arith)
 
@@ -65,7 +66,7 @@ unpacked-length ws s = digits-length (bases ws) _ ∙ bases-length ws
 
 module _ (φ : Form) (full : Full φ) where
   -- a word reads back as the parts that it was packed from
-  pub word_read : (p : Parts) (s : List ℕ) → IsWord φ p s → read φ s ≡ answer (Word p)
+  pub word_read : (p : Parts) (s : List ℕ) → IsWord φ p s → read φ s ≡ answer (Ok p)
   unfolding read judged word_of
   word_read p s w =
       rw (
@@ -78,12 +79,12 @@ module _ (φ : Form) (full : Full φ) where
       )
 
   -- bytes that read as parts are their word: packed again, the parts give the same bytes
-  pub read_word_lem : (p : Parts) (s : List ℕ) → Bytes s → read φ s ≡ answer (Word p) → IsWord φ p s
+  pub read_word_lem : (p : Parts) (s : List ℕ) → Bytes s → read φ s ≡ answer (Ok p) → IsWord φ p s
   unfolding read judged word_of
   read_word_lem p s bytes e =
       let v : List ℕ = unpacked φ.widths s in
       let sized = chosen (eqb (length s) φ.size) (judged φ v) p e in
-      let word = chosen (eqb (get_or v 0 0) φ.number and keeps φ (parts_of v)) (answer (Word (parts_of v))) p sized.1 in
+      let word = chosen (eqb (get_or v 0 0) φ.number and keeps φ (parts_of v)) (answer (Ok (parts_of v))) p sized.1 in
       let tests = and_both (eqb (get_or v 0 0) φ.number) (keeps φ (parts_of v)) word.0 in
       let same : parts_of v ≡ p = ap (λ (a : Answer). a.parts) word.1 in
       let values = values-parts φ v (unpacked-length φ.widths s ∙ full.seven) (eqb-true _ _ tests.0) in
@@ -94,14 +95,14 @@ module _ (φ : Form) (full : Full φ) where
       }
 
   -- bytes that are no word are refused
-  pub no-word : (s : List ℕ) → Bytes s → ((p : Parts) → IsWord φ p s → ⊥) → read φ s ≡ answer NoWord
+  pub no-word : (s : List ℕ) → Bytes s → ((p : Parts) → IsWord φ p s → ⊥) → read φ s ≡ answer (Err NoWord)
   unfolding read judged
   no-word s bytes none = go (eqb (length s) φ.size) (eqb (get_or v 0 0) φ.number and keeps φ (parts_of v)) refl refl
     where
       v : List ℕ
       v = unpacked φ.widths s
 
-      go : (t u : Bool) → eqb (length s) φ.size ≡ t → (eqb (get_or v 0 0) φ.number and keeps φ (parts_of v)) ≡ u → read φ s ≡ answer NoWord
+      go : (t u : Bool) → eqb (length s) φ.size ≡ t → (eqb (get_or v 0 0) φ.number and keeps φ (parts_of v)) ≡ u → read φ s ≡ answer (Err NoWord)
       go false u e i = rw (e)
       go true false e i = rw (e, i)
       go true true e i = absurd (none (parts_of v) (read_word_lem (parts_of v) s bytes (rw (e, i))))

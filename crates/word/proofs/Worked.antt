@@ -8,7 +8,8 @@ use Rattle.notation.specs.Case.{Case, Answers}
 use Rattle.radix.specs.Radix.{weight, number_from, number, digits}
 use Rattle.radix.specs.Fields.{bytes_number, packed, unpacked}
 use Rattle.word.specs.declared.Parts.{Parts}
-use Rattle.word.specs.declared.Reading.TheVariants.{NoWord, Word}
+use Rattle.word.specs.declared.refusal.Refusal.TheVariants.{NoWord}
+use Rattle.std.specs.Prelude.{Ok, Err}
 use Rattle.word.specs.Form.{form1}
 use Rattle.word.specs.Word.{Answer, keeps, word_of, answer, judged, read}
 
@@ -21,7 +22,7 @@ abbrev Written : Type 0
 Written = List ℕ × Answer
 
 abbrev word : String → Parts → List ℕ → Case Parts Written
-word what p s = (what, p, (s, answer (Word p)))
+word what p s = (what, p, (s, answer (Ok p)))
 
 abbrev words : List (Case Parts Written)
 words =
@@ -34,7 +35,7 @@ unfolding weight number_from number digits bytes_number packed unpacked keeps wo
 words-answered = refl
 
 abbrev no_word : String → List ℕ → Case (List ℕ) Answer
-no_word what s = (what, s, answer NoWord)
+no_word what s = (what, s, answer (Err NoWord))
 
 abbrev others : List (Case (List ℕ) Answer)
 others =

@@ -1,4 +1,5 @@
 pub mod Kinds
 pub mod Form
+pub mod Refusals
 pub mod Word
 pub mod inner

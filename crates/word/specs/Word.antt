@@ -1,17 +1,14 @@
 -- The verdict word and the question "read a word": document 01, "The verdict word" and the table of questions.
 -- A word is its parts packed by the form's layout; bytes are a word where their parts keep the rule, and are refused otherwise.
-use Rattle.std.specs.Prelude.{Bool, true, List, [], ◌∷◌, ◌≡◌, ℕ, ◌+◌, eqb, leb, ltb, length, get_or}
+use Rattle.std.specs.Prelude.{Bool, true, List, [], ◌∷◌, ◌≡◌, ℕ, ◌+◌, eqb, leb, ltb, length, get_or, Result, Ok, Err}
 use Rattle.notation.specs.Choice.{◌⇒◌else◌, ◌and◌}
 use Rattle.radix.specs.Radix.{Fit}
 use Rattle.radix.specs.Fields.{bases, packed, unpacked}
 use Rattle.word.specs.declared.Parts.{Parts}
-use Rattle.word.specs.declared.Reading.{Reading}
-use Rattle.word.specs.declared.Reading.TheVariants.{NoWord, Word}
+use Rattle.word.specs.declared.refusal.Refusal.{Refusal}
 use Rattle.word.specs.Form.{Form, form1}
-
--- the parts of an answer that has none
-abbrev pub no_parts : Parts
-no_parts = record { file = 0; kind = 0; field = 0; «record» = 0; sub = 0; offset = 0 }
+pub use Rattle.word.specs.Refusals.{no_parts}
+use Rattle.word.specs.Refusals.{refusal_number, refusal_parts}
 
 -- the fields' values, in the layout's order
 abbrev pub values_of : Form → Parts → List ℕ
@@ -62,9 +59,9 @@ pub record Answer : Type 0 where
 abbrev pub refused : ℕ → Answer
 refused n = record { number = n; parts = no_parts }
 
-abbrev pub answer : Reading → Answer
-answer NoWord = refused 3
-answer (Word p) = record { number = 0; parts = p }
+abbrev pub answer : Result Parts Refusal → Answer
+answer (Ok p) = record { number = 0; parts = p }
+answer (Err r) = record { number = refusal_number r; parts = refusal_parts r }
 
 -- what the values of a word's fields say
 unfoldable pub judged : Form → List ℕ → Answer

@@ -5,12 +5,15 @@ ghost use Rattle.std.specs.Prelude.{◌≡◌};
 ghost use Rattle.radix.specs.Radix.{number as number_of, digits};
 ghost use Rattle.radix.specs.Fields.{bases};
 ghost use Rattle.word.specs.Form.{form1};
-ghost use Rattle.word.specs.Word.{Fits, values_of, parts_of, word_of, keeps as keepsOf, judged, answer, read_word};
+ghost use Rattle.word.specs.Word.{Fits, values_of, parts_of, word_of, keeps, judged, answer, read_word};
 
 pub mod kind;
+pub mod refusal;
+
+use crate::refusal::Refusal;
 
 // What a word says. All parts of an accepting word are zero.
-#[derive(Clone, Copy)]
+#[derive(Clone, Copy, Debug, PartialEq, Eq)]
 pub struct Parts {
     pub file: u8,
     pub kind: u8,
@@ -20,14 +23,7 @@ pub struct Parts {
     pub offset: u32,
 }
 
-// What bytes say that are read as a word.
-#[derive(Clone, Copy)]
-pub enum Reading {
-    NoWord,
-    Word(Parts),
-}
-
-#[derive(Clone, Copy)]
+#[derive(Clone, Copy, Debug, PartialEq, Eq)]
 pub struct Word {
     pub bytes: [u8; 8],
 }
@@ -64,18 +60,9 @@ impl Word {
         requires { Fits form1 p }
         ensures { result.bytes ≡ word_of form1 p }
     {
-        let n = Word::number(p);
-        let bytes = [
-            radix::byte_of(n, 56),
-            radix::byte_of(n, 48),
-            radix::byte_of(n, 40),
-            radix::byte_of(n, 32),
-            radix::byte_of(n, 24),
-            radix::byte_of(n, 16),
-            radix::byte_of(n, 8),
-            radix::byte_of(n, 0),
-        ];
-        Word { bytes }
+        Word {
+            bytes: Word::number(p).to_be_bytes(),
+        }
     }
 
     // The word as one number, field by field.
@@ -83,37 +70,38 @@ impl Word {
         requires { Fits form1 p }
         ensures { result ≡ number_of (bases form1.widths) (values_of form1 p) }
     {
-        let n = radix::with_field(Word::FORM, Word::FILE_BITS, p.file as u64);
-        let n = radix::with_field(n, Word::KIND_BITS, p.kind as u64);
-        let n = radix::with_field(n, Word::FIELD_BITS, p.field as u64);
-        let n = radix::with_field(n, Word::RECORD_BITS, p.record as u64);
-        let n = radix::with_field(n, Word::SUB_BITS, p.sub as u64);
-        radix::with_field(n, Word::OFFSET_BITS, p.offset as u64)
+        let n = radix::with_field(Word::FORM, Word::FILE_BITS, u64::from(p.file));
+        let n = radix::with_field(n, Word::KIND_BITS, u64::from(p.kind));
+        let n = radix::with_field(n, Word::FIELD_BITS, u64::from(p.field));
+        let n = radix::with_field(n, Word::RECORD_BITS, u64::from(p.record));
+        let n = radix::with_field(n, Word::SUB_BITS, u64::from(p.sub));
+        radix::with_field(n, Word::OFFSET_BITS, u64::from(p.offset))
     }
 
     // The question "read a word", of any bytes at all.
     // Shut out: a file that there is none of taken for one; a place in a file's records read beside an offset.
-    pub fn read(bytes: &[u8]) -> Reading
+    pub fn read(bytes: &[u8]) -> Result<Parts, Refusal>
         ensures { answer result ≡ read_word bytes.now }
     {
         if bytes.len() != Word::SIZE {
-            return Reading::NoWord;
+            return Err(Refusal::NoWord);
         }
         Word::judge(radix::bytes_number(bytes))
     }
 
     // What the word of this number says.
-    fn judge(n: u64) -> Reading
+    fn judge(n: u64) -> Result<Parts, Refusal>
         ensures { answer result ≡ judged form1 (digits (bases form1.widths) n) }
     {
         if radix::field_of(n, 64 - Word::FORM_BITS, Word::FORM_BITS) != Word::FORM {
-            return Reading::NoWord;
+            return Err(Refusal::NoWord);
         }
         let p = Word::parts(n);
         if p.keeps() {
-            return Reading::Word(p);
+            Ok(p)
+        } else {
+            Err(Refusal::NoWord)
         }
-        return Reading::NoWord;
     }
 
     // Its fields after the first.
@@ -136,28 +124,6 @@ impl Word {
     }
 }
 
-impl Reading {
-    // The number of the answer.
-    pub fn number(self) -> u8
-        ensures { result ≡ (answer self).number }
-    {
-        match self {
-            Reading::NoWord => 3,
-            Reading::Word(_) => 0,
-        }
-    }
-
-    // The parts that it gives, none where it is no word.
-    pub fn word_parts(self) -> Parts
-        ensures { result ≡ (answer self).parts }
-    {
-        match self {
-            Reading::NoWord => Parts::NONE,
-            Reading::Word(p) => p,
-        }
-    }
-}
-
 impl Parts {
     // The parts of an answer that has none.
     pub const NONE: Parts = Parts {
@@ -170,25 +136,19 @@ impl Parts {
     };
 
     // Whether the parts keep the rule of words.
+    #[tactic(auto, unfolding(crate::specs::Word::keeps))]
     fn keeps(self) -> bool
-        ensures { result ≡ keepsOf form1 self }
+        ensures { result ≡ keeps form1 self }
     {
-        let located = (self.field as u64) + (self.record as u64) + (self.sub as u64);
+        let located = u64::from(self.field) + u64::from(self.record) + u64::from(self.sub);
         if self.kind == 0 {
-            return (self.file as u64) + located + (self.offset as u64) == 0;
+            return u64::from(self.file) + located + u64::from(self.offset) == 0;
         }
-        if self.file == 0 {
-            return false;
-        }
-        if Word::FILES < self.file {
-            return false;
-        }
-        if Word::FIELDS < self.field {
-            return false;
-        }
-        if self.kind <= 4 {
-            return located == 0;
-        }
-        return self.offset == 0;
+        let placed = if self.kind <= 4 {
+            located == 0
+        } else {
+            self.offset == 0
+        };
+        0 < self.file && self.file <= Word::FILES && self.field <= Word::FIELDS && placed
     }
 }

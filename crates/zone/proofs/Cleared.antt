@@ -10,7 +10,7 @@ use lib.ListN.{length}
 use Rattle.limits.specs.Ceilings as ceiling
 use Rattle.notation.specs.Ascii.{bytes}
 use Rattle.notation.proofs.Lists.{cons_nil}
-use Rattle.notation.proofs.Maybes.{none-some}
+use Rattle.notation.proofs.Options.{none-some}
 use Rattle.walk.specs.declared.Item.{Item}
 use Rattle.walk.specs.Walk.{items_of}
 use Rattle.walk.specs.Part.{Whole, part_tree}
@@ -31,7 +31,7 @@ use Rattle.rings.proofs.Areas.{clean-ring}
 use Rattle.fault.specs.declared.Place.{Place}
 use Rattle.judge.specs.Faults.{faults_by, faults}
 use Rattle.fault.specs.Fault.{faulty}
-use Rattle.document.specs.Document.{Maybe, none, some, elements_of, field, along}
+use Rattle.document.specs.Document.{elements_of, field, along}
 use Rattle.document.proofs.Ways.{Requires, here, below, lists, Leads, arrived, into}
 use Rattle.document.specs.inner.Values.{member_of}
 use Rattle.document.proofs.Sizes.{part-short, member-short, array-short}
@@ -41,6 +41,7 @@ use Rattle.zone.specs.inner.Clean.{CleanRing, CleanItems, CleanZone, CleanZones}
 use Rattle.zone.proofs.Fields.{member-listing}
 use Rattle.zone.proofs.Zoned.{polygon_bytes, property_bytes, zone-polygons}
 use mathlib.Core.Bool.{true}
+use Rattle.std.specs.Prelude.{Option, None, Some}
 
 -- what is no array is of a wrong type
 ring-items : (n : ℕ) (x : Picked) → ring n x ≡ [] → (is : PickedItems) × (x ≡ items is) × (ring_found n (list_of is) ≡ [])
@@ -133,9 +134,9 @@ module _ {p : List ℕ} {m : Item} (i : Memᴰ m (items_of p)) where
         }
 
 -- a member that the zone must have is there
-given-whole : (σ : Shape) {q : List ℕ} {y : Picked} (o : Maybe Picked) → Holds σ q o → elim o [ none ↦ none | some z ↦ some z ] ≡ some y → Whole q (part_tree q)
-given-whole σ none h e = none-some e
-given-whole σ {q} (some z) h e = subst (Whole q) (sym (whole-tree h.1)) h.1
+given-whole : (σ : Shape) {q : List ℕ} {y : Picked} (o : Option Picked) → Holds σ q o → elim o [ None ↦ None | Some z ↦ Some z ] ≡ Some y → Whole q (part_tree q)
+given-whole σ None h e = none-some e
+given-whole σ {q} (Some z) h e = subst (Whole q) (sym (whole-tree h.1)) h.1
 
 required_whole : {f : ℕ} {name : List ℕ} {σ : Shape} {rows : Rows} → Requires f name σ rows → {p : List ℕ} → Whole p (part_tree p) → (q : Place) (φ : ℕ)
     → faults (shape.object rows) q φ (pick (shape.object rows) (part_tree p)) ≡ [] → Whole (member_of p name) (part_tree (member_of p name))

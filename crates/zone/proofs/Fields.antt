@@ -20,15 +20,16 @@ use Rattle.schema.specs.Table23 as table
 use Rattle.schema.specs.Pick.{Picked, pick, elements}
 use Rattle.rings.specs.inner.Parts.{Listing}
 use Rattle.document.specs.inner.Items.{picked_items}
-use Rattle.document.specs.Document.{Maybe, none, some, along, elements_of, field, field_items, text_in}
+use Rattle.document.specs.Document.{along, elements_of, field, field_items, text_in}
 use Rattle.document.proofs.Rows.{Lists}
 use Rattle.document.specs.inner.Values.{member_of, text_by, array_by, is_id}
 use Rattle.document.proofs.Values.{Holds, member-holds, holds_text, holds-items}
 use Rattle.document.proofs.Arrays.{member-array}
 use Rattle.document.proofs.FieldBytes.{field-spelled, field-truth, field-items, row_of, listed}
-use Rattle.zone.specs.Zone.{any_text, applies}
-use Rattle.zone.specs.inner.Values.{id_shape, flag_of, limit_of, given_by, given_in}
+use Rattle.zone.specs.Zone.{integer, any_text, applies}
+use Rattle.zone.specs.inner.Values.{id_shape, given_by, given_in}
 use Rattle.zone.proofs.Combining.{same-given}
+use Rattle.std.specs.Prelude.{Option, None, Some}
 
 -- an array that is a member
 pub member-listing : (p name : List ℕ) → Listing (array_by (member_of p name))
@@ -37,7 +38,7 @@ member-listing p name = record { whole = member-array p name }
 -- of no bytes there is no member, and so no item
 pub nothing_in : (σ : Shape) (name : List ℕ) → picked_items σ (array_by (member_of [] name)) ≡ []
 unfolding member_of kind_at start digit within
-nothing_in σ name = holds-items shape.subs 0 σ [] none refl
+nothing_in σ name = holds-items shape.subs 0 σ [] None refl
 
 module _ {f : ℕ} {name : List ℕ} {ν : Numbering} {most : ℕ} {σ : Shape} {rows : Rows} (l : Lists f name (shape.array ν most σ) rows) where
   pub parts-field : {p : List ℕ} {x : Json} → Whole p x → picked_items σ (array_by (member_of p name)) ≡ field_items f (pick (shape.object rows) x)
@@ -49,42 +50,42 @@ module _ {f : ℕ} {name : List ℕ} {ν : Numbering} {most : ℕ} {σ : Shape} 
   unfolding along field_items
   parts-inside {g} {outer} {around} k {p} {x} w = go (field g (pick (shape.object around) x)) (member-holds k p x w)
     where
-      at-end : (o : Maybe Picked) → elements_of o ≡ elements_of (elim o [ none ↦ none | some y ↦ some y ])
-      at-end none = refl
-      at-end (some y) = refl
+      at-end : (o : Option Picked) → elements_of o ≡ elements_of (elim o [ None ↦ None | Some y ↦ Some y ])
+      at-end None = refl
+      at-end (Some y) = refl
 
-      go : (o : Maybe Picked) → Holds (shape.object rows) (member_of p outer) o
-          → picked_items σ (array_by (member_of (member_of p outer) name)) ≡ elements_of (elim o [ none ↦ none | some y ↦ along (f ∷ []) y ])
-      go none h = rw h (nothing_in σ name)
-      go (some y) h = parts-field h.1 ∙ ap (λ z. elements_of (field f z)) h.2 ∙ at-end (field f y)
+      go : (o : Option Picked) → Holds (shape.object rows) (member_of p outer) o
+          → picked_items σ (array_by (member_of (member_of p outer) name)) ≡ elements_of (elim o [ None ↦ None | Some y ↦ along (f ∷ []) y ])
+      go None h = rw h (nothing_in σ name)
+      go (Some y) h = parts-field h.1 ∙ ap (λ z. elements_of (field f z)) h.2 ∙ at-end (field f y)
 
 -- a rule
 module _ {p : List ℕ} {x : Json} (w : Whole p x) where
   pub rule-given : given_by p ≡ given_in (pick table.rule x)
   unfolding table.rule row_of given_by given_in
   rule-given =
-      same-given refl (ap flag_of (field-truth (listed refl) w)) (ap flag_of (field-truth (listed refl) w)) (ap limit_of (field-spelled (listed refl) w))
-      (ap flag_of (field-truth (listed refl) w))
+      same-given refl (field-truth (listed refl) w) (field-truth (listed refl) w) (ap integer (field-spelled (listed refl) w))
+      (field-truth (listed refl) w)
 
   module _ (type : List ℕ) where
     -- an id by its bytes
     pub id_text : is_id type (text_by p) ≡ is_id type (text_in (pick id_shape x))
-    id_text = ap (is_id type) (holds_text Sort.id p (some (pick id_shape x)) (x, w, refl))
+    id_text = ap (is_id type) (holds_text Sort.id p (Some (pick id_shape x)) (x, w, refl))
 
     abbrev ids : List ℕ
     ids = member_of p (bytes "vehicle_type_id")
 
-    abbrev choice : Maybe Picked → Bool
-    choice o = elim o [ none ↦ true | some y ↦ any_text (elements y) type ]
+    abbrev choice : Option Picked → Bool
+    choice o = elim o [ None ↦ true | Some y ↦ any_text (elements y) type ]
 
-    abbrev Named : Maybe Picked → Type 0
+    abbrev Named : Option Picked → Type 0
     Named o = (length ids ≡ 0 → true ≡ choice o) × ((length ids ≡ 0 → ⊥) → any_text (picked_items id_shape (array_by ids)) type ≡ choice o)
 
-    named : (ν : Numbering) (most : ℕ) (o : Maybe Picked) → Holds (shape.array ν most id_shape) ids o → Named o
-    named ν most none h = (λ e. refl, λ n. absurd (n (ap length h)))
-    named ν most (some y) h = (
+    named : (ν : Numbering) (most : ℕ) (o : Option Picked) → Holds (shape.array ν most id_shape) ids o → Named o
+    named ν most None h = (λ e. refl, λ n. absurd (n (ap length h)))
+    named ν most (Some y) h = (
       λ e. let n = whole-some h.1 in absurd (omega arith),
-      λ n. ap (λ l. any_text l type) (holds-items ν most id_shape ids (some y) h),
+      λ n. ap (λ l. any_text l type) (holds-items ν most id_shape ids (Some y) h),
     )
 
     rule-named : Named (field 78 (pick table.rule x))

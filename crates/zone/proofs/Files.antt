@@ -19,17 +19,18 @@ use Rattle.document.specs.inner.Items.{picked_items}
 use Rattle.document.specs.Document.{given, along, field}
 use Rattle.document.specs.inner.Spans.{RecordsFrom}
 use Rattle.document.proofs.Rests.{rest-along, rest-picked}
-use Rattle.fault.specs.declared.outcome.Outcome.TheVariants.{Unbroken}
 use Rattle.judge.specs.Faults.{faults}
 use Rattle.clean.specs.Clean.{tree_of, records_of, records_in, clean_in, clean_of}
 use Rattle.clean.proofs.Cleans.{Sound, clean-sound, clean-held}
 use Rattle.clean.proofs.Repeated.{Held}
-use Rattle.zone.specs.declared.Ruling.TheVariants.{NoRule}
+use Rattle.word.specs.declared.refusal.Refusal.TheVariants.{NoRule}
 use Rattle.zone.specs.Zone.{rules_by, rules, applicable, zones_of, rules_at}
 use Rattle.zone.specs.Answer.{answer, of_rules}
 use Rattle.zone.specs.inner.Values.{all_given, ruling_by}
 use Rattle.zone.specs.inner.Clean.{CleanZones}
 use Rattle.zone.proofs.Combining.{given-answered}
+use Rattle.fault.specs.Outcome.{unbroken}
+use Rattle.std.specs.Prelude.{Err}
 
 -- file 6 of every table has zones for its records
 zone-shape : (table : ℕ) → record_in (file_shape (table_at table) 6) ≡ zone
@@ -46,7 +47,7 @@ unfolding reading tree_of located pick field along records_of
 no-zones table = at-tables (λ (t : Table). zones_of t [] ≡ []) refl table
 
 module _ (q : Point) (type : List ℕ) (moment : ℕ) where
-  pub none-absent : (table : ℕ) (s : List ℕ) → length s ≡ 0 → answer NoRule ≡ of_rules (rules_at (table_at table) s q type moment)
+  pub none-absent : (table : ℕ) (s : List ℕ) → length s ≡ 0 → answer (Err NoRule) ≡ of_rules (rules_at (table_at table) s q type moment)
   unfolding rules_at rules_by applicable
   none-absent table [] e = ap (λ (l : List Picked). of_rules (applicable (rules l q moment) type)) (sym (no-zones table))
   none-absent table (b ∷ s) e = absurd (omega arith)
@@ -66,7 +67,7 @@ module _ (table : ℕ) {sheet : ℕ} (at : sheet ≡ sheet_of table 6) where
   pub clean-by : (s : List ℕ) → clean_in (sheet_shape sheet) 6 s ≡ clean_of (table_at table) 6 s
   clean-by s = ap (λ (σ : Shape). clean_in σ 6 s) zones-shape
 
-  pub zones-sound : (s : List ℕ) → (length s ≡ 0 → ⊥) → clean_of (table_at table) 6 s ≡ Unbroken → Sound sheet s
+  pub zones-sound : (s : List ℕ) → (length s ≡ 0 → ⊥) → clean_of (table_at table) 6 s ≡ unbroken → Sound sheet s
   zones-sound s h c = clean-sound sheet 6 s h (clean-by s ∙ c)
 
   -- the file, and its rest p from the zones on

@@ -13,12 +13,13 @@ use Rattle.geometry.specs.Ring.{Point}
 use Rattle.geometry.proofs.Holed.{held_from, from_first}
 use Rattle.rings.specs.inner.Parts.{ring_shape, polygon_shape}
 use Rattle.document.specs.inner.Items.{picked, picked_items}
-use Rattle.document.specs.Document.{Maybe, none, some, text_in}
+use Rattle.document.specs.Document.{text_in}
 use Rattle.document.specs.inner.Values.{is_id}
 use Rattle.zone.specs.declared.Given.{Given}
 use Rattle.zone.specs.Zone.{outline, rings_hold, polygons_hold_by, polygons_hold, any_text, rules}
 use Rattle.zone.specs.inner.Values.{id_shape}
 use Rattle.zone.proofs.Combining.{with_rules}
+use Rattle.std.specs.Prelude.{Option, None, Some}
 
 module _ (p : List ℕ) where
   abbrev pub ids : (type : List ℕ) → List Item → Bool
@@ -49,17 +50,17 @@ module _ (type : List ℕ) where
   unfolding any_text
   any_here x l e = go (text_in x) refl e
     where
-      go : (o : Maybe (List ℕ)) → text_in x ≡ o → is_id type o ≡ true → any_text (x ∷ l) type ≡ true
-      go none h i = let z : ◌≡◌ {A = ℕ} 0 1 = cc in absurd (omega arith)
-      go (some t) h i = rw (any_text, h, i)
+      go : (o : Option (List ℕ)) → text_in x ≡ o → is_id type o ≡ true → any_text (x ∷ l) type ≡ true
+      go None h i = let z : ◌≡◌ {A = ℕ} 0 1 = cc in absurd (omega arith)
+      go (Some t) h i = rw (any_text, h, i)
 
   pub any-later : (x : Picked) (l : List Picked) → is_id type (text_in x) ≡ false → any_text (x ∷ l) type ≡ any_text l type
   unfolding any_text
   any-later x l e = go (text_in x) refl e
     where
-      go : (o : Maybe (List ℕ)) → text_in x ≡ o → is_id type o ≡ false → any_text (x ∷ l) type ≡ any_text l type
-      go none h i = rw (any_text, h)
-      go (some t) h i = rw (any_text, h, i)
+      go : (o : Option (List ℕ)) → text_in x ≡ o → is_id type o ≡ false → any_text (x ∷ l) type ≡ any_text l type
+      go None h i = rw (any_text, h)
+      go (Some t) h i = rw (any_text, h, i)
 
 module _ (q : Point) where
   pub polygons-none : polygons_hold [] q ≡ false

@@ -29,13 +29,14 @@ use Rattle.rings.specs.OneRing.{coordinates_of_one, OneRingAtMost}
 use Rattle.rings.proofs.OneRing.{coordinates-one}
 use Rattle.judge.specs.Faults.{faults_by, file_faults_by}
 use Rattle.fault.specs.Fault.{top}
-use Rattle.document.specs.Document.{none, some, elements_of, along, field, field_items}
-use Rattle.fault.specs.declared.outcome.Outcome.{Outcome}
+use Rattle.document.specs.Document.{elements_of, along, field, field_items}
 use Rattle.clean.specs.Clean.{tree_of, records_of, clean_of}
 use Rattle.clean.proofs.Alike.{plain, Route, arrived, into, here, below, Same, plain-same, way_same, records-same, clean-alike}
 use Rattle.zone.specs.Zone.{outline, counts, rings_hold, polygons_hold_by, polygons_hold, polygons_of, zone_holds, zone_rules_by, rules_by, applicable, zones_of, rules_at}
 use Rattle.zone.specs.Answer.{refused, on_map, of_rules, of_clean, ruling_of}
 use Rattle.zone.specs.Single.{WithoutHoles, clean_of_one, rings_hold_of_one, polygons_hold_of_one, zone_holds_of_one, ruling_of_one, Single}
+use Rattle.fault.specs.Outcome.{Outcome}
+use Rattle.std.specs.Prelude.{None, Some}
 
 -- What a zone holds.
 
@@ -68,7 +69,7 @@ module _ (q : Point) where
     zone-same : (z : Picked) → zone_holds z q ≡ zone_holds_of_one z q → zone_rules_by zone_holds z q moment ≡ zone_rules_by zone_holds_of_one z q moment
     unfolding zone_rules_by
     zone-same z e =
-        ap (λ (held : Bool). elim (field 74 z) [ none ↦ [] | some properties ↦ counts properties moment and held ⇒ field_items 77 properties else [] ]) e
+        ap (λ (held : Bool). elim (field 74 z) [ None ↦ [] | Some properties ↦ counts properties moment and held ⇒ field_items 77 properties else [] ]) e
 
     zones-same : (zs : List Picked) → ((z : Picked) → Memᴰ z zs → OneRingAtMost (polygons_of z))
         → rules_by zone_holds zs q moment ≡ rules_by zone_holds_of_one zs q moment

@@ -9,43 +9,41 @@ use lib.ListN.{length, get_or}
 use borrow.Author.Tests.{eq-eqb, ne_eqb}
 use Rattle.notation.specs.Ascii.{bytes}
 use Rattle.walk.specs.inner.Kind.{kind_at}
-use Rattle.document.specs.Document.{none, some}
 use Rattle.document.specs.Values.{integer_in}
 use Rattle.document.specs.inner.Values.{kind_code, truth_by, spelled_by, member_of}
 use Rattle.document.proofs.ByKind.{spelled_none, spelled-some}
-use Rattle.zone.specs.declared.Flag.TheVariants as flag
-use Rattle.zone.specs.declared.Limit.TheVariants as limit
 use Rattle.zone.specs.Zone.{integer, begun, unended}
-use Rattle.zone.specs.inner.Values.{counts_by, flag_of, limit_of}
+use Rattle.zone.specs.inner.Values.{counts_by}
+use Rattle.std.specs.Prelude.{None, Some}
 
 -- by the kind of q
 module _ (q : List ℕ) (n : ℕ) (e : n ≡ kind_code (kind_at q)) where
-  truth-none : (n ≡ 1 → ⊥) → truth_by q ≡ none
+  truth-none : (n ≡ 1 → ⊥) → truth_by q ≡ None
   unfolding truth_by
   truth-none h = rw (← e, ne_eqb n 1 h)
 
-  truth-some : n ≡ 1 → truth_by q ≡ some (eqb (get_or q 0 0) 0x74)
+  truth-some : n ≡ 1 → truth_by q ≡ Some (eqb (get_or q 0 0) 0x74)
   unfolding truth_by
   truth-some h = rw (← e, eq-eqb n 1 h)
 
-  pub flag_missing : (n ≡ 1 → ⊥) → flag.Missing ≡ flag_of (truth_by q)
-  flag_missing h = sym (ap flag_of (truth-none h))
+  pub flag_missing : (n ≡ 1 → ⊥) → None ≡ truth_by q
+  flag_missing h = sym (truth-none h)
 
-  pub flag_empty : n ≡ 1 → length q ≡ 0 → flag.Is false ≡ flag_of (truth_by q)
-  flag_empty h l = ap flag.Is (no_byte q l) ∙ sym (ap flag_of (truth-some h))
+  pub flag_empty : n ≡ 1 → length q ≡ 0 → Some false ≡ truth_by q
+  flag_empty h l = ap Some (no_byte q l) ∙ sym (truth-some h)
     where
       no_byte : (s : List ℕ) → length s ≡ 0 → false ≡ eqb (get_or s 0 0) 0x74
       no_byte [] i = refl
       no_byte (b ∷ s) i = absurd (omega arith)
 
-  pub flag_some : n ≡ 1 → flag.Is (eqb (get_or q 0 0) 0x74) ≡ flag_of (truth_by q)
-  flag_some h = sym (ap flag_of (truth-some h))
+  pub flag_some : n ≡ 1 → Some (eqb (get_or q 0 0) 0x74) ≡ truth_by q
+  flag_some h = sym (truth-some h)
 
-  pub limit_missing : (n ≡ 2 → ⊥) → limit.Missing ≡ limit_of (spelled_by q)
-  limit_missing h = sym (ap limit_of (spelled_none q n e h))
+  pub speed_missing : (n ≡ 2 → ⊥) → None ≡ integer (spelled_by q)
+  speed_missing h = sym (ap integer (spelled_none q n e h))
 
-  pub limit_some : n ≡ 2 → limit.Is (integer_in (spelled_by q)) ≡ limit_of (spelled_by q)
-  limit_some h = rw (spelled-some q n e h)
+  pub speed_some : n ≡ 2 → Some (integer_in (spelled_by q)) ≡ integer (spelled_by q)
+  speed_some h = rw (spelled-some q n e h)
 
   -- start and end
   module _ (moment : ℕ) where

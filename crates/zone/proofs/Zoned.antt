@@ -15,7 +15,7 @@ use Rattle.schema.specs.Pick.{Picked, pick}
 use Rattle.geometry.specs.Ring.{Point}
 use Rattle.rings.specs.inner.Parts.{polygon_shape}
 use Rattle.document.specs.inner.Items.{picked_items}
-use Rattle.document.specs.Document.{Maybe, none, some, along, elements_of, field, field_items}
+use Rattle.document.specs.Document.{along, elements_of, field, field_items}
 use Rattle.document.proofs.Rows.{Lists}
 use Rattle.document.specs.inner.Values.{member_of, array_by}
 use Rattle.document.proofs.Values.{Holds, member-holds}
@@ -25,6 +25,7 @@ use Rattle.zone.specs.Zone.{integer, begun, unended, counts, polygons_hold, zone
 use Rattle.zone.specs.inner.Values.{counts_by}
 use Rattle.zone.proofs.Combining.{with_rules, rules-none}
 use Rattle.zone.proofs.Fields.{nothing_in, parts-field, parts-inside}
+use Rattle.std.specs.Prelude.{Option, None, Some}
 
 -- the bytes of a zone's polygons, of its properties, and of the rules in them
 abbrev pub polygon_bytes : List ℕ → List ℕ
@@ -57,11 +58,11 @@ no-rules : {p : List ℕ} → p ≡ [] → (t : Bool) → [] ≡ (t ⇒ picked_i
 no-rules e true = sym (ap (λ p. picked_items table.rule (rule_bytes p)) e ∙ nothing_in table.rule (bytes "rules"))
 no-rules e false = refl
 
-in_properties : {rows : Rows} → Dated rows → (p : List ℕ) (held : Bool) (moment : ℕ) (o : Maybe Picked) → Holds (shape.object rows) p o
-    → elim o [ none ↦ [] | some y ↦ counts y moment and held ⇒ field_items 77 y else [] ]
+in_properties : {rows : Rows} → Dated rows → (p : List ℕ) (held : Bool) (moment : ℕ) (o : Option Picked) → Holds (shape.object rows) p o
+    → elim o [ None ↦ [] | Some y ↦ counts y moment and held ⇒ field_items 77 y else [] ]
     ≡ (counts_by p moment and held ⇒ picked_items table.rule (rule_bytes p) else [])
-in_properties d p held moment none h = no-rules h (counts_by p moment and held)
-in_properties d p held moment (some y) h =
+in_properties d p held moment None h = no-rules h (counts_by p moment and held)
+in_properties d p held moment (Some y) h =
     ap (λ z. counts z moment and held ⇒ field_items 77 z else []) (sym h.2) ∙ in_window d h.1 held moment
 
 module _ {p : List ℕ} {x : Json} (w : Whole p x) where

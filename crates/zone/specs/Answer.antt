@@ -1,26 +1,23 @@
 -- The question "zone rule" of document 01, with document 02's request W4: its numbers in the order of checking, and the four values, each by the first
 -- rule that applies and gives it. Where an answer has no parts or values, zero and no stand in.
-use Rattle.std.specs.Prelude.{Bool, false, List, [], ◌∷◌, ℕ, pos, neg_ℤ}
+use Rattle.std.specs.Prelude.{Bool, false, List, [], ◌∷◌, ℕ, pos, neg_ℤ, Result, Err, Ok, Option, None, Some}
 use Rattle.std.specs.Int.Signed.{le_z}
 use Rattle.notation.specs.Choice.{◌⇒◌else◌, ◌and◌}
 use Rattle.word.specs.declared.Parts.{Parts}
-use Rattle.word.specs.Word.{no_parts}
+use Rattle.word.specs.declared.refusal.Refusal.{Refusal}
+use Rattle.word.specs.Refusals.{no_parts, refusal_number, refusal_parts}
 use Rattle.schema.specs.Shape.{Table}
 use Rattle.schema.specs.Pick.{Picked}
 use Rattle.geometry.specs.Ring.{Point}
-use Rattle.document.specs.Document.{Maybe, none, some, spelling, truth, given}
-use Rattle.document.specs.Values.{integer_in}
-use Rattle.fault.specs.declared.outcome.Outcome.{Outcome}
-use Rattle.fault.specs.declared.outcome.Outcome.TheVariants.{Unbroken, Broken}
+use Rattle.document.specs.Document.{spelling, truth}
 use Rattle.clean.specs.Clean.{clean_of}
 use Rattle.zone.specs.declared.Rule.{Rule}
-use Rattle.zone.specs.declared.Ruling.{Ruling}
-use Rattle.zone.specs.declared.Ruling.TheVariants.{OffMap, NotClean, NoRule, Is}
-use Rattle.zone.specs.Zone.{rules_at, first_given}
+use Rattle.zone.specs.Zone.{integer, rules_at, first_given}
+use Rattle.fault.specs.Outcome.{Outcome}
 
 -- no rule
 abbrev pub no_rule : Rule
-no_rule = record { ride = false; through = false; speed_given = false; speed = 0; parking_given = false; parking = false }
+no_rule = record { ride = false; through = false; speed = None; parking = None }
 
 -- an answer's number and values
 pub record Answer : Type 0 where
@@ -36,27 +33,23 @@ refused number p = record { number = number; parts = p; rule = no_rule }
 abbrev pub found : Rule → Answer
 found rule = record { number = 0; parts = no_parts; rule = rule }
 
-abbrev pub answer : Ruling → Answer
-answer OffMap = refused 8 no_parts
-answer (NotClean p) = refused 5 p
-answer NoRule = refused 9 no_parts
-answer (Is rule) = found rule
+abbrev pub answer : Result Rule Refusal → Answer
+answer (Ok rule) = found rule
+answer (Err r) = refused (refusal_number r) (refusal_parts r)
 
 -- a boolean, no where it is not given
-abbrev pub yes : Maybe Bool → Bool
-yes none = false
-yes (some b) = b
+abbrev pub yes : Option Bool → Bool
+yes None = false
+yes (Some b) = b
 
--- the four values as an answer has them; the last two with whether they are given
-abbrev pub rule_of : (ride through : Maybe Bool) → (speed : Maybe (List ℕ)) → (parking : Maybe Bool) → Rule
+-- the four values as an answer has them; the last two where they are given
+abbrev pub rule_of : (ride through : Option Bool) → (speed : Option (List ℕ)) → (parking : Option Bool) → Rule
 rule_of ride through speed parking =
     record {
       ride = yes ride;
       through = yes through;
-      speed_given = given speed;
-      speed = integer_in speed;
-      parking_given = given parking;
-      parking = yes parking;
+      speed = integer speed;
+      parking = parking;
     }
 
 -- fields 79 to 82 of these rules, each by the first that gives it
@@ -75,8 +68,8 @@ of_rules [] = refused 9 no_parts
 of_rules (r ∷ rs) = found (values (r ∷ rs))
 
 abbrev pub of_clean : Outcome → Answer → Answer
-of_clean Unbroken next = next
-of_clean (Broken p) next = refused 5 p
+of_clean (Ok _) next = next
+of_clean (Err p) next = refused 5 p
 
 -- by a table, of the bytes s of file 6, a point, a type and a moment
 unfoldable pub ruling_of : Table → (s : List ℕ) → Point → (type : List ℕ) → (moment : ℕ) → Answer

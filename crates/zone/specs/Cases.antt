@@ -1,5 +1,5 @@
 -- The zone rule on files, computed, where a rule is easy to get wrong. Document 01's own reading (j) stands in the table of all of them.
-use Rattle.std.specs.Prelude.{Bool, true, false, List, [], ◌∷◌, ◌++◌, refl, ℕ, ◌*◌, eqb, ℤ, pos, neg_ℤ}
+use Rattle.std.specs.Prelude.{Bool, true, false, List, [], ◌∷◌, ◌++◌, refl, ℕ, ◌*◌, eqb, ℤ, pos, neg_ℤ, Some, None}
 use Prim.Native.String.{String}
 use Rattle.notation.specs.Ascii.{bytes}
 use Rattle.notation.specs.Case.{Case, Answers, json}
@@ -52,10 +52,10 @@ abbrev pub none : Answer
 none = refused 9 no_parts
 
 abbrev pub bare : (ride through : Bool) → Answer
-bare ride through = found (record { ride = ride; through = through; speed_given = false; speed = 0; parking_given = false; parking = false })
+bare ride through = found (record { ride = ride; through = through; speed = None; parking = None })
 
 abbrev limited : (ride through : Bool) → (speed : ℕ) → Answer
-limited ride through speed = found (record { ride = ride; through = through; speed_given = true; speed = speed; parking_given = false; parking = false })
+limited ride through speed = found (record { ride = ride; through = through; speed = Some speed; parking = None })
 
 -- a point in millionths: lon, lat
 abbrev millionths : ℤ → ℤ → Point
@@ -123,15 +123,15 @@ rules =
     ("a blank among ids is not for every type", (named for_some, degrees 1 1, "t", 0), none) ∷
     ("but for the blank one", (named for_some, degrees 1 1, "", 0), bare true true) ∷
     ("and the other is for its type", (named for_some, degrees 1 1, "u", 0), bare true true) ∷
-    ("all four values", (named "{'ride_allowed':false,'ride_through_allowed':true,'maximum_speed_kph':25,'station_parking':false}", degrees 1 1, "t", 0), found (record { ride = false; through = true; speed_given = true; speed = 25; parking_given = true; parking = false })) ∷
+    ("all four values", (named "{'ride_allowed':false,'ride_through_allowed':true,'maximum_speed_kph':25,'station_parking':false}", degrees 1 1, "t", 0), found (record { ride = false; through = true; speed = Some 25; parking = Some false })) ∷
     -- overlapping zones
     ("the park alone", (both park town, degrees 0 1, "t", 0), bare false false) ∷
     ("in both, the park's ban and the town's speed", (both park town, degrees 2 1, "t", 0), limited false false 20) ∷
     ("the town alone", (both park town, degrees 3 1, "t", 0), limited true true 20) ∷
     ("in neither", (both park town, degrees 5 1, "t", 0), none) ∷
     ("the earlier wins where they collide", (both town park, degrees 2 1, "t", 0), limited true true 20) ∷
-    ("a rule of the type first, then what it does not give", (several, degrees 1 1, "u", 0), found (record { ride = false; through = false; speed_given = true; speed = 7; parking_given = true; parking = false })) ∷
-    ("a blank is not given, 0 and no are; rules for other types give nothing", (several, degrees 1 1, "t", 0), found (record { ride = true; through = true; speed_given = true; speed = 0; parking_given = true; parking = false })) ∷
+    ("a rule of the type first, then what it does not give", (several, degrees 1 1, "u", 0), found (record { ride = false; through = false; speed = Some 7; parking = Some false })) ∷
+    ("a blank is not given, 0 and no are; rules for other types give nothing", (several, degrees 1 1, "t", 0), found (record { ride = true; through = true; speed = Some 0; parking = Some false })) ∷
     ("a zone before its end", (over, degrees 1 1, "t", 8), limited false false 3) ∷
     ("one that is over gives nothing", (over, degrees 1 1, "t", 9), limited true true 20) ∷
     []

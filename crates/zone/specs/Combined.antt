@@ -1,15 +1,15 @@
 -- What document 02's request W4 lets a reader count on, beyond the definition of `values`: one rule alone, a first rule that gives all four values, and
 -- rules that give nothing new. `proofs/Combined` shows it.
-use Rattle.std.specs.Prelude.{true, List, [], ◌∷◌, ◌++◌, ◌≡◌, ℕ}
+use Rattle.std.specs.Prelude.{true, List, [], ◌∷◌, ◌++◌, ◌≡◌, ℕ, Option}
 use Rattle.schema.specs.Shape.{Table}
 use Rattle.schema.specs.Pick.{Picked}
 use Rattle.geometry.specs.Ring.{Point}
-use Rattle.document.specs.Document.{Maybe, spelling, truth, given}
-use Rattle.fault.specs.declared.outcome.Outcome.TheVariants.{Unbroken}
+use Rattle.document.specs.Document.{spelling, truth, given}
 use Rattle.clean.specs.Clean.{clean_of}
 use Rattle.zone.specs.declared.Rule.{Rule}
 use Rattle.zone.specs.Zone.{rules_at, first_given}
 use Rattle.zone.specs.Answer.{rule_of, found, on_map, of_rules, ruling_of}
+use Rattle.fault.specs.Outcome.{unbroken}
 
 -- the values of one rule, as they were answered before W4
 unfoldable pub own : Picked → Rule
@@ -22,7 +22,7 @@ pub record GivesAll (x : Picked) : Type 0 where
   pub parking : given (truth 82 x) ≡ true
 
 -- a value that the rules k give is given by the rules l
-abbrev pub Known : {A : Type 0} → (Picked → Maybe A) → (l k : List Picked) → Type 0
+abbrev pub Known : {A : Type 0} → (Picked → Option A) → (l k : List Picked) → Type 0
 Known value l k = given (first_given value k) ≡ true → given (first_given value l) ≡ true
 
 pub record NothingNew (l k : List Picked) : Type 0 where
@@ -33,7 +33,7 @@ pub record NothingNew (l k : List Picked) : Type 0 where
 
 pub record Combining (t : Table) : Type 0 where
   -- a clean file answers with what the rules that apply give
-  pub answered : (s : List ℕ) (q : Point) (type : List ℕ) (moment : ℕ) → on_map q ≡ true → clean_of t 6 s ≡ Unbroken
+  pub answered : (s : List ℕ) (q : Point) (type : List ℕ) (moment : ℕ) → on_map q ≡ true → clean_of t 6 s ≡ unbroken
       → ruling_of t s q type moment ≡ of_rules (rules_at t s q type moment)
   -- of one rule alone the values are its own
   pub one_rule : (x : Picked) → of_rules (x ∷ []) ≡ found (own x)

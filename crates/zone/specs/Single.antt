@@ -10,10 +10,10 @@ use Rattle.geometry.specs.Ring.{Point}
 use Rattle.geometry.specs.Held.{holds}
 use Rattle.rings.specs.Rings.{item_count}
 use Rattle.rings.specs.OneRing.{coordinates_of_one, OneRingAtMost}
-use Rattle.fault.specs.declared.outcome.Outcome.{Outcome}
 use Rattle.clean.specs.Clean.{clean_by, clean_of}
 use Rattle.zone.specs.Zone.{outline, rings_hold, polygons_hold_by, polygons_of, zone_holds, rules_by, applicable, zones_of}
 use Rattle.zone.specs.Answer.{Answer, refused, on_map, of_rules, of_clean, ruling_of}
+use Rattle.fault.specs.Outcome.{Outcome}
 
 -- no polygon of a file of zones has more than one ring
 abbrev pub WithoutHoles : Table → (s : List ℕ) → Type 0

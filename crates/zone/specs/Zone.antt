@@ -1,5 +1,6 @@
 -- The rules that apply at a point, and what they give together: document 01, "Zones", with document 02's requests W4 and W13.
-use Rattle.std.specs.Prelude.{Bool, true, false, List, [], ◌∷◌, ◌++◌, map, ℕ, leb, ltb}
+use Rattle.std.specs.Prelude.{Bool, true, false, List, [], ◌∷◌, ◌++◌, map, ℕ, leb, ltb, Option, None, Some}
+use Rattle.std.specs.Option.{option_or}
 use Rattle.notation.specs.Choice.{◌⇒◌else◌, ◌and◌}
 use Rattle.text.specs.Text.{same}
 use Rattle.schema.specs.Shape.{Table, file_shape}
@@ -7,23 +8,23 @@ use Rattle.schema.specs.Pick.{Picked, elements}
 use Rattle.geometry.specs.Ring.{Point}
 use Rattle.geometry.specs.Held.{side_of, polygon_holds}
 use Rattle.rings.specs.Rings.{position}
-use Rattle.document.specs.Document.{Maybe, none, some, along, elements_of, field, field_items, spelling, text_in}
+use Rattle.document.specs.Document.{along, elements_of, field, field_items, spelling, text_in}
 use Rattle.document.specs.Values.{integer_in}
 use Rattle.clean.specs.Clean.{records_in}
 
 -- an integer, where it is given
-abbrev pub integer : Maybe (List ℕ) → Maybe ℕ
-integer none = none
-integer (some s) = some (integer_in (some s))
+abbrev pub integer : Option (List ℕ) → Option ℕ
+integer None = None
+integer (Some s) = Some (integer_in (Some s))
 
 -- a zone counts from its start to before its end, where they are given
-abbrev pub begun : Maybe ℕ → ℕ → Bool
-begun none moment = true
-begun (some start) moment = leb start moment
+abbrev pub begun : Option ℕ → ℕ → Bool
+begun None moment = true
+begun (Some start) moment = leb start moment
 
-abbrev pub unended : Maybe ℕ → ℕ → Bool
-unended none moment = true
-unended (some end) moment = ltb moment end
+abbrev pub unended : Option ℕ → ℕ → Bool
+unended None moment = true
+unended (Some end) moment = ltb moment end
 
 unfoldable pub counts : Picked → ℕ → Bool
 counts properties moment = begun (integer (spelling 75 properties)) moment and unended (integer (spelling 76 properties)) moment
@@ -52,17 +53,17 @@ polygons_hold = polygons_hold_by rings_hold
 -- a rule is for this type where it names it, or has no field 78
 unfoldable pub any_text : List Picked → List ℕ → Bool
 any_text [] type = false
-any_text (x ∷ l) type = elim (text_in x) [ none ↦ any_text l type | some t ↦ same t type ⇒ true else any_text l type ]
+any_text (x ∷ l) type = elim (text_in x) [ None ↦ any_text l type | Some t ↦ same t type ⇒ true else any_text l type ]
 
 unfoldable pub applies : Picked → List ℕ → Bool
-applies rule type = elim (field 78 rule) [ none ↦ true | some ids ↦ any_text (elements ids) type ]
+applies rule type = elim (field 78 rule) [ None ↦ true | Some ids ↦ any_text (elements ids) type ]
 
 -- the rules of the zones that count and hold the point, in file order; `holding` tells which hold it
 unfoldable pub zone_rules_by : (holding : Picked → Point → Bool) → Picked → Point → ℕ → List Picked
 zone_rules_by holding zone q moment =
     elim (field 74 zone) [
-      | none ↦ []
-      | some properties ↦ counts properties moment and holding zone q ⇒ field_items 77 properties else []
+      | None ↦ []
+      | Some properties ↦ counts properties moment and holding zone q ⇒ field_items 77 properties else []
     ]
 
 unfoldable pub rules_by : (holding : Picked → Point → Bool) → List Picked → Point → ℕ → List Picked
@@ -88,10 +89,6 @@ unfoldable pub rules_at : Table → (s : List ℕ) → Point → List ℕ → �
 rules_at t s q type moment = applicable (rules_by zone_holds (zones_of t s) q moment) type
 
 -- a value as the first rule that gives it has it; one that is missing or "" is not given
-abbrev pub otherwise : {A : Type 0} → Maybe A → Maybe A → Maybe A
-otherwise none o = o
-otherwise (some v) o = some v
-
-unfoldable pub first_given : {A : Type 0} → (Picked → Maybe A) → List Picked → Maybe A
-first_given value [] = none
-first_given value (r ∷ rs) = otherwise (value r) (first_given value rs)
+unfoldable pub first_given : {A : Type 0} → (Picked → Option A) → List Picked → Option A
+first_given value [] = None
+first_given value (r ∷ rs) = option_or (value r) (first_given value rs)

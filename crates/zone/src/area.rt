@@ -13,7 +13,7 @@ ghost use Rattle.zone.specs.inner.Clean.{CleanRing, CleanItems, CleanZone};
 use document::fields::{array_in, member};
 use geometry::{Outline, Position, Standing};
 use rings::position::position_in;
-use walk::{ItemStep, item_bytes, pass_item};
+use walk::{item_bytes, pass_item};
 
 // Where the point stands to a polygon's rings once the ring `p` was asked too. Each position is read once, and an edge with the point on it ends the walk.
 // Shut out: an edge left out.
@@ -24,22 +24,16 @@ fn stand_to(p: &[u8], q: Position, first: bool, held: bool) -> Standing
     let mut ring = Outline::none();
     let mut odd = false;
     let mut at: usize = 1;
-    loop {
-        match pass_item(p, at) {
-            ItemStep::End => {
-                return Standing::Is(ring.holds(odd, first, held));
-            }
-            ItemStep::Found(m) => {
-                let next = position_in(item_bytes(p, m));
-                if ring.meets(next, q) {
-                    return Standing::Edge;
-                }
-                odd = odd != ring.crosses(next, q);
-                ring = ring.with(next);
-                at = m.next;
-            }
+    while let Some(m) = pass_item(p, at) {
+        let next = position_in(item_bytes(p, m));
+        if ring.meets(next, q) {
+            return Standing::Edge;
         }
+        odd = odd != ring.crosses(next, q);
+        ring = ring.with(next);
+        at = m.next;
     }
+    Standing::Is(ring.holds(odd, first, held))
 }
 
 // Whether the polygon `p` holds the point. Each ring is read and walked once, and an edge ends it.
@@ -50,25 +44,19 @@ fn rings_hold(p: &[u8], q: Position) -> bool
     let mut first = true;
     let mut held = false;
     let mut at: usize = 1;
-    loop {
-        match pass_item(p, at) {
-            ItemStep::End => {
-                return held;
+    while let Some(m) = pass_item(p, at) {
+        match stand_to(item_bytes(p, m), q, first, held) {
+            Standing::Edge => {
+                return true;
             }
-            ItemStep::Found(m) => {
-                match stand_to(item_bytes(p, m), q, first, held) {
-                    Standing::Edge => {
-                        return true;
-                    }
-                    Standing::Is(b) => {
-                        first = false;
-                        held = b;
-                        at = m.next;
-                    }
-                }
+            Standing::Is(b) => {
+                first = false;
+                held = b;
+                at = m.next;
             }
         }
     }
+    held
 }
 
 // Whether a polygon of the coordinates `p` does.
@@ -77,19 +65,13 @@ fn polygons_hold(p: &[u8], q: Position) -> bool
     ensures { result ≡ polygons_hold (picked_items polygon_shape p.now) (point q) }
 {
     let mut at: usize = 1;
-    loop {
-        match pass_item(p, at) {
-            ItemStep::End => {
-                return false;
-            }
-            ItemStep::Found(m) => {
-                if rings_hold(item_bytes(p, m), q) {
-                    return true;
-                }
-                at = m.next;
-            }
+    while let Some(m) = pass_item(p, at) {
+        if rings_hold(item_bytes(p, m), q) {
+            return true;
         }
+        at = m.next;
     }
+    false
 }
 
 // Whether the zone `p` does.

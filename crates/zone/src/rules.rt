@@ -6,37 +6,37 @@ ghost use Rattle.schema.specs.Table23.{rule};
 ghost use Rattle.rings.specs.inner.Parts.{Listing};
 ghost use Rattle.document.specs.inner.Items.{picked_items};
 ghost use Rattle.document.specs.inner.Values.{truth_by, spelled_by};
-ghost use Rattle.zone.specs.Zone.{any_text, applies as appliesTo, applicable};
-ghost use Rattle.zone.specs.inner.Values.{id_shape, flag_of, limit_of, given_by, or_given, with_rule, all_given};
+ghost use Rattle.zone.specs.Zone.{any_text, applies, applicable, integer};
+ghost use Rattle.zone.specs.inner.Values.{id_shape, given_by, or_given, with_rule, all_given};
 
-use crate::{Flag, Given, Limit};
+use crate::Given;
 use document::fields::{NUMBER, array_in, code_of, integer_in, is_id, member};
-use walk::{ItemStep, item_bytes, pass_item};
+use walk::{item_bytes, pass_item};
 
 // The kind of booleans.
 const BOOLEAN: u8 = 1;
 
 // The boolean of a value.
-fn flag_in(q: &[u8]) -> Flag
-    ensures { result ≡ flag_of (truth_by q.now) }
+fn flag_in(q: &[u8]) -> Option<bool>
+    ensures { result ≡ truth_by q.now }
 {
     if code_of(q) != BOOLEAN {
-        return Flag::Missing;
+        return None;
     }
     if q.len() == 0 {
-        return Flag::Is(false);
+        return Some(false);
     }
-    return Flag::Is(q[0] == b't');
+    return Some(q[0] == b't');
 }
 
 // The speed of a value. Zero is one.
-fn limit_in(q: &[u8]) -> Limit
-    ensures { result ≡ limit_of (spelled_by q.now) }
+fn speed_in(q: &[u8]) -> Option<u64>
+    ensures { result ≡ integer (spelled_by q.now) }
 {
     if code_of(q) != NUMBER {
-        return Limit::Missing;
+        return None;
     }
-    return Limit::Is(integer_in(q));
+    return Some(integer_in(q));
 }
 
 // What the rule `p` gives.
@@ -48,7 +48,7 @@ fn given_in(p: &[u8]) -> Given
         any: true,
         ride: flag_in(member(p, b"ride_allowed")),
         through: flag_in(member(p, b"ride_through_allowed")),
-        limit: limit_in(member(p, b"maximum_speed_kph")),
+        speed: speed_in(member(p, b"maximum_speed_kph")),
         parking: flag_in(member(p, b"station_parking")),
     }
 }
@@ -59,25 +59,19 @@ fn names_type(p: &[u8], type_id: &[u8]) -> bool
     ensures { result ≡ any_text (picked_items id_shape p.now) type_id.now }
 {
     let mut at: usize = 1;
-    loop {
-        match pass_item(p, at) {
-            ItemStep::End => {
-                return false;
-            }
-            ItemStep::Found(m) => {
-                if is_id(item_bytes(p, m), type_id) {
-                    return true;
-                }
-                at = m.next;
-            }
+    while let Some(m) = pass_item(p, at) {
+        if is_id(item_bytes(p, m), type_id) {
+            return true;
         }
+        at = m.next;
     }
+    false
 }
 
 // Whether the rule `p` is for a type: it names the type, or has no ids. An empty array names nobody.
 fn applies(p: &[u8], type_id: &[u8]) -> bool
     requires { Whole p.now (part_tree p.now) }
-    ensures { result ≡ appliesTo (pick rule (part_tree p.now)) type_id.now }
+    ensures { result ≡ applies (pick rule (part_tree p.now)) type_id.now }
 {
     let ids = member(p, b"vehicle_type_id");
     if ids.len() == 0 {
@@ -104,18 +98,12 @@ pub fn with_rules(p: &[u8], type_id: &[u8], start: Given) -> Given
 {
     let mut given = start;
     let mut at: usize = 1;
-    loop {
-        match pass_item(p, at) {
-            ItemStep::End => {
-                return given;
-            }
-            ItemStep::Found(m) => {
-                given = with_rule(item_bytes(p, m), type_id, given);
-                if given.is_full() {
-                    return given;
-                }
-                at = m.next;
-            }
+    while let Some(m) = pass_item(p, at) {
+        given = with_rule(item_bytes(p, m), type_id, given);
+        if given.is_full() {
+            return given;
         }
+        at = m.next;
     }
+    given
 }

@@ -5,23 +5,24 @@ ghost use Rattle.schema.specs.Table23.{zone};
 ghost use Rattle.schema.specs.Tables.{table_at};
 ghost use Rattle.schema.specs.Pick.{pick};
 ghost use Rattle.geometry.specs.inner.Shifted.{OnMap, point};
-ghost use Rattle.fault.specs.declared.outcome.Outcome.TheVariants.{Unbroken};
 ghost use Rattle.document.specs.inner.Items.{picked_items};
 ghost use Rattle.clean.specs.Clean.{clean_of};
 ghost use Rattle.zone.specs.Zone.{zone_rules, rules, applicable, rules_at};
 ghost use Rattle.zone.specs.Answer.{answer, of_rules};
 ghost use Rattle.zone.specs.inner.Values.{or_given, all_given};
 ghost use Rattle.zone.specs.inner.Clean.{CleanZone, CleanZones};
+ghost use Rattle.fault.specs.Outcome.{unbroken};
 
 use crate::area::zone_holds;
 use crate::rules::with_rules;
 use crate::window::counts;
-use crate::{Given, Ruling};
+use crate::{FILE, Given, Rule};
 use document::fields::{array_in, member};
 use document::records_from;
 use geometry::Position;
 use schema::sheets::sheet_of;
-use walk::{ItemStep, item_bytes, pass_item};
+use walk::{item_bytes, pass_item};
+use word::refusal::Refusal;
 
 // What is given so far, joined by what the rules of the zone `p` give for a type, where the zone counts at the moment and holds the point.
 fn with_zone(p: &[u8], q: Position, type_id: &[u8], moment: u64, start: Given) -> Given
@@ -45,30 +46,30 @@ fn given_by_zones(p: &[u8], q: Position, type_id: &[u8], moment: u64) -> Given
 {
     let mut given = Given::nothing();
     let mut at: usize = 1;
-    loop {
-        match pass_item(p, at) {
-            ItemStep::End => {
-                return given;
-            }
-            ItemStep::Found(m) => {
-                given = with_zone(item_bytes(p, m), q, type_id, moment, given);
-                if given.is_full() {
-                    return given;
-                }
-                at = m.next;
-            }
+    while let Some(m) = pass_item(p, at) {
+        given = with_zone(item_bytes(p, m), q, type_id, moment, given);
+        if given.is_full() {
+            return given;
         }
+        at = m.next;
     }
+    given
 }
 
 // The answer by a table and a clean file; an absent one has no zones.
-pub fn rule_in(table: u8, s: &[u8], q: Position, type_id: &[u8], moment: u64) -> Ruling
-    requires { (clean_of (table_at table) 6 s.now ≡ Unbroken) × OnMap q }
+pub fn rule_in(
+    table: u8,
+    s: &[u8],
+    q: Position,
+    type_id: &[u8],
+    moment: u64,
+) -> Result<Rule, Refusal>
+    requires { (clean_of (table_at table) 6 s.now ≡ unbroken) × OnMap q }
     ensures { answer result ≡ of_rules (rules_at (table_at table) s.now (point q) type_id.now moment) }
 {
     if s.len() == 0 {
-        return Ruling::NoRule;
+        return Err(Refusal::NoRule);
     }
-    let records = records_from(sheet_of(table, Ruling::FILE), s);
+    let records = records_from(sheet_of(table, FILE), s);
     given_by_zones(records, q, type_id, moment).ruling()
 }

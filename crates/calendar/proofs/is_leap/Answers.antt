@@ -1,13 +1,13 @@
--- `is_leap` tests in the definition's order.
-use Prim.Native.Nat.{◌%◌}
-use borrow.Author.Tests.{eq-eqb, ne_eqb}
+-- The test of 100 comes first, as in the definition.
+use native.Mathlib.Omega.{arith}
+use Rattle.std.proofs.lemmas.Grind.{common_steps}
 use Rattle.calendar.specs.Calendar.{leap}
 use Rattle.calendar.proofs.is_leap.Goals as goal
 
 pub returns-then-year-eq0 : goal.returns-then-year-eq0
 unfolding leap
-returns-then-year-eq0 c = rw (eq-eqb (c.args.year % 100) 0 c.if-year-eq0.true, leap)
+returns-then-year-eq0 c = grind (arith, common_steps)
 
-pub returns : goal.returns
+pub returns-else-year-eq0 : goal.returns-else-year-eq0
 unfolding leap
-returns c = rw (ne_eqb (c.args.year % 100) 0 c.if-year-eq0.false, leap)
+returns-else-year-eq0 c = grind (arith, common_steps)

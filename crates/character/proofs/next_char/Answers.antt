@@ -8,8 +8,8 @@ use Rattle.character.proofs.next_char.Goals as goal
 pub returns-then-b-eq92 : goal.returns-then-b-eq92
 returns-then-b-eq92 c = next-escape _ c.first-b.ensures c.if-b-eq92.true c.escape.ensures
 
-pub returns-then-n-gt0 : goal.returns-then-n-gt0
-returns-then-n-gt0 c = ap Character c.standing_at.ensures ∙ sym (next-says _ c.first-b.ensures (c.wide_length-n.ensures c.if-n-gt0.true))
+pub returns-in-Some : goal.returns-in-Some
+returns-in-Some c = ap Character c.standing_at.ensures ∙ sym (next-says _ c.first-b.ensures c.in-Some.ensures.1)
 
 pub returns : goal.returns
 returns c = next_class _ _ c.first-b.ensures c.class_by.ensures.lead c.next_by.ensures

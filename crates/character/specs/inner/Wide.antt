@@ -1,5 +1,5 @@
 -- A character that stands for itself in so many bytes.
-use Rattle.std.specs.Prelude.{List, ◌≡◌, ℕ, ◌-◌, ltb}
+use Rattle.std.specs.Prelude.{List, ◌≡◌, ℕ, ◌-◌, ◌<◌, ltb}
 use Rattle.notation.specs.Choice.{◌⇒◌else◌}
 use Rattle.lexeme.specs.declared.Char.{Char}
 use Rattle.lexeme.specs.declared.Next.{Next}
@@ -16,3 +16,7 @@ standing l n = record { b0 = byte l 0; b1 = byte l 1; b2 = tail_byte l n 2; b3 =
 
 abbrev pub Stands : List ℕ → ℕ → Next → Type 0
 Stands l n o = o ≡ Character (standing l n)
+
+-- it has n bytes, one at least, and is that character
+abbrev pub Told : List ℕ → ℕ → Next → Type 0
+Told l n o = (0 < n) × Stands l n o

@@ -1,5 +1,5 @@
 -- What the code answers of one record: the least of its broken rules, where the records that it may refer to are known.
-use Rattle.std.specs.Prelude.{Bool, not, ◌≡◌, ℕ, ◌*◌, ◌≤◌, ◌<◌, eqb, ltb, length, get_or}
+use Rattle.std.specs.Prelude.{Bool, not, ◌≡◌, ℕ, ◌*◌, ◌≤◌, ◌<◌, eqb, ltb, length, get_or, Option}
 use mathlib.Core.List.{List, [], ◌∷◌, ◌++◌, Memᴰ}
 use Rattle.notation.specs.Choice.{◌⇒◌else◌, ◌and◌}
 use Rattle.word.specs.Kinds.{sum_differs}
@@ -17,7 +17,6 @@ use Rattle.schema.specs.Pick.{Picked, pick}
 use Rattle.slots.specs.declared.Slots.{Slots}
 use Rattle.slots.specs.inner.Slots.{slot_at, Gathered}
 use Rattle.fault.specs.declared.Fault.{Fault}
-use Rattle.fault.specs.declared.Least.{Least}
 use Rattle.fault.specs.Fault.{least, faulty}
 use Rattle.fault.specs.declared.Place.{Place}
 use Rattle.document.specs.inner.Items.{picked_items}
@@ -102,5 +101,5 @@ counts_by n types counts bikes =
     available_faults types.records n 1 items
 
 -- p is an object, and r the least of the rules that it breaks as a record of a sheet
-abbrev pub Judges : (sheet : ℕ) (breaks : Picked → List Fault) (p : List ℕ) (r : Least) → Type 0
+abbrev pub Judges : (sheet : ℕ) (breaks : Picked → List Fault) (p : List ℕ) (r : Option Fault) → Type 0
 Judges sheet breaks p r = (ms : Members) → Whole p (tree.object ms) → r ≡ least (breaks (pick (record_shape sheet) (tree.object ms)))

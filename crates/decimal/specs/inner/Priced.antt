@@ -1,16 +1,17 @@
 -- A price in quotation marks, byte by byte of its text: how far the text is an unsigned number without exponent, and its digits so far.
 -- `proofs/Priced` shows that this is the price of the whole text.
-use Rattle.std.specs.Prelude.{false, List, [], ◌∷◌, ℕ, ◌+◌, ◌-◌, ◌*◌, ◌^◌, ◌<◌, min, eqb, leb, ltb}
+use Rattle.std.specs.Prelude.{false, List, [], ◌∷◌, ℕ, ◌+◌, ◌-◌, ◌*◌, ◌^◌, ◌<◌, min, eqb, leb, ltb, Result, Ok, Err}
 use Rattle.notation.specs.Choice.{◌⇒◌else◌, ◌and◌}
 use Rattle.lexeme.specs.Numbers.{digit}
-use Rattle.decimal.specs.declared.Price.{Price}
-use Rattle.decimal.specs.declared.Price.TheVariants.{Value, Unformed, NoNumber}
 use Rattle.decimal.specs.declared.spelling.Run.{Run}
 use Rattle.decimal.specs.declared.quoted.Phase.{Phase}
 use Rattle.decimal.specs.declared.quoted.Phase.TheVariants.{Start, Zero, Whole, Part, Lost}
 use Rattle.decimal.specs.declared.quoted.Progress.{Progress}
 use Rattle.decimal.specs.Decimals.{whole_digits, part_digits}
 use Rattle.decimal.specs.inner.Spelling.{made}
+use Rattle.decimal.specs.declared.Decimal.{Decimal}
+use Rattle.decimal.specs.declared.PriceError.{PriceError}
+use Rattle.decimal.specs.declared.PriceError.TheVariants.{Unformed, NoNumber}
 
 abbrev pub none : Run
 none = record { value = 0; count = 0 }
@@ -58,17 +59,17 @@ steps p [] = p
 steps p (b ∷ r) = steps (step p b) r
 
 -- the price of the digits so far, and of all the text so far
-unfoldable pub price_so : Progress → Price
+unfoldable pub price_so : Progress → Result Decimal PriceError
 price_so p =
     leb p.whole.count whole_digits and leb p.part.count part_digits ⇒
-    Value (made false p.whole.value p.part.value p.part.count) else Unformed
+    Ok (made false p.whole.value p.part.value p.part.count) else Err Unformed
 
-unfoldable pub finished : Progress → Phase → Price
-finished p Start = NoNumber
+unfoldable pub finished : Progress → Phase → Result Decimal PriceError
+finished p Start = Err NoNumber
 finished p Zero = price_so p
 finished p Whole = price_so p
-finished p Part = eqb p.part.count 0 ⇒ NoNumber else price_so p
-finished p Lost = NoNumber
+finished p Part = eqb p.part.count 0 ⇒ Err NoNumber else price_so p
+finished p Lost = Err NoNumber
 
 -- the values stay within their digits
 pub record Held (p : Progress) : Type 0 where

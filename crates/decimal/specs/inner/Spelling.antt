@@ -1,11 +1,9 @@
 -- What the code reads off a spelling step by step: a run of digits, and what a fraction's bytes make of the whole number before them.
-use Rattle.std.specs.Prelude.{Bool, true, false, not, List, [], ◌∷◌, map, ℕ, ◌+◌, ◌-◌, ◌*◌, ◌^◌, eqb, leb, length}
+use Rattle.std.specs.Prelude.{Bool, true, false, not, List, [], ◌∷◌, map, ℕ, ◌+◌, ◌-◌, ◌*◌, ◌^◌, eqb, leb, length, Option, Some, None}
 use Rattle.notation.specs.Choice.{◌⇒◌else◌, ◌and◌}
 use Rattle.radix.specs.Radix.{number_from}
 use Rattle.lexeme.specs.Numbers.{digit}
 use Rattle.decimal.specs.declared.Decimal.{Decimal}
-use Rattle.decimal.specs.declared.Number.{Number}
-use Rattle.decimal.specs.declared.Number.TheVariants as number
 use Rattle.decimal.specs.declared.spelling.Run.{Run}
 use Rattle.decimal.specs.Decimals.{part_digits, tens}
 
@@ -28,7 +26,7 @@ made negative whole v n =
     record { negative = negative and not (eqb (whole + v) 0); whole = whole; part = v * 10 ^ (part_digits - n) }
 
 -- the number whose point stands before l
-unfoldable pub fraction_of : Bool → ℕ → List ℕ → Number
+unfoldable pub fraction_of : Bool → ℕ → List ℕ → Option Decimal
 fraction_of negative whole l =
     leb (length l) part_digits and eqb (length (front l)) (length l) ⇒
-    number.Value (made negative whole (value_from 0 (front l)) (length l)) else number.Unformed
+    Some (made negative whole (value_from 0 (front l)) (length l)) else None

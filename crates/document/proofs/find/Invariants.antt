@@ -8,8 +8,8 @@ use Rattle.walk.proofs.Folds.{Walk, member_steps}
 use Rattle.slots.specs.Found.{noted, found_in}
 use Rattle.document.proofs.find.Given as goal
 
-abbrev pub invariant-loop-found : goal.invariant-loop-found
-invariant-loop-found l = (x : Json) → Whole l.p x → AlongMembers l.p l.at × Walk (member_steps l.p) (noted l.p l.name) l.found l.at (found_in l.p l.name)
+abbrev pub invariant-loop-m : goal.invariant-loop-m
+invariant-loop-m l = (x : Json) → Whole l.p x → AlongMembers l.p l.at × Walk (member_steps l.p) (noted l.p l.name) l.found l.at (found_in l.p l.name)
 
-abbrev pub decreases-loop-found : goal.decreases-loop-found
-decreases-loop-found l = length l.p - l.at
+abbrev pub decreases-loop-m : goal.decreases-loop-m
+decreases-loop-m l = length l.p - l.at

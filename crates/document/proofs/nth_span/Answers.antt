@@ -18,24 +18,24 @@ returns-then-n-eq0 c h =
 pub loop-m-init : goal.loop-m-init
 loop-m-init c = let a = c.args in (search rules, λ h. comes_start (λ (l : List Item). nth a.from l a.n) (λ i. h))
 
-pub returns-in-End : goal.returns-in-End
-returns-in-End c h = sym (nth-none _ c.loop-m.left) ∙ comes_end (c.loop-m.invariant.1 h) c.pass_item.ensures c.in-End.is
+pub returns : goal.returns
+returns c h = sym (nth-none _ c.loop-m.left) ∙ comes_end (c.loop-m.invariant.1 h) c.pass_item.ensures c.in_default.is
 
 pub overflow_add-result : goal.overflow_add-result
-overflow_add-result c = let m = c.pass_item.ensures.placed c.in-Found.m c.in-Found.is in let h = c.requires in omega arith
+overflow_add-result c = let m = c.pass_item.ensures.placed c.in-Some.m c.in-Some.is in let h = c.requires in omega arith
 
 pub overflow_add-result-then-left-eq1 : goal.overflow_add-result-then-left-eq1
-overflow_add-result-then-left-eq1 c = let m = c.pass_item.ensures.placed c.in-Found.m c.in-Found.is in let h = c.requires in omega arith
+overflow_add-result-then-left-eq1 c = let m = c.pass_item.ensures.placed c.in-Some.m c.in-Some.is in let h = c.requires in omega arith
 
 pub returns-then-left-eq1 : goal.returns-then-left-eq1
 returns-then-left-eq1 c h =
-    comes_here (c.loop-m.invariant.1 h) c.pass_item.ensures c.in-Found.is (λ l. ap (nth _ _) c.if-left-eq1.true ∙ nth_here _ c.in-Found.m l)
+    comes_here (c.loop-m.invariant.1 h) c.pass_item.ensures c.in-Some.is (λ l. ap (nth _ _) c.if-left-eq1.true ∙ nth_here _ c.in-Some.m l)
 
 pub loop-m-smaller : goal.loop-m-smaller
-loop-m-smaller c = let m = c.pass_item.ensures.placed c.in-Found.m c.in-Found.is in omega arith
+loop-m-smaller c = let m = c.pass_item.ensures.placed c.in-Some.m c.in-Some.is in omega arith
 
 pub loop-m-preserved : goal.loop-m-preserved
 loop-m-preserved c = (
   omega arith,
-  λ h. comes_more (c.loop-m.invariant.1 h) c.pass_item.ensures c.in-Found.is _ (λ l. nth-later _ c.in-Found.m l c.loop-m.left c.loop-m.invariant.0 c.if-left-eq1.false),
+  λ h. comes_more (c.loop-m.invariant.1 h) c.pass_item.ensures c.in-Some.is _ (λ l. nth-later _ c.in-Some.m l c.loop-m.left c.loop-m.invariant.0 c.if-left-eq1.false),
 )

@@ -8,6 +8,7 @@ use Rattle.schema.specs.Tables.{sheets, sheet_shape}
 use Rattle.schema.specs.declared.ways.Steps.{Steps}
 use Rattle.schema.specs.inner.Line.{name_at}
 use Rattle.schema.specs.inner.Ways.{way_names, LeadTo}
+use Rattle.std.specs.Prelude.{Option}
 use Rattle.document.specs.declared.Span.{Span}
 use Rattle.document.specs.Spans.{member_span, members_along, top_span}
 use Rattle.document.specs.inner.Spans.{ValueFrom, RecordsFrom}
@@ -35,7 +36,7 @@ take-three (suc (suc (suc zero))) h = refl
 take-three (suc (suc (suc (suc m)))) h = refl
 
 -- a value by the name of a line
-named : {s p q r : List ℕ} {span : Span} (i : ℕ) → q ≡ name_at sheets i → Begins s span p → ValueFrom p q r → Begins s (member_span s (name_at sheets i) span) r
+named : {s p q r : List ℕ} {span : Option Span} (i : ℕ) → q ≡ name_at sheets i → Begins s span p → ValueFrom p q r → Begins s (member_span s (name_at sheets i) span) r
 named {s} {p} {q} {r} {span} i e b v = begins-member s (name_at sheets i) span p r b (subst (λ (x : List ℕ). ValueFrom p x r) e v)
 
 pub returns-then-steps-eq0 : goal.returns-then-steps-eq0

@@ -1,6 +1,5 @@
 -- What is known of a file before its records are looked for, and the rests that the search answers with.
-use Rattle.std.specs.Prelude.{false, List, [], ◌≡◌, ℕ, ◌≤◌, length, take, drop}
-use Rattle.json_text.specs.declared.Syntax.TheVariants.{Sound}
+use Rattle.std.specs.Prelude.{false, List, [], ◌≡◌, ℕ, ◌≤◌, length, take, drop, Some, Ok}
 use Rattle.json_text.specs.Tree.{Json, Items}
 use Rattle.json_text.specs.Text.{syntax_of}
 use Rattle.walk.specs.Walk.{part}
@@ -9,19 +8,18 @@ use Rattle.schema.specs.Tables.{sheet_shape}
 use Rattle.schema.specs.Records.{has_records}
 use Rattle.slots.specs.declared.Found.TheVariants.{Once}
 use Rattle.slots.specs.Found.{found_in}
-use Rattle.document.specs.declared.Span.TheVariants.{Is}
-use Rattle.document.specs.Spans.{records_span}
+use Rattle.document.specs.Spans.{records_span, spanning}
 
 -- no file, or one that stage A passed
 pub data Readable (s : List ℕ) : Type 0 where
   absent : s ≡ [] → Readable s
-  sound : syntax_of s ≡ Sound → Readable s
+  sound : syntax_of s ≡ Ok tt → Readable s
 
 -- no file, one of a sheet without records, or one that stage A passed with an array for its records
 pub data Listed (sheet : ℕ) (s : List ℕ) : Type 0 where
   absent : s ≡ [] → Listed sheet s
   recordless : has_records sheet ≡ false → Listed sheet s
-  listed : {is : Items} (from upto : ℕ) → syntax_of s ≡ Sound → records_span (sheet_shape sheet) s ≡ Is from upto → Whole (part s from upto) (Json.array is) → Listed sheet s
+  listed : {is : Items} (from upto : ℕ) → syntax_of s ≡ Ok tt → records_span (sheet_shape sheet) s ≡ Some (spanning from upto) → Whole (part s from upto) (Json.array is) → Listed sheet s
 
 -- r is a rest of p: of an object at the front of p, n bytes long, the rest from the value on that it has once under the name
 pub record ValueFrom (p name r : List ℕ) : Type 0 where
@@ -32,4 +30,4 @@ pub record ValueFrom (p name r : List ℕ) : Type 0 where
 pub record RecordsFrom (sheet : ℕ) (s r : List ℕ) : Type 0 where
   pub inside : length r ≤ length s
   pub none : has_records sheet ≡ false → r ≡ []
-  pub starts : syntax_of s ≡ Sound → (from upto : ℕ) → records_span (sheet_shape sheet) s ≡ Is from upto → r ≡ drop from s
+  pub starts : syntax_of s ≡ Ok tt → (from upto : ℕ) → records_span (sheet_shape sheet) s ≡ Some (spanning from upto) → r ≡ drop from s

@@ -1,6 +1,6 @@
 -- What the bytes of a value say: an object's member, and by its kind a number, a text, a boolean, an array. No bytes stand for a value that
 -- is not there. `proofs/FieldBytes` shows that these are the fields of the picked object.
-use Rattle.std.specs.Prelude.{Bool, false, List, [], ℕ, eqb, ltb, length, get_or}
+use Rattle.std.specs.Prelude.{Bool, false, List, [], ℕ, eqb, ltb, length, get_or, Option, None, Some}
 use Rattle.notation.specs.Choice.{◌⇒◌else◌}
 use Rattle.text.specs.Text.{text_of, same}
 use Rattle.walk.specs.declared.ValueKind.{ValueKind}
@@ -12,7 +12,6 @@ use Rattle.slots.specs.declared.Found.{Found}
 use Rattle.slots.specs.declared.Found.TheVariants.{Missing, Once, Twice}
 use Rattle.slots.specs.Found.{found_in}
 use Rattle.slots.specs.inner.Blank.{blank_text}
-use Rattle.document.specs.Document.{Maybe, none, some}
 
 -- a kind by number
 abbrev pub kind_code : ValueKind → ℕ
@@ -40,14 +39,14 @@ unfoldable pub member_of : (p name : List ℕ) → List ℕ
 member_of p name = eqb (kind_code (kind_at p)) 5 ⇒ found_bytes p (found_in p name) else []
 
 -- a truth, the spelling of a number, the text of a string, an array with its brackets, whether there is a value
-unfoldable pub truth_by : List ℕ → Maybe Bool
-truth_by q = eqb (kind_code (kind_at q)) 1 ⇒ some (eqb (get_or q 0 0) 0x74) else none
+unfoldable pub truth_by : List ℕ → Option Bool
+truth_by q = eqb (kind_code (kind_at q)) 1 ⇒ Some (eqb (get_or q 0 0) 0x74) else None
 
-unfoldable pub spelled_by : List ℕ → Maybe (List ℕ)
-spelled_by q = eqb (kind_code (kind_at q)) 2 ⇒ some q else none
+unfoldable pub spelled_by : List ℕ → Option (List ℕ)
+spelled_by q = eqb (kind_code (kind_at q)) 2 ⇒ Some q else None
 
-unfoldable pub text_by : List ℕ → Maybe (List ℕ)
-text_by q = eqb (kind_code (kind_at q)) 3 ⇒ some (text_of (inside q)) else none
+unfoldable pub text_by : List ℕ → Option (List ℕ)
+text_by q = eqb (kind_code (kind_at q)) 3 ⇒ Some (text_of (inside q)) else None
 
 unfoldable pub array_by : List ℕ → List ℕ
 array_by q = eqb (kind_code (kind_at q)) 4 ⇒ q else []
@@ -56,6 +55,6 @@ abbrev pub there_by : List ℕ → Bool
 there_by q = ltb 0 (length q)
 
 -- a text that is the id
-abbrev pub is_id : List ℕ → Maybe (List ℕ) → Bool
-is_id id none = false
-is_id id (some t) = same t id
+abbrev pub is_id : List ℕ → Option (List ℕ) → Bool
+is_id id None = false
+is_id id (Some t) = same t id

@@ -1,14 +1,12 @@
 -- What the code asks of a plan and a ride so that nothing overflows: a sound plan's rates and a quote's longest ride keep it.
 use mathlib.Core.List.{List, Memᴰ}
-use Rattle.std.specs.Prelude.{◌≡◌, ℕ, ◌+◌, ◌*◌, ◌^◌, ◌≤◌, ◌<◌, length}
+use Rattle.std.specs.Prelude.{ℕ, ◌+◌, ◌*◌, ◌^◌, ◌≤◌, ◌<◌, length}
 use Rattle.limits.specs.Ceilings.{segments}
 use Rattle.decimal.specs.declared.Amount.{Amount}
 use Rattle.fare.specs.declared.Minutes.{Minutes}
 use Rattle.fare.specs.declared.Kilometres.{Kilometres}
 use Rattle.fare.specs.declared.Segment.{Segment}
-use Rattle.fare.specs.declared.Segments.{Segments}
 use Rattle.fare.specs.declared.Sum.{Sum}
-use Rattle.fare.specs.inner.Folds.{listed}
 use Rattle.fare.specs.Bounds.{most_charge, most_kilometres, most_minutes, most_money}
 
 -- in either measure
@@ -29,12 +27,10 @@ pub record Payable (sum : Sum) (s : Segment) (ride : ℕ) : Type 0 where
 abbrev pub Modest : List Segment → Type 0
 Modest l = (s : Segment) → Memᴰ s l → s.rate.size ≤ most_money
 
--- all segments of one sort: their places are there, and the charges of all can be added
-pub record Chargeable (sum : Sum) (l : Segments) (ride : ℕ) : Type 0 where
-  pub few : l.count ≤ segments
-  pub filled : l.count ≡ length (listed l)
-  pub room : Room l.count sum
-  pub modest : Modest (listed l)
+-- the charges of all segments of one sort can be added
+pub record Chargeable (sum : Sum) (l : List Segment) (ride : ℕ) : Type 0 where
+  pub room : Room (length l) sum
+  pub modest : Modest l
   pub short : ride ≤ most_ride
 
 -- a plan and a ride for which there is a quote

@@ -1,12 +1,10 @@
 -- What the code answers of one file and of all, from the arrays of their records: presence, repeated ids and what the records demand.
-use Rattle.std.specs.Prelude.{true, List, ◌≡◌, ℕ, ◌≤◌, ◌<◌, length}
+use Rattle.std.specs.Prelude.{true, List, ◌≡◌, ℕ, ◌≤◌, ◌<◌, length, Option}
 use Rattle.word.specs.Kinds.{condition}
 use Rattle.schema.specs.Tables.{sheet_of}
 use Rattle.schema.specs.Records.{record_shape, has_records, has_ids}
-use Rattle.fault.specs.declared.Least.{Least}
-use Rattle.fault.specs.declared.outcome.Outcome.{Outcome}
 use Rattle.fault.specs.Fault.{least, lesser, top, faulty}
-use Rattle.fault.specs.Outcome.{file_count, outcome_of}
+use Rattle.fault.specs.Outcome.{file_count, outcome_of, Outcome}
 use Rattle.fault.specs.inner.Narrow.{Narrow}
 use Rattle.document.specs.inner.Items.{picked_items}
 use Rattle.ids.specs.inner.Ids.{AllIdsOnce}
@@ -19,6 +17,7 @@ use Rattle.cross.specs.Stage.{Feeds, bytes_of}
 use Rattle.cross.specs.inner.Judged.{files_by, Known}
 use Rattle.cross.specs.inner.Recorded.{Recorded, repeat_of, ids_least}
 use Rattle.cross.specs.inner.Stage.{first_of}
+use Rattle.fault.specs.declared.Fault.{Fault}
 
 -- the records of all files of a set that have any are such arrays
 abbrev pub AllRecorded : (table : ℕ) → Feeds → Type 0
@@ -45,7 +44,7 @@ module _ (table : ℕ) (rs : Feeds) where
   Found file found = Finds file (bytes_of rs file) found
 
   -- the least of a file
-  unfoldable pub file_least : ℕ → Least
+  unfoldable pub file_least : ℕ → Option Fault
   file_least file =
       lesser (least (faulty top 0 (kind_if (missing_file (files_by table rs) file) condition)))
       (lesser (ids_least (sheet_of table file) (bytes_of rs file)) (least (each_record (faults_of (files_by table rs) file) 1 (files_by table rs file).records)))

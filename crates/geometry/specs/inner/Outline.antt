@@ -1,6 +1,7 @@
 -- A ring taken point by point: what is kept of the points so far, and what the points that are left make of it. Each question of a whole ring is
 -- asked of what is kept with the points that are left; with none left the code answers it.
-use Rattle.std.specs.Prelude.{Bool, false, not, List, [], ◌∷◌, ℕ, ◌+◌, ◌*◌, ◌≤◌, eqb, ltb, ℤ, pos, ◌+ℤ◌}
+use Rattle.std.specs.Prelude.{Bool, false, not, List, [], ◌∷◌, None, Some, is_none, unwrap_or, ℕ, ◌+◌, ◌*◌, ◌≤◌, ltb, ℤ, pos, ◌+ℤ◌}
+use Rattle.std.specs.Option.{option_map_or}
 use Rattle.std.specs.Int.Signed.{lt_z}
 use Rattle.limits.specs.Ceilings.{positions}
 use Rattle.notation.specs.Choice.{◌⇒◌else◌, ◌and◌}
@@ -13,18 +14,19 @@ use Rattle.geometry.specs.declared.Position.{Position}
 use Rattle.geometry.specs.declared.Standing.{Standing}
 use Rattle.geometry.specs.declared.Standing.TheVariants as standing
 
+-- no point yet: the line of the area sum begins at the origin
 abbrev pub no_outline : Outline
-no_outline = record { count = 0; first = origin; last = origin; area = no_balance }
+no_outline = record { count = 0; first = None; last = origin; area = no_balance }
+
+abbrev pub is_empty : Outline → Bool
+is_empty o = is_none o.first
 
 -- one point more; past the ceiling no edge is added, since no ring of more positions is asked for its area
-abbrev pub is_empty : Outline → Bool
-is_empty o = eqb o.count 0
-
 abbrev pub joined : Outline → Position → Outline
 joined o p =
     record {
       count = o.count + 1;
-      first = is_empty o ⇒ p else o.first;
+      first = Some (unwrap_or o.first p);
       last = p;
       area = ltb o.count positions ⇒ added o.area o.last p else o.area;
     }
@@ -40,7 +42,6 @@ pub record Sized (o : Outline) : Type 0 where
   pub taken : edges ≤ o.count
   pub few : edges ≤ positions
   pub room : Room o.area edges
-  pub first : OnMap o.first
   pub last : OnMap o.last
 
 -- the area sum: what is kept, on to the origin, with the edges that are left
@@ -56,7 +57,7 @@ closes [] = false
 closes (a ∷ l) = ends_at a a l
 
 unfoldable pub closes_from : Outline → List Point → Bool
-closes_from o l = is_empty o ⇒ closes l else ends_at (point o.first) (point o.last) l
+closes_from o l = option_map_or (λ first. ends_at (point first) (point o.last) l) o.first (closes l)
 
 unfoldable pub sound_from : Outline → List Point → Bool
 sound_from o l = closes_from o l and not (equal (area_from o l) (pos 0))

@@ -1,5 +1,5 @@
 -- The ids of a file's own records: what a record has as its id and where, which records have a given id, and the first record whose id one before it has.
-use Rattle.std.specs.Prelude.{Bool, true, false, ◌≡◌, ℕ, zero, suc, ◌+◌, ◌≤◌, ◌<◌, eqb, length, drop, get_or}
+use Rattle.std.specs.Prelude.{Bool, true, false, ◌≡◌, ℕ, zero, suc, ◌+◌, ◌≤◌, ◌<◌, eqb, length, drop, get_or, Option, None, Some}
 use mathlib.Core.List.{List, [], ◌∷◌, ◌++◌, map, Memᴰ}
 use Rattle.limits.specs.Ceilings.{file_bytes}
 use Rattle.notation.specs.Ascii.{bytes}
@@ -16,30 +16,29 @@ use Rattle.walk.proofs.Parts.{item_of}
 use Rattle.schema.specs.Records.{id_key}
 use Rattle.slots.specs.declared.Found.TheVariants.{Missing, Twice}
 use Rattle.slots.specs.Found.{noted, found_in}
-use Rattle.document.specs.Document.{Maybe, none, some}
 use Rattle.document.specs.inner.Values.{member_of, text_by, there_by, is_id}
 use Rattle.ids.specs.declared.IdText.{IdText}
 use Rattle.ids.specs.References.{not_human}
 
 -- the field and the name of the ids of a file's own records; 0 and no bytes where they have none
 unfoldable pub id_field : ℕ → ℕ
-id_field sheet = elim (id_key sheet) [ none ↦ 0 | some k ↦ k.field ]
+id_field sheet = elim (id_key sheet) [ None ↦ 0 | Some k ↦ k.field ]
 
 unfoldable pub id_name : ℕ → List ℕ
-id_name sheet = elim (id_key sheet) [ none ↦ [] | some k ↦ k.name ]
+id_name sheet = elim (id_key sheet) [ None ↦ [] | Some k ↦ k.name ]
 
 -- what a record holds as its id
 unfoldable pub id_value : ℕ → List ℕ → List ℕ
 id_value sheet q = member_of q (id_name sheet)
 
 -- the text of a record's id
-abbrev pub id_of : ℕ → List ℕ → Maybe (List ℕ)
+abbrev pub id_of : ℕ → List ℕ → Option (List ℕ)
 id_of sheet q = text_by (id_value sheet q)
 
 -- no bytes where it has none
-abbrev pub text_or : Maybe (List ℕ) → List ℕ
-text_or none = []
-text_or (some id) = id
+abbrev pub text_or : Option (List ℕ) → List ℕ
+text_or None = []
+text_or (Some id) = id
 
 unfoldable pub id_text : ℕ → List ℕ → List ℕ
 id_text sheet q = text_or (id_of sheet q)
@@ -49,15 +48,15 @@ pub record NoIdBefore (sheet : ℕ) (q : List ℕ) (at : ℕ) : Type 0 where
   pub left : Walk (member_steps q) (noted q (id_name sheet)) Missing at (found_in q (id_name sheet))
   pub along : (0 < length q) → AlongMembers q at
 
--- a text of q, if there is one, begins at the place r, whatever follows q; there is none where r is 0
-pub record TextPlace (q : List ℕ) (text : Maybe (List ℕ)) (r : ℕ) : Type 0 where
-  pub none : r ≡ 0 → text ≡ none
-  pub some : 0 < r → (id : List ℕ) × (text ≡ some id) × ((s : List ℕ) → text_of (drop r (q ++ s)) ≡ id)
+-- a text of q, if there is one, begins at the place r, whatever follows q
+pub record TextPlace (q : List ℕ) (text : Option (List ℕ)) (r : Option ℕ) : Type 0 where
+  pub none : r ≡ None → text ≡ None
+  pub some : (at : ℕ) → r ≡ Some at → (id : List ℕ) × (text ≡ Some id) × ((s : List ℕ) → text_of (drop at (q ++ s)) ≡ id)
 
 -- what a walk over the members of the record q tells of its id: where its member is looked for, and where its text begins
 pub record IdTold (sheet : ℕ) (q : List ℕ) (r : IdText) : Type 0 where
   pub least : r.member ≤ file_bytes
-  pub inside : r.text ≤ length q
+  pub inside : (at : ℕ) → r.text ≡ Some at → at ≤ length q
   pub told : (ms : Members) → Whole q (tree.object ms) → (found_in q (id_name sheet) ≡ Twice → ⊥) → NoIdBefore sheet q r.member × TextPlace q (id_of sheet q) r.text
 
 -- the record q is an object in which this name stands once at most
@@ -103,7 +102,7 @@ any_has sheet id (q ∷ l) = has_id sheet id q ⇒ true else any_has sheet id l
 
 -- a record that is passed has the id of q
 abbrev pub repeated : ℕ → List (List ℕ) → List ℕ → Bool
-repeated sheet passed q = elim (id_of sheet q) [ none ↦ false | some id ↦ any_has sheet id passed ]
+repeated sheet passed q = elim (id_of sheet q) [ None ↦ false | Some id ↦ any_has sheet id passed ]
 
 -- the number of the first record whose id one before it has, where the first has the number n and `passed` are those before; 0 where there is none
 unfoldable pub repeat_from : ℕ → ℕ → List (List ℕ) → List (List ℕ) → ℕ

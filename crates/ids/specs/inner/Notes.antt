@@ -2,7 +2,7 @@
 -- bytes all their ids begin with alike. While records are entered, by their numbers, the first column tells where the texts of their ids begin. Once they are
 -- in order, the columns stand in the order of the ids, and the first one has the keys of the ids. The others tell where a record starts, and, doubled, where
 -- the member of its id is looked for, with 1 more where the record passes the test that its file's references are asked about.
-use Rattle.std.specs.Prelude.{Bool, true, false, ◌≡◌, ℕ, ◌+◌, ◌*◌, ◌/◌, ◌%◌, ◌≤◌, ◌<◌, length, get_or, set}
+use Rattle.std.specs.Prelude.{Bool, true, false, ◌≡◌, ℕ, ◌+◌, ◌*◌, ◌/◌, ◌%◌, ◌≤◌, ◌<◌, length, get_or, set, None, Some}
 use mathlib.Core.List.{List, [], Memᴰ}
 use Rattle.limits.specs.Ceilings.{records, file_bytes}
 use Rattle.sorting.specs.Sorting.{sorted, numbers}
@@ -12,7 +12,6 @@ use Rattle.walk.specs.declared.Item.{Item}
 use Rattle.walk.specs.Walk.{items_of}
 use Rattle.walk.specs.Part.{Whole, part_tree}
 use Rattle.walk.proofs.Parts.{item_of}
-use Rattle.document.specs.Document.{none, some}
 use Rattle.ids.specs.inner.Ids.{id_of, ids_of, NoIdBefore, IdOnce, record_bytes, passing, any_meets}
 
 -- how many numbers in all
@@ -47,8 +46,8 @@ entered notes n place start member pass = set (set (set notes n place) (records 
 
 -- the places tell where the record q of p starts, and where the member of its id is looked for; nothing of p is there where it has none
 pub data Entry (sheet : ℕ) (p q : List ℕ) (start member : ℕ) : Type 0 where
-  without : id_of sheet q ≡ none → length p ≤ start → Entry sheet p q start member
-  within : {id : List ℕ} → id_of sheet q ≡ some id → (m : Item) → Memᴰ m (items_of p) → item_of p m ≡ q → m.value ≡ start → NoIdBefore sheet q member
+  without : id_of sheet q ≡ None → length p ≤ start → Entry sheet p q start member
+  within : {id : List ℕ} → id_of sheet q ≡ Some id → (m : Item) → Memᴰ m (items_of p) → item_of p m ≡ q → m.value ≡ start → NoIdBefore sheet q member
       → Entry sheet p q start member
 
 -- m is the item of p behind n others: an object in which the name of the file's ids stands once at most

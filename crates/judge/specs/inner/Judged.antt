@@ -1,5 +1,5 @@
 -- What each function of the judge answers: the least fault of a part of the file, wherever the table's lines tell of that part.
-use Rattle.std.specs.Prelude.{true, List, [], ◌∷◌, ◌≡◌, ℕ, ◌+◌, ◌≤◌, ◌<◌, eqb, length, get_or}
+use Rattle.std.specs.Prelude.{true, List, [], ◌∷◌, ◌≡◌, ℕ, ◌+◌, ◌≤◌, ◌<◌, eqb, length, get_or, Option, None}
 use Prim.Native.Char.{code}
 use Rattle.notation.specs.Choice.{◌⇒◌else◌}
 use Rattle.word.specs.Kinds.{name_twice, missing as absent}
@@ -16,13 +16,12 @@ use Rattle.schema.specs.Pick.{Slot, missing, once, twice, unless_empty, pick, pi
 use Rattle.schema.specs.inner.Sound.{distinct_rows}
 use Rattle.schema.specs.Tables.{sheets}
 use Rattle.schema.proofs.Walk.{Laid, LaidIn, lines_in}
-use Rattle.slots.specs.declared.Found.TheVariants.{Once}
+use Rattle.slots.specs.declared.Found.{Found}
+use Rattle.slots.specs.declared.Found.TheVariants.{Missing, Once, Twice}
 use Rattle.slots.specs.declared.Slots.{Slots}
 use Rattle.slots.specs.inner.Rows.{line_count, most_rows, names_in, line_names, row_line}
-use Rattle.slots.specs.inner.Slots.{slots_of, slot_at, gathered}
+use Rattle.slots.specs.inner.Slots.{slot_at, gathered}
 use Rattle.fault.specs.declared.Fault.{Fault}
-use Rattle.fault.specs.declared.Least.{Least}
-use Rattle.fault.specs.declared.Least.TheVariants.{None}
 use Rattle.fault.specs.Fault.{least, faulty}
 use Rattle.fault.specs.declared.Place.{Place}
 use Rattle.judge.specs.Faults.{absence, faults, row_faults}
@@ -79,27 +78,27 @@ pub record ArrayAt (i : ℕ) : Type 0 where
   pub is : row.value ≡ shape.array numbering most item
 
 -- a value that is no array
-pub record Single (p : List ℕ) (letter i : ℕ) (q : Place) (level : ℕ) (r : Least) : Type 0 where
+pub record Single (p : List ℕ) (letter i : ℕ) (q : Place) (level : ℕ) (r : Option Fault) : Type 0 where
   pub is : (σ : Shape) → LineTells i letter σ → (letter ≡ code "[" → ⊥) → judgeable σ level ≡ true → (x : Json) → Whole p x →
       r ≡ least (faults σ q (line_at sheets i).field (pick σ x))
 
-pub record Array (p : List ℕ) (i : ℕ) (q : Place) (level : ℕ) (r : Least) : Type 0 where
+pub record Array (p : List ℕ) (i : ℕ) (q : Place) (level : ℕ) (r : Option Fault) : Type 0 where
   pub is : (a : ArrayAt i) → let σ = shape.array a.numbering a.most a.item in judgeable σ level ≡ true → (x : Json) → Whole p x →
       r ≡ least (faults σ q a.row.field (pick σ x))
 
 -- a member's value
-pub record Member (p : List ℕ) (i : ℕ) (q : Place) (level : ℕ) (r : Least) : Type 0 where
+pub record Member (p : List ℕ) (i : ℕ) (q : Place) (level : ℕ) (r : Option Fault) : Type 0 where
   pub is : (a : RowAt i) → judgeable a.value level ≡ true → (x : Json) → Whole p x →
       r ≡ least (member_faults a.need a.value q a.field (unless_empty x))
 
--- what a row breaks first, by how often its name was met, and by what the value breaks that was met first
-abbrev pub row_least : ℕ → Least → Line → Place → Least
-row_least met value line q =
-    eqb met 0 ⇒ least (faulty q line.field (absence_of line.need)) else
-    eqb met 1 ⇒ value else least (faulty q line.field (name_twice ∷ []))
+-- what a row breaks first, by what the object holds under its name, and by what the value breaks that was met first
+abbrev pub row_least : Found → Option Fault → Line → Place → Option Fault
+row_least Missing value line q = least (faulty q line.field (absence_of line.need))
+row_least (Once from upto) value line q = value
+row_least Twice value line q = least (faulty q line.field (name_twice ∷ []))
 
--- the columns of rows that begin at line `first`: each row that is met once in the object p has the least of its member
-pub record Kept (p : List ℕ) (first : ℕ) (q : Place) (level : ℕ) (s : Slots) (leasts : List Least) : Type 0 where
+-- the slots of rows that begin at line `first`: each row that is met once in the object p has the least of its member
+pub record Kept (p : List ℕ) (first : ℕ) (q : Place) (level : ℕ) (s : Slots) (leasts : List (Option Fault)) : Type 0 where
   pub is : (j from upto : ℕ) → j < most_rows → slot_at s j ≡ Once from upto → Member (part p from upto) (row_line sheets first j) q level (get_or leasts j None)
 
 -- rows that the judge can go by, at these lines
@@ -110,16 +109,16 @@ pub record Listed (first count level : ℕ) (rows : Rows) : Type 0 where
   pub few : length (names_in rows) ≤ most_rows
   pub judgeable-rest : judgeable_rows rows level ≡ true
 
--- all rows, by the columns that an object's members filled
-pub record RowsJudged (state : List ℕ) (leasts : List Least) (first count : ℕ) (q : Place) (r : Least) : Type 0 where
-  pub is : (p from upto : List ℕ) (level : ℕ) (rows : Rows) → Listed first count level rows → (ms : Members) → Whole p (Json.object ms) →
-      slots_of state from upto ≡ gathered p (line_names first count) → Kept p first q level (slots_of state from upto) leasts →
+-- all rows, by the slots that an object's members filled
+pub record RowsJudged (slots : Slots) (leasts : List (Option Fault)) (first count : ℕ) (q : Place) (r : Option Fault) : Type 0 where
+  pub is : (p : List ℕ) (level : ℕ) (rows : Rows) → Listed first count level rows → (ms : Members) → Whole p (Json.object ms) →
+      slots ≡ gathered p (line_names first count) → Kept p first q level slots leasts →
       r ≡ least (row_faults rows q (pick_rows rows ms))
 
 -- all of an object's
-pub record MembersJudged (p : List ℕ) (first count : ℕ) (q : Place) (level : ℕ) (r : Least) : Type 0 where
+pub record MembersJudged (p : List ℕ) (first count : ℕ) (q : Place) (level : ℕ) (r : Option Fault) : Type 0 where
   pub is : (rows : Rows) → Listed first count level rows → (ms : Members) → Whole p (Json.object ms) → r ≡ least (row_faults rows q (pick_rows rows ms))
 
-pub record Object (p : List ℕ) (first count field : ℕ) (q : Place) (level : ℕ) (r : Least) : Type 0 where
+pub record Object (p : List ℕ) (first count field : ℕ) (q : Place) (level : ℕ) (r : Option Fault) : Type 0 where
   pub is : (rows : Rows) → Laid sheets first rows → lines_in rows ≡ count → judgeable (shape.object rows) level ≡ true → (x : Json) → Whole p x →
       r ≡ least (faults (shape.object rows) q field (pick (shape.object rows) x))

@@ -9,33 +9,22 @@ use Rattle.radix.proofs.bytes_number.Goals as goal
 
 pub overflow_mul-n : goal.overflow_mul-n
 overflow_mul-n c =
-    let l = c.loop-i in
-    let j : l.i ≤ 7 = omega arith in
-    let h : l.n < 256 ^ 7 = at_most 256 (omega arith) j l.invariant.1 in
+    let l = c.loop-b in
+    let j : l.b-index ≤ 7 = omega arith in
+    let h : l.n < 256 ^ 7 = at_most 256 (omega arith) j l.invariant.0 in
     omega arith
 
-pub overflow_add-n : goal.overflow_add-n
-overflow_add-n c =
-    let l = c.loop-i in
-    let j : l.i ≤ 7 = omega arith in
-    let h : l.n < 256 ^ 7 = at_most 256 (omega arith) j l.invariant.1 in
-    omega (arith, c.type_inv.s l.i)
+pub loop-b-init : goal.loop-b-init
+loop-b-init c = (omega arith, number-start _)
 
-pub loop-i-preserved : goal.loop-i-preserved
-loop-i-preserved c =
-    let l = c.loop-i in
-    let s = c.args.s.now in
-    let d : c.widened.result < 256 = omega (arith, c.type_inv.s l.i) in (
-      omega arith,
-      one_more_lem 256 l.i l.invariant.1 d,
-      rw (c.widened.ensures, ← number-next s l.i l.n c.loop-i-test.true) l.invariant.2,
+pub loop-b-preserved : goal.loop-b-preserved
+loop-b-preserved c =
+    let l = c.loop-b in (
+      one_more_lem 256 l.b-index l.invariant.0 (omega (arith, c.type_inv.s l.b-index)),
+      rw (c.from.ensures, ← number-next _ l.b-index l.n c.loop-b-test.true) l.invariant.1,
     )
 
 pub returns : goal.returns
 returns c =
-    let l = c.loop-i in
-    let s = c.args.s.now in
-    sym (number-end s l.i l.n c.loop-i-test.false) ∙ l.invariant.2
-
-pub loop-i-init : goal.loop-i-init
-loop-i-init c = (omega arith, omega arith, number-start _)
+    let l = c.loop-b in
+    sym (number-end _ l.b-index l.n c.loop-b-test.false) ∙ l.invariant.1

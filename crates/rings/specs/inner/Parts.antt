@@ -1,5 +1,5 @@
 -- Field 73 as code meets it: the items of an array one after the other, each judged by its own bytes, and what each function tells of them.
-use Rattle.std.specs.Prelude.{Bool, true, List, [], ◌∷◌, ◌++◌, map, ◌≡◌, ℕ, ◌+◌, ◌*◌, ◌^◌, ◌≤◌, ◌<◌, eqb, leb, length}
+use Rattle.std.specs.Prelude.{Bool, true, List, [], ◌∷◌, ◌++◌, map, ◌≡◌, ℕ, ◌+◌, ◌*◌, ◌^◌, ◌≤◌, ◌<◌, eqb, leb, length, Option, None, Some}
 use Rattle.limits.specs.Ceilings as ceiling
 use Rattle.notation.specs.Choice.{◌⇒◌else◌, ◌and◌}
 use Rattle.word.specs.Kinds.{wrong_type, bad_ring}
@@ -17,8 +17,6 @@ use Rattle.schema.specs.Shape.{Shape}
 use Rattle.schema.specs.Pick.{Picked, bare, items, slots}
 use Rattle.document.specs.inner.Values.{kind_code}
 use Rattle.scalar.specs.Scalars.{unless, formed_kinds}
-use Rattle.fault.specs.declared.Least.{Least}
-use Rattle.fault.specs.declared.Least.TheVariants.{None, Is}
 use Rattle.fault.specs.Fault.{fault, lesser, least}
 use Rattle.rings.specs.Rings.{Found, found_at, numbered, coordinate, coordinate_kinds, number_kinds_in, point_of, position, all_sound, positions_found, ring_found}
 use Rattle.rings.specs.declared.Field.{Field}
@@ -27,12 +25,13 @@ use Rattle.rings.specs.declared.PositionFound.{PositionFound}
 use Rattle.rings.specs.declared.RingFound.{RingFound}
 use Rattle.rings.specs.declared.Judged.{Judged}
 use Rattle.rings.specs.declared.Tally.{Tally}
+use Rattle.fault.specs.declared.Fault.{Fault}
 
 -- a fault at a position's number, and the first of what is found
-abbrev pub fault_at : Field → (number kind : ℕ) → Least
-fault_at q number kind = Is (fault q.«record» q.field number kind)
+abbrev pub fault_at : Field → (number kind : ℕ) → Option Fault
+fault_at q number kind = Some (fault q.«record» q.field number kind)
 
-abbrev pub least_found : Field → List Found → Least
+abbrev pub least_found : Field → List Found → Option Fault
 least_found q l = least (numbered q.«record» q.field l)
 
 -- the shapes inside field 73
@@ -154,11 +153,11 @@ pub record RingRoom (bytes : ℕ) (r : RingFound) : Type 0 where
   pub sized : Sized r.outline
 
 -- what the code asks of a ring that it has read: kind 11 where all positions are sound, not too many, and the ring is not sound
-abbrev pub only_sound : Least → Least → Least
+abbrev pub only_sound : Option Fault → Option Fault → Option Fault
 only_sound None x = x
-only_sound (Is f) x = None
+only_sound (Some f) x = None
 
-unfoldable pub area_least : Field → ℕ → RingFound → Least
+unfoldable pub area_least : Field → ℕ → RingFound → Option Fault
 area_least q n r =
     only_sound r.least
     (leb r.outline.count ceiling.positions ⇒ least_found q (found_at n (unless (sound_from r.outline []) bad_ring)) else None)

@@ -10,5 +10,5 @@ pub returns-then-letter-eq-BOOLEAN : goal.returns-then-letter-eq-BOOLEAN
 unfolding sort_kinds sort_from
 returns-then-letter-eq-BOOLEAN c = by-letter (λ σ s. boolean_kinds σ) [] _ c.if-letter-eq-BOOLEAN.true (λ ws. refl)
 
-pub returns : goal.returns
-returns c = no-boolean c.if-letter-eq-BOOLEAN.false
+pub returns-else-letter-eq-BOOLEAN : goal.returns-else-letter-eq-BOOLEAN
+returns-else-letter-eq-BOOLEAN c = no-boolean c.if-letter-eq-BOOLEAN.false

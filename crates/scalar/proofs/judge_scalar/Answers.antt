@@ -1,10 +1,16 @@
 -- The first byte tells the kind of the value, and each kind has its judge.
+use mathlib.Core.Logic.{inl, inr}
 use mathlib.Core.Path.{refl, sym, ◌∙◌}
 use Rattle.scalar.proofs.Values.{by_kind}
 use Rattle.scalar.proofs.judge_scalar.Goals as goal
 
 pub returns-in-Null : goal.returns-in-Null
-returns-in-Null c σ x e h w = by_kind σ _ _ x _ (sym c.in-Null.is ∙ c.value_kind.ensures) w refl
+returns-in-Null c σ x e h w =
+    elim c.in-Null.is [
+      | inl k ↦ by_kind σ _ _ x _ (sym k ∙ c.value_kind.ensures) w refl
+      | inr (inl k) ↦ by_kind σ _ _ x _ (sym k ∙ c.value_kind.ensures) w refl
+      | inr (inr k) ↦ by_kind σ _ _ x _ (sym k ∙ c.value_kind.ensures) w refl
+    ]
 
 pub returns-in-Boolean : goal.returns-in-Boolean
 returns-in-Boolean c σ x e h w =
@@ -17,9 +23,3 @@ returns-in-Number c σ x e h w =
 pub returns-in-String : goal.returns-in-String
 returns-in-String c σ x e h w =
     by_kind σ _ _ x _ (sym c.in-String.is ∙ c.value_kind.ensures) w (c.string_kind.ensures σ e h)
-
-pub returns-in-Array : goal.returns-in-Array
-returns-in-Array c σ x e h w = by_kind σ _ _ x _ (sym c.in-Array.is ∙ c.value_kind.ensures) w refl
-
-pub returns-in-Object : goal.returns-in-Object
-returns-in-Object c σ x e h w = by_kind σ _ _ x _ (sym c.in-Object.is ∙ c.value_kind.ensures) w refl

@@ -1,6 +1,5 @@
 -- The lines of a table at which the rows of a file's records stand: behind those of the members that lead to the records.
-use Rattle.std.specs.Prelude.{List, [], ◌∷◌, ℕ, suc, ◌+◌, length, get_or}
-use Rattle.notation.specs.Maybe.{none, some}
+use Rattle.std.specs.Prelude.{List, [], ◌∷◌, ℕ, suc, ◌+◌, length, get_or, None, Some}
 use Rattle.schema.specs.Shape as shape
 use Rattle.schema.specs.Shape.{Shape, Rows, Table}
 use Rattle.schema.specs.Records.{way_in, record_in}
@@ -18,7 +17,7 @@ unfoldable mutual
   pub lines_above : Rows → ℕ
   lines_above shape.no_row = 0
   lines_above (shape.row field need name σ rows) =
-      elim (way_in σ) [ none ↦ suc (length (inside σ) + lines_above rows) | some w ↦ suc (lines_before σ) ]
+      elim (way_in σ) [ None ↦ suc (length (inside σ) + lines_above rows) | Some w ↦ suc (lines_before σ) ]
 
 -- the lines of the records of each file, where the first file's begin at k; their count is 0 where a file has no records
 unfoldable pub records_from : ℕ → Table → List Range

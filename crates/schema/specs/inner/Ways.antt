@@ -1,6 +1,5 @@
 -- The members that lead to the records of a sheet, by their lines.
-use Rattle.std.specs.Prelude.{false, List, [], ◌∷◌, map, ◌≡◌, ℕ, take}
-use Rattle.notation.specs.Maybe.{none, some}
+use Rattle.std.specs.Prelude.{false, List, [], ◌∷◌, map, ◌≡◌, ℕ, take, None, Some}
 use Rattle.schema.specs.Shape.{Shape}
 use Rattle.schema.specs.Tables.{sheets, sheet_shape}
 use Rattle.schema.specs.Records.{way_in, has_records}
@@ -9,7 +8,7 @@ use Rattle.schema.specs.declared.ways.Steps.{Steps}
 
 -- the names of the members, in a file of this shape; none where it has no records
 unfoldable pub way_names : Shape → List (List ℕ)
-way_names σ = elim (way_in σ) [ none ↦ [] | some w ↦ map (λ k. k.name) w.keys ]
+way_names σ = elim (way_in σ) [ None ↦ [] | Some w ↦ map (λ k. k.name) w.keys ]
 
 -- their lines, as many of three as there are
 abbrev pub step_lines : Steps → List ℕ

@@ -1,5 +1,5 @@
 -- The slots of an object's rows, filled in one pass over its members.
-use Rattle.std.specs.Prelude.{Bool, true, false, ◌≡◌, ℕ, ◌≤◌, ◌<◌, eqb, ltb, length, get_or, set, replicate}
+use Rattle.std.specs.Prelude.{Bool, true, false, ◌≡◌, ℕ, ◌≤◌, ◌<◌, ltb, length, get_or, set, replicate}
 use mathlib.Core.List.{List, [], foldl}
 use Rattle.notation.specs.Choice.{◌⇒◌else◌}
 use Rattle.json_text.specs.Tree.{Json, Members}
@@ -14,41 +14,30 @@ use Rattle.schema.proofs.Walk.{Laid, lines_in}
 use Rattle.slots.specs.declared.Found.{Found}
 use Rattle.slots.specs.declared.Found.TheVariants.{Missing, Once, Twice}
 use Rattle.slots.specs.declared.Slots.{Slots}
-use Rattle.slots.specs.Found.{found_in}
+use Rattle.slots.specs.Found.{one_more, found_in}
 use Rattle.slots.specs.inner.Found.{Within}
 use Rattle.slots.specs.inner.Rows.{most_rows, names_in, row_named}
 
--- slots by their columns
-abbrev pub slots_of : (state from upto : List ℕ) → Slots
-slots_of state from upto = record { state = state; from = from; upto = upto }
-
 -- none filled
 abbrev pub empty : Slots
-empty = slots_of (replicate most_rows 0) (replicate most_rows 0) (replicate most_rows 0)
+empty = record { rows = replicate most_rows Missing }
 
--- a slot by its state: 0 missing, 1 once, else twice
+-- a slot; of no row past the last one
 unfoldable pub slot_at : Slots → ℕ → Found
-slot_at s row =
-    ltb row most_rows ⇒ (
-    eqb (get_or s.state row 0) 0 ⇒ Missing else
-    eqb (get_or s.state row 0) 1 ⇒ Once (get_or s.from row 0) (get_or s.upto row 0) else Twice)
-    else Missing
+slot_at s row = ltb row most_rows ⇒ get_or s.rows row Missing else Missing
+
+abbrev pub is_missing : Found → Bool
+is_missing Missing = true
+is_missing (Once from upto) = false
+is_missing Twice = false
 
 -- a row's name was not met yet; those of no row are never new
-abbrev pub new_at : List ℕ → ℕ → Bool
-new_at state row = ltb row most_rows ⇒ eqb (get_or state row 0) 0 else false
-
--- it is met once more
-unfoldable pub counted_in : List ℕ → ℕ → List ℕ
-counted_in state row = ltb row most_rows ⇒ set state row (eqb (get_or state row 0) 0 ⇒ 1 else 2) else state
+unfoldable pub new_at : Slots → ℕ → Bool
+new_at s row = ltb row most_rows ⇒ is_missing (get_or s.rows row Missing) else false
 
 -- one value more for a row; for no row past the last slot
 unfoldable pub put_in : Slots → (row from upto : ℕ) → Slots
-put_in s row from upto =
-    ltb row most_rows ⇒ (
-    eqb (get_or s.state row 0) 0 ⇒ slots_of (set s.state row 1) (set s.from row from) (set s.upto row upto) else
-    slots_of (set s.state row 2) s.from s.upto)
-    else s
+put_in s row from upto = ltb row most_rows ⇒ record { rows = set s.rows row (one_more (get_or s.rows row Missing) from upto) } else s
 
 -- a member goes to the row of its name
 abbrev pub absorbed : List ℕ → List (List ℕ) → Slots → Member → Slots

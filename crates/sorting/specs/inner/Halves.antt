@@ -2,17 +2,17 @@
 -- middle and goes on in one half; each read is counted, and where the reads are used up nothing more is read.
 use Rattle.std.specs.Prelude.{List, ◌≡◌, ℕ, zero, suc, ◌+◌, ◌-◌, ◌/◌, ◌≤◌, ◌<◌, ltb}
 use Rattle.notation.specs.Choice.{◌⇒◌else◌}
-use Rattle.text.specs.declared.Order.{Order}
-use Rattle.text.specs.declared.Order.TheVariants.{Less, Equal, Greater}
 use Rattle.text.specs.Ordering.{order_of}
 use Rattle.sorting.specs.declared.Lookup.{Lookup}
+use Rattle.std.specs.declared.cmp.Ordering.{Ordering}
+use Rattle.std.specs.declared.cmp.Ordering.TheVariants.{Less, Equal, Greater}
 
 -- the position in the middle
 abbrev pub middle : (lo hi : ℕ) → ℕ
 middle lo hi = lo + (hi - lo) / 2
 
 -- what is found from the position lo up to hi, with a number of reads at most
-unfoldable pub found_by : (probe : ℕ → Order) → (reads lo hi : ℕ) → Lookup
+unfoldable pub found_by : (probe : ℕ → Ordering) → (reads lo hi : ℕ) → Lookup
 found_by probe zero lo hi = record { met = 0; left = 0 }
 found_by probe (suc reads) lo hi =
     ltb lo hi ⇒

@@ -1,11 +1,11 @@
 -- Keys of ids: four bytes of each, behind a front that all ids have in common.
 use Rattle.std.specs.Prelude.{List, ◌≡◌, ℕ, ◌<◌, leb, ltb, length, take, drop, get_or}
 use Rattle.notation.specs.Choice.{◌⇒◌else◌}
-use Rattle.text.specs.declared.Order.{Order}
-use Rattle.text.specs.declared.Order.TheVariants.{Less, Equal, Greater}
 use Rattle.text.specs.Ordering.{order_of}
 use Rattle.text.specs.inner.Key.{key_of, Bytes}
 use Rattle.sorting.specs.Ids.{id_at}
+use Rattle.std.specs.declared.cmp.Ordering.{Ordering}
+use Rattle.std.specs.declared.cmp.Ordering.TheVariants.{Less, Equal, Greater}
 
 -- the first n ids begin with the same bytes, as many as `skip`
 abbrev pub SameFront : (ids : ℕ → List ℕ) → (n skip : ℕ) → Type 0
@@ -26,7 +26,7 @@ abbrev pub Tells : (p places keys : List ℕ) → Type 0
 Tells p places keys = Telling (id_at p places) (length keys) keys
 
 -- what the keys of the records i and j say on the order of their ids: Equal where they say nothing
-unfoldable pub key_order : (keys : List ℕ) → (i j : ℕ) → Order
+unfoldable pub key_order : (keys : List ℕ) → (i j : ℕ) → Ordering
 key_order keys i j =
     leb (length keys) i ⇒ Equal else
     leb (length keys) j ⇒ Equal else
@@ -34,5 +34,5 @@ key_order keys i j =
     ltb (get_or keys j 0) (get_or keys i 0) ⇒ Greater else Equal
 
 -- how the i-th id stands to an id whose key is `wanted`: by the keys where they differ
-unfoldable pub by_keys : (ids : ℕ → List ℕ) → (keys id : List ℕ) → (wanted i : ℕ) → Order
+unfoldable pub by_keys : (ids : ℕ → List ℕ) → (keys id : List ℕ) → (wanted i : ℕ) → Ordering
 by_keys ids keys id wanted i = ltb (get_or keys i 0) wanted ⇒ Less else ltb wanted (get_or keys i 0) ⇒ Greater else order_of (ids i) id

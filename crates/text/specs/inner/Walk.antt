@@ -1,11 +1,9 @@
 -- A text's bytes from a cursor on, as the code walks over them, and the two ways in which it compares bytes.
-use Rattle.std.specs.Prelude.{Bool, true, false, List, [], ◌∷◌, ◌++◌, map, ◌≡◌, ℕ, ◌+◌, ◌≤◌, ◌<◌, eqb, ltb, length, take, drop, get_or}
+use Rattle.std.specs.Prelude.{Bool, true, false, List, [], ◌∷◌, ◌++◌, map, ◌≡◌, ℕ, ◌+◌, ◌≤◌, ◌<◌, eqb, ltb, length, take, drop, get_or, Option, Some, None}
 use Rattle.notation.specs.Choice.{◌⇒◌else◌, ◌and◌}
 use Rattle.lexeme.specs.Character.{bytes_of, paired, char1, next}
 use Rattle.text.specs.declared.Cursor.{Cursor}
 use Rattle.text.specs.declared.Front.{Front}
-use Rattle.text.specs.declared.Step.{Step}
-use Rattle.text.specs.declared.Step.TheVariants.{End, Byte}
 use Rattle.text.specs.Text.{text_of, meant, same, lower}
 use Rattle.text.specs.Ordering.{order_of}
 
@@ -18,18 +16,18 @@ unfoldable pub left : List ℕ → Cursor → List ℕ
 left s c = bytes_of c.begun ++ text_of (drop c.at s)
 
 -- the bytes of which a step tells
-unfoldable pub told : List ℕ → Step → List ℕ
-told s End = []
-told s (Byte b c) = b ∷ left s c
+unfoldable pub told : List ℕ → Option (ℕ × Cursor) → List ℕ
+told s None = []
+told s (Some (b, c)) = b ∷ left s c
 
 -- the same where the bytes may be raw
 unfoldable pub left_by : (raw : Bool) → List ℕ → Cursor → List ℕ
 left_by true s c = drop c.at s
 left_by false s c = left s c
 
-unfoldable pub told_by : (raw : Bool) → List ℕ → Step → List ℕ
-told_by raw s End = []
-told_by raw s (Byte b c) = b ∷ left_by raw s c
+unfoldable pub told_by : (raw : Bool) → List ℕ → Option (ℕ × Cursor) → List ℕ
+told_by raw s None = []
+told_by raw s (Some (b, c)) = b ∷ left_by raw s c
 
 -- the first `most` bytes from a cursor on, in an array, and the cursor behind them
 pub record Fronted (s : List ℕ) (c : Cursor) (most : ℕ) (r : Front) : Type 0 where

@@ -14,14 +14,14 @@ pub put-requires : goal.put-requires
 put-requires c =
     (subst (Fits written_form) (sym (c.parts_in.ensures ∙ ap said c.judge-c.ensures)) (verdict-fits _ _), omega arith)
 
-pub returns-in-Unbroken : goal.returns-in-Unbroken
-returns-in-Unbroken c =
+pub returns-in-Ok : goal.returns-in-Ok
+returns-in-Ok c =
     let a = answer-room (table_at c.args.table) (map (λ p. p.now) c.args.files) c.args.buffer.now (omega arith)
-    c.judge-c.ensures c.parts_in.ensures c.put.ensures c.in-Unbroken.is in
+    c.judge-c.ensures c.parts_in.ensures c.put.ensures c.in-Ok.is in
     record { result_value = a.0; buffer_after = a.1 }
 
-pub returns-in-Broken : goal.returns-in-Broken
-returns-in-Broken c =
+pub returns-in-Err : goal.returns-in-Err
+returns-in-Err c =
     let a = answer-room (table_at c.args.table) (map (λ p. p.now) c.args.files) c.args.buffer.now (omega arith)
-    c.judge-c.ensures c.parts_in.ensures c.put.ensures c.in-Broken.is in
+    c.judge-c.ensures c.parts_in.ensures c.put.ensures c.in-Err.is in
     record { result_value = a.0; buffer_after = a.1 }

@@ -4,10 +4,8 @@ use Rattle.word.specs.declared.Parts.{Parts}
 use Rattle.json_text.specs.Text.{syntax_of}
 use Rattle.schema.specs.Shape.{Table}
 use Rattle.fault.specs.declared.Fault.{Fault}
-use Rattle.fault.specs.declared.outcome.Outcome.{Outcome}
-use Rattle.fault.specs.declared.outcome.Outcome.TheVariants.{Unbroken}
 use Rattle.fault.specs.Fault.{least}
-use Rattle.fault.specs.Outcome.{outcome_of, or_next}
+use Rattle.fault.specs.Outcome.{outcome_of, or_next, Outcome, unbroken}
 use Rattle.rings.specs.Rings.{coordinates_found}
 use Rattle.clean.specs.Clean.{syntax_outcome}
 use Rattle.cross.specs.inner.Stage.{first_of, first_c}
@@ -25,7 +23,7 @@ stage_b = stage_b_by coordinates_found
 
 -- what stage A tells of a file; nothing of an absent one
 abbrev pub outcome_a : ℕ → List ℕ → Outcome
-outcome_a file [] = Unbroken
+outcome_a file [] = unbroken
 outcome_a file (b ∷ s) = syntax_outcome file (syntax_of (b ∷ s))
 
 -- by a table, what a stage tells of a file that it judges alone

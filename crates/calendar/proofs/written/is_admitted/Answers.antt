@@ -1,12 +1,15 @@
--- `is_admitted` tests in the definition's order.
-use borrow.Author.Tests.{eq-eqb, ne_eqb}
+-- A form's 0 admits the digits.
+use native.Mathlib.Omega.{arith}
+use Rattle.std.proofs.lemmas.Grind.{common_steps}
+use Rattle.lexeme.specs.Character.{within}
+use Rattle.lexeme.specs.Numbers.{digit}
 use Rattle.calendar.specs.Written.{admits}
 use Rattle.calendar.proofs.written.is_admitted.Goals as goal
 
 pub returns-then-form-eq48 : goal.returns-then-form-eq48
-unfolding admits
-returns-then-form-eq48 c = rw (eq-eqb _ _ c.if-form-eq48.true, admits) c.is_digit.ensures
+unfolding admits digit within
+returns-then-form-eq48 c = grind (arith, common_steps)
 
-pub returns : goal.returns
+pub returns-else-form-eq48 : goal.returns-else-form-eq48
 unfolding admits
-returns c = rw (ne_eqb _ _ c.if-form-eq48.false, admits)
+returns-else-form-eq48 c = grind (arith, common_steps)

@@ -1,7 +1,6 @@
 -- The front is the text's first eleven bytes. Where they are of the form they are ten, so they are the whole text, and their date is the text's.
 use mathlib.Core.Path.{sym, ap, ◌∙◌}
-use native.Mathlib.Omega.{arith}
-use lib.ListN.{take, length-take}
+use lib.ListN.{take}
 use Rattle.text.proofs.Decoding.{left_at}
 use Rattle.text.proofs.Filling.{front-count}
 use Rattle.calendar.specs.declared.Date.{Date}
@@ -9,25 +8,22 @@ use Rattle.calendar.specs.Calendar.{real_date}
 use Rattle.calendar.proofs.Dates.{date-not, date-is}
 use Rattle.calendar.proofs.written.is_date.Goals as goal
 
-pub slice_bounds-bytes-end : goal.slice_bounds-bytes-end
-slice_bounds-bytes-end c =
-    let r = c.read_front-front.result in omega (arith, front-count c.read_front-front.ensures, length-take r.count r.bytes)
-
 pub slice_bounds-s-end : goal.slice_bounds-s-end
 slice_bounds-s-end c = front-count c.read_front-front.ensures
 
 -- the first eleven bytes of the text are those of the front
-pub returns-then-not-has_form : goal.returns-then-not-has_form
-returns-then-not-has_form c =
-    date-not _ (c.read_front-front.ensures.bytes ∙ ap (take 11) (left_at c.args.spelled.now 0 _ c.cursor_at.ensures))
-    (sym c.has_form.ensures ∙ c.if-not-has_form.true)
+pub returns-else-has_form : goal.returns-else-has_form
+returns-else-has_form c =
+    c.if-has_form.false
+    ∙ date-not _ (c.read_front-front.ensures.bytes ∙ ap (take 11) (left_at c.args.spelled.now 0 _ c.cursor_at.ensures))
+    (sym c.has_form.ensures ∙ c.if-has_form.false)
 
-pub date_in-date-requires : goal.date_in-date-requires
-date_in-date-requires c = sym c.has_form.ensures ∙ c.if-not-has_form.false
+pub date_in-requires : goal.date_in-requires
+date_in-requires c = sym c.has_form.ensures ∙ c.if-has_form.true
 
-pub returns : goal.returns
-returns c =
+pub returns-then-has_form : goal.returns-then-has_form
+returns-then-has_form c =
     c.is_real.ensures
-    ∙ ap (λ (x : Date). real_date x.year x.month x.day) c.date_in-date.ensures
+    ∙ ap (λ (x : Date). real_date x.year x.month x.day) c.date_in.ensures
     ∙ date-is _ (c.read_front-front.ensures.bytes ∙ ap (take 11) (left_at c.args.spelled.now 0 _ c.cursor_at.ensures))
-    (sym c.has_form.ensures ∙ c.if-not-has_form.false)
+    (sym c.has_form.ensures ∙ c.if-has_form.true)

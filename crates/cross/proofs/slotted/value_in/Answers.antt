@@ -9,4 +9,4 @@ use Rattle.cross.proofs.slotted.value_in.Goals as goal
 pub returns : goal.returns
 returns c =
     let p = c.args.p.now in let q = c.value_at.result.now in
-    subst (λ (o : Found). (FoundWhole p o → q ≡ found_bytes p o) × (length q ≤ length p)) c.slot_in.ensures c.value_at.ensures
+    subst (λ (o : Found). (FoundWhole p o → q ≡ found_bytes p o) × (length q ≤ length p)) c.at.ensures c.value_at.ensures

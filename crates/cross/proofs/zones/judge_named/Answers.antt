@@ -17,24 +17,24 @@ use Rattle.cross.proofs.zones.judge_named.Goals as goal
 pub loop-item-init : goal.loop-item-init
 loop-item-init c = (0, judging-start _ _ _ c.requires.1)
 
-pub returns-in_default : goal.returns-in_default
-returns-in_default c = judging-end c.loop-item.invariant.1 c.pass_item.ensures c.in_default.is ∙ ap least_of (id_each _ _ _ 1 _)
+pub returns : goal.returns
+returns c = judging-end c.loop-item.invariant.1 c.pass_item.ensures c.in_default.is ∙ ap least_of (id_each _ _ _ 1 _)
 
 pub slice_bounds-refers_in-count : goal.slice_bounds-refers_in-count
-slice_bounds-refers_in-count c = let m = c.pass_item.ensures.placed _ c.in-Found.is in omega arith
+slice_bounds-refers_in-count c = let m = c.pass_item.ensures.placed _ c.in-Some.is in omega arith
 
 pub slice_bounds-refers_in-start : goal.slice_bounds-refers_in-start
-slice_bounds-refers_in-start c = let m = c.pass_item.ensures.placed _ c.in-Found.is in omega arith
+slice_bounds-refers_in-start c = let m = c.pass_item.ensures.placed _ c.in-Some.is in omega arith
 
 pub slice_bounds-refers_in-end : goal.slice_bounds-refers_in-end
-slice_bounds-refers_in-end c = let m = c.pass_item.ensures.placed _ c.in-Found.is in omega arith
+slice_bounds-refers_in-end c = let m = c.pass_item.ensures.placed _ c.in-Some.is in omega arith
 
 pub loop-item-smaller : goal.loop-item-smaller
-loop-item-smaller c = nearer c.pass_item.ensures c.in-Found.is
+loop-item-smaller c = nearer c.pass_item.ensures c.in-Some.is
 
 pub loop-item-preserved : goal.loop-item-preserved
 loop-item-preserved c =
-    let a = c.args in let w = c.loop-item.invariant.1 in let e = c.in-Found.is in let types = picked_items (record_shape (sheet_of a.table 1)) a.types.now in (
+    let a = c.args in let w = c.loop-item.invariant.1 in let e = c.in-Some.is in let types = picked_items (record_shape (sheet_of a.table 1)) a.types.now in (
       c.loop-item.invariant.0 + 1,
       judging-more w c.pass_item.ensures e
           (breaks a.place 78 c.refers_in.result c.broken.ensures

@@ -29,8 +29,8 @@ returns-then-self c = below c.args.self _ _ c.rounded-size.ensures c.if-self.tru
 pub overflow_add-result : goal.overflow_add-result
 overflow_add-result c = omega (arith, c.requires.2, small c.args.self c.args.k c.rounded-size.result c.rounded-size.ensures c.requires.1)
 
-pub returns : goal.returns
-returns c = above c.args.self _ _ c.rounded-size.ensures c.if-self.false
+pub returns-else-self : goal.returns-else-self
+returns-else-self c = above c.args.self _ _ c.rounded-size.ensures c.if-self.false
 
 pub overflow_sub-result : goal.overflow_sub-result
 overflow_sub-result c = small c.args.self c.args.k c.rounded-size.result c.rounded-size.ensures c.requires.1

@@ -22,5 +22,5 @@ pub returns-then-run-most : goal.returns-then-run-most
 returns-then-run-most c =
     rw c.digit_value.ensures (longer-more c.args.most c.args.run c.args.b c.if-run-most.true)
 
-pub returns : goal.returns
-returns c = longer-full c.args.most c.args.run c.args.b c.if-run-most.false
+pub returns-else-run-most : goal.returns-else-run-most
+returns-else-run-most c = longer-full c.args.most c.args.run c.args.b c.if-run-most.false

@@ -8,31 +8,31 @@ use Rattle.decimal.specs.inner.Priced.{start, steps, Held}
 use Rattle.decimal.proofs.Progress.{start-held, step-held, steps_next, steps-end}
 use Rattle.decimal.proofs.quoted.progress_of.Goals as goal
 
-pub loop-p-init : goal.loop-p-init
-loop-p-init c =
+pub loop-b-init : goal.loop-b-init
+loop-b-init c =
     let s = c.args.spelled.now in
     let e = c.empty-p.ensures in
     (subst Held (sym e) start-held, ap (λ p. steps p (left s c.cursor_at-c.result)) e ∙ ap (steps start) (left_at s 0 _ c.cursor_at-c.ensures))
 
-pub returns-in-End : goal.returns-in-End
-returns-in-End c =
-    steps-end _ _ _ (no_byte _ _ c.next_byte.ensures c.in-End.is) c.loop-p.invariant.1
+pub returns : goal.returns
+returns c =
+    steps-end _ _ _ (no_byte _ _ c.next_byte.ensures c.in_default.is) c.loop-b.invariant.1
 
-pub loop-p-smaller : goal.loop-p-smaller
-loop-p-smaller c =
-    let e = one_byte _ _ _ _ c.next_byte.ensures c.in-Byte.is in
+pub loop-b-smaller : goal.loop-b-smaller
+loop-b-smaller c =
+    let e = one_byte _ _ _ _ c.next_byte.ensures c.in-Some.is in
     omega (arith, ap length e)
 
-pub loop-p-preserved : goal.loop-p-preserved
-loop-p-preserved c =
-    let w = c.loop-p in
+pub loop-b-preserved : goal.loop-b-preserved
+loop-b-preserved c =
+    let w = c.loop-b in
     let s = c.args.spelled.now in
-    let b = c.in-Byte.b in
-    let after = c.in-Byte.after in
-    let e = one_byte s _ _ after c.next_byte.ensures c.in-Byte.is in (
+    let b = c.in-Some.b in
+    let after = c.in-Some.after in
+    let e = one_byte s _ _ after c.next_byte.ensures c.in-Some.is in (
       subst Held (sym c.step-p.ensures) (step-held w.p w.invariant.0 b),
       ap (λ p. steps p (left s after)) c.step-p.ensures ∙ steps_next w.p e ∙ w.invariant.1,
     )
 
 pub step-p-requires : goal.step-p-requires
-step-p-requires c = c.loop-p.invariant.0
+step-p-requires c = c.loop-b.invariant.0

@@ -26,10 +26,10 @@ returns-then-s-eq45 c =
     let s = c.args.s.now in
     c.formed_unsigned.ensures ∙ ap (λ z. behind_whole true (digits z)) (part-from s 1) ∙ number-minus s (number-some s c.requires) c.if-s-eq45.true
 
-pub formed_unsigned-requires-2 : goal.formed_unsigned-requires-2
-formed_unsigned-requires-2 c =
+pub formed_unsigned-requires-else-s-eq45 : goal.formed_unsigned-requires-else-s-eq45
+formed_unsigned-requires-else-s-eq45 c =
     let s = c.args.s.now in (c.requires.0, number-plain s (number-some s c.requires) c.if-s-eq45.false ∙ c.requires.1)
 
-pub returns : goal.returns
-returns c =
-    let s = c.args.s.now in c.formed_unsigned-2.ensures ∙ number-plain s (number-some s c.requires) c.if-s-eq45.false
+pub returns-else-s-eq45 : goal.returns-else-s-eq45
+returns-else-s-eq45 c =
+    let s = c.args.s.now in c.formed_unsigned-else-s-eq45.ensures ∙ number-plain s (number-some s c.requires) c.if-s-eq45.false

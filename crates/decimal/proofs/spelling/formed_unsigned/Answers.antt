@@ -3,15 +3,15 @@ use mathlib.Core.Path.{ap, ◌∙◌}
 use Prim.Native.Nat.{◌+◌}
 use native.Mathlib.Omega.{arith}
 use lib.ListN.{drop}
-use Rattle.decimal.specs.declared.Number.TheVariants.{Value}
 use Rattle.decimal.specs.inner.Spelling.{run_from}
 use Rattle.decimal.proofs.Runs.{run_below, run_within}
 use Rattle.decimal.proofs.Spelled.{whole-only, part-short, part-digits, part-from}
 use Rattle.decimal.proofs.spelling.formed_unsigned.Goals as goal
+use Rattle.std.specs.Prelude.{Some}
 
 pub returns-then-s-at : goal.returns-then-s-at
 returns-then-s-at c =
-    ap Value c.decimal.ensures
+    ap Some c.decimal.ensures
     ∙ whole-only _ _ c.whole_run-run.result c.whole_run-run.ensures c.if-s-at.true
 
 pub of-requires : goal.of-requires
@@ -29,6 +29,6 @@ decimal-requires-2 c =
 
 pub returns : goal.returns
 returns c =
-    ap Value c.decimal-2.ensures
+    ap Some c.decimal-2.ensures
     ∙ part-digits _ _ c.whole_run-run.result c.whole_run-run.ensures c.if-s-at.false c.requires c.of.result
     (c.of.ensures ∙ ap (run_from 0 0) (part-from c.args.s.now (c.whole_run-run.result.count + 1)))

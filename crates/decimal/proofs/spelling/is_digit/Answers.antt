@@ -1,9 +1,11 @@
--- A digit is a byte from 0x30 to 0x39.
-use Rattle.decimal.proofs.Runs.{digit_low, digit-above}
+-- A range's two tests are the definition's.
+use mathlib.Core.Path.{◌∙◌}
+use lib.Dec.{leb}
+use Rattle.notation.proofs.Booleans.{both-is}
+use Rattle.lexeme.specs.Character.{within}
+use Rattle.lexeme.specs.Numbers.{digit}
 use Rattle.decimal.proofs.spelling.is_digit.Goals as goal
 
-pub returns-then-b-lt48 : goal.returns-then-b-lt48
-returns-then-b-lt48 c = digit_low _ c.if-b-lt48.true
-
 pub returns : goal.returns
-returns c = digit-above _ c.if-b-lt48.false
+unfolding digit within
+returns c = c.is_ascii_digit.ensures.value ∙ both-is (leb 48 c.args.b) (leb c.args.b 57)

@@ -1,13 +1,13 @@
 -- The run over the first twelve bytes decides: the end follows it, or a point, or there is no such number.
 use mathlib.Core.Path.{ap, ◌∙◌}
 use Prim.Native.Nat.{◌+◌}
-use Rattle.decimal.specs.declared.Number.TheVariants.{Value}
 use Rattle.decimal.proofs.Spelled.{whole-only, no-point, point, part-from}
 use Rattle.decimal.proofs.spelling.unsigned.Goals as goal
+use Rattle.std.specs.Prelude.{Some}
 
 pub returns-then-s-at : goal.returns-then-s-at
 returns-then-s-at c =
-    ap Value c.decimal.ensures
+    ap Some c.decimal.ensures
     ∙ whole-only _ _ c.whole_run-run.result c.whole_run-run.ensures c.if-s-at.true
 
 pub returns-then-s-at-ne46 : goal.returns-then-s-at-ne46

@@ -8,7 +8,7 @@ use Rattle.decimal.proofs.spelling.whole_run.Goals as goal
 
 pub returns : goal.returns
 returns c =
-    c.of.ensures ∙ ap (λ (m : ℕ). run_from 0 0 (take m c.args.s.now)) c.least-most.ensures
+    c.of.ensures ∙ ap (λ (m : ℕ). run_from 0 0 (take m c.args.s.now)) c.min.ensures
 
 pub slice_bounds-of-end : goal.slice_bounds-of-end
 slice_bounds-of-end c = simp length-take (omega arith)

@@ -19,7 +19,7 @@ overflow_add-result c =
     let a = c.args in
     omega (arith, c.bound-bound.ensures, bound_most a.self a.ride, div-le_self (c.bound-bound.result - 1 - a.self.start) a.self.interval)
 
-pub returns : goal.returns
-returns c =
+pub returns-else-self-eq0 : goal.returns-else-self-eq0
+returns-else-self-eq0 c =
     sym (count-many _ _ _ c.if-bound-self.false c.if-self-eq0.false)
     ∙ moments-below c.args.self _ _ c.bound-bound.ensures

@@ -1,8 +1,6 @@
 -- The rate's size times the count is the size of the charge, and there is room for it.
-use mathlib.Core.Path.{◌∙◌}
 use native.Mathlib.Omega.{arith}
 use Rattle.fare.proofs.Bound.{charge-most}
-use Rattle.fare.proofs.Worth.{charge-is}
 use Rattle.fare.proofs.Sum.with_charge.Goals as goal
 
 pub overflow_mul-size : goal.overflow_mul-size
@@ -15,8 +13,3 @@ with-requires c =
     let n = c.count_moments in
     let r = c.requires.room in
     omega (arith, charge-most c.args.s c.args.ride n.result c.requires.modest n.ensures, r.added, r.taken)
-
-pub returns : goal.returns
-returns c =
-    let a = c.args in
-    c.with.ensures ∙ charge-is a.self a.s a.ride _ c.count_moments.ensures

@@ -28,8 +28,8 @@ loop-item-init c = let x = c.requires.1 in let a = x.recorded.along in (noting_s
 pub order_notes-repeat-requires : goal.order_notes-repeat-requires
 order_notes-repeat-requires c = let w = c.loop-item.invariant.0.noted in (w.few, w.long)
 
-pub returns-in_default : goal.returns-in_default
-returns-in_default c =
+pub returns : goal.returns
+returns c =
     let l = c.loop-item in let a = c.args in let sheet = sheet_of a.table a.file in
     let e = c.order_notes-repeat.ensures sheet l.invariant.0.noted (noting_end l.invariant.0 c.pass_item.ensures c.in_default.is) in
     let ids = referring_ids a.table c.requires.0 in (
@@ -40,36 +40,27 @@ returns-in_default c =
       record { ids = ids; noted = e.1 },
     )
 
-pub slice_bounds-q-count : goal.slice_bounds-q-count
-slice_bounds-q-count c = let m = c.pass_item.ensures.placed _ c.in-Found.is in omega arith
-
-pub slice_bounds-q-start : goal.slice_bounds-q-start
-slice_bounds-q-start c = let m = c.pass_item.ensures.placed _ c.in-Found.is in omega arith
-
-pub slice_bounds-q-end : goal.slice_bounds-q-end
-slice_bounds-q-end c = let m = c.pass_item.ensures.placed _ c.in-Found.is in omega arith
-
 pub note_record-requires : goal.note_record-requires
 note_record-requires c =
-    let l = c.loop-item in let p = c.args.p.now in let m = c.in-Found.item in let x = c.requires.1 in let r = x.recorded in
+    let l = c.loop-item in let p = c.args.p.now in let m = c.in-Some.item in let x = c.requires.1 in let r = x.recorded in
     subst (λ (k : ℕ). Next k p l.n m × Noted k p l.n l.noted) (sym c.sheet_of-sheet.ensures)
-    (noting_next l.invariant.0 c.pass_item.ensures m c.in-Found.is r.few r.short x.single, l.invariant.0.noted)
+    (noting_next l.invariant.0 c.pass_item.ensures m c.in-Some.is r.few r.short x.single, l.invariant.0.noted)
 
 pub overflow_add-n : goal.overflow_add-n
 overflow_add-n c =
     let x = c.requires.1 in let r = x.recorded in
-    omega (arith, (noting_next c.loop-item.invariant.0 c.pass_item.ensures c.in-Found.item c.in-Found.is r.few r.short x.single).room)
+    omega (arith, (noting_next c.loop-item.invariant.0 c.pass_item.ensures c.in-Some.item c.in-Some.is r.few r.short x.single).room)
 
 pub overflow_cast-n : goal.overflow_cast-n
 overflow_cast-n c =
     let x = c.requires.1 in let r = x.recorded in
-    omega (arith, (noting_next c.loop-item.invariant.0 c.pass_item.ensures c.in-Found.item c.in-Found.is r.few r.short x.single).room)
+    omega (arith, (noting_next c.loop-item.invariant.0 c.pass_item.ensures c.in-Some.item c.in-Some.is r.few r.short x.single).room)
 
 -- the record is an object
 pub judge_record-broken-requires : goal.judge_record-broken-requires
 judge_record-broken-requires c =
-    let p = c.args.p.now in let m = c.in-Found.item in let x = c.requires in let r = x.1.recorded in
-    let y = noting_next c.loop-item.invariant.0 c.pass_item.ensures m c.in-Found.is r.few r.short x.1.single in let o = y.single.object in (
+    let p = c.args.p.now in let m = c.in-Some.item in let x = c.requires in let r = x.1.recorded in
+    let y = noting_next c.loop-item.invariant.0 c.pass_item.ensures m c.in-Some.is r.few r.short x.1.single in let o = y.single.object in (
       x.0,
       c.record_lines-lines.ensures ∙ ap (record_lines sheets) c.sheet_of-sheet.ensures,
       x.2,
@@ -78,11 +69,11 @@ judge_record-broken-requires c =
     )
 
 pub loop-item-smaller : goal.loop-item-smaller
-loop-item-smaller c = nearer c.pass_item.ensures c.in-Found.is
+loop-item-smaller c = nearer c.pass_item.ensures c.in-Some.is
 
 pub loop-item-preserved : goal.loop-item-preserved
 loop-item-preserved c =
-    let l = c.loop-item in let a = c.args in let p = a.p.now in let m = c.in-Found.item in let e = c.in-Found.is in let s = c.pass_item.ensures in
+    let l = c.loop-item in let a = c.args in let p = a.p.now in let m = c.in-Some.item in let e = c.in-Some.is in let s = c.pass_item.ensures in
     let sheet = sheet_of a.table a.file in let faults = faults_of (files_by a.table (map (λ q. q.now) a.records)) a.file in
     let x = c.requires.1 in let r = x.recorded in let y = noting_next l.invariant.0 s m e r.few r.short x.single in let o = y.single.object in (
       noting_more l.invariant.0 s m e (subst (λ (n : ℕ). Noted n p (l.n + 1) c.note_record.new.notes) c.sheet_of-sheet.ensures c.note_record.ensures),

@@ -1,16 +1,11 @@
-use mathlib.Core.Path.{◌≡◌}
-use Prim.Native.Nat.{◌≤◌, ◌<◌, ◌-◌}
-use lib.ListN.{length}
-use Rattle.folder.specs.declared.reading.Taken.TheVariants.{Full}
-use Rattle.folder.specs.Reading.{turn_of, Decides}
-use Rattle.folder.specs.Places.{Kept}
+use Rattle.std.proofs.Common.{ℕ, Err, ◌≤◌, ◌<◌, ◌-◌, length}
+use Rattle.folder.specs.declared.Refusal.TheVariants.{TooLarge}
+use Rattle.folder.specs.Reading.{Decides}
 use Rattle.folder.proofs.reading.read_to_end.Given as goal
 
 -- a byte was read at least where the place has moved
 abbrev pub invariant-loop-to : goal.invariant-loop-to
-invariant-loop-to g l =
-    (l.from ≤ l.to) × (l.to ≤ length l.bytes) × (length l.bytes ≡ length l.initial.bytes) × Kept l.from l.initial.bytes l.bytes
-    × (l.from < l.to → Decides (turn_of l.left) Full)
+invariant-loop-to g l = (l.to ≤ length l.room) × (0 < l.to → Decides {A = ℕ} l.last (Err TooLarge))
 
 abbrev pub decreases-loop-to : goal.decreases-loop-to
-decreases-loop-to g l = length l.bytes - l.to
+decreases-loop-to g l = length l.room - l.to

@@ -1,15 +1,14 @@
--- By whether it passes.
-use mathlib.Core.Bool.{Bool}
-use mathlib.Core.Path.{◌≡◌, sym, ap, ◌∙◌}
+-- The truth as a number.
+use mathlib.Core.Bool.{Bool, true, false}
+use mathlib.Core.Path.{◌≡◌, refl, ap, ◌∙◌}
 use Prim.Native.Nat.{◌+◌, ◌*◌}
-use native.Mathlib.Omega.{arith}
+use mir.Val.{bool_byte}
 use Rattle.ids.specs.inner.Notes.{bit}
 use Rattle.ids.proofs.columns.doubled.Goals as goal
 
-pub returns-then-passes : goal.returns-then-passes
-returns-then-passes c = sym (ap (λ (b : Bool). 2 * c.args.member + bit b) c.if-passes.true)
+bit_is : (b : Bool) → bool_byte b ≡ bit b
+bit_is true = refl
+bit_is false = refl
 
 pub returns : goal.returns
-returns c =
-    let z : 2 * c.args.member ≡ 2 * c.args.member + 0 = omega arith in
-    z ∙ sym (ap (λ (b : Bool). 2 * c.args.member + bit b) c.if-passes.false)
+returns c = ap (λ n. 2 * c.args.member + n) (c.from.ensures ∙ bit_is c.args.passes)

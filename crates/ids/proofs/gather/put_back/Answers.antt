@@ -5,15 +5,15 @@ use Rattle.ids.proofs.Gathers.{written_start, written_next, written_all}
 use Rattle.ids.proofs.gather.put_back.Goals as goal
 
 pub loop-i-init : goal.loop-i-init
-loop-i-init c = (omega arith, written_start c.requires.2)
+loop-i-init c = written_start c.requires.2
 
 pub loop-i-preserved : goal.loop-i-preserved
 loop-i-preserved c =
     let x = c.requires in let h = c.loop-i-test.true in let g = x.1.0 in let k = x.1.1 in let f = x.0 in
-    (omega arith, written_next c.loop-i.invariant.1 refl (omega arith) (c.loop-i.invariant.1.below c.loop-i.i (omega arith)))
+    written_next c.loop-i.invariant refl (omega arith) (c.loop-i.invariant.below c.loop-i.i (omega arith))
 
 pub returns : goal.returns
-returns c = let h = c.loop-i-test.false in let g = c.loop-i.invariant.0 in written_all (omega arith) c.loop-i.invariant.1
+returns c = written_all (omega arith) c.loop-i.invariant
 
 pub offset_bounds-notes-i : goal.offset_bounds-notes-i
 offset_bounds-notes-i c = let x = c.requires in omega (arith, c.loop-i-test.true, x.0)
@@ -29,9 +29,3 @@ offset_bounds-notes-column c = let x = c.requires in omega (arith, c.loop-i-test
 
 pub bounds-notes-column : goal.bounds-notes-column
 bounds-notes-column c = let x = c.requires in omega (arith, c.loop-i-test.true, x.0, x.1.1)
-
-pub overflow_add-i : goal.overflow_add-i
-overflow_add-i c = let x = c.requires in omega (arith, c.loop-i-test.true, x.0)
-
-pub loop-i-smaller : goal.loop-i-smaller
-loop-i-smaller c = omega (arith, c.loop-i-test.true)

@@ -1,4 +1,5 @@
 -- `id_field` gives 100 for regions, and else ten times the number, or 0 past the last file with ids.
+use borrow.Author.Rules.{rules}
 use mathlib.Core.Path.{◌≡◌, refl, sym, ap}
 use Prim.Native.Nat.{ℕ, zero, suc, ◌*◌, ◌≤◌}
 use native.Mathlib.Omega.{arith}
@@ -18,12 +19,12 @@ ten_times (suc (suc (suc (suc zero)))) h = refl
 ten_times (suc (suc (suc (suc (suc zero))))) h = refl
 ten_times (suc (suc (suc (suc (suc (suc n)))))) h = absurd (omega arith)
 
-pub returns-then-sheet-eq8 : goal.returns-then-sheet-eq8
+pub returns-in-8 : goal.returns-in-8
 unfolding identified id_field
-returns-then-sheet-eq8 c = sym (ap id_field c.if-sheet-eq8.true)
+returns-in-8 c = sym (ap id_field c.in-8.is)
 
-pub returns-then-sheet-gt5 : goal.returns-then-sheet-gt5
-returns-then-sheet-gt5 c = sym (zero_field _ (other-ids _ (λ h i. omega arith) c.if-sheet-eq8.false))
+pub returns-in-0-to-5 : goal.returns-in-0-to-5
+returns-in-0-to-5 c = ten_times _ (omega arith)
 
-pub returns : goal.returns
-returns c = ten_times _ (omega arith)
+pub returns-in_default : goal.returns-in_default
+returns-in_default c = sym (zero_field _ (other-ids _ (λ h i. omega arith) (search rules)))

@@ -1,6 +1,6 @@
 -- An id of no bytes is none, and no record has it; of any other the search finds a record just where there is one, and that is noted to pass where one
 -- with its id does.
-use mathlib.Core.Bool.{Bool}
+use mathlib.Core.Bool.{Bool, not}
 use mathlib.Core.List.{[]}
 use mathlib.Core.Path.{sym, ap, ◌∙◌}
 use Prim.Native.Nat.{◌<◌}
@@ -38,18 +38,18 @@ is_passed-requires c =
     found-room c.requires.noted _ _ (ap (λ (f : Lookup). f.met) c.search-found.ensures) given c.if-found-eq0.false
 
 -- and that is tested or not
-pub returns-then-tested : goal.returns-then-tested
-returns-then-tested c =
+pub returns-else-not-tested : goal.returns-else-not-tested
+returns-else-not-tested c =
     let a = c.args in
     let given : 0 < length (text_of c.args.id.now) = ltb-true 0 _ (some-given _ (sym c.text_is.ensures ∙ c.if-text_is.false)) in
     c.is_passed.ensures ∙ found_passes c.requires.noted _ _ (ap (λ (f : Lookup). f.met) c.search-found.ensures) given c.if-found-eq0.false
-    ∙ ap (λ (t : Bool). any_meets a.sheet t (text_of a.id.now) (record_bytes a.p.now) (length (items_of a.p.now))) (sym c.if-tested.true)
+    ∙ ap (λ (t : Bool). any_meets a.sheet t (text_of a.id.now) (record_bytes a.p.now) (length (items_of a.p.now))) (sym c.if-not-tested.false)
     ∙ meets_picked a.sheet c.requires.ids a.tested (text_of a.id.now) a.p.now
 
-pub returns : goal.returns
-returns c =
+pub returns-then-not-tested : goal.returns-then-not-tested
+returns-then-not-tested c =
     let a = c.args in
     let given : 0 < length (text_of c.args.id.now) = ltb-true 0 _ (some-given _ (sym c.text_is.ensures ∙ c.if-text_is.false)) in
-    found-yes c.requires.noted _ _ (ap (λ (f : Lookup). f.met) c.search-found.ensures) given c.if-found-eq0.false
-    ∙ ap (λ (t : Bool). any_meets a.sheet t (text_of a.id.now) (record_bytes a.p.now) (length (items_of a.p.now))) (sym c.if-tested.false)
+    ap not c.if-not-tested.true ∙ found-yes c.requires.noted _ _ (ap (λ (f : Lookup). f.met) c.search-found.ensures) given c.if-found-eq0.false
+    ∙ ap (λ (t : Bool). any_meets a.sheet t (text_of a.id.now) (record_bytes a.p.now) (length (items_of a.p.now))) (sym c.if-not-tested.true)
     ∙ meets_picked a.sheet c.requires.ids a.tested (text_of a.id.now) a.p.now

@@ -24,30 +24,34 @@ id_text-id-requires c =
 pub enter-requires : goal.enter-requires
 enter-requires c = let x = c.requires.0 in (x.room, x.short, x.short, omega arith)
 
-pub returns-then-id-eq0 : goal.returns-then-id-eq0
-returns-then-id-eq0 c =
+pub returns-in-None : goal.returns-in-None
+returns-in-None c =
     let a = c.args in let x = c.requires.0 in let o = x.single.object in let q = item_of a.p.now a.m in
     let passed : c.passes-passed.result ≡ passing a.sheet q = c.passes-passed.ensures ∙ ap (passing a.sheet) c.item_bytes-q.ensures in
     -- where the id of the record is
     let told : NoIdBefore a.sheet q c.id_text-id.result.member × TextPlace q (id_of a.sheet q) c.id_text-id.result.text =
     (subst (λ (q : List ℕ). IdTold a.sheet q c.id_text-id.result) c.item_bytes-q.ensures c.id_text-id.ensures).told o.0 (subst (Whole q) o.1 x.whole) x.single.once in
-    subst (λ (x : List ℕ). Noted a.sheet a.p.now (a.n + 1) x) (sym c.enter.ensures) (enter_none c.requires.1 c.requires.0 passed (told.1.none c.if-id-eq0.true))
+    subst (λ (x : List ℕ). Noted a.sheet a.p.now (a.n + 1) x) (sym c.enter.ensures) (enter_none c.requires.1 c.requires.0 passed (told.1.none c.in-None.is))
 
 pub overflow_add-m : goal.overflow_add-m
 overflow_add-m c =
     let a = c.args in let x = c.requires.0 in let e = c.id_text-id.ensures in
-    omega (arith, e.inside, ap length c.item_bytes-q.ensures, part_length a.p.now a.m.value a.m.value_end, x.starts, x.ends, x.short)
+    omega (arith, e.inside _ c.in-Some.is, ap length c.item_bytes-q.ensures, part_length a.p.now a.m.value a.m.value_end, x.starts, x.ends, x.short)
 
-pub enter-requires-2 : goal.enter-requires-2
-enter-requires-2 c =
-    let a = c.args in let x = c.requires.0 in let e = c.id_text-id.ensures in
-    (x.room, omega (arith, e.inside, ap length c.item_bytes-q.ensures, part_length a.p.now a.m.value a.m.value_end, x.starts, x.ends, x.short), omega (arith, x.starts, x.ends, x.short), e.least)
+pub enter-requires-in-Some : goal.enter-requires-in-Some
+enter-requires-in-Some c =
+    let a = c.args in let x = c.requires.0 in let e = c.id_text-id.ensures in (
+      x.room,
+      omega (arith, e.inside _ c.in-Some.is, ap length c.item_bytes-q.ensures, part_length a.p.now a.m.value a.m.value_end, x.starts, x.ends, x.short),
+      omega (arith, x.starts, x.ends, x.short),
+      e.least,
+    )
 
-pub returns : goal.returns
-returns c =
-    let a = c.args in let x = c.requires.0 in let o = x.single.object in let q = item_of a.p.now a.m in let h = c.if-id-eq0.false in
+pub returns-in-Some : goal.returns-in-Some
+returns-in-Some c =
+    let a = c.args in let x = c.requires.0 in let o = x.single.object in let q = item_of a.p.now a.m in
     let passed : c.passes-passed.result ≡ passing a.sheet q = c.passes-passed.ensures ∙ ap (passing a.sheet) c.item_bytes-q.ensures in
     let told : NoIdBefore a.sheet q c.id_text-id.result.member × TextPlace q (id_of a.sheet q) c.id_text-id.result.text =
     (subst (λ (q : List ℕ). IdTold a.sheet q c.id_text-id.result) c.item_bytes-q.ensures c.id_text-id.ensures).told o.0 (subst (Whole q) o.1 x.whole) x.single.once in
-    subst (λ (x : List ℕ). Noted a.sheet a.p.now (a.n + 1) x) (sym c.enter-2.ensures)
-    (enter_some c.requires.1 c.requires.0 passed c.id_text-id.result.text c.id_text-id.result.member told.1 (omega (arith, h)) told.0)
+    subst (λ (x : List ℕ). Noted a.sheet a.p.now (a.n + 1) x) (sym c.enter-in-Some.ensures)
+    (enter_some c.requires.1 c.requires.0 passed c.in-Some.text c.id_text-id.result.member (subst (TextPlace q (id_of a.sheet q)) c.in-Some.is told.1) told.0)

@@ -17,10 +17,10 @@ invariant-search l = (l.met ≡ 0) × Halving (probe l.sheet l.p l.notes (meant 
 abbrev pub decreases-search : goal.decreases-search
 decreases-search l = l.hi - l.lo
 
-abbrev pub invariant-loop-lo : goal.invariant-loop-lo
-invariant-loop-lo l =
+abbrev pub invariant-loop-m : goal.invariant-loop-m
+invariant-loop-m l =
     (l.met ≡ 0) × (l.lo ≡ l.initial.lo) × (l.hi ≡ l.initial.hi)
     × Reading l.sheet (get_or (record_bytes l.p) (record_at l.sheet l.p l.middle) []) l.record l.at
 
-abbrev pub decreases-loop-lo : goal.decreases-loop-lo
-decreases-loop-lo l = length l.record - l.at
+abbrev pub decreases-loop-m : goal.decreases-loop-m
+decreases-loop-m l = length l.record - l.at

@@ -1,6 +1,5 @@
--- `after_element` hands a fault on; after an element it tests in the definition's order.
+-- `after_element` tests in the definition's order.
 use borrow.Author.Rules.{rules}
-use mathlib.Core.Path.{sym, ap, ◌∙◌}
 use native.Mathlib.Omega.{arith}
 use Rattle.lexeme.proofs.Spans.{skipped}
 use Rattle.json_text.specs.inner.Turns.{turn}
@@ -11,34 +10,29 @@ pub returns-then-s-i : goal.returns-then-s-i
 unfolding turn
 returns-then-s-i c =
     let a = c.args in let s = a.s.now in
-    let i = c.skip_blanks_by-i.result in let k = skipped s c.in-End.end i c.skip_blanks_by-i.ensures in
-    follow_end s a.close c.in-End.end i k c.if-s-i.true ∙ ap (turn s a.close) (sym c.in-End.is)
+    let i = c.skip_blanks_by-i.result in let k = skipped s a.end i c.skip_blanks_by-i.ensures in
+    follow_end s a.close a.end i k c.if-s-i.true
 
 pub returns-then-b-close : goal.returns-then-b-close
 unfolding turn
 returns-then-b-close c =
     let a = c.args in let s = a.s.now in
-    let i = c.skip_blanks_by-i.result in let k = skipped s c.in-End.end i c.skip_blanks_by-i.ensures in
-    follow_close s a.close c.in-End.end i k (omega arith) c.if-b-close.true ∙ ap (turn s a.close) (sym c.in-End.is)
+    let i = c.skip_blanks_by-i.result in let k = skipped s a.end i c.skip_blanks_by-i.ensures in
+    follow_close s a.close a.end i k (omega arith) c.if-b-close.true
 
 pub returns-then-b-eq44 : goal.returns-then-b-eq44
 unfolding turn
 returns-then-b-eq44 c =
     let a = c.args in let s = a.s.now in
-    let i = c.skip_blanks_by-i.result in let k = skipped s c.in-End.end i c.skip_blanks_by-i.ensures in
-    follow_comma s a.close c.in-End.end i k (omega arith) c.if-b-close.false c.if-b-eq44.true _ (skipped s _ _ c.skip_blanks_by.ensures)
-    ∙ ap (turn s a.close) (sym c.in-End.is)
+    let i = c.skip_blanks_by-i.result in let k = skipped s a.end i c.skip_blanks_by-i.ensures in
+    follow_comma s a.close a.end i k (omega arith) c.if-b-close.false c.if-b-eq44.true _ (skipped s _ _ c.skip_blanks_by.ensures)
 
-pub returns-in-End : goal.returns-in-End
+pub returns : goal.returns
 unfolding turn
-returns-in-End c =
+returns c =
     let a = c.args in let s = a.s.now in
-    let i = c.skip_blanks_by-i.result in let k = skipped s c.in-End.end i c.skip_blanks_by-i.ensures in
-    follow_wrong s a.close c.in-End.end i k (omega arith) c.if-b-close.false c.if-b-eq44.false ∙ ap (turn s a.close) (sym c.in-End.is)
-
-pub returns-in-Fault : goal.returns-in-Fault
-unfolding turn
-returns-in-Fault c = let a = c.args in ap (turn a.s.now a.close) (sym c.in-Fault.is)
+    let i = c.skip_blanks_by-i.result in let k = skipped s a.end i c.skip_blanks_by-i.ensures in
+    follow_wrong s a.close a.end i k (omega arith) c.if-b-close.false c.if-b-eq44.false
 
 pub skip_blanks_by-i-requires : goal.skip_blanks_by-i-requires
 unfolding turn

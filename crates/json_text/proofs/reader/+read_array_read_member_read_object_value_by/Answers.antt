@@ -2,7 +2,7 @@
 -- left decides where the array or object ends; the class of the byte at its place decides how a value is read, and behind the colon the value
 -- decides a member. The table is lent on as it came.
 use borrow.Author.Rules.{rules}
-use mathlib.Core.Path.{refl, sym, ◌∙◌}
+use mathlib.Core.Path.{refl, sym, ap, ◌∙◌}
 use native.Mathlib.Omega.{arith}
 use lib.ListN.{drop}
 use Rattle.lexeme.specs.inner.Class.{start_of}
@@ -10,8 +10,10 @@ use Rattle.lexeme.specs.Character.{paired}
 use Rattle.lexeme.specs.Strings.{string}
 use Rattle.lexeme.proofs.Placed.{faults, faults-at, passes}
 use Rattle.lexeme.proofs.NumberParts.{equal-inside}
+use Rattle.std.specs.Prelude.{Ok}
+use Rattle.notation.proofs.Tried.{handed_on}
 use Rattle.json_text.specs.Text.{expect, value}
-use Rattle.json_text.proofs.Loops.{items, members, opened_closed, opened_pending, pending_stops, pending_next}
+use Rattle.json_text.proofs.Loops.{items, members, opened_closed, opened_pending, pending_fails, pending_closed, pending_wrong, pending_next}
 use Rattle.json_text.proofs.Values.{begins, begins-inside, no_start, value-quoted, value-string, value-number, array-deep, object-deep, array_opened, object_opened, value-true, value-false, value-null, value_none, member_unnamed, member-wrong, member-value}
 use Rattle.json_text.proofs.reader.+read_array_read_member_read_object_value_by.Goals as goal
 
@@ -23,23 +25,35 @@ read_array-overflow_add-result t c = omega (arith, equal-inside 0x5d refl c.args
 pub read_array-returns-then-first-eq93 : goal.read_array-returns-then-first-eq93
 read_array-returns-then-first-eq93 t c = opened_closed 0x5d _ c.args.s.now c.args.at c.skip_blanks_by-i.ensures c.first.ensures refl c.if-first-eq93.true
 
-pub read_array-loop-whole-init : goal.read_array-loop-whole-init
-read_array-loop-whole-init t c = opened_pending 0x5d _ c.args.s.now c.args.at c.skip_blanks_by-i.ensures c.first.ensures (items c.args.levels) c.if-first-eq93.false
+pub read_array-loop-end-init : goal.read_array-loop-end-init
+read_array-loop-end-init t c = opened_pending 0x5d _ c.args.s.now c.args.at c.skip_blanks_by-i.ensures c.first.ensures (items c.args.levels) c.if-first-eq93.false
 
 pub read_array-value_by-requires : goal.read_array-value_by-requires
 read_array-value_by-requires t c = (omega arith, search rules)
 
-pub read_array-returns-in-Stop : goal.read_array-returns-in-Stop
-read_array-returns-in-Stop t c =
-    pending_stops (items _) c.loop-whole.invariant _ _ c.value_by.ensures (sym c.in-Stop.is ∙ c.after_element.ensures)
+pub read_array-returns-in_err-end : goal.read_array-returns-in_err-end
+read_array-returns-in_err-end t c =
+    handed_on _ _ c.from_residual.ensures.1 ∙ pending_fails (items _) c.loop-end.invariant _ (sym c.in_err-end.was ∙ c.value_by.ensures)
 
-pub read_array-loop-whole-smaller : goal.read_array-loop-whole-smaller
-read_array-loop-whole-smaller t c =
-    let o = pending_next (items _) c.loop-whole.invariant _ _ c.value_by.ensures (sym c.in-Next.is ∙ c.after_element.ensures) in
+pub read_array-returns-in_err-end-2 : goal.read_array-returns-in_err-end-2
+read_array-returns-in_err-end-2 t c =
+    handed_on _ _ c.from_residual-in_err-end-2.ensures.1
+    ∙ pending_wrong (items _) c.loop-end.invariant _ (sym c.in_ok-end.was ∙ c.value_by.ensures) _ (sym c.in_err-end-2.was ∙ c.after_element.ensures)
+
+pub read_array-returns-in-Closed : goal.read_array-returns-in-Closed
+read_array-returns-in-Closed t c =
+    pending_closed (items _) c.loop-end.invariant _ (sym c.in_ok-end.was ∙ c.value_by.ensures) _
+    (sym (c.in_ok-end-2.was ∙ ap Ok c.in-Closed.is) ∙ c.after_element.ensures)
+
+pub read_array-loop-end-smaller : goal.read_array-loop-end-smaller
+read_array-loop-end-smaller t c =
+    let o = pending_next (items _) c.loop-end.invariant _ (sym c.in_ok-end.was ∙ c.value_by.ensures) _
+    (sym (c.in_ok-end-2.was ∙ ap Ok c.in-Next.is) ∙ c.after_element.ensures) in
     omega (arith, o.0, o.1.upto)
 
-pub read_array-loop-whole-preserved : goal.read_array-loop-whole-preserved
-read_array-loop-whole-preserved t c = (pending_next (items _) c.loop-whole.invariant _ _ c.value_by.ensures (sym c.in-Next.is ∙ c.after_element.ensures)).1
+pub read_array-loop-end-preserved : goal.read_array-loop-end-preserved
+read_array-loop-end-preserved t c = (pending_next (items _) c.loop-end.invariant _ (sym c.in_ok-end.was ∙ c.value_by.ensures) _
+    (sym (c.in_ok-end-2.was ∙ ap Ok c.in-Next.is) ∙ c.after_element.ensures)).1
 
 -- objects
 
@@ -49,60 +63,73 @@ read_object-overflow_add-result t c = omega (arith, equal-inside 0x7d refl c.arg
 pub read_object-returns-then-first-eq125 : goal.read_object-returns-then-first-eq125
 read_object-returns-then-first-eq125 t c = opened_closed 0x7d _ c.args.s.now c.args.at c.skip_blanks_by-i.ensures c.first.ensures refl c.if-first-eq125.true
 
-pub read_object-loop-whole-init : goal.read_object-loop-whole-init
-read_object-loop-whole-init t c = opened_pending 0x7d _ c.args.s.now c.args.at c.skip_blanks_by-i.ensures c.first.ensures (members c.args.levels) c.if-first-eq125.false
+pub read_object-loop-end-init : goal.read_object-loop-end-init
+read_object-loop-end-init t c = opened_pending 0x7d _ c.args.s.now c.args.at c.skip_blanks_by-i.ensures c.first.ensures (members c.args.levels) c.if-first-eq125.false
 
 pub read_object-read_member-requires : goal.read_object-read_member-requires
 read_object-read_member-requires t c = (omega arith, search rules)
 
-pub read_object-returns-in-Stop : goal.read_object-returns-in-Stop
-read_object-returns-in-Stop t c =
-    pending_stops (members _) c.loop-whole.invariant _ _ c.read_member.ensures (sym c.in-Stop.is ∙ c.after_element.ensures)
+pub read_object-returns-in_err-end : goal.read_object-returns-in_err-end
+read_object-returns-in_err-end t c =
+    handed_on _ _ c.from_residual.ensures.1 ∙ pending_fails (members _) c.loop-end.invariant _ (sym c.in_err-end.was ∙ c.read_member.ensures)
 
-pub read_object-loop-whole-smaller : goal.read_object-loop-whole-smaller
-read_object-loop-whole-smaller t c =
-    let o = pending_next (members _) c.loop-whole.invariant _ _ c.read_member.ensures (sym c.in-Next.is ∙ c.after_element.ensures) in
+pub read_object-returns-in_err-end-2 : goal.read_object-returns-in_err-end-2
+read_object-returns-in_err-end-2 t c =
+    handed_on _ _ c.from_residual-in_err-end-2.ensures.1
+    ∙ pending_wrong (members _) c.loop-end.invariant _ (sym c.in_ok-end.was ∙ c.read_member.ensures) _ (sym c.in_err-end-2.was ∙ c.after_element.ensures)
+
+pub read_object-returns-in-Closed : goal.read_object-returns-in-Closed
+read_object-returns-in-Closed t c =
+    pending_closed (members _) c.loop-end.invariant _ (sym c.in_ok-end.was ∙ c.read_member.ensures) _
+    (sym (c.in_ok-end-2.was ∙ ap Ok c.in-Closed.is) ∙ c.after_element.ensures)
+
+pub read_object-loop-end-smaller : goal.read_object-loop-end-smaller
+read_object-loop-end-smaller t c =
+    let o = pending_next (members _) c.loop-end.invariant _ (sym c.in_ok-end.was ∙ c.read_member.ensures) _
+    (sym (c.in_ok-end-2.was ∙ ap Ok c.in-Next.is) ∙ c.after_element.ensures) in
     omega (arith, o.0, o.1.upto)
 
-pub read_object-loop-whole-preserved : goal.read_object-loop-whole-preserved
-read_object-loop-whole-preserved t c = (pending_next (members _) c.loop-whole.invariant _ _ c.read_member.ensures (sym c.in-Next.is ∙ c.after_element.ensures)).1
+pub read_object-loop-end-preserved : goal.read_object-loop-end-preserved
+read_object-loop-end-preserved t c = (pending_next (members _) c.loop-end.invariant _ (sym c.in_ok-end.was ∙ c.read_member.ensures) _
+    (sym (c.in_ok-end-2.was ∙ ap Ok c.in-Next.is) ∙ c.after_element.ensures)).1
 
 -- a member: behind the colon the value decides it
 
-pub read_member-returns-in-Fault : goal.read_member-returns-in-Fault
-read_member-returns-in-Fault t c =
+pub read_member-returns-in_err-name_end : goal.read_member-returns-in_err-name_end
+read_member-returns-in_err-name_end t c =
     let a = c.args in let s = a.s.now in
-    passes s _ _ (expect 0x22 (string paired 0) (drop a.at s)) _ (sym c.in-Fault.is ∙ c.string_by.ensures)
+    handed_on _ _ c.from_residual.ensures.1
+    ∙ passes s _ (expect 0x22 (string paired 0) (drop a.at s)) _ (sym c.in_err-name_end.was ∙ c.string_by.ensures)
     (member_unnamed (value paired a.levels) (drop a.at s) _)
 
 pub read_member-returns-then-first-ne58 : goal.read_member-returns-then-first-ne58
 read_member-returns-then-first-ne58 t c =
-    member-wrong _ c.args.s.now c.args.at (sym c.in-End.is ∙ c.string_by.ensures) c.skip_blanks_by-i.ensures c.first.ensures c.if-first-ne58.true
+    member-wrong _ c.args.s.now c.args.at (sym c.in_ok-name_end.was ∙ c.string_by.ensures) c.skip_blanks_by-i.ensures c.first.ensures c.if-first-ne58.true
 
 pub read_member-overflow_add-i : goal.read_member-overflow_add-i
 read_member-overflow_add-i t c = omega (arith, equal-inside 0x3a refl c.args.s.now c.skip_blanks_by-i.result (sym c.first.ensures ∙ c.if-first-ne58.false))
 
-pub read_member-returns-then-class-eq-QUOTE : goal.read_member-returns-then-class-eq-QUOTE
+pub read_member-returns-in-14 : goal.read_member-returns-in-14
 unfolding start_of
-read_member-returns-then-class-eq-QUOTE t c =
-    c.string_by-then-class-eq-QUOTE.ensures
-    ∙ value-quoted _ (begins c.args.s.now c.skip_blanks_by-value.result c.first-in-End.ensures c.class_by-class.ensures c.if-class-eq-QUOTE.true)
-    ∙ member-value _ c.args.s.now c.args.at (sym c.in-End.is ∙ c.string_by.ensures) c.skip_blanks_by-i.ensures c.first.ensures c.if-first-ne58.false c.skip_blanks_by-value.ensures
+read_member-returns-in-14 t c =
+    c.string_by-in-14.ensures
+    ∙ value-quoted _ (begins c.args.s.now c.skip_blanks_by-value.result c.first-2.ensures c.class_by.ensures c.in-14.is)
+    ∙ member-value _ c.args.s.now c.args.at (sym c.in_ok-name_end.was ∙ c.string_by.ensures) c.skip_blanks_by-i.ensures c.first.ensures c.if-first-ne58.false c.skip_blanks_by-value.ensures
 
-pub read_member-returns-then-class-eq-NUMBER : goal.read_member-returns-then-class-eq-NUMBER
+pub read_member-returns-in-2 : goal.read_member-returns-in-2
 unfolding start_of
-read_member-returns-then-class-eq-NUMBER t c =
+read_member-returns-in-2 t c =
     c.read_number.ensures
-    ∙ sym (value-number _ (begins c.args.s.now c.skip_blanks_by-value.result c.first-in-End.ensures c.class_by-class.ensures c.if-class-eq-NUMBER.true))
-    ∙ member-value _ c.args.s.now c.args.at (sym c.in-End.is ∙ c.string_by.ensures) c.skip_blanks_by-i.ensures c.first.ensures c.if-first-ne58.false c.skip_blanks_by-value.ensures
+    ∙ sym (value-number _ (begins c.args.s.now c.skip_blanks_by-value.result c.first-2.ensures c.class_by.ensures c.in-2.is))
+    ∙ member-value _ c.args.s.now c.args.at (sym c.in_ok-name_end.was ∙ c.string_by.ensures) c.skip_blanks_by-i.ensures c.first.ensures c.if-first-ne58.false c.skip_blanks_by-value.ensures
 
 pub read_member-value_by-requires : goal.read_member-value_by-requires
 read_member-value_by-requires t c = (omega arith, search rules)
 
-pub read_member-returns-in-End : goal.read_member-returns-in-End
-read_member-returns-in-End t c =
+pub read_member-returns-in_default : goal.read_member-returns-in_default
+read_member-returns-in_default t c =
     c.value_by.ensures
-    ∙ member-value _ c.args.s.now c.args.at (sym c.in-End.is ∙ c.string_by.ensures) c.skip_blanks_by-i.ensures c.first.ensures c.if-first-ne58.false c.skip_blanks_by-value.ensures
+    ∙ member-value _ c.args.s.now c.args.at (sym c.in_ok-name_end.was ∙ c.string_by.ensures) c.skip_blanks_by-i.ensures c.first.ensures c.if-first-ne58.false c.skip_blanks_by-value.ensures
 
 -- a value, by the class of the byte at its place
 
@@ -123,9 +150,9 @@ value_by-overflow_add-at t c = omega (arith, begins-inside (begins c.args.s.now 
 pub value_by-read_array-requires : goal.value_by-read_array-requires
 value_by-read_array-requires t c = (omega arith, search rules)
 
-pub value_by-returns-in-4 : goal.value_by-returns-in-4
+pub value_by-returns-else-levels-eq0 : goal.value_by-returns-else-levels-eq0
 unfolding start_of
-value_by-returns-in-4 t c = c.read_array.ensures ∙ sym (array_opened _ (begins c.args.s.now c.args.at c.first.ensures c.class_by.ensures c.in-4.is) c.if-levels-eq0.false)
+value_by-returns-else-levels-eq0 t c = c.read_array.ensures ∙ sym (array_opened _ (begins c.args.s.now c.args.at c.first.ensures c.class_by.ensures c.in-4.is) c.if-levels-eq0.false)
 
 pub value_by-returns-then-levels-eq0-2 : goal.value_by-returns-then-levels-eq0-2
 unfolding start_of
@@ -140,9 +167,9 @@ value_by-overflow_add-at-in-6 t c = omega (arith, begins-inside (begins c.args.s
 pub value_by-read_object-requires : goal.value_by-read_object-requires
 value_by-read_object-requires t c = (omega arith, search rules)
 
-pub value_by-returns-in-6 : goal.value_by-returns-in-6
+pub value_by-returns-else-levels-eq0-2 : goal.value_by-returns-else-levels-eq0-2
 unfolding start_of
-value_by-returns-in-6 t c = c.read_object.ensures ∙ sym (object_opened _ (begins c.args.s.now c.args.at c.first.ensures c.class_by.ensures c.in-6.is) c.if-levels-eq0-2.false)
+value_by-returns-else-levels-eq0-2 t c = c.read_object.ensures ∙ sym (object_opened _ (begins c.args.s.now c.args.at c.first.ensures c.class_by.ensures c.in-6.is) c.if-levels-eq0-2.false)
 
 pub value_by-returns-in-8 : goal.value_by-returns-in-8
 unfolding start_of

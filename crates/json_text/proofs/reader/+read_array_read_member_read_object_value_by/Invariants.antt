@@ -19,14 +19,14 @@ decreases-read_array l = 3 * l.levels + 2
 abbrev pub decreases-read_object : goal.decreases-read_object
 decreases-read_object l = 3 * l.levels + 2
 
-abbrev pub invariant-read_array-loop-whole : goal.invariant-read_array-loop-whole
-invariant-read_array-loop-whole l = Pending 0x5d (value paired l.levels) l.s l.at l.i
+abbrev pub invariant-read_array-loop-end : goal.invariant-read_array-loop-end
+invariant-read_array-loop-end l = Pending 0x5d (value paired l.levels) l.s l.at l.i
 
-abbrev pub decreases-read_array-loop-whole : goal.decreases-read_array-loop-whole
-decreases-read_array-loop-whole l = length l.s - l.i
+abbrev pub decreases-read_array-loop-end : goal.decreases-read_array-loop-end
+decreases-read_array-loop-end l = length l.s - l.i
 
-abbrev pub invariant-read_object-loop-whole : goal.invariant-read_object-loop-whole
-invariant-read_object-loop-whole l = Pending 0x7d (member paired (value paired l.levels)) l.s l.at l.i
+abbrev pub invariant-read_object-loop-end : goal.invariant-read_object-loop-end
+invariant-read_object-loop-end l = Pending 0x7d (member paired (value paired l.levels)) l.s l.at l.i
 
-abbrev pub decreases-read_object-loop-whole : goal.decreases-read_object-loop-whole
-decreases-read_object-loop-whole l = length l.s - l.i
+abbrev pub decreases-read_object-loop-end : goal.decreases-read_object-loop-end
+decreases-read_object-loop-end l = length l.s - l.i

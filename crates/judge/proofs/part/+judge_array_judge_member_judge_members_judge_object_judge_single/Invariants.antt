@@ -22,15 +22,15 @@ abbrev pub decreases-judge_members : goal.decreases-judge_members
 decreases-judge_members l = 5 * l.level + 4
 
 -- arrays
-abbrev pub invariant-judge_array-loop-item : goal.invariant-judge_array-loop-item
-invariant-judge_array-loop-item l = (l.n < l.at) × (l.at ≤ length l.p + 1) × ItemsMet l.p l.i l.place l.level l.at l.least l.n
+abbrev pub invariant-judge_array-loop-row : goal.invariant-judge_array-loop-row
+invariant-judge_array-loop-row l = (l.n < l.at) × (l.at ≤ length l.p + 1) × ItemsMet l.p l.row.i l.place l.level l.at l.least l.n
 
-abbrev pub decreases-judge_array-loop-item : goal.decreases-judge_array-loop-item
-decreases-judge_array-loop-item l = length l.p + 1 - l.at
+abbrev pub decreases-judge_array-loop-row : goal.decreases-judge_array-loop-row
+decreases-judge_array-loop-row l = length l.p + 1 - l.at
 
 -- the members of an object
-abbrev pub invariant-judge_members-loop-state : goal.invariant-judge_members-loop-state
-invariant-judge_members-loop-state l = Meeting l.p l.first l.count l.place l.level l.state l.leasts l.at
+abbrev pub invariant-judge_members-loop-m : goal.invariant-judge_members-loop-m
+invariant-judge_members-loop-m l = Meeting l.p l.first l.count l.place l.level l.slots l.leasts l.at
 
-abbrev pub decreases-judge_members-loop-state : goal.decreases-judge_members-loop-state
-decreases-judge_members-loop-state l = length l.p - l.at
+abbrev pub decreases-judge_members-loop-m : goal.decreases-judge_members-loop-m
+decreases-judge_members-loop-m l = length l.p - l.at

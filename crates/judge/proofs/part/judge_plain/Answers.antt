@@ -6,7 +6,7 @@ use Rattle.judge.proofs.part.judge_plain.Goals as goal
 pub returns : goal.returns
 returns c = (
   skip-ends c.args.p.now _ c.skip_value-end.ensures,
-  λ level other. single-scalar c.judge_scalar-kind.result c.requires other c.broken.ensures c.judge_scalar-kind.ensures,
+  λ level other. single-scalar c.judge_scalar-kind.result c.args.row.listed other c.broken.ensures c.judge_scalar-kind.ensures,
 )
 
 pub slice_bounds-judge_scalar-end : goal.slice_bounds-judge_scalar-end

@@ -7,4 +7,4 @@ pub returns : goal.returns
 returns c =
     let b = c.args.b in
     let h : b < 256 = omega arith in
-    c.requires.at b h
+    rw c.from.ensures (c.requires.at b h)

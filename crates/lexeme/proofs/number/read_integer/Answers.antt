@@ -6,21 +6,22 @@ use Rattle.lexeme.specs.Numbers.{some_digits, both, integer, fraction, exponent}
 use Rattle.lexeme.proofs.Placed.{passes, lands}
 use Rattle.lexeme.proofs.Steps.{both_fails}
 use Rattle.lexeme.proofs.NumberParts.{equal-inside, some_leaves, both-second, integer-zero, integer-some}
+use Rattle.notation.proofs.Tried.{handed_on}
 use Rattle.lexeme.proofs.number.read_integer.Goals as goal
 
-pub returns-in-Fault : goal.returns-in-Fault
-returns-in-Fault c =
+pub returns-in_err-next : goal.returns-in_err-next
+returns-in_err-next c =
     let a = c.args in let s = a.s.now in let l = drop a.at s in
     let e = integer-some l (λ z. c.if-first-eq48.false (c.first.ensures ∙ z)) in
-    passes s _ _ (some_digits l) _ (sym c.in-Fault.is ∙ c.read_digits.ensures)
+    handed_on _ _ c.from_residual.ensures.1 ∙ passes s _ (some_digits l) _ (sym c.in_err-next.was ∙ c.read_digits.ensures)
     (λ q h. both_fails integer (both fraction exponent) l (e ∙ h))
 
-pub returns-in-End : goal.returns-in-End
-returns-in-End c =
+pub returns : goal.returns
+returns c =
     let a = c.args in let s = a.s.now in let l = drop a.at s in
     let e = integer-some l (λ z. c.if-first-eq48.false (c.first.ensures ∙ z)) in
-    let d = lands some_digits s a.at _ some_leaves (sym c.in-End.is ∙ c.read_digits.ensures) in
-    c.read_fraction-in-End.ensures ∙ sym (both-second integer (both fraction exponent) l _ _ (e ∙ d.reads) s)
+    let d = lands some_digits s a.at _ some_leaves (sym c.in_ok-next.was ∙ c.read_digits.ensures) in
+    c.read_fraction-2.ensures ∙ sym (both-second integer (both fraction exponent) l _ _ (e ∙ d.reads) s)
 
 pub overflow_add-at : goal.overflow_add-at
 overflow_add-at c = let a = c.args in

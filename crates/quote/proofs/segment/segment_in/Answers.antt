@@ -26,10 +26,10 @@ integer_in-requires-2 c =
 pub end_in-requires : goal.end_in-requires
 end_in-requires c =
     let k = c.requires in
-    subst (λ q. (q ≡ []) ⊎ ClearValue shape.integer q) (sym (c.member-end.ensures _ k.1.whole)) (end-clear k.0 k.1)
+    subst (λ q. (q ≡ []) ⊎ ClearValue shape.integer q) (sym (c.member-4.ensures _ k.1.whole)) (end-clear k.0 k.1)
 
 pub returns : goal.returns
 unfolding segment_by
 returns c =
     let w = c.requires.1.whole in
-    rw (c.end_in.ensures, c.integer_in-2.ensures, c.member-3.ensures _ w, c.money_in.ensures, c.member-2.ensures _ w, c.integer_in.ensures, c.member.ensures _ w, c.member-end.ensures _ w)
+    rw (c.end_in.ensures, c.integer_in-2.ensures, c.member-3.ensures _ w, c.money_in.ensures, c.member-2.ensures _ w, c.integer_in.ensures, c.member.ensures _ w, c.member-4.ensures _ w)

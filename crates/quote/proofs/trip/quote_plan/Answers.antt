@@ -34,32 +34,32 @@ all_is p seconds metres t l k e u v w =
     e ∙ ap₂ (λ (x : Charged) (l : List Segment). with_all x.sum l k.count) u v
     ∙ ap (λ (k : Kilometres). with_all (with_all (price p) (by_minute p) (minutes_of seconds).count).sum (by_kilometre p) k.count) w
 
-pub segments_of-requires : goal.segments_of-requires
-segments_of-requires c = let k = c.requires.2 in (k.whole, minutes-clear k)
+pub segments_of-by_minute-requires : goal.segments_of-by_minute-requires
+segments_of-by_minute-requires c = let k = c.requires.2 in (k.whole, minutes-clear k)
 
 pub with_minutes-timed-requires : goal.with_minutes-timed-requires
 with_minutes-timed-requires c =
     let a = c.args in
-    rw (c.price_of-price.ensures, c.of_seconds-minutes.ensures)
-    (minutes_chargeable c.requires.2 c.segments_of.ensures (minutes_of a.seconds).count (minutes-short a.seconds c.requires.0))
+    rw (c.price_of-price.ensures, c.of_seconds-minutes.ensures, c.as_slice.ensures, c.segments_of-by_minute.ensures)
+    (minutes_chargeable c.requires.2 (minutes_of a.seconds).count (minutes-short a.seconds c.requires.0))
 
-pub segments_of-requires-2 : goal.segments_of-requires-2
-segments_of-requires-2 c = let k = c.requires.2 in (k.whole, kilometres-clear k)
+pub segments_of-by_kilometre-requires : goal.segments_of-by_kilometre-requires
+segments_of-by_kilometre-requires c = let k = c.requires.2 in (k.whole, kilometres-clear k)
 
 pub with_kilometres-all-requires : goal.with_kilometres-all-requires
 with_kilometres-all-requires c =
     let a = c.args in
-    let timed = timed_is a.p.now a.seconds _ _ _ c.with_minutes-timed.ensures c.price_of-price.ensures c.segments_of.ensures.are c.of_seconds-minutes.ensures in
-    rw (timed, c.of_metres-kilometres.ensures)
-    (kilometres_chargeable c.requires.2 c.segments_of-2.ensures (minutes_of a.seconds).count (kilometres_of a.metres).count
+    let timed = timed_is a.p.now a.seconds _ _ _ c.with_minutes-timed.ensures c.price_of-price.ensures (c.as_slice.ensures ∙ c.segments_of-by_minute.ensures) c.of_seconds-minutes.ensures in
+    rw (timed, c.of_metres-kilometres.ensures, c.as_slice-2.ensures, c.segments_of-by_kilometre.ensures)
+    (kilometres_chargeable c.requires.2 (minutes_of a.seconds).count (kilometres_of a.metres).count
     (minutes-short a.seconds c.requires.0) (kilometres-short a.metres c.requires.1))
 
 -- either sum comes to a number of 63 bits, so that the amount alone tells which is asked for
 pub amount-requires : goal.amount-requires
 amount-requires c =
     let a = c.args in
-    let timed = timed_is a.p.now a.seconds _ _ _ c.with_minutes-timed.ensures c.price_of-price.ensures c.segments_of.ensures.are c.of_seconds-minutes.ensures in
-    let all = all_is a.p.now a.seconds a.metres _ _ _ c.with_kilometres-all.ensures timed c.segments_of-2.ensures.are c.of_metres-kilometres.ensures in
+    let timed = timed_is a.p.now a.seconds _ _ _ c.with_minutes-timed.ensures c.price_of-price.ensures (c.as_slice.ensures ∙ c.segments_of-by_minute.ensures) c.of_seconds-minutes.ensures in
+    let all = all_is a.p.now a.seconds a.metres _ _ _ c.with_kilometres-all.ensures timed (c.as_slice-2.ensures ∙ c.segments_of-by_kilometre.ensures) c.of_metres-kilometres.ensures in
     let room_timed : c.with_minutes-timed.result.sum.added - c.with_minutes-timed.result.sum.taken < 2 ^ 63 =
     rw timed (omega (arith, (timed_room c.requires.2 (minutes_of a.seconds).count (minutes-short a.seconds c.requires.0)).added)) in
     let room_all : c.with_kilometres-all.result.sum.added - c.with_kilometres-all.result.sum.taken < 2 ^ 63 =
@@ -69,8 +69,8 @@ amount-requires c =
 pub returns : goal.returns
 returns c =
     let a = c.args in
-    let timed = timed_is a.p.now a.seconds _ _ _ c.with_minutes-timed.ensures c.price_of-price.ensures c.segments_of.ensures.are c.of_seconds-minutes.ensures in
-    let all = all_is a.p.now a.seconds a.metres _ _ _ c.with_kilometres-all.ensures timed c.segments_of-2.ensures.are c.of_metres-kilometres.ensures in
+    let timed = timed_is a.p.now a.seconds _ _ _ c.with_minutes-timed.ensures c.price_of-price.ensures (c.as_slice.ensures ∙ c.segments_of-by_minute.ensures) c.of_seconds-minutes.ensures in
+    let all = all_is a.p.now a.seconds a.metres _ _ _ c.with_kilometres-all.ensures timed (c.as_slice-2.ensures ∙ c.segments_of-by_kilometre.ensures) c.of_metres-kilometres.ensures in
     let room_timed : c.with_minutes-timed.result.sum.added - c.with_minutes-timed.result.sum.taken < 2 ^ 63 =
     rw timed (omega (arith, (timed_room c.requires.2 (minutes_of a.seconds).count (minutes-short a.seconds c.requires.0)).added)) in
     let room_all : c.with_kilometres-all.result.sum.added - c.with_kilometres-all.result.sum.taken < 2 ^ 63 =

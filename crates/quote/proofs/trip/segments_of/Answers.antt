@@ -1,8 +1,8 @@
 -- The segments of the array that stands under the name.
 use mathlib.Core.List.{List}
-use mathlib.Core.Path.{sym, ap, subst, ◌∙◌}
+use mathlib.Core.Path.{◌≡◌, sym, ap, subst, ◌∙◌}
 use Prim.Native.Nat.{ℕ}
-use Rattle.fare.specs.inner.Folds.{Fills}
+use Rattle.fare.specs.inner.Folds.{listed}
 use Rattle.document.specs.inner.Values.{array_by}
 use Rattle.quote.specs.inner.Values.{segments_by}
 use Rattle.quote.specs.inner.Clear.{ClearSegments}
@@ -14,4 +14,4 @@ segments_in-requires c = subst ClearSegments (sym (c.array_in.ensures ∙ ap arr
 
 pub returns : goal.returns
 returns c =
-    subst (λ (q : List ℕ). Fills c.segments_in.result (segments_by q)) (c.array_in.ensures ∙ ap array_by (c.member.ensures _ c.requires.0)) c.segments_in.ensures
+    subst (λ (q : List ℕ). listed c.segments_in.result ≡ segments_by q) (c.array_in.ensures ∙ ap array_by (c.member.ensures _ c.requires.0)) c.segments_in.ensures

@@ -21,8 +21,8 @@ returns c =
     let p = c.args.p.now in let lat = c.read_coordinate-lat.ensures in (
       record { east = omega (arith, c.requires); north = lat.0 },
       λ x ms k h.
-          let o = left-more h f c.in-Found.is in
+          let o = left-more h f c.in-Some.is in
           finds_position_as _ _ _ _ _ _ (c.lesser-3.ensures ∙ ap (lesser _) c.lesser-2.ensures)
           (finds_position-more _ _ x _ k (numbers p ms) _ (numbers p o.rest) _ _ (ap (numbers p) o.is)
-          (lat.1 _ (rw c.item_bytes.ensures (left-whole h f c.in-Found.is))) (c.judge_rest-rest.ensures _ o.left)),
+          (lat.1 _ (rw c.item_bytes.ensures (left-whole h f c.in-Some.is))) (c.judge_rest-rest.ensures _ o.left)),
     )

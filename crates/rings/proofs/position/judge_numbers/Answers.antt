@@ -25,8 +25,8 @@ returns c = (
       let f = c.pass_item.ensures in
       let a = c.args in let p = a.p.now in
       let all = left-start (λ h. AlongItems.start (w.whole h).1) in
-      let o = left-more all f c.in-Found.is in
+      let o = left-more all f c.in-Some.is in
       subst (λ (l : List Picked). FindsNumbers a.field a.number l c.judge_behind.result) (sym (ap (numbers p) o.is))
       (c.judge_behind.ensures.1 _ o.rest
-      (c.read_coordinate-lon.ensures.1 _ (rw c.item_bytes.ensures (left-whole all f c.in-Found.is))) o.left),
+      (c.read_coordinate-lon.ensures.1 _ (rw c.item_bytes.ensures (left-whole all f c.in-Some.is))) o.left),
 )

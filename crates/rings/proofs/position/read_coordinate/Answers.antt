@@ -26,7 +26,7 @@ returns-in_default c = (
 )
 
 pub within-requires : goal.within-requires
-within-requires c = number-formed _ _ (sym c.read_decimal.ensures ∙ c.in-Value.is)
+within-requires c = number-formed _ _ (sym c.read_decimal.ensures ∙ c.in-Some.is)
 
 pub returns-then-not-within : goal.returns-then-not-within
 returns-then-not-within c = (
@@ -34,18 +34,18 @@ returns-then-not-within c = (
   λ x w.
       measured_broken _ _ _ out_of_range _ _ _
       (outside-kinds _ w (sym c.is_number.ensures ∙ c.if-not-is_number.false) _
-      (sym c.read_decimal.ensures ∙ c.in-Value.is) (sym c.within.ensures ∙ c.if-not-within.true))
+      (sym c.read_decimal.ensures ∙ c.in-Some.is) (sym c.within.ensures ∙ c.if-not-within.true))
       c.broken-then-not-within.ensures c.broken-then-not-within-2.ensures,
 )
 
 pub coordinate-requires : goal.coordinate-requires
 coordinate-requires c =
-    (number-formed _ _ (sym c.read_decimal.ensures ∙ c.in-Value.is), sym c.within.ensures ∙ c.if-not-within.false, c.requires)
+    (number-formed _ _ (sym c.read_decimal.ensures ∙ c.in-Some.is), sym c.within.ensures ∙ c.if-not-within.false, c.requires)
 
 pub returns : goal.returns
 returns c = (
   inside-upto _ _ _ (sym c.within.ensures ∙ c.if-not-within.false) c.coordinate.ensures,
   λ x w.
       measured_inside _ w (sym c.is_number.ensures ∙ c.if-not-is_number.false) _
-      (sym c.read_decimal.ensures ∙ c.in-Value.is) _ _ _ (sym c.within.ensures ∙ c.if-not-within.false) c.coordinate.ensures,
+      (sym c.read_decimal.ensures ∙ c.in-Some.is) _ _ _ (sym c.within.ensures ∙ c.if-not-within.false) c.coordinate.ensures,
 )

@@ -9,8 +9,8 @@ use Rattle.rings.proofs.ring.read_ring.Goals as goal
 pub loop-m-init : goal.loop-m-init
 loop-m-init c = rw c.none-outline.ensures (reading-start _ _ _)
 
-pub returns-in-End : goal.returns-in-End
-returns-in-End c = reading-end _ _ _ c.loop-m.invariant c.pass_item.ensures c.in-End.is
+pub returns : goal.returns
+returns c = reading-end _ _ _ c.loop-m.invariant c.pass_item.ensures c.in_default.is
 
 pub overflow_add-n : goal.overflow_add-n
 overflow_add-n c =
@@ -21,14 +21,14 @@ with-outline-requires c =
     let r = c.loop-m.invariant in (
       r.sized,
       c.judge_position-position.ensures.0,
-      omega (arith, c.requires, passed_one r.passed (c.pass_item.ensures.placed _ c.in-Found.is)),
+      omega (arith, c.requires, passed_one r.passed (c.pass_item.ensures.placed _ c.in-Some.is)),
     )
 
 pub loop-m-preserved : goal.loop-m-preserved
 loop-m-preserved c =
     rw (c.with-outline.ensures, c.lesser-least.ensures)
-    (reading-more _ _ _ c.loop-m.invariant c.pass_item.ensures c.in-Found.is c.judge_position-position.result c.judge_position-position.ensures.0
+    (reading-more _ _ _ c.loop-m.invariant c.pass_item.ensures c.in-Some.is c.judge_position-position.result c.judge_position-position.ensures.0
     (rw c.item_bytes.ensures at c.judge_position-position.ensures.1))
 
 pub loop-m-smaller : goal.loop-m-smaller
-loop-m-smaller c = nearer c.pass_item.ensures c.in-Found.is
+loop-m-smaller c = nearer c.pass_item.ensures c.in-Some.is

@@ -5,8 +5,8 @@ use Rattle.rings.specs.inner.Parts.{polygon_shape}
 use Rattle.rings.proofs.Tallies.{Tallying}
 use Rattle.rings.proofs.zone.judge_polygons.Given as goal
 
-abbrev pub invariant-loop-tally : goal.invariant-loop-tally
-invariant-loop-tally l = Tallying l.field polygon item_count polygon_positions polygon_shape l.n l.p l.tally l.at
+abbrev pub invariant-loop-m : goal.invariant-loop-m
+invariant-loop-m l = Tallying l.field polygon item_count polygon_positions polygon_shape l.n l.p l.tally l.at
 
-abbrev pub decreases-loop-tally : goal.decreases-loop-tally
-decreases-loop-tally l = length l.p - l.at
+abbrev pub decreases-loop-m : goal.decreases-loop-m
+decreases-loop-m l = length l.p - l.at

@@ -5,8 +5,8 @@ use Rattle.rings.specs.inner.Parts.{ring_shape}
 use Rattle.rings.proofs.Tallies.{Tallying}
 use Rattle.rings.proofs.zone.judge_rings.Given as goal
 
-abbrev pub invariant-loop-tally : goal.invariant-loop-tally
-invariant-loop-tally l = Tallying l.field ring item_count item_count ring_shape l.n l.p l.tally l.at
+abbrev pub invariant-loop-m : goal.invariant-loop-m
+invariant-loop-m l = Tallying l.field ring item_count item_count ring_shape l.n l.p l.tally l.at
 
-abbrev pub decreases-loop-tally : goal.decreases-loop-tally
-decreases-loop-tally l = length l.p - l.at
+abbrev pub decreases-loop-m : goal.decreases-loop-m
+decreases-loop-m l = length l.p - l.at

@@ -6,32 +6,30 @@ use Rattle.text.proofs.Decoding.{left_at, no_byte, one_byte}
 use Rattle.scalar.specs.Scalars.{currency}
 use Rattle.scalar.proofs.Capitals.{currency-start, currency-end, currency-past, currency-other, currency-next}
 use Rattle.scalar.proofs.currency.is_currency.Goals as goal
+use Rattle.scalar.proofs.currency.is_currency.Goals.{then-n-eq3-via-then-n-eq3, then-n-eq3-via-else-n-eq3+then-not-is_capital}
 
 pub returns-then-n-eq3 : goal.returns-then-n-eq3
 returns-then-n-eq3 c =
     let w = c.loop-b in
-    let e = one_byte _ _ _ _ c.next_byte.ensures c.in-Byte.is in
-    currency-past w.n e (omega arith) ∙ w.invariant.1
-
-pub returns-then-not-is_capital : goal.returns-then-not-is_capital
-returns-then-not-is_capital c =
-    let w = c.loop-b in
-    let e = one_byte _ _ _ _ c.next_byte.ensures c.in-Byte.is in
-    currency-other w.n e (sym c.is_capital.ensures ∙ c.if-not-is_capital.true) ∙ w.invariant.1
+    let e = one_byte _ _ _ _ c.next_byte.ensures c.in-Some.is in
+    elim c.then-n-eq3.branch [
+      | then-n-eq3-via-then-n-eq3 v ↦ currency-past w.n e (omega (arith, v.if-n-eq3.true)) ∙ w.invariant.1
+      | then-n-eq3-via-else-n-eq3+then-not-is_capital v ↦ currency-other w.n e (sym v.is_capital.ensures ∙ v.if-not-is_capital.true) ∙ w.invariant.1
+    ]
 
 pub loop-b-preserved : goal.loop-b-preserved
 loop-b-preserved c =
     let w = c.loop-b in
-    let e = one_byte _ _ _ _ c.next_byte.ensures c.in-Byte.is in
+    let e = one_byte _ _ _ _ c.next_byte.ensures c.in-Some.is in
     (omega arith, currency-next w.n e (sym c.is_capital.ensures ∙ c.if-not-is_capital.false) ∙ w.invariant.1)
 
 pub loop-b-init : goal.loop-b-init
 loop-b-init c = (omega arith, currency-start _ ∙ ap currency (left_at c.args.spelled.now 0 _ c.cursor_at-c.ensures))
 
-pub returns-in-End : goal.returns-in-End
-returns-in-End c = let w = c.loop-b in
-    currency-end w.n (no_byte _ _ c.next_byte.ensures c.in-End.is) ∙ w.invariant.1
+pub returns : goal.returns
+returns c = let w = c.loop-b in
+    currency-end w.n (no_byte _ _ c.next_byte.ensures c.in_default.is) ∙ w.invariant.1
 
 pub loop-b-smaller : goal.loop-b-smaller
-loop-b-smaller c = let e = one_byte _ _ _ _ c.next_byte.ensures c.in-Byte.is in
+loop-b-smaller c = let e = one_byte _ _ _ _ c.next_byte.ensures c.in-Some.is in
     omega (arith, ap length e)

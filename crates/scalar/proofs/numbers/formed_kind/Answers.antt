@@ -7,13 +7,13 @@ use Rattle.scalar.proofs.numbers.formed_kind.Goals as goal
 
 pub keeps-requires : goal.keeps-requires
 keeps-requires c =
-    number-formed c.args.s.now _ (sym c.read_decimal.ensures ∙ c.in-Value.is)
+    number-formed c.args.s.now _ (sym c.read_decimal.ensures ∙ c.in-Some.is)
 
-pub returns-in-Value : goal.returns-in-Value
-returns-in-Value c =
+pub returns-in-Some : goal.returns-in-Some
+returns-in-Some c =
     formed-value _ _ c.range_kind.ensures (in_bounds c.args.bounds)
-    (sym c.read_decimal.ensures ∙ c.in-Value.is) c.keeps.ensures
+    (sym c.read_decimal.ensures ∙ c.in-Some.is) c.keeps.ensures
 
-pub returns-in-Unformed : goal.returns-in-Unformed
-returns-in-Unformed c =
-    formed-unformed (in_bounds c.args.bounds) (sym c.read_decimal.ensures ∙ c.in-Unformed.is)
+pub returns-in-None : goal.returns-in-None
+returns-in-None c =
+    formed-unformed (in_bounds c.args.bounds) (sym c.read_decimal.ensures ∙ c.in-None.is)

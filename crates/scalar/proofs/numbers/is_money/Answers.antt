@@ -1,10 +1,7 @@
 -- An amount or none: the reading of the number as money tells.
-use mathlib.Core.Path.{sym, ◌∙◌}
-use Rattle.scalar.proofs.Ranges.{is_money, no_money}
+use mathlib.Core.Path.{◌∙◌}
+use Rattle.scalar.proofs.Ranges.{money_some}
 use Rattle.scalar.proofs.numbers.is_money.Goals as goal
 
-pub returns-in-Is : goal.returns-in-Is
-returns-in-Is c = is_money _ _ (sym c.money.ensures ∙ c.in-Is.is)
-
-pub returns-in-Outside : goal.returns-in-Outside
-returns-in-Outside c = no_money _ (sym c.money.ensures ∙ c.in-Outside.is)
+pub returns : goal.returns
+returns c = c.is_some.ensures ∙ money_some _ _ c.money.ensures

@@ -11,15 +11,15 @@ use Rattle.scalar.proofs.numbers.keeps.Goals as goal
 bounded : (d : Decimal) {b x : Bounds} {t : Bool} → b ≡ x → t ≡ in_bounds x d → t ≡ in_bounds b d
 bounded d e h = h ∙ ap (λ (y : Bounds). in_bounds y d) (sym e)
 
-pub returns-then-not-natural : goal.returns-then-not-natural
+pub returns-else-natural : goal.returns-else-natural
 unfolding in_bounds
-returns-then-not-natural c = bounded _ c.in-Price.is (price-below _ (sym c.natural-in-Price.ensures ∙ c.if-not-natural.true))
+returns-else-natural c = bounded _ c.in-Price.is (c.if-natural.false ∙ price-below _ (sym c.natural-in-Price.ensures ∙ c.if-natural.false))
 
-pub returns-else-not-natural : goal.returns-else-not-natural
+pub returns-then-natural : goal.returns-then-natural
 unfolding in_bounds
-returns-else-not-natural c =
+returns-then-natural c =
     bounded _ c.in-Price.is
-    (c.is_money-in-Price.ensures ∙ price_money_lem _ (sym c.natural-in-Price.ensures ∙ c.if-not-natural.false))
+    (c.is_money-then-natural.ensures ∙ price_money_lem _ (sym c.natural-in-Price.ensures ∙ c.if-natural.true))
 
 pub returns-in-Natural : goal.returns-in-Natural
 unfolding in_bounds
@@ -56,7 +56,3 @@ is_money-requires c = search rules
 pub natural-requires-in-Price : goal.natural-requires-in-Price
 unfolding in_bounds
 natural-requires-in-Price c = search rules
-
-pub is_money-requires-in-Price : goal.is_money-requires-in-Price
-unfolding in_bounds
-is_money-requires-in-Price c = search rules

@@ -1,5 +1,6 @@
 -- Each letter that a number may have names a sort, and every other letter a sort that no number is of.
 -- every other letter
+use mathlib.Core.Logic.{inl, inr}
 use mathlib.Core.Path.{refl}
 use borrow.Author.Rules.{rules}
 use Rattle.schema.proofs.Letters.{sort_from}
@@ -14,11 +15,10 @@ returns-in_default c =
 
 pub returns-in-84 : goal.returns-in-84
 unfolding sort_kinds sort_from in_bounds
-returns-in-84 c = by-letter number_kinds _ _ c.in-84.is (λ ws. c.integer_kind.ensures)
-
-pub returns-in-78 : goal.returns-in-78
-unfolding sort_kinds sort_from in_bounds
-returns-in-78 c = by-letter number_kinds _ _ c.in-78.is (λ ws. c.integer_kind-in-78.ensures)
+returns-in-84 c = elim c.in-84.is [
+  | inl e ↦ by-letter number_kinds _ _ e (λ ws. c.integer_kind.ensures)
+  | inr e ↦ by-letter number_kinds _ _ e (λ ws. c.integer_kind.ensures)
+]
 
 pub returns-in-70 : goal.returns-in-70
 unfolding sort_kinds sort_from in_bounds
@@ -51,10 +51,6 @@ returns-in-112 c = by-letter number_kinds _ _ c.in-112.is (λ ws. c.formed_kind-
 pub integer_kind-requires : goal.integer_kind-requires
 unfolding sort_kinds sort_from in_bounds
 integer_kind-requires c = search rules
-
-pub integer_kind-requires-in-78 : goal.integer_kind-requires-in-78
-unfolding sort_kinds sort_from in_bounds
-integer_kind-requires-in-78 c = search rules
 
 pub formed_kind-requires : goal.formed_kind-requires
 unfolding sort_kinds sort_from in_bounds

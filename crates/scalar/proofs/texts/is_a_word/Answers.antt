@@ -34,6 +34,3 @@ loop-k-preserved c =
 
 pub returns : goal.returns
 returns c = let w = c.loop-k in words-end (words_of sheets) _ w.k _ (omega arith) ∙ w.invariant.1
-
-pub overflow_add-k : goal.overflow_add-k
-overflow_add-k c = omega (arith, all_words)

@@ -11,6 +11,3 @@ abbrev pub invariant-loop-k : goal.invariant-loop-k
 invariant-loop-k l =
     (l.end ≤ length (words_of sheets))
     × (any_word (take (l.end - l.k) (drop l.k (words_of sheets))) (text_of l.spelled) ≡ any_word (words_at sheets l.line) (text_of l.spelled))
-
-abbrev pub decreases-loop-k : goal.decreases-loop-k
-decreases-loop-k l = l.end - l.k

@@ -1,21 +1,11 @@
--- The code's two columns are the ranges of the records' lines, by computation; past the last sheet there is no range on either side.
-use mathlib.Core.Path.{◌≡◌, refl, sym}
-use native.Mathlib.Omega.{arith}
-use lib.ListN.{length, get_or-eq_default}
+-- The code's two columns are the ranges of the records' lines, by computation.
+use mathlib.Core.Path.{refl}
 use Rattle.schema.specs.Tables.{sheets, written}
-use Rattle.schema.specs.inner.Line.{nowhere}
 use Rattle.schema.specs.inner.RecordLines.{record_ranges, records_laid_out}
 use Rattle.schema.proofs.Columns.{range_columns}
 use Rattle.schema.proofs.lines.record_lines.Goals as goal
 
-how_many : length (record_ranges sheets) ≡ 9
-unfolding records_laid_out written
-how_many = refl
-
-pub returns-then-i-ge9 : goal.returns-then-i-ge9
-returns-then-i-ge9 c = sym (get_or-eq_default (record_ranges sheets) nowhere {n = c.args.sheet} (omega (arith, how_many)))
-
 pub returns : goal.returns
 unfolding records_laid_out written
 returns c =
-    range_columns (record_ranges sheets) c.args.sheet c.from_u8.ensures c.from_u8-2.ensures
+    rw (c.of_columns.ensures, c.from.ensures) (range_columns (record_ranges sheets) c.args.sheet refl refl)

@@ -8,8 +8,8 @@ use Rattle.schema.proofs.Bytes.{named-fits, named-part}
 use Rattle.schema.proofs.Computed.{table-length}
 use Rattle.schema.proofs.names.name_by.Goals as goal
 
-pub overflow_add-end : goal.overflow_add-end
-overflow_add-end c =
+pub overflow_add-result : goal.overflow_add-result
+overflow_add-result c =
     omega (arith, named-fits sheets c.args.number c.range_of-name.ensures, table-length)
 
 pub slice_bounds-result-end : goal.slice_bounds-result-end

@@ -1,7 +1,6 @@
 -- A spelling that is a name stands for that name. Any other is decoded, and the first 32 bytes of a text tell whether it is a name.
 use mathlib.Core.Path.{ap, ◌∙◌}
 use native.Mathlib.Omega.{arith}
-use lib.ListN.{length-take}
 use Rattle.text.specs.Text.{text_of}
 use Rattle.schema.specs.Tables.{sheets}
 use Rattle.schema.specs.inner.Line.{each_name, number_of}
@@ -12,10 +11,6 @@ use Rattle.schema.proofs.names.name_number.Goals as goal
 pub returns-then-number-gt0 : goal.returns-then-number-gt0
 returns-then-number-gt0 c =
     c.number_in-number.ensures ∙ number-plain (each_name sheets) names-plain _ (λ z. omega (arith, c.number_in-number.ensures, c.if-number-gt0.true, z))
-
-pub slice_bounds-bytes-end : goal.slice_bounds-bytes-end
-slice_bounds-bytes-end c =
-    let r = c.read_prefix-read in omega (arith, r.ensures.counted, length-take r.result.count r.result.bytes)
 
 pub slice_bounds-number_in-end : goal.slice_bounds-number_in-end
 slice_bounds-number_in-end c = c.read_prefix-read.ensures.counted

@@ -10,13 +10,17 @@ use Rattle.schema.specs.inner.Names.{places_of}
 use Rattle.schema.specs.inner.Line.{each_name}
 use Rattle.schema.proofs.Numbers.{number-odd, found_here, found_none}
 use Rattle.schema.proofs.Found.{names_stand, names-alone, names-sized}
+use borrow.Author.Tests.{eqb-true}
+use Rattle.schema.proofs.names.number_in.Goals.{then-is_empty-via-then-is_empty, then-is_empty-via-else-is_empty+then-x-ge32}
 use Rattle.schema.proofs.names.number_in.Goals as goal
 
-pub returns-then-x-lt1 : goal.returns-then-x-lt1
-returns-then-x-lt1 c = number-odd (each_name sheets) names-sized _ (λ g h. omega arith)
-
-pub returns-then-x-ge32 : goal.returns-then-x-ge32
-returns-then-x-ge32 c = number-odd (each_name sheets) names-sized _ (λ g h. omega arith)
+pub returns-then-is_empty : goal.returns-then-is_empty
+returns-then-is_empty c =
+    number-odd (each_name sheets) names-sized _ (λ g h.
+    elim c.then-is_empty.branch [
+      | then-is_empty-via-then-is_empty w ↦ let e = sym c.is_empty.ensures ∙ w.if-is_empty.true in omega (arith, eqb-true _ _ e)
+      | then-is_empty-via-else-is_empty+then-x-ge32 w ↦ omega (arith, w.if-x-ge32.true)
+    ])
 
 -- what stands at the place, and what is compared
 pub returns-then-not-same_bytes : goal.returns-then-not-same_bytes

@@ -6,4 +6,4 @@ use Rattle.schema.proofs.names.place_of.Goals as goal
 pub returns : goal.returns
 unfolding place_of
 returns c =
-    (rw (c.byte_value.ensures.0, c.byte_value-2.ensures.0, c.byte_value-3.ensures.0), omega arith)
+    (rw (c.from.ensures, c.from-2.ensures, c.from-3.ensures), omega arith)

@@ -11,5 +11,5 @@ returns-then-n-gt-NAMES c = range-past sheets c.args.number (omega (arith, name-
 
 pub returns : goal.returns
 returns c =
-    range-read sheets c.requires c.args.number (omega (arith, c.from_u8-n.ensures, c.if-n-gt-NAMES.false, name-count)) _ (omega (arith, c.from_u8-n.ensures, line-count))
-    (c.from_u16.ensures ∙ c.two_bytes.ensures) c.from_u8.ensures
+    range-read sheets c.requires c.args.number (omega (arith, c.from-n.ensures, c.if-n-gt-NAMES.false, name-count)) _ (omega (arith, c.from-n.ensures, line-count))
+    (c.from.ensures ∙ c.two_bytes.ensures) c.from-2.ensures

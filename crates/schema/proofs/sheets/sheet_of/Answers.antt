@@ -2,13 +2,15 @@
 use mathlib.Core.Path.{sym}
 use native.Mathlib.Omega.{arith}
 use Rattle.schema.proofs.SheetShapes.{table-count, sheet_none, sheet_past, sheet_first, sheet_inside}
+use Rattle.schema.proofs.sheets.sheet_of.Goals.{then-file-eq0-via-then-file-eq0, then-file-eq0-via-else-file-eq0+then-file-gt-FILES}
 use Rattle.schema.proofs.sheets.sheet_of.Goals as goal
 
 pub returns-then-file-eq0 : goal.returns-then-file-eq0
-returns-then-file-eq0 c = sym (sheet_none _ _ c.if-file-eq0.true)
-
-pub returns-then-file-gt-FILES : goal.returns-then-file-gt-FILES
-returns-then-file-gt-FILES c = sym (sheet_past _ _ c.if-file-eq0.false c.if-file-gt-FILES.true)
+returns-then-file-eq0 c =
+    elim c.then-file-eq0.branch [
+      | then-file-eq0-via-then-file-eq0 w ↦ sym (sheet_none _ _ w.if-file-eq0.true)
+      | then-file-eq0-via-else-file-eq0+then-file-gt-FILES w ↦ sym (sheet_past _ _ w.if-file-eq0.false w.if-file-gt-FILES.true)
+    ]
 
 pub returns-then-table-ge-TABLES : goal.returns-then-table-ge-TABLES
 returns-then-table-ge-TABLES c =

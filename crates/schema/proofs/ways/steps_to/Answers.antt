@@ -9,7 +9,7 @@ use lib.Dec.{ltb}
 use lib.ListN.{length, take, get_or, get_or-map}
 use borrow.Author.Tests.{ltb-true}
 use Rattle.notation.specs.Choice.{◌⇒◌else◌}
-use Rattle.notation.specs.Maybe.{none, some, given}
+use Rattle.notation.specs.Given.{given}
 use Rattle.notation.proofs.Booleans.{by_test}
 use Rattle.schema.specs.Shape as shape
 use Rattle.schema.specs.Shape.{Shape, Rows, Table, unlisted, file_shape}
@@ -19,6 +19,7 @@ use Rattle.schema.specs.inner.Line.{inside, name_at, laid_out}
 use Rattle.schema.specs.inner.Ways.{way_names, LeadTo}
 use Rattle.schema.proofs.Computed.{every, every_file, no-file}
 use Rattle.schema.proofs.ways.steps_to.Goals as goal
+use Rattle.std.specs.Prelude.{None, Some}
 
 unfoldable mutual
   steps : Shape → ℕ → List ℕ
@@ -29,7 +30,7 @@ unfoldable mutual
 
   steps_through : Rows → ℕ → List ℕ
   steps_through shape.no_row i = []
-  steps_through (shape.row field need name σ rows) i = elim (way_in σ) [ none ↦ steps_through rows (i + 1 + length (inside σ)) | some w ↦ i ∷ steps σ (i + 1) ]
+  steps_through (shape.row field need name σ rows) i = elim (way_in σ) [ None ↦ steps_through rows (i + 1 + length (inside σ)) | Some w ↦ i ∷ steps σ (i + 1) ]
 
 unfoldable steps_from : ℕ → Table → List (List ℕ)
 steps_from i [] = []
@@ -96,4 +97,4 @@ returns-then-i-ge9 c =
 pub returns : goal.returns
 unfolding laid_out written way_in all_steps
 returns c =
-    leading c.args.sheet c.from_u8.ensures c.from_u8-2.ensures c.from_u8-3.ensures c.from_u8-4.ensures
+    rw (← c.from-i.ensures) (leading c.from-i.result c.from.ensures c.from-2.ensures c.from-3.ensures c.from-4.ensures)

@@ -11,11 +11,11 @@ pub loop-i-preserved : goal.loop-i-preserved
 loop-i-preserved c =
     let l = c.loop-i in (
       rw (l.invariant.0, c.byte_of.ensures)
-          (upto_next c.args.buffer.now c.args.values.now c.requires l.i c.loop-i-test.true),
+          (upto_next c.args.buffer.now c.args.values.now c.requires l.i (omega (arith, c.loop-i-test.true))),
       omega arith,
     )
 
 pub returns : goal.returns
 returns c =
     let l = c.loop-i in
-    l.invariant.0 ∙ upto-end c.args.buffer.now c.args.values.now c.requires l.i l.invariant.1 c.loop-i-test.false
+    l.invariant.0 ∙ upto-end c.args.buffer.now c.args.values.now c.requires l.i l.invariant.1 (omega (arith, c.loop-i-test.false))

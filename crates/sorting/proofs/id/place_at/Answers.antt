@@ -3,5 +3,5 @@ use mathlib.Core.Path.{sym}
 use lib.ListN.{get_or-eq_default}
 use Rattle.sorting.proofs.id.place_at.Goals as goal
 
-pub returns-then-places-k : goal.returns-then-places-k
-returns-then-places-k c = sym (get_or-eq_default c.args.places.now 0 c.if-places-k.true)
+pub returns-else-k-places : goal.returns-else-k-places
+returns-else-k-places c = sym (get_or-eq_default c.args.places.now 0 c.if-k-places.false)

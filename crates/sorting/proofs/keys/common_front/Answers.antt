@@ -10,9 +10,6 @@ use Rattle.sorting.proofs.keys.common_front.Goals as goal
 pub loop-k-init : goal.loop-k-init
 loop-k-init c = let q = c.args in (omega arith, like_start (id_at q.p.now q.places.now) 255)
 
-pub overflow_add-k : goal.overflow_add-k
-overflow_add-k c = omega (arith, c.loop-k-test.true, c.ranges.n)
-
 pub loop-k-preserved : goal.loop-k-preserved
 loop-k-preserved c =
     let q = c.args in let w = c.loop-k in let less = c.shared-skip.result in (
@@ -25,8 +22,5 @@ pub returns : goal.returns
 returns c =
     let q = c.args in let w = c.loop-k in (like_all (id_at q.p.now q.places.now) q.n w.k w.skip w.invariant.1 c.loop-k-test.false, w.invariant.0)
 
-pub returns-then-skip-lt1 : goal.returns-then-skip-lt1
-returns-then-skip-lt1 c = (λ i j g h. refl, omega arith)
-
-pub loop-k-smaller : goal.loop-k-smaller
-loop-k-smaller c = omega (arith, c.loop-k-test.true)
+pub returns-then-skip-eq0 : goal.returns-then-skip-eq0
+returns-then-skip-eq0 c = (λ i j g h. refl, omega arith)

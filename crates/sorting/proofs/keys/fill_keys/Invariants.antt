@@ -1,11 +1,6 @@
-use Prim.Native.Nat.{◌-◌}
-use lib.ListN.{length}
 use Rattle.sorting.specs.Ids.{id_at}
 use Rattle.sorting.proofs.Making.{Written}
 use Rattle.sorting.proofs.keys.fill_keys.Given as goal
 
 abbrev pub invariant-loop-k : goal.invariant-loop-k
 invariant-loop-k l = Written (id_at l.p l.places) l.skip l.initial.keys l.keys l.k
-
-abbrev pub decreases-loop-k : goal.decreases-loop-k
-decreases-loop-k l = length l.keys - l.k

@@ -9,7 +9,7 @@ use Rattle.sorting.proofs.merge.merge.Goals as goal
 
 pub loop-i-init : goal.loop-i-init
 loop-i-init c =
-    let q = c.args in merging_start (not_after (id_at q.p.now q.places.now)) q.a.now q.b.now q.out.now c.requires.0
+    let q = c.args in merging_start (not_after (id_at q.ids.now.p.now q.ids.now.places.now)) q.a.now q.b.now q.out.now c.requires
 
 pub overflow_add-i : goal.overflow_add-i
 overflow_add-i c = let w = c.loop-i.invariant in omega (arith, w.first, w.second, w.long)
@@ -18,12 +18,12 @@ overflow_add-i c = let w = c.loop-i.invariant in omega (arith, w.first, w.second
 pub bounds-a-i : goal.bounds-a-i
 bounds-a-i c =
     let q = c.args in let w = c.loop-i in
-    in_first (not_after (id_at q.p.now q.places.now)) q.a.now q.b.now w.out w.i w.j w.invariant (sym c.takes_first.ensures ∙ c.if-takes_first.true)
+    in_first (not_after (id_at q.ids.now.p.now q.ids.now.places.now)) q.a.now q.b.now w.out w.i w.j w.invariant (sym c.takes_first.ensures ∙ c.if-takes_first.true)
 
 pub bounds-b-j : goal.bounds-b-j
 bounds-b-j c =
     let q = c.args in let w = c.loop-i in
-    in_second (not_after (id_at q.p.now q.places.now)) q.a.now q.b.now w.out w.i w.j w.invariant (sym c.takes_first.ensures ∙ c.if-takes_first.false)
+    in_second (not_after (id_at q.ids.now.p.now q.ids.now.places.now)) q.a.now q.b.now w.out w.i w.j w.invariant (sym c.takes_first.ensures ∙ c.if-takes_first.false)
     c.loop-i-test.true
 
 pub loop-i-smaller-then-takes_first : goal.loop-i-smaller-then-takes_first
@@ -33,7 +33,7 @@ loop-i-smaller-then-takes_first c =
 pub loop-i-preserved-then-takes_first : goal.loop-i-preserved-then-takes_first
 loop-i-preserved-then-takes_first c =
     let q = c.args in let w = c.loop-i in
-    merging_first (not_after (id_at q.p.now q.places.now)) q.a.now q.b.now w.out w.i w.j w.invariant (sym c.takes_first.ensures ∙ c.if-takes_first.true)
+    merging_first (not_after (id_at q.ids.now.p.now q.ids.now.places.now)) q.a.now q.b.now w.out w.i w.j w.invariant (sym c.takes_first.ensures ∙ c.if-takes_first.true)
     c.loop-i-test.true
 
 pub loop-i-smaller : goal.loop-i-smaller
@@ -43,13 +43,13 @@ loop-i-smaller c =
 pub loop-i-preserved : goal.loop-i-preserved
 loop-i-preserved c =
     let q = c.args in let w = c.loop-i in
-    merging_second (not_after (id_at q.p.now q.places.now)) q.a.now q.b.now w.out w.i w.j w.invariant (sym c.takes_first.ensures ∙ c.if-takes_first.false)
+    merging_second (not_after (id_at q.ids.now.p.now q.ids.now.places.now)) q.a.now q.b.now w.out w.i w.j w.invariant (sym c.takes_first.ensures ∙ c.if-takes_first.false)
     c.loop-i-test.true
 
 pub shape_of-out : goal.shape_of-out
-shape_of-out c = c.loop-i.invariant.long ∙ sym c.requires.0
+shape_of-out c = c.loop-i.invariant.long ∙ sym c.requires
 
 pub returns : goal.returns
 returns c =
     let q = c.args in let w = c.loop-i in
-    merging_end (not_after (id_at q.p.now q.places.now)) q.a.now q.b.now w.out w.i w.j w.invariant c.loop-i-test.false
+    merging_end (not_after (id_at q.ids.now.p.now q.ids.now.places.now)) q.a.now q.b.now w.out w.i w.j w.invariant c.loop-i-test.false

@@ -14,9 +14,9 @@ slice_bounds-merge-end c =
 pub merge-requires : goal.merge-requires
 merge-requires c =
     let l = c.args.halves.now in let m = c.args.middle in
-    (omega (arith, length-take m l, ap length (to_end l m), length-drop m l, c.requires.0, c.requires.1), c.requires.2)
+    omega (arith, length-take m l, ap length (to_end l m), length-drop m l, c.requires.0, c.requires.1)
 
 pub returns : goal.returns
 returns c =
     let q = c.args in let l = q.halves.now in
-    c.merge.ensures ∙ ap (merge (not_after (id_at q.p.now q.places.now)) (take q.middle l)) (to_end l q.middle)
+    c.merge.ensures ∙ ap (merge (not_after (id_at q.ids.now.p.now q.ids.now.places.now)) (take q.middle l)) (to_end l q.middle)

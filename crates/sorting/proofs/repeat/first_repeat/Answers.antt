@@ -11,15 +11,6 @@ loop-i-init c =
 pub bounds-order-i : goal.bounds-order-i
 bounds-order-i c = omega (arith, c.loop-i.invariant.1, c.loop-i-test.true)
 
-pub repeat_at-requires : goal.repeat_at-requires
-repeat_at-requires c = c.requires.1
-
-pub overflow_add-i : goal.overflow_add-i
-overflow_add-i c = omega (arith, c.loop-i-test.true)
-
-pub loop-i-smaller : goal.loop-i-smaller
-loop-i-smaller c = omega (arith, c.loop-i-test.true)
-
 pub loop-i-preserved : goal.loop-i-preserved
 loop-i-preserved c =
     let q = c.args in let w = c.loop-i in (
@@ -31,9 +22,6 @@ loop-i-preserved c =
 pub returns : goal.returns
 returns c =
     let q = c.args in let w = c.loop-i in least-end (id_at q.p.now q.places.now) q.order.now c.requires.0 w.i w.first w.invariant.0 c.loop-i-test.false
-
-pub overflow_sub-i : goal.overflow_sub-i
-overflow_sub-i c = c.loop-i.invariant.1
 
 pub offset_bounds-order-i : goal.offset_bounds-order-i
 offset_bounds-order-i c = omega (arith, c.loop-i.invariant.1, c.loop-i-test.true)

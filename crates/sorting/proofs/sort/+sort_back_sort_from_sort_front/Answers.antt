@@ -12,16 +12,16 @@ use Rattle.sorting.proofs.sort.+sort_back_sort_from_sort_front.Goals as goal
 
 pub sort_from-returns-then-n-lt1 : goal.sort_from-returns-then-n-lt1
 sort_from-returns-then-n-lt1 t c =
-    let q = c.args in none-sorted (not_after (id_at q.p.now q.places.now)) q.first q.order.now c.if-n-lt1.true
+    let q = c.args in none-sorted (not_after (id_at q.ids.now.p.now q.ids.now.places.now)) q.first q.order.now c.if-n-lt1.true
 
 pub sort_from-returns-then-n-lt2 : goal.sort_from-returns-then-n-lt2
 sort_from-returns-then-n-lt2 t c =
-    let q = c.args in one-sorted (not_after (id_at q.p.now q.places.now)) q.first q.order.now c.if-n-lt1.false c.if-n-lt2.true
+    let q = c.args in one-sorted (not_after (id_at q.ids.now.p.now q.ids.now.places.now)) q.first q.order.now c.if-n-lt1.false c.if-n-lt2.true
 
 pub sort_from-returns : goal.sort_from-returns
 sort_from-returns t c =
-    let q = c.args in let le = not_after (id_at q.p.now q.places.now) in
+    let q = c.args in let le = not_after (id_at q.ids.now.p.now q.ids.now.places.now) in
     c.merge_halves.ensures
-    ∙ halves-whole le q.first (records_total (id_at q.p.now q.places.now)) (length q.order.now / 2) q.spare.now c.sort_front.new.order
+    ∙ halves-whole le q.first (records_total (id_at q.ids.now.p.now q.ids.now.places.now)) (length q.order.now / 2) q.spare.now c.sort_front.new.order
     c.sort_back.new.order (omega (arith, c.requires.0)) c.sort_front.ensures c.sort_back.ensures
     ∙ ap (λ k. sorted le (numbers q.first k)) c.requires.0

@@ -1,6 +1,7 @@
 -- Two digits behind \u00 that make a number below 128 are the character; any other case is answered by 128, which says nothing.
 use Prim.Native.Nat.{◌+◌}
 use lib.ListN.{get_or}
+use Rattle.character.proofs.Digits.{digit_is}
 use Rattle.text.proofs.Escapes.{no-escape, escape-low, octal}
 use native.Mathlib.Omega.{arith}
 use Rattle.text.proofs.ascii.escaped.Goals as goal
@@ -17,32 +18,26 @@ bounds-s-at c = omega (arith, (c.opens_low.ensures c.if-not-opens_low.false).roo
 pub returns-then-c-lt48 : goal.returns-then-c-lt48
 returns-then-c-lt48 c = no-escape _
 
-pub returns-then-c-gt55 : goal.returns-then-c-gt55
-returns-then-c-gt55 c = no-escape _
-
 pub overflow_add-at : goal.overflow_add-at
 overflow_add-at c = omega (arith, (c.opens_low.ensures c.if-not-opens_low.false).room)
 
 pub bounds-s-at-2 : goal.bounds-s-at-2
 bounds-s-at-2 c = omega (arith, (c.opens_low.ensures c.if-not-opens_low.false).room)
 
-pub overflow_cast-s : goal.overflow_cast-s
-overflow_cast-s c = omega (arith, c.type_inv.s (c.args.at + 5))
-
-pub returns-then-d-gt15 : goal.returns-then-d-gt15
-returns-then-d-gt15 c = no-escape _
+pub returns-in_default : goal.returns-in_default
+returns-in_default c = no-escape _
 
 pub overflow_mul-result : goal.overflow_mul-result
 overflow_mul-result c = omega (arith, c.if-c-gt55.false)
 
 pub overflow_cast-result : goal.overflow_cast-result
-overflow_cast-result c = omega (arith, c.if-d-gt15.false)
+overflow_cast-result c = omega (arith, (digit_is _ c.in-Some.ensures).1)
 
 pub overflow_add-result : goal.overflow_add-result
-overflow_add-result c = omega (arith, c.if-d-gt15.false, c.if-c-gt55.false)
+overflow_add-result c = omega (arith, (digit_is _ c.in-Some.ensures).1, c.if-c-gt55.false)
 
 pub returns : goal.returns
 returns c h =
     escape-low c.args.s.now c.args.at (c.opens_low.ensures c.if-not-opens_low.false)
-    (octal (get_or c.args.s.now (c.args.at + 4) 0) c.if-c-lt48.false c.if-c-gt55.false) c.hex_value-d.ensures
-    (omega (arith, c.if-c-gt55.false)) (omega (arith, c.if-d-gt15.false))
+    (octal (get_or c.args.s.now (c.args.at + 4) 0) c.if-c-lt48.false c.if-c-gt55.false) (digit_is _ c.in-Some.ensures).0
+    (omega (arith, c.if-c-gt55.false)) (omega (arith, (digit_is _ c.in-Some.ensures).1))

@@ -10,5 +10,5 @@ overflow_add-result c = let b = c.args.b in omega (arith, within-most 0x41 0x5a 
 pub returns-then-is_capital : goal.returns-then-is_capital
 returns-then-is_capital c = lower_capital c.args.b (sym c.is_capital.ensures ∙ c.if-is_capital.true)
 
-pub returns : goal.returns
-returns c = lower-other c.args.b (sym c.is_capital.ensures ∙ c.if-is_capital.false)
+pub returns-else-is_capital : goal.returns-else-is_capital
+returns-else-is_capital c = lower-other c.args.b (sym c.is_capital.ensures ∙ c.if-is_capital.false)

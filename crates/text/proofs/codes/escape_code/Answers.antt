@@ -1,5 +1,5 @@
 -- An escape \u of ASCII, or one by two bytes that stands for a byte.
-use native.Mathlib.Omega.{arith}
+use Rattle.character.proofs.Escapes.{short_is}
 use Rattle.text.proofs.Packed.{char-coded, short-coded}
 use Rattle.text.proofs.codes.escape_code.Goals as goal
 
@@ -9,8 +9,5 @@ returns-then-b-lt128 c h =
 
 pub returns : goal.returns
 returns c h =
-    short-coded c.args.s.now c.args.at c.requires.0 c.short-c.result c.requires.1 c.byte_at.ensures c.short-c.ensures c.if-c-eq0.false
-    (c.pack-2.ensures h)
-
-pub returns-then-c-eq0 : goal.returns-then-c-eq0
-returns-then-c-eq0 c h = absurd (omega arith)
+    let k = short_is _ c.in-Some.ensures in
+    short-coded c.args.s.now c.args.at c.requires.0 c.in-Some.c c.requires.1 c.byte_at.ensures k.0 k.1 (c.pack-2.ensures h)

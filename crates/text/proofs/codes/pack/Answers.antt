@@ -18,6 +18,3 @@ returns c h =
 
 pub returns-then-len-gt4 : goal.returns-then-len-gt4
 returns-then-len-gt4 c h = absurd (omega arith)
-
-pub returns-then-more-gt11 : goal.returns-then-more-gt11
-returns-then-more-gt11 c h = absurd (omega arith)

@@ -10,13 +10,13 @@ use Rattle.text.proofs.Decoding.{left_at, no_byte, one_byte}
 use Rattle.text.proofs.Steps.{same-short, same-differ, same_next, ends-plain}
 use Rattle.text.proofs.compare.agrees.Goals as goal
 
-pub returns-in-End : goal.returns-in-End
-returns-in-End c =
+pub returns-in_default : goal.returns-in_default
+returns-in_default c =
     let q = c.args in
     let w = c.loop-j in
     let f = map (cased q.fold) in
     let h : w.j < length q.plain.now = omega arith in
-    sym (same-short (ap f (at_cons q.plain.now w.j h)) (ap f (no_byte _ _ c.next_byte.ensures c.in-End.is))) ∙ w.invariant
+    sym (same-short (ap f (at_cons q.plain.now w.j h)) (ap f (no_byte _ _ c.next_byte.ensures c.in_default.is))) ∙ w.invariant
 
 pub returns-then-not-alike : goal.returns-then-not-alike
 returns-then-not-alike c =
@@ -24,7 +24,7 @@ returns-then-not-alike c =
     let w = c.loop-j in
     let f = map (cased q.fold) in
     let h : w.j < length q.plain.now = omega arith in
-    let e = one_byte _ _ _ _ c.next_byte.ensures c.in-Byte.is in
+    let e = one_byte _ _ _ _ c.next_byte.ensures c.in-Some.is in
     sym (same-differ (ap f (at_cons q.plain.now w.j h)) (ap f e) (sym c.alike.ensures ∙ c.if-not-alike.true)) ∙ w.invariant
 
 pub loop-j-preserved : goal.loop-j-preserved
@@ -33,7 +33,7 @@ loop-j-preserved c =
     let w = c.loop-j in
     let f = map (cased q.fold) in
     let h : w.j < length q.plain.now = omega arith in
-    let e = one_byte _ _ _ _ c.next_byte.ensures c.in-Byte.is in
+    let e = one_byte _ _ _ _ c.next_byte.ensures c.in-Some.is in
     sym (same_next (ap f (at_cons q.plain.now w.j h)) (ap f e) (sym c.alike.ensures ∙ c.if-not-alike.false)) ∙ w.invariant
 
 pub returns : goal.returns

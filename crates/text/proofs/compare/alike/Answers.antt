@@ -5,5 +5,5 @@ use Rattle.text.proofs.compare.alike.Goals as goal
 pub returns-then-fold : goal.returns-then-fold
 returns-then-fold c = folded _ _ c.if-fold.true c.lower.ensures c.lower-then-fold.ensures
 
-pub returns : goal.returns
-returns c = unfolded _ _ c.if-fold.false
+pub returns-else-fold : goal.returns-else-fold
+returns-else-fold c = unfolded _ _ c.if-fold.false

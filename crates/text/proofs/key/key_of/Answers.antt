@@ -12,12 +12,12 @@ use native.Mathlib.Omega.{arith}
 use Rattle.text.proofs.key.key_of.Goals as goal
 
 pub loop-i-init : goal.loop-i-init
-loop-i-init c = let q = c.args in let z : q.skip - 0 ≡ q.skip = omega arith in (omega arith, ap (λ k. drop k (meant q.raw q.s.now)) z)
+loop-i-init c = let q = c.args in let z : q.skip - 0 ≡ q.skip = omega arith in ap (λ k. drop k (meant q.raw q.s.now)) z
 
 pub returns-then-b-lt1 : goal.returns-then-b-lt1
 returns-then-b-lt1 c =
     let q = c.args in let l = c.loop-i in
-    key-past (q.skip - l.i) (seen_end q.raw (drop l.i q.s.now) (subst (λ x. x < 1) c.peek-b.ensures c.if-b-lt1.true)) ∙ ap key_of l.invariant.1
+    key-past (q.skip - l.i) (seen_end q.raw (drop l.i q.s.now) (subst (λ x. x < 1) c.peek-b.ensures c.if-b-lt1.true)) ∙ ap key_of l.invariant
 
 pub overflow_sub-skip : goal.overflow_sub-skip
 overflow_sub-skip c = omega (arith, c.loop-i-test.true)
@@ -29,23 +29,17 @@ returns-then-b-gt256 c =
     ∙ ap (λ x. key_of (drop (q.skip - l.i) x))
     (left_at q.s.now l.i _ c.cursor_at.ensures
     ∙ seen-text q.raw q.s.now l.i (λ k. omega (arith, c.type_inv.s k)) c.peek-b.ensures c.if-b-gt256.true)
-    ∙ ap key_of l.invariant.1
+    ∙ ap key_of l.invariant
 
 pub loop-i-preserved : goal.loop-i-preserved
 loop-i-preserved c =
-    let q = c.args in let l = c.loop-i in let h : l.i < q.skip = c.loop-i-test.true in let e : q.skip - l.i ≡ suc (q.skip - (l.i + 1)) = omega arith in (
-      omega arith,
-      sym (drop-next (q.skip - l.i) (q.skip - (l.i + 1)) e (seen-byte q.raw q.s.now l.i c.peek-b.ensures c.if-b-lt1.false c.if-b-gt256.false).1)
-          ∙ l.invariant.1,
-    )
+    let q = c.args in let l = c.loop-i in let h : l.i < q.skip = c.loop-i-test.true in let e : q.skip - l.i ≡ suc (q.skip - (l.i + 1)) = omega arith in
+    sym (drop-next (q.skip - l.i) (q.skip - (l.i + 1)) e (seen-byte q.raw q.s.now l.i c.peek-b.ensures c.if-b-lt1.false c.if-b-gt256.false).1)
+    ∙ l.invariant
 
 pub returns : goal.returns
 returns c =
-    let q = c.args in let l = c.loop-i in let z : 0 ≡ q.skip - l.i = omega (arith, l.invariant.0, c.loop-i-test.false) in
-    c.key_at.ensures ∙ ap key_of (ap (λ k. drop k (meant q.raw (drop l.i q.s.now))) z ∙ l.invariant.1)
-
-pub overflow_add-i : goal.overflow_add-i
-overflow_add-i c = omega (arith, c.loop-i-test.true)
-
-pub loop-i-smaller : goal.loop-i-smaller
-loop-i-smaller c = omega (arith, c.loop-i-test.true)
+    let q = c.args in let l = c.loop-i in
+    let e : l.i ≡ q.skip = omega arith in
+    let z : q.skip - q.skip ≡ 0 = omega arith in
+    let h = rw (e, z) at l.invariant in c.key_at.ensures ∙ ap key_of h

@@ -14,7 +14,7 @@ use Rattle.lexeme.specs.Character.Surrogates.{paired}
 use Rattle.character.proofs.Inside.{character-inside}
 use Rattle.text.specs.Text.{text_of}
 use Rattle.text.specs.inner.Walk.{alone}
-use Rattle.text.proofs.Decoding.{text-end, text-quote, text-fault, text-plain, text-character}
+use Rattle.text.proofs.Decoding.{text-end, text-none, text-plain, text-character}
 use Rattle.text.proofs.Lengths.{text-length}
 use Rattle.text.proofs.measure.longer_than.Goals as goal
 
@@ -54,31 +54,19 @@ loop-n-preserved-then-is_plain c =
     let l = c.loop-n in
     omega (arith, plain c.args.spelled.now l.i c.if-spelled-i.false (sym c.is_plain.ensures ∙ c.if-is_plain.true), l.invariant)
 
-pub returns-in-Quote : goal.returns-in-Quote
-returns-in-Quote c =
-    let l = c.loop-n in let s = c.args.spelled.now in
-    sym (le-ltb c.args.most _
-    (ended s l.n l.i c.args.most l.invariant c.loop-n-test.true (ap length (text-quote (drop l.i s) (sym c.next_char.ensures ∙ c.in-Quote.is)))))
-
-pub returns-in-Fault : goal.returns-in-Fault
-returns-in-Fault c =
-    let l = c.loop-n in let s = c.args.spelled.now in
-    sym (le-ltb c.args.most _
-    (ended s l.n l.i c.args.most l.invariant c.loop-n-test.true (ap length (text-fault (drop l.i s) _ _ (sym c.next_char.ensures ∙ c.in-Fault.is)))))
-
-pub overflow_add-n-in-Character : goal.overflow_add-n-in-Character
-overflow_add-n-in-Character c =
+pub overflow_add-n-else-is_plain : goal.overflow_add-n-else-is_plain
+overflow_add-n-else-is_plain c =
     let l = c.loop-n in let s = c.args.spelled.now in
     let k = character s l.i _ c.in-Character.x c.if-spelled-i.false (sym c.next_char.ensures ∙ c.in-Character.is) c.size-n.ensures in
     omega (arith, k.0, l.invariant, text-length s)
 
-pub overflow_add-i-in-Character : goal.overflow_add-i-in-Character
-overflow_add-i-in-Character c =
+pub overflow_add-i-else-is_plain : goal.overflow_add-i-else-is_plain
+overflow_add-i-else-is_plain c =
     let l = c.loop-n in
     omega (arith, (character c.args.spelled.now l.i _ c.in-Character.x c.if-spelled-i.false (sym c.next_char.ensures ∙ c.in-Character.is) c.size-n.ensures).1)
 
-pub overflow_add-i-in-Character-2 : goal.overflow_add-i-in-Character-2
-overflow_add-i-in-Character-2 c =
+pub overflow_add-i-else-is_plain-2 : goal.overflow_add-i-else-is_plain-2
+overflow_add-i-else-is_plain-2 c =
     let l = c.loop-n in
     omega (arith, (character c.args.spelled.now l.i _ c.in-Character.x c.if-spelled-i.false (sym c.next_char.ensures ∙ c.in-Character.is) c.size-n.ensures).1)
 
@@ -96,3 +84,9 @@ pub returns : goal.returns
 returns c =
     let l = c.loop-n in
     sym (lt-ltb c.args.most (length (text_of c.args.spelled.now)) (omega (arith, c.loop-n-test.false, l.invariant)))
+
+pub returns-in_default : goal.returns-in_default
+returns-in_default c =
+    let l = c.loop-n in let s = c.args.spelled.now in
+    sym (le-ltb c.args.most _
+    (ended s l.n l.i c.args.most l.invariant c.loop-n-test.true (ap length (text-none (drop l.i s) _ c.next_char.ensures c.in_default.not-Character))))

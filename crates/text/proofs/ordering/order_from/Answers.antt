@@ -16,7 +16,7 @@ returns-then-raw c =
     ∙ ap (λ x. order_of x (left_by q.raw q.b.now c.cursor_at-then-raw.result)) (left_at q.a.now q.at _ c.cursor_at.ensures)
     ∙ ap (order_of (text_of (drop q.at q.a.now))) (left-meant q.b.now q.raw q.at _ c.cursor_at-then-raw.ensures)
 
-pub returns : goal.returns
-returns c =
+pub returns-else-raw : goal.returns-else-raw
+returns-else-raw c =
     let q = c.args in
     c.order_spelled.ensures ∙ ap (λ (r : Bool). order_of (text_of (drop q.at q.a.now)) (meant r (drop q.at q.b.now))) (sym c.if-raw.false)

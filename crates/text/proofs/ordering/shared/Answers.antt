@@ -1,5 +1,5 @@
 -- The bytes that were passed are the same in both texts and stand for themselves; from another byte on the texts are compared decoded.
-use mathlib.Core.Path.{refl, sym, ◌∙◌}
+use mathlib.Core.Path.{◌≡◌, refl, sym, ◌∙◌}
 use mathlib.Core.Bool.{false}
 use Rattle.text.proofs.Fronts.{alike-none, alike_next, alike-more}
 use Rattle.text.proofs.Seeing.{plain-first, plain_second}
@@ -21,14 +21,5 @@ loop-i-preserved c =
 pub loop-i-init : goal.loop-i-init
 loop-i-init c = (omega arith, alike-none refl refl)
 
-pub overflow_sub-most : goal.overflow_sub-most
-overflow_sub-most c = omega (arith, c.loop-i.invariant.0)
-
-pub overflow_add-i : goal.overflow_add-i
-overflow_add-i c = omega (arith, c.loop-i-test.true)
-
-pub loop-i-smaller : goal.loop-i-smaller
-loop-i-smaller c = omega (arith, c.loop-i-test.true)
-
 pub returns : goal.returns
-returns c = (c.loop-i.invariant.0, c.loop-i.invariant.1.front)
+returns c = let e : c.loop-i.i ≡ c.args.most = omega arith in (omega arith, rw e at c.loop-i.invariant.1.front)

@@ -1,4 +1,4 @@
-use Prim.Native.Nat.{◌-◌, ◌≤◌}
+use Prim.Native.Nat.{◌≤◌}
 use lib.ListN.{drop}
 use Rattle.text.specs.Text.{text_of}
 use Rattle.text.specs.inner.Walk.{left}
@@ -7,6 +7,3 @@ use Rattle.text.proofs.ordering.shared_from.Given as goal
 
 abbrev pub invariant-loop-n : goal.invariant-loop-n
 invariant-loop-n l = (l.n ≤ l.most) × Alike (text_of (drop l.at l.a)) (text_of (drop l.at l.b)) l.n (left l.a l.c) (left l.b l.d)
-
-abbrev pub decreases-loop-n : goal.decreases-loop-n
-decreases-loop-n l = l.most - l.n

@@ -5,7 +5,7 @@ use Rattle.lexeme.specs.declared.Next.TheVariants.{Character}
 use Rattle.lexeme.specs.Character.{next}
 use Rattle.lexeme.specs.Character.Surrogates.{paired}
 use Rattle.character.proofs.Inside.{character-inside}
-use Rattle.text.proofs.Decoding.{text-end, text-quote, text-fault, left-plain, left-escaped, left-character, step_end, step-byte}
+use Rattle.text.proofs.Decoding.{text-end, text-none, left-plain, left-escaped, left-character, step_end, step-byte}
 use Rattle.text.proofs.Seeing.{quote-here}
 use native.Mathlib.Omega.{arith}
 use Rattle.text.proofs.walk.first_byte.Goals as goal
@@ -28,22 +28,18 @@ returns-then-b-lt128 c =
     let q = c.args in let s = q.s.now in let i = q.at in let h = c.if-s-at.false in
     step-byte s _ (left-escaped s i h _ _ (c.escaped-b.ensures c.if-b-lt128.true) c.cursor_at-then-b-lt128.ensures)
 
-pub returns-in-Quote : goal.returns-in-Quote
-returns-in-Quote c =
-    let q = c.args in step_end q.s.now (text-quote (drop q.at q.s.now) (sym c.next_char.ensures ∙ c.in-Quote.is))
+pub returns-in_default : goal.returns-in_default
+returns-in_default c =
+    let q = c.args in step_end q.s.now (text-none (drop q.at q.s.now) _ c.next_char.ensures c.in_default.not-Character)
 
-pub returns-in-Fault : goal.returns-in-Fault
-returns-in-Fault c =
-    let q = c.args in step_end q.s.now (text-fault (drop q.at q.s.now) _ _ (sym c.next_char.ensures ∙ c.in-Fault.is))
-
-pub overflow_add-result-in-Character : goal.overflow_add-result-in-Character
-overflow_add-result-in-Character c =
+pub overflow_add-result-2 : goal.overflow_add-result-2
+overflow_add-result-2 c =
     let q = c.args in let s = q.s.now in let i = q.at in let h = c.if-s-at.false in
     let x = c.in-Character.x in let e : next paired (drop i s) ≡ Character x = sym c.next_char.ensures ∙ c.in-Character.is in
     omega (arith, character-inside paired s i h x e)
 
-pub returns-in-Character : goal.returns-in-Character
-returns-in-Character c =
+pub returns : goal.returns
+returns c =
     let q = c.args in let s = q.s.now in let i = q.at in let h = c.if-s-at.false in
     let x = c.in-Character.x in let e : next paired (drop i s) ≡ Character x = sym c.next_char.ensures ∙ c.in-Character.is in
     step-byte s _ (left-character s i h x _ e c.tail.ensures refl)

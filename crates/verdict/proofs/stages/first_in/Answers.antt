@@ -4,6 +4,7 @@ use mathlib.Core.Path.{ap, ◌∙◌}
 use Prim.Native.Nat.{ℕ}
 use native.Mathlib.Omega.{arith}
 use Rattle.schema.specs.Tables.{table_at}
+use Rattle.notation.proofs.Tried.{handed_on}
 use Rattle.cross.proofs.FromFile.{reached_start, reached_end, reached_here, reached_more}
 use Rattle.verdict.specs.inner.Stages.{outcome_in, first_in}
 use Rattle.verdict.proofs.StagesPassed.{all_read}
@@ -19,18 +20,19 @@ pub judge_alone-requires : goal.judge_alone-requires
 judge_alone-requires c e =
     rw c.file_in.ensures (all_read _ _ (c.requires e) c.loop-file.file c.loop-file.invariant.least (omega (arith, c.loop-file-test.true)))
 
-pub returns-in-Broken : goal.returns-in-Broken
+pub returns-in_err-judge_alone : goal.returns-in_err-judge_alone
 unfolding first_in
-returns-in-Broken c =
+returns-in_err-judge_alone c =
     let a = c.args in
-    reached_here c.loop-file.invariant (omega (arith, c.loop-file-test.true))
-    (c.judge_alone.ensures ∙ ap (λ (q : List ℕ). outcome_in (table_at a.table) a.stage c.loop-file.file q) c.file_in.ensures) c.in-Broken.is
+    handed_on _ _ c.from_residual.ensures.1
+    ∙ reached_here c.loop-file.invariant (omega (arith, c.loop-file-test.true))
+    (c.judge_alone.ensures ∙ ap (λ (q : List ℕ). outcome_in (table_at a.table) a.stage c.loop-file.file q) c.file_in.ensures) c.in_err-judge_alone.was
 
 pub loop-file-preserved : goal.loop-file-preserved
 loop-file-preserved c =
     let a = c.args in
     reached_more c.loop-file.invariant (omega (arith, c.loop-file-test.true))
-    (c.judge_alone.ensures ∙ ap (λ (q : List ℕ). outcome_in (table_at a.table) a.stage c.loop-file.file q) c.file_in.ensures) c.in-Unbroken.is
+    (c.judge_alone.ensures ∙ ap (λ (q : List ℕ). outcome_in (table_at a.table) a.stage c.loop-file.file q) c.file_in.ensures) c.in_ok-judge_alone.was
 
 pub returns : goal.returns
 unfolding first_in

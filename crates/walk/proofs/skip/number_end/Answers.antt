@@ -3,12 +3,12 @@ use mathlib.Core.Path.{sym, ◌∙◌}
 use Rattle.walk.proofs.Ends.{number-ends, number_stays}
 use Rattle.walk.proofs.skip.number_end.Goals as goal
 
-pub returns-in-End : goal.returns-in-End
-returns-in-End c =
+pub returns-in-Ok : goal.returns-in-Ok
+returns-in-Ok c =
     let a = c.args in
-    number-ends a.s.now a.at _ (sym c.in-End.is ∙ c.read_number.ensures)
+    number-ends a.s.now a.at _ (sym c.in-Ok.is ∙ c.read_number.ensures)
 
-pub returns-in-Fault : goal.returns-in-Fault
-returns-in-Fault c =
+pub returns-in-Err : goal.returns-in-Err
+returns-in-Err c =
     let a = c.args in
-    c.place.ensures ∙ number_stays a.s.now a.at _ _ (sym c.in-Fault.is ∙ c.read_number.ensures)
+    c.place.ensures ∙ number_stays a.s.now a.at _ (sym c.in-Err.is ∙ c.read_number.ensures)

@@ -7,23 +7,18 @@ use mathlib.Core.Path.{sym, ◌∙◌}
 use native.Mathlib.Omega.{arith}
 use Rattle.lexeme.proofs.Rests.{place_at}
 use Rattle.walk.proofs.Quotes.{quoted-past, pass_itself}
-use Rattle.walk.proofs.Ends.{above_itself, string-closes}
+use Rattle.walk.proofs.Ends.{string-closes}
 use Rattle.walk.proofs.skip.string_end_bytewise.Goals as goal
 
-pub loop-i-preserved-then-b-gt92 : goal.loop-i-preserved-then-b-gt92
-loop-i-preserved-then-b-gt92 c =
-    let s = c.args.s.now in
-    sym (pass_itself s c.loop-i.i (above_itself _ c.if-b-gt92.true)) ∙ c.loop-i.invariant
-
-pub returns-then-b-eq34 : goal.returns-then-b-eq34
-returns-then-b-eq34 c =
+pub returns-in-34 : goal.returns-in-34
+returns-in-34 c =
     let s = c.args.s.now in let i = c.loop-i.i in
-    rw (sym c.loop-i.invariant ∙ string-closes s i (omega arith) c.if-b-eq34.true) (place_at s (i + 1) (omega arith))
+    rw (sym c.loop-i.invariant ∙ string-closes s i (omega arith) c.in-34.is) (place_at s (i + 1) (omega arith))
 
 pub loop-i-preserved : goal.loop-i-preserved
 loop-i-preserved c =
     let s = c.args.s.now in
-    sym (pass_itself s c.loop-i.i (ne_eqb _ _ c.if-b-eq34.false, ne_eqb _ _ (search rules))) ∙ c.loop-i.invariant
+    sym (pass_itself s c.loop-i.i (ne_eqb _ _ (search rules), ne_eqb _ _ (search rules))) ∙ c.loop-i.invariant
 
 pub returns : goal.returns
 returns c =

@@ -7,6 +7,3 @@ use Rattle.walk.proofs.tail.solid_end.Given as goal
 
 abbrev pub invariant-loop-i : goal.invariant-loop-i
 invariant-loop-i l = (l.i ≤ length l.s) × (blanks (drop l.i l.s) ≡ [])
-
-abbrev pub decreases-loop-i : goal.decreases-loop-i
-decreases-loop-i l = l.i

@@ -15,8 +15,8 @@ returns-then-keeps c =
     word form1 _ (sym c.field_of.ensures ∙ c.if-field_of-ne-FORM.false) _ c.parts-p.ensures
     (sym c.keeps.ensures ∙ c.if-keeps.true)
 
-pub returns : goal.returns
+pub returns-else-keeps : goal.returns-else-keeps
 unfolding digits weight
-returns c =
+returns-else-keeps c =
     broken form1 _ (sym c.field_of.ensures ∙ c.if-field_of-ne-FORM.false) _ c.parts-p.ensures
     (sym c.keeps.ensures ∙ c.if-keeps.false)

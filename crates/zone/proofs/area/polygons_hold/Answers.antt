@@ -16,28 +16,28 @@ use Rattle.zone.proofs.area.polygons_hold.Goals as goal
 pub loop-m-init : goal.loop-m-init
 loop-m-init c = let a = c.args in comes_start (polygons a.p.now (point a.q)) (λ h. AlongItems.start (c.requires.0.listing.whole h).1)
 
-pub returns-in-End : goal.returns-in-End
-returns-in-End c = sym (polygons-none _) ∙ comes_end c.loop-m.invariant c.pass_item.ensures c.in-End.is
+pub returns : goal.returns
+returns c = sym (polygons-none _) ∙ comes_end c.loop-m.invariant c.pass_item.ensures c.in_default.is
 
 pub rings_hold-requires : goal.rings_hold-requires
 rings_hold-requires c =
-    let i = left-among c.loop-m.invariant.left c.pass_item.ensures c.in-Found.is in
+    let i = left-among c.loop-m.invariant.left c.pass_item.ensures c.in-Some.is in
     (subst (CleanItems ring_shape rings_found) (sym c.item_bytes.ensures) (polygon-clean i c.requires.0), c.requires.1)
 
 -- what was asked of a polygon
 pub returns-then-rings_hold : goal.returns-then-rings_hold
 returns-then-rings_hold c =
-    let a = c.args in let i = left-among c.loop-m.invariant.left c.pass_item.ensures c.in-Found.is in
-    let asked : c.rings_hold.result ≡ rings_hold (elements (picked polygon_shape a.p.now c.in-Found.m)) (point a.q) =
+    let a = c.args in let i = left-among c.loop-m.invariant.left c.pass_item.ensures c.in-Some.is in
+    let asked : c.rings_hold.result ≡ rings_hold (elements (picked polygon_shape a.p.now c.in-Some.m)) (point a.q) =
     c.rings_hold.ensures ∙ ap (λ l. rings_hold l (point a.q)) (ap (picked_items ring_shape) c.item_bytes.ensures ∙ polygon-rings i c.requires.0) in
-    comes_here c.loop-m.invariant c.pass_item.ensures c.in-Found.is (λ l. polygons-here _ _ _ (sym asked ∙ c.if-rings_hold.true))
+    comes_here c.loop-m.invariant c.pass_item.ensures c.in-Some.is (λ l. polygons-here _ _ _ (sym asked ∙ c.if-rings_hold.true))
 
 pub loop-m-smaller : goal.loop-m-smaller
-loop-m-smaller c = nearer c.pass_item.ensures c.in-Found.is
+loop-m-smaller c = nearer c.pass_item.ensures c.in-Some.is
 
 pub loop-m-preserved : goal.loop-m-preserved
 loop-m-preserved c =
-    let a = c.args in let i = left-among c.loop-m.invariant.left c.pass_item.ensures c.in-Found.is in
-    let asked : c.rings_hold.result ≡ rings_hold (elements (picked polygon_shape a.p.now c.in-Found.m)) (point a.q) =
+    let a = c.args in let i = left-among c.loop-m.invariant.left c.pass_item.ensures c.in-Some.is in
+    let asked : c.rings_hold.result ≡ rings_hold (elements (picked polygon_shape a.p.now c.in-Some.m)) (point a.q) =
     c.rings_hold.ensures ∙ ap (λ l. rings_hold l (point a.q)) (ap (picked_items ring_shape) c.item_bytes.ensures ∙ polygon-rings i c.requires.0) in
-    comes_more c.loop-m.invariant c.pass_item.ensures c.in-Found.is _ (λ l. polygons-later _ _ _ (sym asked ∙ c.if-rings_hold.false))
+    comes_more c.loop-m.invariant c.pass_item.ensures c.in-Some.is _ (λ l. polygons-later _ _ _ (sym asked ∙ c.if-rings_hold.false))

@@ -42,10 +42,10 @@ loop-m-init c =
 pub holds-requires : goal.holds-requires
 holds-requires c = c.loop-m.invariant.0
 
-pub returns-in-End : goal.returns-in-End
-returns-in-End c =
+pub returns : goal.returns
+returns c =
     let a = c.args in
-    ap Is c.holds.ensures ∙ stands-end c.loop-m.ring (point a.q) c.loop-m.odd a.first a.held ∙ comes_end c.loop-m.invariant.2 c.pass_item.ensures c.in-End.is
+    ap Is c.holds.ensures ∙ stands-end c.loop-m.ring (point a.q) c.loop-m.odd a.first a.held ∙ comes_end c.loop-m.invariant.2 c.pass_item.ensures c.in_default.is
 
 -- the position that was read is the next of the ring's, and there is room for it
 pub meets-requires : goal.meets-requires
@@ -56,34 +56,34 @@ crosses-odd-requires c = (c.loop-m.invariant.0, c.position_in-next.ensures.0, c.
 
 pub with-ring-requires : goal.with-ring-requires
 with-ring-requires c =
-    let less : c.loop-m.ring.count < positions = counted_less c.loop-m.ring.count positions c.loop-m.invariant.1 c.pass_item.ensures c.in-Found.is in
+    let less : c.loop-m.ring.count < positions = counted_less c.loop-m.ring.count positions c.loop-m.invariant.1 c.pass_item.ensures c.in-Some.is in
     (c.loop-m.invariant.0, c.position_in-next.ensures.0, omega (arith, less))
 
 pub returns-then-meets : goal.returns-then-meets
 returns-then-meets c =
     let a = c.args in let k = c.loop-m in let w = k.invariant.2.left in let q = point a.q in
-    let here : point c.position_in-next.result ≡ position (picked position_shape a.p.now c.in-Found.m) =
-    c.position_in-next.ensures.1 _ (rw c.item_bytes.ensures (left-whole w c.pass_item.ensures c.in-Found.is))
-    (item-sound a.p.now (ring-sound c.requires.0).each (left-among w c.pass_item.ensures c.in-Found.is)) in
-    comes_here k.invariant.2 c.pass_item.ensures c.in-Found.is
+    let here : point c.position_in-next.result ≡ position (picked position_shape a.p.now c.in-Some.m) =
+    c.position_in-next.ensures.1 _ (rw c.item_bytes.ensures (left-whole w c.pass_item.ensures c.in-Some.is))
+    (item-sound a.p.now (ring-sound c.requires.0).each (left-among w c.pass_item.ensures c.in-Some.is)) in
+    comes_here k.invariant.2 c.pass_item.ensures c.in-Some.is
     (λ l.
     ap (λ (z : Point). stands_from k.ring k.odd a.first a.held (z ∷ points a.p.now l) q) (sym here)
     ∙ stands-edge k.ring k.odd a.first a.held c.position_in-next.result (points a.p.now l) q (sym c.meets.ensures ∙ c.if-meets.true))
 
 pub loop-m-smaller : goal.loop-m-smaller
-loop-m-smaller c = nearer c.pass_item.ensures c.in-Found.is
+loop-m-smaller c = nearer c.pass_item.ensures c.in-Some.is
 
 pub loop-m-preserved : goal.loop-m-preserved
 loop-m-preserved c =
     let a = c.args in let k = c.loop-m in let w = k.invariant.2.left in let q = point a.q in
-    let here : point c.position_in-next.result ≡ position (picked position_shape a.p.now c.in-Found.m) =
-    c.position_in-next.ensures.1 _ (rw c.item_bytes.ensures (left-whole w c.pass_item.ensures c.in-Found.is))
-    (item-sound a.p.now (ring-sound c.requires.0).each (left-among w c.pass_item.ensures c.in-Found.is)) in
-    let less : k.ring.count < positions = counted_less k.ring.count positions k.invariant.1 c.pass_item.ensures c.in-Found.is in
+    let here : point c.position_in-next.result ≡ position (picked position_shape a.p.now c.in-Some.m) =
+    c.position_in-next.ensures.1 _ (rw c.item_bytes.ensures (left-whole w c.pass_item.ensures c.in-Some.is))
+    (item-sound a.p.now (ring-sound c.requires.0).each (left-among w c.pass_item.ensures c.in-Some.is)) in
+    let less : k.ring.count < positions = counted_less k.ring.count positions k.invariant.1 c.pass_item.ensures c.in-Some.is in
     rw c.with-ring.ensures (
       sized-next k.invariant.0 c.position_in-next.ensures.0,
-      counted-more k.ring.count positions k.invariant.1 c.pass_item.ensures c.in-Found.is,
-      comes_more k.invariant.2 c.pass_item.ensures c.in-Found.is _
+      counted-more k.ring.count positions k.invariant.1 c.pass_item.ensures c.in-Some.is,
+      comes_more k.invariant.2 c.pass_item.ensures c.in-Some.is _
           (λ l.
           ap (λ (z : Point). stands_from k.ring k.odd a.first a.held (z ∷ points a.p.now l) q) (sym here)
           ∙ stands-next k.ring k.odd a.first a.held c.position_in-next.result (points a.p.now l) q less

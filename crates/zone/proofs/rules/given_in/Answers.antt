@@ -9,7 +9,7 @@ returns c =
     rw (
       c.flag_in-3.ensures,
       c.member-4.ensures _ w,
-      c.limit_in.ensures,
+      c.speed_in.ensures,
       c.member-3.ensures _ w,
       c.flag_in-2.ensures,
       c.member-2.ensures _ w,

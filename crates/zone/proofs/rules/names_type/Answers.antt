@@ -13,25 +13,25 @@ use Rattle.zone.proofs.rules.names_type.Goals as goal
 pub loop-m-init : goal.loop-m-init
 loop-m-init c = comes_start (ids c.args.p.now c.args.type_id.now) (λ h. AlongItems.start (c.requires.whole h).1)
 
-pub returns-in-End : goal.returns-in-End
-returns-in-End c = sym (any_none _) ∙ comes_end c.loop-m.invariant c.pass_item.ensures c.in-End.is
+pub returns : goal.returns
+returns c = sym (any_none _) ∙ comes_end c.loop-m.invariant c.pass_item.ensures c.in_default.is
 
 -- what was asked of an item
 pub returns-then-is_id : goal.returns-then-is_id
 returns-then-is_id c =
     let a = c.args in
-    let asked : c.is_id.result ≡ is_id a.type_id.now (text_in (picked id_shape a.p.now c.in-Found.m)) =
+    let asked : c.is_id.result ≡ is_id a.type_id.now (text_in (picked id_shape a.p.now c.in-Some.m)) =
     c.is_id.ensures ∙ ap (λ q. is_id a.type_id.now (text_by q)) c.item_bytes.ensures
-    ∙ id_text (left-whole c.loop-m.invariant.left c.pass_item.ensures c.in-Found.is) a.type_id.now in
-    comes_here c.loop-m.invariant c.pass_item.ensures c.in-Found.is (λ l. any_here _ _ _ (sym asked ∙ c.if-is_id.true))
+    ∙ id_text (left-whole c.loop-m.invariant.left c.pass_item.ensures c.in-Some.is) a.type_id.now in
+    comes_here c.loop-m.invariant c.pass_item.ensures c.in-Some.is (λ l. any_here _ _ _ (sym asked ∙ c.if-is_id.true))
 
 pub loop-m-smaller : goal.loop-m-smaller
-loop-m-smaller c = nearer c.pass_item.ensures c.in-Found.is
+loop-m-smaller c = nearer c.pass_item.ensures c.in-Some.is
 
 pub loop-m-preserved : goal.loop-m-preserved
 loop-m-preserved c =
     let a = c.args in
-    let asked : c.is_id.result ≡ is_id a.type_id.now (text_in (picked id_shape a.p.now c.in-Found.m)) =
+    let asked : c.is_id.result ≡ is_id a.type_id.now (text_in (picked id_shape a.p.now c.in-Some.m)) =
     c.is_id.ensures ∙ ap (λ q. is_id a.type_id.now (text_by q)) c.item_bytes.ensures
-    ∙ id_text (left-whole c.loop-m.invariant.left c.pass_item.ensures c.in-Found.is) a.type_id.now in
-    comes_more c.loop-m.invariant c.pass_item.ensures c.in-Found.is _ (λ l. any-later _ _ _ (sym asked ∙ c.if-is_id.false))
+    ∙ id_text (left-whole c.loop-m.invariant.left c.pass_item.ensures c.in-Some.is) a.type_id.now in
+    comes_more c.loop-m.invariant c.pass_item.ensures c.in-Some.is _ (λ l. any-later _ _ _ (sym asked ∙ c.if-is_id.false))

@@ -24,26 +24,26 @@ onward p type given m e f l =
     rules-next type given (picked rule p m) (map (picked rule p) l)
     ∙ ap (λ g. rules_for p type g l) (sym (e ∙ ap (λ q. with_rule type given (pick rule (part_tree q))) f))
 
-pub loop-given-init : goal.loop-given-init
-loop-given-init c = let a = c.args in comes_start (rules_for a.p.now a.type_id.now a.start) (λ h. AlongItems.start (c.requires.whole h).1)
+pub loop-m-init : goal.loop-m-init
+loop-m-init c = let a = c.args in comes_start (rules_for a.p.now a.type_id.now a.start) (λ h. AlongItems.start (c.requires.whole h).1)
 
-pub returns-in-End : goal.returns-in-End
-returns-in-End c = sym (rules-none _ c.loop-given.given) ∙ comes_end c.loop-given.invariant c.pass_item.ensures c.in-End.is
+pub returns : goal.returns
+returns c = sym (rules-none _ c.loop-m.given) ∙ comes_end c.loop-m.invariant c.pass_item.ensures c.in_default.is
 
 pub with_rule-given-requires : goal.with_rule-given-requires
-with_rule-given-requires c = rw c.item_bytes.ensures (left-whole c.loop-given.invariant.left c.pass_item.ensures c.in-Found.is)
+with_rule-given-requires c = rw c.item_bytes.ensures (left-whole c.loop-m.invariant.left c.pass_item.ensures c.in-Some.is)
 
 pub returns-then-is_full : goal.returns-then-is_full
 returns-then-is_full c =
-    comes_here c.loop-given.invariant c.pass_item.ensures c.in-Found.is
+    comes_here c.loop-m.invariant c.pass_item.ensures c.in-Some.is
     (λ l.
-    onward c.args.p.now c.args.type_id.now c.loop-given.given c.in-Found.m c.with_rule-given.ensures c.item_bytes.ensures l
+    onward c.args.p.now c.args.type_id.now c.loop-m.given c.in-Some.m c.with_rule-given.ensures c.item_bytes.ensures l
     ∙ given-full c.with_rule-given.result _ (sym c.is_full.ensures ∙ c.if-is_full.true))
 
-pub loop-given-smaller : goal.loop-given-smaller
-loop-given-smaller c = nearer c.pass_item.ensures c.in-Found.is
+pub loop-m-smaller : goal.loop-m-smaller
+loop-m-smaller c = nearer c.pass_item.ensures c.in-Some.is
 
-pub loop-given-preserved : goal.loop-given-preserved
-loop-given-preserved c =
-    comes_more c.loop-given.invariant c.pass_item.ensures c.in-Found.is _
-    (onward c.args.p.now c.args.type_id.now c.loop-given.given c.in-Found.m c.with_rule-given.ensures c.item_bytes.ensures)
+pub loop-m-preserved : goal.loop-m-preserved
+loop-m-preserved c =
+    comes_more c.loop-m.invariant c.pass_item.ensures c.in-Some.is _
+    (onward c.args.p.now c.args.type_id.now c.loop-m.given c.in-Some.m c.with_rule-given.ensures c.item_bytes.ensures)

@@ -7,8 +7,8 @@ use Rattle.zone.proofs.Combining.{with_rules}
 use Rattle.zone.proofs.Loops.{rules_for}
 use Rattle.zone.proofs.rules.with_rules.Given as goal
 
-abbrev pub invariant-loop-given : goal.invariant-loop-given
-invariant-loop-given l = Comes l.p (rules_for l.p l.type_id l.given) l.at (with_rules l.type_id l.initial.given (picked_items rule l.p))
+abbrev pub invariant-loop-m : goal.invariant-loop-m
+invariant-loop-m l = Comes l.p (rules_for l.p l.type_id l.given) l.at (with_rules l.type_id l.initial.given (picked_items rule l.p))
 
-abbrev pub decreases-loop-given : goal.decreases-loop-given
-decreases-loop-given l = length l.p - l.at
+abbrev pub decreases-loop-m : goal.decreases-loop-m
+decreases-loop-m l = length l.p - l.at

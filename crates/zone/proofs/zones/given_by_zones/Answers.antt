@@ -29,33 +29,33 @@ onward p type q moment given m e f l =
     zones-next type q moment given (picked zone p m) (map (picked zone p) l)
     ∙ ap (λ g. zones_for p type q moment g l) (sym (e ∙ ap (λ b. with_rules type given (zone_rules (pick zone (part_tree b)) q moment)) f))
 
-pub loop-given-init : goal.loop-given-init
-loop-given-init c =
+pub loop-m-init : goal.loop-m-init
+loop-m-init c =
     let a = c.args in let none = zones_for a.p.now a.type_id.now (point a.q) a.moment nothing in
     rw c.nothing-given.ensures (subst (Comes a.p.now none 1) (nothing-given _) (comes_start none (λ h. c.requires.0.along)))
 
-pub returns-in-End : goal.returns-in-End
-returns-in-End c =
+pub returns : goal.returns
+returns c =
     let a = c.args in
-    sym (zones-none a.type_id.now (point a.q) a.moment c.loop-given.given) ∙ comes_end c.loop-given.invariant c.pass_item.ensures c.in-End.is
+    sym (zones-none a.type_id.now (point a.q) a.moment c.loop-m.given) ∙ comes_end c.loop-m.invariant c.pass_item.ensures c.in_default.is
 
 pub with_zone-given-requires : goal.with_zone-given-requires
 with_zone-given-requires c =
-    (subst CleanZone (sym c.item_bytes.ensures) (zone-clean (left-among c.loop-given.invariant.left c.pass_item.ensures c.in-Found.is) c.requires.0), c.requires.1)
+    (subst CleanZone (sym c.item_bytes.ensures) (zone-clean (left-among c.loop-m.invariant.left c.pass_item.ensures c.in-Some.is) c.requires.0), c.requires.1)
 
 pub returns-then-is_full : goal.returns-then-is_full
 returns-then-is_full c =
     let a = c.args in
-    comes_here c.loop-given.invariant c.pass_item.ensures c.in-Found.is
+    comes_here c.loop-m.invariant c.pass_item.ensures c.in-Some.is
     (λ l.
-    onward a.p.now a.type_id.now (point a.q) a.moment c.loop-given.given c.in-Found.m c.with_zone-given.ensures c.item_bytes.ensures l
+    onward a.p.now a.type_id.now (point a.q) a.moment c.loop-m.given c.in-Some.m c.with_zone-given.ensures c.item_bytes.ensures l
     ∙ given-full c.with_zone-given.result _ (sym c.is_full.ensures ∙ c.if-is_full.true))
 
-pub loop-given-smaller : goal.loop-given-smaller
-loop-given-smaller c = nearer c.pass_item.ensures c.in-Found.is
+pub loop-m-smaller : goal.loop-m-smaller
+loop-m-smaller c = nearer c.pass_item.ensures c.in-Some.is
 
-pub loop-given-preserved : goal.loop-given-preserved
-loop-given-preserved c =
+pub loop-m-preserved : goal.loop-m-preserved
+loop-m-preserved c =
     let a = c.args in
-    comes_more c.loop-given.invariant c.pass_item.ensures c.in-Found.is _
-    (onward a.p.now a.type_id.now (point a.q) a.moment c.loop-given.given c.in-Found.m c.with_zone-given.ensures c.item_bytes.ensures)
+    comes_more c.loop-m.invariant c.pass_item.ensures c.in-Some.is _
+    (onward a.p.now a.type_id.now (point a.q) a.moment c.loop-m.given c.in-Some.m c.with_zone-given.ensures c.item_bytes.ensures)

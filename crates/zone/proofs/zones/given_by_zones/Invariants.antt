@@ -9,9 +9,9 @@ use Rattle.zone.specs.inner.Values.{all_given}
 use Rattle.zone.proofs.Loops.{zones_for}
 use Rattle.zone.proofs.zones.given_by_zones.Given as goal
 
-abbrev pub invariant-loop-given : goal.invariant-loop-given
-invariant-loop-given l =
+abbrev pub invariant-loop-m : goal.invariant-loop-m
+invariant-loop-m l =
     Comes l.p (zones_for l.p l.type_id (point l.q) l.moment l.given) l.at (all_given (applicable (rules (picked_items zone l.p) (point l.q) l.moment) l.type_id))
 
-abbrev pub decreases-loop-given : goal.decreases-loop-given
-decreases-loop-given l = length l.p - l.at
+abbrev pub decreases-loop-m : goal.decreases-loop-m
+decreases-loop-m l = length l.p - l.at

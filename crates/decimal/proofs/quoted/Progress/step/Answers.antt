@@ -15,7 +15,7 @@ returns-then-b-eq46 c =
     c.point.ensures
     ∙ step-point _ _ (sym c.is_digit.ensures ∙ c.if-is_digit.false) (eq-eqb _ _ c.if-b-eq46.true)
 
-pub returns : goal.returns
-returns c =
+pub returns-else-b-eq46 : goal.returns-else-b-eq46
+returns-else-b-eq46 c =
     c.empty.ensures
     ∙ step_other _ _ (sym c.is_digit.ensures ∙ c.if-is_digit.false) (ne_eqb _ _ c.if-b-eq46.false)

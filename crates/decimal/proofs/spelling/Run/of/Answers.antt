@@ -4,7 +4,7 @@ use mathlib.Core.Bool.{true}
 use mathlib.Core.Path.{◌≡◌, refl, sym, ◌∙◌}
 use Prim.Native.Nat.{◌≤◌, ◌<◌, ◌^◌}
 use native.Mathlib.Omega.{arith}
-use lib.ListN.{get_or}
+use lib.ListN.{length, get_or}
 use Rattle.lexeme.specs.Numbers.{digit}
 use Rattle.radix.proofs.Digits.{one_more_lem, at_most}
 use Rattle.decimal.proofs.Runs.{digit-range, run_end, run_stop, run_next}
@@ -44,7 +44,8 @@ loop-count-preserved c =
 pub returns : goal.returns
 returns c =
     let l = c.loop-count in
-    run_end c.args.s.now l.count l.value c.loop-count-test.false ∙ l.invariant.2
+    let e : l.count ≡ length c.args.s.now = omega arith in
+    rw (← e) (run_end c.args.s.now l.count l.value c.loop-count-test.false ∙ l.invariant.2)
 
 pub loop-count-init : goal.loop-count-init
 loop-count-init c = (omega arith, omega arith, refl)
