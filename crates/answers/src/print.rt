@@ -8,6 +8,11 @@ pub fn error<W: Write>(out: &mut W) -> io::Result<()> {
     writeln!(out, "error")
 }
 
+// The number of an answer that is no refusal. It is a piece of its own: what is lost where standard output takes no more begins and ends with a piece.
+pub fn found<W: Write>(out: &mut W) -> io::Result<()> {
+    write!(out, "0")
+}
+
 // A refusal: its number, and of a file that is not clean the first rule that it breaks.
 pub fn refusal<W: Write>(out: &mut W, refusal: Refusal) -> io::Result<()> {
     write!(out, "{}", refusal.number())?;

@@ -20,13 +20,16 @@ pub fn ask(words: &[&[u8]], room: &mut [u8]) -> Option<Result<Quote, Refusal>> {
 // The amount, and two marks: 1 where one is set.
 pub fn print<W: Write>(out: &mut W, quote: Result<Quote, Refusal>) -> io::Result<()> {
     match quote {
-        Ok(q) => writeln!(
-            out,
-            "0 {} {} {}",
-            q.amount,
-            u8::from(q.past_minutes),
-            u8::from(q.past_kilometres)
-        ),
+        Ok(q) => {
+            print::found(out)?;
+            writeln!(
+                out,
+                " {} {} {}",
+                q.amount,
+                u8::from(q.past_minutes),
+                u8::from(q.past_kilometres)
+            )
+        }
         Err(refusal) => print::refusal(out, refusal),
     }
 }

@@ -16,7 +16,7 @@ pub fn ask(words: &[&[u8]], room: &mut [u8]) -> Option<Result<Parts, Refusal>> {
 pub fn print<W: Write>(out: &mut W, reading: Result<Parts, Refusal>) -> io::Result<()> {
     match reading {
         Ok(p) => {
-            write!(out, "0")?;
+            print::found(out)?;
             print::parts(out, p)?;
             writeln!(out)
         }

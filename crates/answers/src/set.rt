@@ -30,7 +30,16 @@ pub fn print<W: Write>(out: &mut W, verdict: Verdict) -> io::Result<()> {
     write!(out, "{}", verdict.acceptance.number())?;
     match verdict.acceptance {
         Acceptance::NoRoom => {}
-        _ => write!(out, " {:016x}", u64::from_be_bytes(verdict.word))?,
+        _ => print_word(out, verdict.word)?,
     }
     writeln!(out)
+}
+
+// A word in hex, byte by byte: what is lost where standard output takes no more is a piece of this size.
+fn print_word<W: Write>(out: &mut W, word: [u8; Word::SIZE]) -> io::Result<()> {
+    write!(out, " ")?;
+    for b in word {
+        write!(out, "{b:02x}")?;
+    }
+    Ok(())
 }

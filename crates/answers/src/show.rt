@@ -25,7 +25,10 @@ pub fn ask(words: &[&[u8]], room: &mut [u8]) -> Option<Result<Span, Refusal>> {
 
 pub fn print<W: Write>(out: &mut W, shown: Result<Span, Refusal>) -> io::Result<()> {
     match shown {
-        Ok(span) => writeln!(out, "0 {} {}", span.from, span.upto),
+        Ok(span) => {
+            print::found(out)?;
+            writeln!(out, " {} {}", span.from, span.upto)
+        }
         Err(refusal) => print::refusal(out, refusal),
     }
 }

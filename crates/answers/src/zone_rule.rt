@@ -27,13 +27,15 @@ pub fn print<W: Write>(out: &mut W, rule: Result<Rule, Refusal>) -> io::Result<(
 
 // The four values, a minus sign for one that no rule gives.
 fn print_rule<W: Write>(out: &mut W, rule: Rule) -> io::Result<()> {
-    write!(out, "0 {} {}", u8::from(rule.ride), u8::from(rule.through))?;
+    print::found(out)?;
+    write!(out, " {} {}", u8::from(rule.ride), u8::from(rule.through))?;
     match rule.speed {
         Some(speed) => write!(out, " {speed}")?,
         None => write!(out, " -")?,
     }
     match rule.parking {
-        Some(parking) => writeln!(out, " {}", u8::from(parking)),
-        None => writeln!(out, " -"),
+        Some(parking) => write!(out, " {}", u8::from(parking))?,
+        None => write!(out, " -")?,
     }
+    writeln!(out)
 }

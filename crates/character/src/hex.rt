@@ -7,13 +7,13 @@ use lexeme::front::byte_at;
 
 // A hexadecimal digit's value.
 #[tactic(auto, unfolding(lexeme::specs::Character::hexadecimal, lexeme::specs::Character::hex_value, lexeme::specs::Character::within))]
-pub fn hex_value(b: u8) -> Option<u32>
+pub fn hex_value(b: u32) -> Option<u32>
     ensures { result ≡ digit b }
 {
     match b {
-        b'0'..=b'9' => Some(u32::from(b - b'0')),
-        b'A'..=b'F' => Some(u32::from(b - b'A') + 10),
-        b'a'..=b'f' => Some(u32::from(b - b'a') + 10),
+        0x30..=0x39 => Some(b - 0x30),
+        0x41..=0x46 => Some(b - 0x37),
+        0x61..=0x66 => Some(b - 0x57),
         _ => None,
     }
 }
@@ -22,7 +22,7 @@ pub fn hex_value(b: u8) -> Option<u32>
 fn hex_at(s: &[u8], at: usize, k: usize) -> Result<u32, usize>
     ensures { result ≡ digit_at (drop at s.now) k }
 {
-    hex_value(byte_at(s, at, k)).ok_or(k)
+    hex_value(u32::from(byte_at(s, at, k))).ok_or(k)
 }
 
 // The four digits from `at` on.

@@ -28,7 +28,7 @@ use Rattle.fault.specs.Outcome.{file_count, Outcome, unbroken}
 use Rattle.document.proofs.Along.{ends-same}
 use Rattle.document.specs.Spans.{top_span, record_span, spanning}
 use Rattle.document.proofs.Records.{top-is}
-use Rattle.word.specs.declared.refusal.Refusal.TheVariants.{NoRecord}
+use Rattle.word.specs.declared.refusal.Refusal.TheVariants.{NoFile}
 use Rattle.clean.specs.Clean.{tree_of, clean_by, clean_in, syntax_outcome}
 use Rattle.clean.specs.inner.Blamed.{blamed}
 use Rattle.clean.specs.inner.Judged.{judged}
@@ -99,7 +99,7 @@ blamed-narrow field n h f = go (eqb n 0)
 
 -- what is shown
 module _ (σ : Shape) (f n : ℕ) (s : List ℕ) where
-  pub shown-none : (1 ≤ f → f ≤ file_count → ⊥) → answer (Err NoRecord) ≡ shown_by σ f n s
+  pub shown-none : (1 ≤ f → f ≤ file_count → ⊥) → answer (Err NoFile) ≡ shown_by σ f n s
   unfolding shown_by
   shown-none h =
       by_test (leb 1 f)

@@ -7,7 +7,7 @@ use lib.ListN.{length}
 use Rattle.schema.specs.Shape.{Shape}
 use Rattle.schema.specs.Tables.{sheet_shape}
 use Rattle.fault.specs.Outcome.{file_count, unbroken}
-use Rattle.word.specs.declared.refusal.Refusal.TheVariants.{NoRecord}
+use Rattle.word.specs.declared.refusal.Refusal.TheVariants.{NoFile}
 use Rattle.clean.specs.Clean.{clean_in}
 use Rattle.clean.specs.Show.{answer, shown_by}
 use Rattle.clean.specs.inner.Noted.{RecordsNoted}
@@ -20,5 +20,5 @@ pub absent : (sheet file : ℕ) (s notes : List ℕ) → length s ≡ 0
 absent sheet file s notes e = (clean-absent (sheet_shape sheet) file s e, λ i h. absurd (omega arith))
 
 -- no file has a number past the last
-pub past_last : (σ : Shape) (f n : ℕ) (s : List ℕ) → file_count < f → answer (Err NoRecord) ≡ shown_by σ f n s
+pub past_last : (σ : Shape) (f n : ℕ) (s : List ℕ) → file_count < f → answer (Err NoFile) ≡ shown_by σ f n s
 past_last σ f n s h = shown-none σ f n s (λ i j. omega arith)

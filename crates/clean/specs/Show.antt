@@ -17,7 +17,6 @@ pub record Answer : Type 0 where
   pub from : ℕ
   pub upto : ℕ
 
--- a refusal, which shows an empty part
 abbrev pub refused : ℕ → Parts → Answer
 refused number p = record { number = number; parts = p; from = 0; upto = 0 }
 

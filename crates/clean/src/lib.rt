@@ -107,12 +107,15 @@ pub fn show_record(table: u8, file: u64, record: u64, s: &[u8]) -> Result<Span, 
     ensures { answer result ≡ shown_of (table_at table) file «record» s.now }
 {
     if file == 0 || file > Word::FILES as u64 {
-        return Err(Refusal::NoRecord);
+        return Err(Refusal::NoFile);
     }
     let f = file as u8;
     let sheet = sheet_of(table, f);
-    check_clean(sheet, f, s)?;
-    record_span(sheet, s, record as usize).ok_or(Refusal::NoRecord)
+    // By a match: the wrong program that shows a refusal then differs in an answer alone.
+    match check_clean(sheet, f, s) {
+        Ok(()) => record_span(sheet, s, record as usize).ok_or(Refusal::NoRecord),
+        Err(parts) => Err(Refusal::NotClean(parts)),
+    }
 }
 
 // The bytes of an answer, a part of the caller's own: none on a refusal.

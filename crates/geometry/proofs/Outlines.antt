@@ -2,7 +2,7 @@
 -- question of the whole ring while no point is taken, and with none left what is kept answers it. Edges that meet the origin add nothing to the area sum.
 use mathlib.Core.Bool.{Bool, beq, true, false, not, ◌&&◌}
 use mathlib.Core.List.{List, [], ◌∷◌}
-use mathlib.Core.Path.{◌≡◌, refl, sym, ap, ap₂, ◌∙◌}
+use mathlib.Core.Path.{◌≡◌, refl, sym, ap, ap₂, subst, ◌∙◌}
 use Prim.Native.Nat.{ℕ, ◌+◌, ◌≤◌, ◌<◌}
 use Rattle.std.specs.Prelude.{Option, None, Some, unwrap_or}
 use Rattle.std.specs.Option.{option_eq, option_map_or}
@@ -13,6 +13,7 @@ use lib.IntN.{ℤ, pos, ◌+ℤ◌, +ℤ_idl, +ℤ_idr, +ℤ_assoc}
 use lib.Signed.{lt_z}
 use borrow.Author.Tests.{lt-ltb, le-ltb}
 use Rattle.limits.specs.Ceilings.{positions}
+use Rattle.notation.proofs.Options.{none-some}
 use Rattle.notation.specs.Choice.{◌⇒◌else◌, ◌and◌}
 use Rattle.signed.specs.inner.Difference.{difference}
 use Rattle.signed.proofs.Gap.{gap, gap_pos, gap_same, gap_minus, gap_mul, difference_le}
@@ -32,9 +33,13 @@ use Rattle.geometry.proofs.Tests.{equal_nat}
 -- what is kept has room
 pub sized-none : Sized no_outline
 sized-none =
-    record { edges = 0; taken = omega arith; few = omega arith; room = room-none refl; last = on-map-origin }
+    record { edges = 0; taken = omega arith; few = omega arith; room = room-none refl; first = λ a e. none-some e; last = on-map-origin }
 
 module _ {o : Outline} {p : Position} (s : Sized o) (m : OnMap p) where
+  first-on-map : (first : Option Position) → ((a : Position) → first ≡ Some a → OnMap a) → (a : Position) → Some (unwrap_or first p) ≡ Some a → OnMap a
+  first-on-map None on a e = let z : p ≡ a = cc in subst OnMap z m
+  first-on-map (Some b) on a e = on a e
+
   pub sized-next : Sized (joined o p)
   sized-next = go (dec_lt o.count positions)
     where
@@ -46,6 +51,7 @@ module _ {o : Outline} {p : Position} (s : Sized o) (m : OnMap p) where
             taken = omega (arith, s.taken);
             few = omega (arith, s.taken, l);
             room = room-added s.last m s.room;
+            first = first-on-map o.first s.first;
             last = m;
           }
       go (no n) =
@@ -56,6 +62,7 @@ module _ {o : Outline} {p : Position} (s : Sized o) (m : OnMap p) where
             taken = omega (arith, s.taken);
             few = s.few;
             room = s.room;
+            first = first-on-map o.first s.first;
             last = m;
           }
 

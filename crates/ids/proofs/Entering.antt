@@ -153,5 +153,5 @@ module _ {sheet : ℕ} {p : List ℕ} {n : ℕ} {notes : List ℕ} {m : Item} (w
       → Noted sheet p (n + 1) (entered notes n (m.value + r) m.value at (bit y))
   enter_some r at t u =
       let v = t.some r refl in let a = m.value in let k = m.value_end - m.value in
-      noted_more w x.room (a + r) a at y (entry_by (Entry.within v.1 m x.among refl refl u))
-      (ap text_of (sym (drop-drop r a p) ∙ ap (drop r) (sym (take-append-drop k (drop a p)))) ∙ v.2 (drop k (drop a p)) ∙ text-by (Some v.0) v.1) test_by
+      noted_more w x.room (a + r) a at y (entry_by (Entry.within v.2 m x.among refl refl u))
+      (ap text_of (sym (drop-drop r a p) ∙ ap (drop r) (sym (take-append-drop k (drop a p)))) ∙ v.3 (drop k (drop a p)) ∙ text-by (Some v.1) v.2) test_by

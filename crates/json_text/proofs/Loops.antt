@@ -26,7 +26,7 @@ use Rattle.json_text.proofs.Bound.{all, after_less, elements-next}
 use Rattle.json_text.proofs.StrongPrefixes.{continues, member_consumes, member_takes, value_consumes, value_takes}
 use Rattle.json_text.proofs.Values.{value-empty, member-empty}
 use Rattle.json_text.proofs.Follow.{closed-at, wrong-at, next-at}
-use Rattle.std.specs.Prelude.{Ok, Err}
+use Rattle.std.specs.Prelude.{Result, Ok, Err}
 use Rattle.lexeme.specs.declared.SyntaxError.{SyntaxError}
 
 -- what is asked of an element: it takes a byte at least, what it takes decides what is read, and nothing is no element
@@ -81,19 +81,19 @@ module _ {A : Type 0} {close : ℕ} {element : List ℕ → Read A} (a : Element
     landed : Lands element s i j
     landed = lands element s i j (takes_leaves Settled element a.takes) e
 
-    pub pending_closed : (n : ℕ) → Ok (Closed n) ≡ turn s close j → Ok n ≡ placed s (bracketed close element (drop at s))
+    pub pending_closed : (n : ℕ) → Ok (Closed n) ≡ turn s close (Ok j) → Ok n ≡ placed s (bracketed close element (drop at s))
     unfolding turn
     pending_closed n h =
         let c = closed-at s n (after close (drop j s)) h in
         ends s c.0 _ _ c.2 _ (elements-closed close _ element _ _ _ _ landed.reads c.1) ∙ sym p.ends
 
-    pub pending_wrong : (w : SyntaxError) → Err w ≡ turn s close j → Err w ≡ placed s (bracketed close element (drop at s))
+    pub pending_wrong : (w : SyntaxError) → Err w ≡ turn s close (Ok j) → Err w ≡ placed s (bracketed close element (drop at s))
     unfolding turn
     pending_wrong w h =
         let c = wrong-at s w (after close (drop j s)) h in
         c.2 ∙ faults s c.0 _ _ refl _ (elements-wrong close _ element _ _ _ _ landed.reads c.1) ∙ sym p.ends
 
-    pub pending_next : (n : ℕ) → Ok (Next n) ≡ turn s close j → (i < n) × Pending close element s at n
+    pub pending_next : (n : ℕ) → Ok (Next n) ≡ turn s close (Ok j) → (i < n) × Pending close element s at n
     unfolding turn
     pending_next n h =
         let c = next-at s n (after close (drop j s)) h in
@@ -109,3 +109,19 @@ module _ {A : Type 0} {close : ℕ} {element : List ℕ → Read A} (a : Element
                 ∙ ap (λ (l : List ℕ). placed s (all close element l)) (sym w);
           },
         )
+
+  -- the same, where the element's reading ended as o says
+  pub pending_stops : (o : Result ℕ SyntaxError) (w : SyntaxError) → o ≡ placed s (element (drop i s)) → Err w ≡ turn s close o → Err w ≡ placed s (bracketed close element (drop at s))
+  unfolding turn
+  pending_stops (Err v) w e h = let z : w ≡ v = cc in ap Err z ∙ pending_fails v e
+  pending_stops (Ok j) w e h = pending_wrong j e w h
+
+  pub pending_ends : (o : Result ℕ SyntaxError) (n : ℕ) → o ≡ placed s (element (drop i s)) → Ok (Closed n) ≡ turn s close o → Ok n ≡ placed s (bracketed close element (drop at s))
+  unfolding turn
+  pending_ends (Err v) n e h = let z : ◌≡◌ {A = ℕ} 0 1 = cc in absurd (omega arith)
+  pending_ends (Ok j) n e h = pending_closed j e n h
+
+  pub pending_continues : (o : Result ℕ SyntaxError) (n : ℕ) → o ≡ placed s (element (drop i s)) → Ok (Next n) ≡ turn s close o → (i < n) × Pending close element s at n
+  unfolding turn
+  pending_continues (Err v) n e h = let z : ◌≡◌ {A = ℕ} 0 1 = cc in absurd (omega arith)
+  pending_continues (Ok j) n e h = pending_next j e n h

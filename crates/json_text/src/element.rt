@@ -14,16 +14,17 @@ pub enum Turn {
     Next(usize),
 }
 
-// After an element that ends at `end`: the closing bracket, or a comma; the want of both is a fault.
+// After an element whose reading ended so: a fault in it ends the whole; else the closing bracket, or a comma, and the want of both is a fault.
 pub fn after_element(
     table: &[u8; 256],
     s: &[u8],
-    end: usize,
+    element: Result<usize, SyntaxError>,
     close: u8,
 ) -> Result<Turn, SyntaxError>
     requires { Classifies table.now }
-    ensures { result ≡ turn s.now close end }
+    ensures { result ≡ turn s.now close element }
 {
+    let end = element?;
     let i = skip_blanks_by(table, s, end);
     if s.len() <= i {
         return Err(SyntaxError {

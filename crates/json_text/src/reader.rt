@@ -65,8 +65,8 @@ fn read_array(table: &[u8; 256], s: &[u8], at: usize, levels: u8) -> Result<usiz
         return Ok(i + 1);
     }
     loop {
-        let end = value_by(table, s, i, levels)?;
-        match after_element(table, s, end, b']')? {
+        let element = value_by(table, s, i, levels);
+        match after_element(table, s, element, b']')? {
             Turn::Closed(end) => return Ok(end),
             Turn::Next(next) => i = next,
         }
@@ -84,8 +84,8 @@ fn read_object(table: &[u8; 256], s: &[u8], at: usize, levels: u8) -> Result<usi
         return Ok(i + 1);
     }
     loop {
-        let end = read_member(table, s, i, levels)?;
-        match after_element(table, s, end, b'}')? {
+        let element = read_member(table, s, i, levels);
+        match after_element(table, s, element, b'}')? {
             Turn::Closed(end) => return Ok(end),
             Turn::Next(next) => i = next,
         }

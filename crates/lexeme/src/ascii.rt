@@ -10,11 +10,12 @@ pub fn is_either(b: u8, x: u8, y: u8) -> bool
     b == x || b == y
 }
 
-#[tactic(auto, unfolding(crate::specs::Tokens::blank, crate::specs::Numbers::either))]
+// By two tests of `is_either`: the compiler makes one comparison of it for most bytes, where it makes four of a pattern.
+#[tactic(auto, unfolding(crate::specs::Tokens::blank))]
 pub fn is_blank(b: u8) -> bool
     ensures { result ≡ blank b }
 {
-    matches!(b, b' ' | b'\t' | b'\n' | b'\r')
+    is_either(b, b' ', b'\t') || is_either(b, b'\n', b'\r')
 }
 
 #[tactic(auto, unfolding(crate::specs::Numbers::digit, crate::specs::Character::within))]

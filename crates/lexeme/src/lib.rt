@@ -8,11 +8,12 @@ pub mod front;
 pub mod literal;
 pub mod number;
 
-// The first fault of a text: its kind, and the offset at which it stands.
+// The first fault of a text: its kind, and the offset at which it stands. The offset lies where the other answer of a reader's Result, the end of a value,
+// lies too: with the kind in that place each end is written in pieces and read back whole, which stalls the processor.
 #[derive(Clone, Copy, Debug, PartialEq, Eq)]
 pub struct SyntaxError {
-    pub kind: u8,
     pub offset: usize,
+    pub kind: u8,
 }
 
 // A character of a string: its UTF-8 bytes, of which the first `len` count, and how many bytes its spelling has after the first.

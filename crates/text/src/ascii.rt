@@ -54,7 +54,7 @@ pub fn escaped(s: &[u8], at: usize) -> u8
     if c < b'0' || b'7' < c {
         return 128;
     }
-    let Some(d) = hex_value(s[at + 5]) else {
+    let Some(d) = hex_value(u32::from(s[at + 5])) else {
         return 128;
     };
     (c - b'0') * 16 + d as u8

@@ -55,7 +55,9 @@ fn lacks(s: &[u8], at: usize, n: usize) -> bool
     s.len() < n || s.len() - n < at
 }
 
-// Just past the quotation mark that closes a string, whose text goes on at `at`. Most strings are short: where nine bytes hold the mark, no loop is needed.
+// Just past the quotation mark that closes a string, whose text goes on at `at`. Most strings are short: where nine bytes hold the mark, no loop is needed,
+// and a call would cost as much as the work.
+#[inline(always)]
 pub fn string_end(s: &[u8], at: usize) -> usize
     ensures { result ≡ length s.now - length (quoted false (drop at s.now)) }
 {

@@ -2,7 +2,7 @@
 use Rattle.std.specs.Prelude.{ℕ, Result, Ok, Err}
 use Rattle.word.specs.declared.Parts.{Parts}
 use Rattle.word.specs.declared.refusal.Refusal.{Refusal}
-use Rattle.word.specs.declared.refusal.Refusal.TheVariants.{NoWord, TooLong, NotClean, NoPlan, OffMap, NoRule, NoRecord}
+use Rattle.word.specs.declared.refusal.Refusal.TheVariants.{NoWord, TooLong, NotClean, NoPlan, OffMap, NoRule, NoFile, NoRecord}
 
 abbrev pub no_parts : Parts
 no_parts = record { file = 0; kind = 0; field = 0; «record» = 0; sub = 0; offset = 0 }
@@ -14,6 +14,7 @@ refusal_number (NotClean p) = 5
 refusal_number NoPlan = 6
 refusal_number OffMap = 8
 refusal_number NoRule = 9
+refusal_number NoFile = 10
 refusal_number NoRecord = 10
 
 abbrev pub refusal_parts : Refusal → Parts

@@ -7,8 +7,7 @@ use Rattle.radix.specs.Fields.{bases, packed, unpacked}
 use Rattle.word.specs.declared.Parts.{Parts}
 use Rattle.word.specs.declared.refusal.Refusal.{Refusal}
 use Rattle.word.specs.Form.{Form, form1}
-pub use Rattle.word.specs.Refusals.{no_parts}
-use Rattle.word.specs.Refusals.{refusal_number, refusal_parts}
+pub use Rattle.word.specs.Refusals.{no_parts, refusal_number, refusal_parts}
 
 -- the fields' values, in the layout's order
 abbrev pub values_of : Form → Parts → List ℕ

@@ -20,7 +20,9 @@ pub enum Refusal {
     OffMap,
     // No rule applies at the point.
     NoRule,
-    // There is no such file or record.
+    // There is no such file.
+    NoFile,
+    // The file has no such record.
     NoRecord,
 }
 
@@ -35,6 +37,7 @@ impl Refusal {
             Refusal::NoPlan => 6,
             Refusal::OffMap => 8,
             Refusal::NoRule => 9,
+            Refusal::NoFile => 10,
             Refusal::NoRecord => 10,
         }
     }

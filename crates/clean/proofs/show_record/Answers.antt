@@ -7,7 +7,6 @@ use Rattle.schema.proofs.SheetShapes.{sheet_shape_lem}
 use Rattle.clean.specs.Clean.{clean_in}
 use Rattle.word.specs.declared.refusal.Refusal.TheVariants.{NoRecord}
 use Rattle.document.specs.declared.Span.{Span}
-use Rattle.notation.proofs.Tried.{handed_on}
 use Rattle.clean.specs.Show.{answer, of_span, shown_by}
 use Rattle.clean.proofs.Judged.{shown-none, shown_of_lem}
 use Rattle.clean.proofs.Shows.{listed}
@@ -20,21 +19,20 @@ pub returns-then-file-eq0 : goal.returns-then-file-eq0
 returns-then-file-eq0 c = let a = c.args in shown-none (file_shape (table_at a.table) a.file) a.file a.«record» a.s.now (λ h i. omega arith)
 
 -- the sheet has the shape of the file in the table
-pub returns-in_err-check_clean : goal.returns-in_err-check_clean
-returns-in_err-check_clean c =
+pub returns-in-Err : goal.returns-in-Err
+returns-in-Err c =
     let a = c.args in
-    ap answer (handed_on _ _ c.from_residual.ensures.1)
-    ∙ shown_of_lem (file_shape (table_at a.table) a.file) a.file a.«record» a.s.now (omega arith) (omega arith) (Err _)
-    (sym c.in_err-check_clean.was ∙ c.check_clean.ensures ∙ ap (λ (σ : Shape). clean_in σ a.file a.s.now) (ap sheet_shape c.sheet_of-sheet.ensures ∙ sheet_shape_lem a.table a.file))
+    shown_of_lem (file_shape (table_at a.table) a.file) a.file a.«record» a.s.now (omega arith) (omega arith) (Err _)
+    (sym c.in-Err.is ∙ c.check_clean.ensures ∙ ap (λ (σ : Shape). clean_in σ a.file a.s.now) (ap sheet_shape c.sheet_of-sheet.ensures ∙ sheet_shape_lem a.table a.file))
 
 -- of a clean file, by its record's span
 spanned : (o : Option Span) → answer (ok_or o NoRecord) ≡ of_span o
 spanned None = refl
 spanned (Some p) = refl
 
-pub returns : goal.returns
-returns c =
-    let a = c.args in let e = sym c.in_ok-check_clean.was ∙ c.check_clean.ensures in
+pub returns-in-Ok : goal.returns-in-Ok
+returns-in-Ok c =
+    let a = c.args in let e = sym c.in-Ok.is ∙ c.check_clean.ensures in
     ap answer c.ok_or.ensures.value ∙ spanned c.record_span.result ∙ ap of_span (c.record_span.ensures (listed c.sheet_of-sheet.result a.file a.s.now (sym e)))
     ∙ shown_of_lem (sheet_shape c.sheet_of-sheet.result) a.file a.«record» a.s.now (omega arith) (omega arith) unbroken e
     ∙ ap (λ (σ : Shape). shown_by σ a.file a.«record» a.s.now) (ap sheet_shape c.sheet_of-sheet.ensures ∙ sheet_shape_lem a.table a.file)

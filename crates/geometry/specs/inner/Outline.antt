@@ -1,6 +1,6 @@
 -- A ring taken point by point: what is kept of the points so far, and what the points that are left make of it. Each question of a whole ring is
 -- asked of what is kept with the points that are left; with none left the code answers it.
-use Rattle.std.specs.Prelude.{Bool, false, not, List, [], ◌∷◌, None, Some, is_none, unwrap_or, ℕ, ◌+◌, ◌*◌, ◌≤◌, ltb, ℤ, pos, ◌+ℤ◌}
+use Rattle.std.specs.Prelude.{Bool, false, not, List, [], ◌∷◌, ◌≡◌, None, Some, is_none, unwrap_or, ℕ, ◌+◌, ◌*◌, ◌≤◌, ltb, ℤ, pos, ◌+ℤ◌}
 use Rattle.std.specs.Option.{option_map_or}
 use Rattle.std.specs.Int.Signed.{lt_z}
 use Rattle.limits.specs.Ceilings.{positions}
@@ -42,6 +42,7 @@ pub record Sized (o : Outline) : Type 0 where
   pub taken : edges ≤ o.count
   pub few : edges ≤ positions
   pub room : Room o.area edges
+  pub first : (a : Position) → o.first ≡ Some a → OnMap a
   pub last : OnMap o.last
 
 -- the area sum: what is kept, on to the origin, with the edges that are left

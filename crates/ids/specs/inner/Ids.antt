@@ -48,10 +48,10 @@ pub record NoIdBefore (sheet : ℕ) (q : List ℕ) (at : ℕ) : Type 0 where
   pub left : Walk (member_steps q) (noted q (id_name sheet)) Missing at (found_in q (id_name sheet))
   pub along : (0 < length q) → AlongMembers q at
 
--- a text of q, if there is one, begins at the place r, whatever follows q
+-- a text of q, if there is one, begins at the place r, whatever follows q; that is never its first byte
 pub record TextPlace (q : List ℕ) (text : Option (List ℕ)) (r : Option ℕ) : Type 0 where
   pub none : r ≡ None → text ≡ None
-  pub some : (at : ℕ) → r ≡ Some at → (id : List ℕ) × (text ≡ Some id) × ((s : List ℕ) → text_of (drop at (q ++ s)) ≡ id)
+  pub some : (at : ℕ) → r ≡ Some at → (0 < at) × (id : List ℕ) × (text ≡ Some id) × ((s : List ℕ) → text_of (drop at (q ++ s)) ≡ id)
 
 -- what a walk over the members of the record q tells of its id: where its member is looked for, and where its text begins
 pub record IdTold (sheet : ℕ) (q : List ℕ) (r : IdText) : Type 0 where

@@ -1,5 +1,5 @@
 -- How reading elements goes on, as the code answers it: by places of the whole text s.
-use Rattle.std.specs.Prelude.{ℕ, ◌-◌, List, length, drop, Result, Ok}
+use Rattle.std.specs.Prelude.{ℕ, ◌-◌, List, length, drop, Result, Ok, Err}
 use Rattle.word.specs.Kinds.{not_json}
 use Rattle.lexeme.specs.declared.SyntaxError.{SyntaxError}
 use Rattle.lexeme.specs.Read.{wrong_at}
@@ -13,6 +13,7 @@ turn_at s (closed q) = Ok (Closed (length s - length q))
 turn_at s (more q) = Ok (Next (length s - length q))
 turn_at s (wrong q) = wrong_at not_json (length s - length q)
 
--- after an element that ends at this offset
-unfoldable pub turn : List ℕ → ℕ → ℕ → Result Turn SyntaxError
-turn s close offset = turn_at s (after close (drop offset s))
+-- after an element whose reading ended so
+unfoldable pub turn : List ℕ → ℕ → Result ℕ SyntaxError → Result Turn SyntaxError
+turn s close (Err w) = Err w
+turn s close (Ok offset) = turn_at s (after close (drop offset s))

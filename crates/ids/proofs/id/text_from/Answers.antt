@@ -27,6 +27,7 @@ returns c =
           record {
             none = λ e. none-some (sym e);
             some = λ at e. (
+              let z = some-some e in omega arith,
               text_of (inside c.value_at.result.now),
               ap text_by (sym (c.value_at.ensures.0 w)) ∙ text-some _ _ c.code_of.ensures code,
               λ z.

@@ -13,7 +13,7 @@ use Rattle.lexeme.proofs.NumberParts.{equal-inside}
 use Rattle.std.specs.Prelude.{Ok}
 use Rattle.notation.proofs.Tried.{handed_on}
 use Rattle.json_text.specs.Text.{expect, value}
-use Rattle.json_text.proofs.Loops.{items, members, opened_closed, opened_pending, pending_fails, pending_closed, pending_wrong, pending_next}
+use Rattle.json_text.proofs.Loops.{items, members, opened_closed, opened_pending, pending_stops, pending_ends, pending_continues}
 use Rattle.json_text.proofs.Values.{begins, begins-inside, no_start, value-quoted, value-string, value-number, array-deep, object-deep, array_opened, object_opened, value-true, value-false, value-null, value_none, member_unnamed, member-wrong, member-value}
 use Rattle.json_text.proofs.reader.+read_array_read_member_read_object_value_by.Goals as goal
 
@@ -28,32 +28,28 @@ read_array-returns-then-first-eq93 t c = opened_closed 0x5d _ c.args.s.now c.arg
 pub read_array-loop-end-init : goal.read_array-loop-end-init
 read_array-loop-end-init t c = opened_pending 0x5d _ c.args.s.now c.args.at c.skip_blanks_by-i.ensures c.first.ensures (items c.args.levels) c.if-first-eq93.false
 
-pub read_array-value_by-requires : goal.read_array-value_by-requires
-read_array-value_by-requires t c = (omega arith, search rules)
+pub read_array-value_by-element-requires : goal.read_array-value_by-element-requires
+read_array-value_by-element-requires t c = (omega arith, search rules)
 
 pub read_array-returns-in_err-end : goal.read_array-returns-in_err-end
 read_array-returns-in_err-end t c =
-    handed_on _ _ c.from_residual.ensures.1 ∙ pending_fails (items _) c.loop-end.invariant _ (sym c.in_err-end.was ∙ c.value_by.ensures)
-
-pub read_array-returns-in_err-end-2 : goal.read_array-returns-in_err-end-2
-read_array-returns-in_err-end-2 t c =
-    handed_on _ _ c.from_residual-in_err-end-2.ensures.1
-    ∙ pending_wrong (items _) c.loop-end.invariant _ (sym c.in_ok-end.was ∙ c.value_by.ensures) _ (sym c.in_err-end-2.was ∙ c.after_element.ensures)
+    handed_on _ _ c.from_residual.ensures.1
+    ∙ pending_stops (items _) c.loop-end.invariant _ _ c.value_by-element.ensures (sym c.in_err-end.was ∙ c.after_element.ensures)
 
 pub read_array-returns-in-Closed : goal.read_array-returns-in-Closed
 read_array-returns-in-Closed t c =
-    pending_closed (items _) c.loop-end.invariant _ (sym c.in_ok-end.was ∙ c.value_by.ensures) _
-    (sym (c.in_ok-end-2.was ∙ ap Ok c.in-Closed.is) ∙ c.after_element.ensures)
+    pending_ends (items _) c.loop-end.invariant _ _ c.value_by-element.ensures
+    (sym (c.in_ok-end.was ∙ ap Ok c.in-Closed.is) ∙ c.after_element.ensures)
 
 pub read_array-loop-end-smaller : goal.read_array-loop-end-smaller
 read_array-loop-end-smaller t c =
-    let o = pending_next (items _) c.loop-end.invariant _ (sym c.in_ok-end.was ∙ c.value_by.ensures) _
-    (sym (c.in_ok-end-2.was ∙ ap Ok c.in-Next.is) ∙ c.after_element.ensures) in
+    let o = pending_continues (items _) c.loop-end.invariant _ _ c.value_by-element.ensures
+    (sym (c.in_ok-end.was ∙ ap Ok c.in-Next.is) ∙ c.after_element.ensures) in
     omega (arith, o.0, o.1.upto)
 
 pub read_array-loop-end-preserved : goal.read_array-loop-end-preserved
-read_array-loop-end-preserved t c = (pending_next (items _) c.loop-end.invariant _ (sym c.in_ok-end.was ∙ c.value_by.ensures) _
-    (sym (c.in_ok-end-2.was ∙ ap Ok c.in-Next.is) ∙ c.after_element.ensures)).1
+read_array-loop-end-preserved t c = (pending_continues (items _) c.loop-end.invariant _ _ c.value_by-element.ensures
+    (sym (c.in_ok-end.was ∙ ap Ok c.in-Next.is) ∙ c.after_element.ensures)).1
 
 -- objects
 
@@ -66,32 +62,28 @@ read_object-returns-then-first-eq125 t c = opened_closed 0x7d _ c.args.s.now c.a
 pub read_object-loop-end-init : goal.read_object-loop-end-init
 read_object-loop-end-init t c = opened_pending 0x7d _ c.args.s.now c.args.at c.skip_blanks_by-i.ensures c.first.ensures (members c.args.levels) c.if-first-eq125.false
 
-pub read_object-read_member-requires : goal.read_object-read_member-requires
-read_object-read_member-requires t c = (omega arith, search rules)
+pub read_object-read_member-element-requires : goal.read_object-read_member-element-requires
+read_object-read_member-element-requires t c = (omega arith, search rules)
 
 pub read_object-returns-in_err-end : goal.read_object-returns-in_err-end
 read_object-returns-in_err-end t c =
-    handed_on _ _ c.from_residual.ensures.1 ∙ pending_fails (members _) c.loop-end.invariant _ (sym c.in_err-end.was ∙ c.read_member.ensures)
-
-pub read_object-returns-in_err-end-2 : goal.read_object-returns-in_err-end-2
-read_object-returns-in_err-end-2 t c =
-    handed_on _ _ c.from_residual-in_err-end-2.ensures.1
-    ∙ pending_wrong (members _) c.loop-end.invariant _ (sym c.in_ok-end.was ∙ c.read_member.ensures) _ (sym c.in_err-end-2.was ∙ c.after_element.ensures)
+    handed_on _ _ c.from_residual.ensures.1
+    ∙ pending_stops (members _) c.loop-end.invariant _ _ c.read_member-element.ensures (sym c.in_err-end.was ∙ c.after_element.ensures)
 
 pub read_object-returns-in-Closed : goal.read_object-returns-in-Closed
 read_object-returns-in-Closed t c =
-    pending_closed (members _) c.loop-end.invariant _ (sym c.in_ok-end.was ∙ c.read_member.ensures) _
-    (sym (c.in_ok-end-2.was ∙ ap Ok c.in-Closed.is) ∙ c.after_element.ensures)
+    pending_ends (members _) c.loop-end.invariant _ _ c.read_member-element.ensures
+    (sym (c.in_ok-end.was ∙ ap Ok c.in-Closed.is) ∙ c.after_element.ensures)
 
 pub read_object-loop-end-smaller : goal.read_object-loop-end-smaller
 read_object-loop-end-smaller t c =
-    let o = pending_next (members _) c.loop-end.invariant _ (sym c.in_ok-end.was ∙ c.read_member.ensures) _
-    (sym (c.in_ok-end-2.was ∙ ap Ok c.in-Next.is) ∙ c.after_element.ensures) in
+    let o = pending_continues (members _) c.loop-end.invariant _ _ c.read_member-element.ensures
+    (sym (c.in_ok-end.was ∙ ap Ok c.in-Next.is) ∙ c.after_element.ensures) in
     omega (arith, o.0, o.1.upto)
 
 pub read_object-loop-end-preserved : goal.read_object-loop-end-preserved
-read_object-loop-end-preserved t c = (pending_next (members _) c.loop-end.invariant _ (sym c.in_ok-end.was ∙ c.read_member.ensures) _
-    (sym (c.in_ok-end-2.was ∙ ap Ok c.in-Next.is) ∙ c.after_element.ensures)).1
+read_object-loop-end-preserved t c = (pending_continues (members _) c.loop-end.invariant _ _ c.read_member-element.ensures
+    (sym (c.in_ok-end.was ∙ ap Ok c.in-Next.is) ∙ c.after_element.ensures)).1
 
 -- a member: behind the colon the value decides it
 

@@ -1,6 +1,6 @@
 -- The cycle of the judge: each function meets its contract if those that it calls do, and the measure, five times the levels left and the
 -- callee's rank, falls with each call. The loops' invariants: along an array the least so far, with the items that are left, makes the least of all; along an
--- object the columns tell what was met.
+-- object the slots tell what was met.
 use mathlib.Core.List.{List}
 use mathlib.Core.Path.{sym, ap, subst, ◌∙◌}
 use Prim.Native.Nat.{ℕ, ◌+◌, ◌≤◌}

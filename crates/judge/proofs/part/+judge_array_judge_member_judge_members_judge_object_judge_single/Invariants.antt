@@ -1,5 +1,5 @@
 -- The measure is five times the levels left and the function's rank, and falls with each call. The loops' invariants: along an array the least so
--- far, with the items that are left, makes the least of all; along an object the columns tell what was met.
+-- far, with the items that are left, makes the least of all; along an object the slots tell what was met.
 use Prim.Native.Nat.{◌+◌, ◌*◌, ◌-◌, ◌<◌, ◌≤◌}
 use lib.ListN.{length}
 use Rattle.judge.proofs.Items.{ItemsMet}

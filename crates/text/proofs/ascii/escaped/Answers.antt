@@ -1,6 +1,8 @@
 -- Two digits behind \u00 that make a number below 128 are the character; any other case is answered by 128, which says nothing.
+use mathlib.Core.Path.{ap, ◌∙◌}
 use Prim.Native.Nat.{◌+◌}
 use lib.ListN.{get_or}
+use Rattle.lexeme.specs.Character.{hex_value}
 use Rattle.character.proofs.Digits.{digit_is}
 use Rattle.text.proofs.Escapes.{no-escape, escape-low, octal}
 use native.Mathlib.Omega.{arith}
@@ -39,5 +41,5 @@ overflow_add-result c = omega (arith, (digit_is _ c.in-Some.ensures).1, c.if-c-g
 pub returns : goal.returns
 returns c h =
     escape-low c.args.s.now c.args.at (c.opens_low.ensures c.if-not-opens_low.false)
-    (octal (get_or c.args.s.now (c.args.at + 4) 0) c.if-c-lt48.false c.if-c-gt55.false) (digit_is _ c.in-Some.ensures).0
+    (octal (get_or c.args.s.now (c.args.at + 4) 0) c.if-c-lt48.false c.if-c-gt55.false) ((digit_is _ c.in-Some.ensures).0 ∙ ap hex_value c.from.ensures)
     (omega (arith, c.if-c-gt55.false)) (omega (arith, (digit_is _ c.in-Some.ensures).1))
