@@ -42,14 +42,16 @@ impl Place {
     }
 }
 
-// The lesser of two: one of them as it is, since to build it anew costs a copy for each row of an object.
+// The lesser of two. Not by a pair of them, which would be a copy of both for each row of an object.
 #[tactic(auto, unfolding(crate::specs::Fault::lesser))]
 pub fn lesser(a: Option<Fault>, b: Option<Fault>) -> Option<Fault>
     ensures { result ≡ spec.lesser a b }
 {
-    match (a, b) {
-        (Some(x), Some(y)) => { if y.cmp(&x).is_lt() { b } else { a } }
-        (None, _) => b,
-        (_, None) => a,
-    }
+    let Some(x) = a else {
+        return b;
+    };
+    let Some(y) = b else {
+        return Some(x);
+    };
+    if y.cmp(&x).is_lt() { Some(y) } else { Some(x) }
 }

@@ -9,12 +9,12 @@ use Rattle.fault.proofs.lesser.Goals as goal
 
 pub returns-then-is_lt : goal.returns-then-is_lt
 returns-then-is_lt c =
-    let two = c.in-Some-Some in let x = two.x in let y = two.y in
+    let x = c.in-Some.x in let y = c.in-Some-b.y in
     let earlier : before y x ≡ c.is_lt.result = sym (cmp_before y x) ∙ ap is_lt (sym c.cmp.ensures) ∙ sym c.is_lt.ensures in
-    two.is-1 ∙ sym (ap₂ lesser two.is-0 two.is-1 ∙ lesser-second x y (earlier ∙ c.if-is_lt.true))
+    sym (ap₂ lesser c.in-Some.is c.in-Some-b.is ∙ lesser-second x y (earlier ∙ c.if-is_lt.true))
 
 pub returns-else-is_lt : goal.returns-else-is_lt
 returns-else-is_lt c =
-    let two = c.in-Some-Some in let x = two.x in let y = two.y in
+    let x = c.in-Some.x in let y = c.in-Some-b.y in
     let earlier : before y x ≡ c.is_lt.result = sym (cmp_before y x) ∙ ap is_lt (sym c.cmp.ensures) ∙ sym c.is_lt.ensures in
-    two.is-0 ∙ sym (ap₂ lesser two.is-0 two.is-1 ∙ lesser-first x y (earlier ∙ c.if-is_lt.false))
+    sym (ap₂ lesser c.in-Some.is c.in-Some-b.is ∙ lesser-first x y (earlier ∙ c.if-is_lt.false))
