@@ -10,7 +10,7 @@ pub fn is_either(b: u8, x: u8, y: u8) -> bool
     b == x || b == y
 }
 
-// By two tests of `is_either`: the compiler makes one comparison of it for most bytes, where it makes four of a pattern.
+// By two tests of `is_either`: the compiler makes one comparison of it for most bytes, where it makes three of a pattern.
 #[tactic(auto, unfolding(crate::specs::Tokens::blank))]
 pub fn is_blank(b: u8) -> bool
     ensures { result ≡ blank b }

@@ -9,7 +9,8 @@ pub mod literal;
 pub mod number;
 
 // The first fault of a text: its kind, and the offset at which it stands. The offset lies where the other answer of a reader's Result, the end of a value,
-// lies too: with the kind in that place each end is written in pieces and read back whole, which stalls the processor.
+// lies too: with the kind in that place each end is written in pieces and read back whole, which stalls the processor. So does the Result of a reader that is
+// called, and not inlined, where it is handed on as it came: as sixteen bytes, of which an end is eight. Such an end is handed on by `?` and `Ok`.
 #[derive(Clone, Copy, Debug, PartialEq, Eq)]
 pub struct SyntaxError {
     pub offset: usize,

@@ -56,16 +56,16 @@ fn read_fraction(s: &[u8], at: usize) -> Result<usize, SyntaxError>
     read_exponent(s, next)
 }
 
-// The integer and what follows it.
+// The integer and what follows it, whose end is handed on as `SyntaxError` tells.
 // Shut out: a 0 taken together with the byte after it, so that 01 is one number; an integer with no digit.
 fn read_integer(s: &[u8], at: usize) -> Result<usize, SyntaxError>
     ensures { result ≡ placed s.now (both integer (both fraction exponent) (drop at s.now)) }
 {
     if first(s, at) == b'0' {
-        return read_fraction(s, at + 1);
+        return Ok(read_fraction(s, at + 1)?);
     }
     let next = read_digits(s, at)?;
-    read_fraction(s, next)
+    Ok(read_fraction(s, next)?)
 }
 
 // The number at `at`.

@@ -85,7 +85,7 @@ pub read_object-loop-end-preserved : goal.read_object-loop-end-preserved
 read_object-loop-end-preserved t c = (pending_continues (members _) c.loop-end.invariant _ _ c.read_member-element.ensures
     (sym (c.in_ok-end.was ∙ ap Ok c.in-Next.is) ∙ c.after_element.ensures)).1
 
--- a member: behind the colon the value decides it
+-- a member: behind the colon the value decides it, and its end or its fault is the member's
 
 pub read_member-returns-in_err-name_end : goal.read_member-returns-in_err-name_end
 read_member-returns-in_err-name_end t c =
@@ -101,33 +101,56 @@ read_member-returns-then-first-ne58 t c =
 pub read_member-overflow_add-i : goal.read_member-overflow_add-i
 read_member-overflow_add-i t c = omega (arith, equal-inside 0x3a refl c.args.s.now c.skip_blanks_by-i.result (sym c.first.ensures ∙ c.if-first-ne58.false))
 
-pub read_member-returns-in-14 : goal.read_member-returns-in-14
+pub read_member-returns-in_ok-end-in-14 : goal.read_member-returns-in_ok-end-in-14
 unfolding start_of
-read_member-returns-in-14 t c =
-    c.string_by-in-14.ensures
+read_member-returns-in_ok-end-in-14 t c =
+    sym c.in_ok-end-in-14.was ∙ c.string_by-in-14.ensures
     ∙ value-quoted _ (begins c.args.s.now c.skip_blanks_by-value.result c.first-2.ensures c.class_by.ensures c.in-14.is)
     ∙ member-value _ c.args.s.now c.args.at (sym c.in_ok-name_end.was ∙ c.string_by.ensures) c.skip_blanks_by-i.ensures c.first.ensures c.if-first-ne58.false c.skip_blanks_by-value.ensures
 
-pub read_member-returns-in-2 : goal.read_member-returns-in-2
+pub read_member-returns-in_err-end-in-14 : goal.read_member-returns-in_err-end-in-14
 unfolding start_of
-read_member-returns-in-2 t c =
-    c.read_number.ensures
+read_member-returns-in_err-end-in-14 t c =
+    handed_on _ _ c.from_residual-in_err-end-in-14.ensures.1 ∙ sym c.in_err-end-in-14.was ∙ c.string_by-in-14.ensures
+    ∙ value-quoted _ (begins c.args.s.now c.skip_blanks_by-value.result c.first-2.ensures c.class_by.ensures c.in-14.is)
+    ∙ member-value _ c.args.s.now c.args.at (sym c.in_ok-name_end.was ∙ c.string_by.ensures) c.skip_blanks_by-i.ensures c.first.ensures c.if-first-ne58.false c.skip_blanks_by-value.ensures
+
+pub read_member-returns-in_ok-end-in-2 : goal.read_member-returns-in_ok-end-in-2
+unfolding start_of
+read_member-returns-in_ok-end-in-2 t c =
+    sym c.in_ok-end-in-2.was ∙ c.read_number.ensures
+    ∙ sym (value-number _ (begins c.args.s.now c.skip_blanks_by-value.result c.first-2.ensures c.class_by.ensures c.in-2.is))
+    ∙ member-value _ c.args.s.now c.args.at (sym c.in_ok-name_end.was ∙ c.string_by.ensures) c.skip_blanks_by-i.ensures c.first.ensures c.if-first-ne58.false c.skip_blanks_by-value.ensures
+
+pub read_member-returns-in_err-end-in-2 : goal.read_member-returns-in_err-end-in-2
+unfolding start_of
+read_member-returns-in_err-end-in-2 t c =
+    handed_on _ _ c.from_residual-in_err-end-in-2.ensures.1 ∙ sym c.in_err-end-in-2.was ∙ c.read_number.ensures
     ∙ sym (value-number _ (begins c.args.s.now c.skip_blanks_by-value.result c.first-2.ensures c.class_by.ensures c.in-2.is))
     ∙ member-value _ c.args.s.now c.args.at (sym c.in_ok-name_end.was ∙ c.string_by.ensures) c.skip_blanks_by-i.ensures c.first.ensures c.if-first-ne58.false c.skip_blanks_by-value.ensures
 
 pub read_member-value_by-requires : goal.read_member-value_by-requires
 read_member-value_by-requires t c = (omega arith, search rules)
 
-pub read_member-returns-in_default : goal.read_member-returns-in_default
-read_member-returns-in_default t c =
-    c.value_by.ensures
+pub read_member-returns-in_ok-end-in_default : goal.read_member-returns-in_ok-end-in_default
+read_member-returns-in_ok-end-in_default t c =
+    sym c.in_ok-end-in_default.was ∙ c.value_by.ensures
     ∙ member-value _ c.args.s.now c.args.at (sym c.in_ok-name_end.was ∙ c.string_by.ensures) c.skip_blanks_by-i.ensures c.first.ensures c.if-first-ne58.false c.skip_blanks_by-value.ensures
 
--- a value, by the class of the byte at its place
+pub read_member-returns-in_err-end-in_default : goal.read_member-returns-in_err-end-in_default
+read_member-returns-in_err-end-in_default t c =
+    handed_on _ _ c.from_residual-in_err-end-in_default.ensures.1 ∙ sym c.in_err-end-in_default.was ∙ c.value_by.ensures
+    ∙ member-value _ c.args.s.now c.args.at (sym c.in_ok-name_end.was ∙ c.string_by.ensures) c.skip_blanks_by-i.ensures c.first.ensures c.if-first-ne58.false c.skip_blanks_by-value.ensures
 
-pub value_by-returns-in-2 : goal.value_by-returns-in-2
+-- a value, by the class of the byte at its place: its end or its fault is what the reader of that class answers
+
+pub value_by-returns-in_ok-end-in-2 : goal.value_by-returns-in_ok-end-in-2
 unfolding start_of
-value_by-returns-in-2 t c = c.read_number.ensures ∙ sym (value-number _ (begins c.args.s.now c.args.at c.first.ensures c.class_by.ensures c.in-2.is))
+value_by-returns-in_ok-end-in-2 t c = sym c.in_ok-end-in-2.was ∙ c.read_number.ensures ∙ sym (value-number _ (begins c.args.s.now c.args.at c.first.ensures c.class_by.ensures c.in-2.is))
+
+pub value_by-returns-in_err-end-in-2 : goal.value_by-returns-in_err-end-in-2
+unfolding start_of
+value_by-returns-in_err-end-in-2 t c = handed_on _ _ c.from_residual.ensures.1 ∙ sym c.in_err-end-in-2.was ∙ c.read_number.ensures ∙ sym (value-number _ (begins c.args.s.now c.args.at c.first.ensures c.class_by.ensures c.in-2.is))
 
 pub value_by-returns-then-levels-eq0 : goal.value_by-returns-then-levels-eq0
 unfolding start_of
@@ -142,9 +165,13 @@ value_by-overflow_add-at t c = omega (arith, begins-inside (begins c.args.s.now 
 pub value_by-read_array-requires : goal.value_by-read_array-requires
 value_by-read_array-requires t c = (omega arith, search rules)
 
-pub value_by-returns-else-levels-eq0 : goal.value_by-returns-else-levels-eq0
+pub value_by-returns-in_ok-end-in-4 : goal.value_by-returns-in_ok-end-in-4
 unfolding start_of
-value_by-returns-else-levels-eq0 t c = c.read_array.ensures ∙ sym (array_opened _ (begins c.args.s.now c.args.at c.first.ensures c.class_by.ensures c.in-4.is) c.if-levels-eq0.false)
+value_by-returns-in_ok-end-in-4 t c = sym c.in_ok-end-in-4.was ∙ c.read_array.ensures ∙ sym (array_opened _ (begins c.args.s.now c.args.at c.first.ensures c.class_by.ensures c.in-4.is) c.if-levels-eq0.false)
+
+pub value_by-returns-in_err-end-in-4 : goal.value_by-returns-in_err-end-in-4
+unfolding start_of
+value_by-returns-in_err-end-in-4 t c = handed_on _ _ c.from_residual-in_err-end-in-4.ensures.1 ∙ sym c.in_err-end-in-4.was ∙ c.read_array.ensures ∙ sym (array_opened _ (begins c.args.s.now c.args.at c.first.ensures c.class_by.ensures c.in-4.is) c.if-levels-eq0.false)
 
 pub value_by-returns-then-levels-eq0-2 : goal.value_by-returns-then-levels-eq0-2
 unfolding start_of
@@ -159,29 +186,49 @@ value_by-overflow_add-at-in-6 t c = omega (arith, begins-inside (begins c.args.s
 pub value_by-read_object-requires : goal.value_by-read_object-requires
 value_by-read_object-requires t c = (omega arith, search rules)
 
-pub value_by-returns-else-levels-eq0-2 : goal.value_by-returns-else-levels-eq0-2
+pub value_by-returns-in_ok-end-in-6 : goal.value_by-returns-in_ok-end-in-6
 unfolding start_of
-value_by-returns-else-levels-eq0-2 t c = c.read_object.ensures ∙ sym (object_opened _ (begins c.args.s.now c.args.at c.first.ensures c.class_by.ensures c.in-6.is) c.if-levels-eq0-2.false)
+value_by-returns-in_ok-end-in-6 t c = sym c.in_ok-end-in-6.was ∙ c.read_object.ensures ∙ sym (object_opened _ (begins c.args.s.now c.args.at c.first.ensures c.class_by.ensures c.in-6.is) c.if-levels-eq0-2.false)
 
-pub value_by-returns-in-8 : goal.value_by-returns-in-8
+pub value_by-returns-in_err-end-in-6 : goal.value_by-returns-in_err-end-in-6
 unfolding start_of
-value_by-returns-in-8 t c = c.read_literal.ensures ∙ sym (value-true _ (begins c.args.s.now c.args.at c.first.ensures c.class_by.ensures c.in-8.is))
+value_by-returns-in_err-end-in-6 t c = handed_on _ _ c.from_residual-in_err-end-in-6.ensures.1 ∙ sym c.in_err-end-in-6.was ∙ c.read_object.ensures ∙ sym (object_opened _ (begins c.args.s.now c.args.at c.first.ensures c.class_by.ensures c.in-6.is) c.if-levels-eq0-2.false)
 
-pub value_by-returns-in-10 : goal.value_by-returns-in-10
+pub value_by-returns-in_ok-end-in-8 : goal.value_by-returns-in_ok-end-in-8
 unfolding start_of
-value_by-returns-in-10 t c = c.read_literal-in-10.ensures ∙ sym (value-false _ (begins c.args.s.now c.args.at c.first.ensures c.class_by.ensures c.in-10.is))
+value_by-returns-in_ok-end-in-8 t c = sym c.in_ok-end-in-8.was ∙ c.read_literal.ensures ∙ sym (value-true _ (begins c.args.s.now c.args.at c.first.ensures c.class_by.ensures c.in-8.is))
 
-pub value_by-returns-in-12 : goal.value_by-returns-in-12
+pub value_by-returns-in_err-end-in-8 : goal.value_by-returns-in_err-end-in-8
 unfolding start_of
-value_by-returns-in-12 t c = c.read_literal-in-12.ensures ∙ sym (value-null _ (begins c.args.s.now c.args.at c.first.ensures c.class_by.ensures c.in-12.is))
+value_by-returns-in_err-end-in-8 t c = handed_on _ _ c.from_residual-in_err-end-in-8.ensures.1 ∙ sym c.in_err-end-in-8.was ∙ c.read_literal.ensures ∙ sym (value-true _ (begins c.args.s.now c.args.at c.first.ensures c.class_by.ensures c.in-8.is))
+
+pub value_by-returns-in_ok-end-in-10 : goal.value_by-returns-in_ok-end-in-10
+unfolding start_of
+value_by-returns-in_ok-end-in-10 t c = sym c.in_ok-end-in-10.was ∙ c.read_literal-in-10.ensures ∙ sym (value-false _ (begins c.args.s.now c.args.at c.first.ensures c.class_by.ensures c.in-10.is))
+
+pub value_by-returns-in_err-end-in-10 : goal.value_by-returns-in_err-end-in-10
+unfolding start_of
+value_by-returns-in_err-end-in-10 t c = handed_on _ _ c.from_residual-in_err-end-in-10.ensures.1 ∙ sym c.in_err-end-in-10.was ∙ c.read_literal-in-10.ensures ∙ sym (value-false _ (begins c.args.s.now c.args.at c.first.ensures c.class_by.ensures c.in-10.is))
+
+pub value_by-returns-in_ok-end-in-12 : goal.value_by-returns-in_ok-end-in-12
+unfolding start_of
+value_by-returns-in_ok-end-in-12 t c = sym c.in_ok-end-in-12.was ∙ c.read_literal-in-12.ensures ∙ sym (value-null _ (begins c.args.s.now c.args.at c.first.ensures c.class_by.ensures c.in-12.is))
+
+pub value_by-returns-in_err-end-in-12 : goal.value_by-returns-in_err-end-in-12
+unfolding start_of
+value_by-returns-in_err-end-in-12 t c = handed_on _ _ c.from_residual-in_err-end-in-12.ensures.1 ∙ sym c.in_err-end-in-12.was ∙ c.read_literal-in-12.ensures ∙ sym (value-null _ (begins c.args.s.now c.args.at c.first.ensures c.class_by.ensures c.in-12.is))
 
 pub value_by-overflow_add-at-in-14 : goal.value_by-overflow_add-at-in-14
 unfolding start_of
 value_by-overflow_add-at-in-14 t c = omega (arith, begins-inside (begins c.args.s.now c.args.at c.first.ensures c.class_by.ensures c.in-14.is) refl)
 
-pub value_by-returns-in-14 : goal.value_by-returns-in-14
+pub value_by-returns-in_ok-end-in-14 : goal.value_by-returns-in_ok-end-in-14
 unfolding start_of
-value_by-returns-in-14 t c = c.read_string.ensures ∙ sym (value-string _ (begins c.args.s.now c.args.at c.first.ensures c.class_by.ensures c.in-14.is))
+value_by-returns-in_ok-end-in-14 t c = sym c.in_ok-end-in-14.was ∙ c.read_string.ensures ∙ sym (value-string _ (begins c.args.s.now c.args.at c.first.ensures c.class_by.ensures c.in-14.is))
+
+pub value_by-returns-in_err-end-in-14 : goal.value_by-returns-in_err-end-in-14
+unfolding start_of
+value_by-returns-in_err-end-in-14 t c = handed_on _ _ c.from_residual-in_err-end-in-14.ensures.1 ∙ sym c.in_err-end-in-14.was ∙ c.read_string.ensures ∙ sym (value-string _ (begins c.args.s.now c.args.at c.first.ensures c.class_by.ensures c.in-14.is))
 
 pub value_by-returns-in_default : goal.value_by-returns-in_default
 value_by-returns-in_default t c =
