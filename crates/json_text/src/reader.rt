@@ -1,5 +1,5 @@
 // Values, arrays and objects. `levels` counts the brackets that may still open, one inside another, and falls with each. The table of classes is
-// lent to all that a value holds. Ends are handed on by `?` and `Ok`, for the speed that `SyntaxError` tells of.
+// lent to all that a value holds. Ends are handed on by `?` and `Ok`, for the reason beside `SyntaxError`.
 ghost use Rattle.std.specs.Prelude.{◌≡◌, drop};
 ghost use Rattle.lexeme.specs.Character.{paired};
 ghost use Rattle.lexeme.specs.inner.Class.{Classifies};
@@ -17,7 +17,8 @@ use lexeme::literal::read_literal;
 use lexeme::number::read_number;
 use word::kind::Kind;
 
-// The value at `at`. Its end is named once, behind the `match`: with an `Ok` in each arm the bytes that pad a fault's kind are copied for every value.
+// The value at `at`. The `match` gives its end, and one `Ok` is made of it: with an `Ok` in each arm the bytes that pad a fault's kind are copied for every
+// value.
 #[cycle(read_array_read_member_read_object_value_by)]
 fn value_by(table: &[u8; 256], s: &[u8], at: usize, levels: u8) -> Result<usize, SyntaxError>
     requires { Classifies table.now }

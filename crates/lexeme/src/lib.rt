@@ -8,9 +8,10 @@ pub mod front;
 pub mod literal;
 pub mod number;
 
-// The first fault of a text: its kind, and the offset at which it stands. The offset lies where the other answer of a reader's Result, the end of a value,
-// lies too: with the kind in that place each end is written in pieces and read back whole, which stalls the processor. So does the Result of a reader that is
-// called, and not inlined, where it is handed on as it came: as sixteen bytes, of which an end is eight. Such an end is handed on by `?` and `Ok`.
+// The first fault of a text: its kind, and the offset at which it stands. Fields lie in the order written, and the offset comes first, where a reader's Result
+// has its other answer, the end of a value: behind the kind's byte each end would be written in pieces and read back whole, and the processor would wait for
+// it. It waits for a Result, too, that a reader hands on as it came from another which is called and not inlined: what lies behind the tag was just written
+// by eight bytes and eight, and is read by sixteen. There the end is handed on by `?` and `Ok`.
 #[derive(Clone, Copy, Debug, PartialEq, Eq)]
 pub struct SyntaxError {
     pub offset: usize,

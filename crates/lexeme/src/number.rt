@@ -56,7 +56,7 @@ fn read_fraction(s: &[u8], at: usize) -> Result<usize, SyntaxError>
     read_exponent(s, next)
 }
 
-// The integer and what follows it, whose end is handed on as `SyntaxError` tells.
+// The integer and what follows it. The end of that is handed on by `?` and `Ok`, for the reason beside `SyntaxError`.
 // Shut out: a 0 taken together with the byte after it, so that 01 is one number; an integer with no digit.
 fn read_integer(s: &[u8], at: usize) -> Result<usize, SyntaxError>
     ensures { result ≡ placed s.now (both integer (both fraction exponent) (drop at s.now)) }
