@@ -21,7 +21,7 @@ use Rattle.signed.proofs.Parts.{parts}
 use Rattle.geometry.specs.Ring.{Point, equal, same_point, turn, area_sum, clockwise, ends_at, sound}
 use Rattle.geometry.specs.Held.{on_edge, crosses, on_ring, odd}
 use Rattle.geometry.specs.inner.Shifted.{OnMap, added, half_lat, half_lon, origin, point, stands, value}
-use Rattle.geometry.specs.inner.Outline.{no_outline, is_empty, joined, Sized, area_from, clockwise_from, closes, closes_from, sound_from, edge_meets, edge_crosses, on_from, odd_from, held_by, stands_from}
+use Rattle.geometry.specs.inner.Outline.{no_outline, is_empty, joined, Summed, Sized, area_from, clockwise_from, closes, closes_from, sound_from, edge_meets, edge_crosses, on_from, odd_from, held_by, stands_from}
 use Rattle.geometry.specs.declared.Outline.{Outline}
 use Rattle.geometry.specs.declared.Position.{Position}
 use Rattle.geometry.specs.contracts.PositionPartialEq.TheImpl as position
@@ -31,19 +31,14 @@ use Rattle.geometry.proofs.Edges.{flip, flip_law}
 use Rattle.geometry.proofs.Tests.{equal_nat}
 
 -- what is kept has room
-pub sized-none : Sized no_outline
-sized-none =
-    record { edges = 0; taken = omega arith; few = omega arith; room = room-none refl; first = λ a e. none-some e; last = on-map-origin }
+pub summed-none : Summed no_outline
+summed-none = record { edges = 0; taken = omega arith; few = omega arith; room = room-none refl; last = on-map-origin }
 
-module _ {o : Outline} {p : Position} (s : Sized o) (m : OnMap p) where
-  first-on-map : (first : Option Position) → ((a : Position) → first ≡ Some a → OnMap a) → (a : Position) → Some (unwrap_or first p) ≡ Some a → OnMap a
-  first-on-map None on a e = let z : p ≡ a = cc in subst OnMap z m
-  first-on-map (Some b) on a e = on a e
-
-  pub sized-next : Sized (joined o p)
-  sized-next = go (dec_lt o.count positions)
+module _ {o : Outline} {p : Position} (s : Summed o) (m : OnMap p) where
+  pub summed-next : Summed (joined o p)
+  summed-next = go (dec_lt o.count positions)
     where
-      go : Dec (o.count < positions) → Sized (joined o p)
+      go : Dec (o.count < positions) → Summed (joined o p)
       go (yes l) =
           rw (lt-ltb o.count positions l)
           record {
@@ -51,7 +46,6 @@ module _ {o : Outline} {p : Position} (s : Sized o) (m : OnMap p) where
             taken = omega (arith, s.taken);
             few = omega (arith, s.taken, l);
             room = room-added s.last m s.room;
-            first = first-on-map o.first s.first;
             last = m;
           }
       go (no n) =
@@ -62,9 +56,20 @@ module _ {o : Outline} {p : Position} (s : Sized o) (m : OnMap p) where
             taken = omega (arith, s.taken);
             few = s.few;
             room = s.room;
-            first = first-on-map o.first s.first;
             last = m;
           }
+
+-- and its points are on the map
+pub sized-none : Sized no_outline
+sized-none = record { summed = summed-none; first = λ a e. none-some e }
+
+module _ {o : Outline} {p : Position} (s : Sized o) (m : OnMap p) where
+  first-on-map : (first : Option Position) → ((a : Position) → first ≡ Some a → OnMap a) → (a : Position) → Some (unwrap_or first p) ≡ Some a → OnMap a
+  first-on-map None on a e = let z : p ≡ a = cc in subst OnMap z m
+  first-on-map (Some b) on a e = on a e
+
+  pub sized-next : Sized (joined o p)
+  sized-next = record { summed = summed-next s.summed m; first = first-on-map o.first s.first }
 
 -- while no point is taken
 origin-turn : (b : Point) → turn (point origin) b ≡ pos 0

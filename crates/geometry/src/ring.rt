@@ -3,7 +3,7 @@ ghost use Rattle.std.specs.Prelude.{◌≡◌, ◌+◌, ◌<◌, ◌^◌, ltb, [
 ghost use Rattle.limits.specs.Ceilings.{positions};
 ghost use Rattle.notation.specs.Choice.{◌⇒◌else◌};
 ghost use Rattle.geometry.specs.inner.Shifted.{OnMap, added, value};
-ghost use Rattle.geometry.specs.inner.Outline.{no_outline, is_empty, joined, Sized, area_from, clockwise_from, sound_from};
+ghost use Rattle.geometry.specs.inner.Outline.{no_outline, is_empty, joined, Summed, area_from, clockwise_from, sound_from};
 
 use crate::{Balance, Outline, Position};
 use limits::Limits;
@@ -23,7 +23,7 @@ impl Outline {
 
     // The area sum, once p was taken too. A ring of more positions than the ceiling is not asked for it, so there the sum stays.
     fn area_with(self, p: Position) -> Balance
-        requires { Sized self × OnMap p }
+        requires { Summed self × OnMap p }
         ensures { result ≡ (ltb self.count positions ⇒ added self.area self.last p else self.area) }
     {
         if self.count < u32::from(Limits::POSITIONS) {
@@ -35,7 +35,7 @@ impl Outline {
 
     // With one point more.
     pub fn with(self, p: Position) -> Outline
-        requires { Sized self × OnMap p × (self.count + 1 < 2 ^ 32) }
+        requires { Summed self × OnMap p × (self.count + 1 < 2 ^ 32) }
         ensures { result ≡ joined self p }
     {
         Outline {
@@ -48,7 +48,7 @@ impl Outline {
 
     // The area sum. A line from the origin and back to it closes, so it may be taken moved; and the edges that meet the origin add nothing.
     fn area_sum(self) -> Balance
-        requires { Sized self }
+        requires { Summed self }
         ensures { value result ≡ area_from self [] }
     {
         self.area.with(self.last, Position::origin())
@@ -56,7 +56,7 @@ impl Outline {
 
     // The inside lies to the right of each edge.
     pub fn is_clockwise(self) -> bool
-        requires { Sized self }
+        requires { Summed self }
         ensures { result ≡ clockwise_from self [] }
     {
         self.area_sum().below_zero()
@@ -64,7 +64,7 @@ impl Outline {
 
     // The last point is the first again, and there is an area.
     pub fn is_sound(self) -> bool
-        requires { Sized self }
+        requires { Summed self }
         ensures { result ≡ sound_from self [] }
     {
         self.first == Some(self.last) && !self.area_sum().is_zero()

@@ -1,6 +1,6 @@
 -- One entry more keeps the entries before it, so that one record more is noted.
 use mathlib.Core.Bool.{Bool, true, false}
-use mathlib.Core.List.{List, []}
+use mathlib.Core.List.{List, [], ◌++◌}
 use mathlib.Core.Path.{◌≡◌, refl, sym, ap, subst, ◌∙◌}
 use Prim.Native.Nat.{ℕ, ◌+◌, ◌-◌, ◌*◌, ◌/◌, ◌%◌, ◌<◌}
 use native.Mathlib.Decide.{ℕ_discrete}
@@ -13,7 +13,7 @@ use Rattle.sorting.specs.Ids.{id_at}
 use Rattle.text.proofs.Decoding.{text-end}
 use Rattle.walk.specs.declared.Item.{Item}
 use Rattle.walk.proofs.Parts.{item_of}
-use Rattle.ids.specs.inner.Ids.{id_of, text_or, id_text, ids_of, NoIdBefore, TextPlace, record_bytes, passing}
+use Rattle.ids.specs.inner.Ids.{id_of, text_or, id_text, ids_of, NoIdBefore, record_bytes, passing}
 use Rattle.ids.specs.inner.Notes.{size, start_at, member_start, pass_at, bit, entered, Entry, Next, Noted}
 use Rattle.std.specs.Prelude.{Option, None, Some}
 
@@ -149,9 +149,9 @@ module _ {sheet : ℕ} {p : List ℕ} {n : ℕ} {notes : List ℕ} {m : Item} (w
   enter_none e =
       noted_more w x.room (length p) (length p) 0 y (entry_by (Entry.without e (omega arith))) (text-end p (length p) (omega arith) ∙ text-by None e) test_by
 
-  pub enter_some : (r at : ℕ) → TextPlace (item_of p m) (id_of sheet (item_of p m)) (Some r) → NoIdBefore sheet (item_of p m) at
-      → Noted sheet p (n + 1) (entered notes n (m.value + r) m.value at (bit y))
-  enter_some r at t u =
-      let v = t.some r refl in let a = m.value in let k = m.value_end - m.value in
-      noted_more w x.room (a + r) a at y (entry_by (Entry.within v.2 m x.among refl refl u))
-      (ap text_of (sym (drop-drop r a p) ∙ ap (drop r) (sym (take-append-drop k (drop a p)))) ∙ v.3 (drop k (drop a p)) ∙ text-by (Some v.1) v.2) test_by
+  pub enter_some : (r at : ℕ) {id : List ℕ} → id_of sheet (item_of p m) ≡ Some id → ((s : List ℕ) → text_of (drop r (item_of p m ++ s)) ≡ id)
+      → NoIdBefore sheet (item_of p m) at → Noted sheet p (n + 1) (entered notes n (m.value + r) m.value at (bit y))
+  enter_some r at {id} some text u =
+      let a = m.value in let k = m.value_end - m.value in
+      noted_more w x.room (a + r) a at y (entry_by (Entry.within some m x.among refl refl u))
+      (ap text_of (sym (drop-drop r a p) ∙ ap (drop r) (sym (take-append-drop k (drop a p)))) ∙ text (drop k (drop a p)) ∙ text-by (Some id) some) test_by

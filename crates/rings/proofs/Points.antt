@@ -113,18 +113,21 @@ module _ (q : Field) (n : ℕ) (p : List ℕ) where
   abbrev all : List Picked
   all = picked_items position_shape p
 
-  pub record Reading (o : Outline) (least : Option Fault) (at : ℕ) : Type 0 where
+  pub record Walked (o : Outline) (least : Option Fault) (at : ℕ) : Type 0 where
     pub passed : Passed p at o.count
-    pub sized : Sized o
     tallies : Listing p → Tallies q position_found nothing single position_shape n p (tally_at o.count least) at
     counted : Listing p → length all ≤ positions → Counted p o.count positions at
     sounds : Listing p → all_sound all ≡ true → length all ≤ positions → Comes p (λ ms. sound_from o (points p ms)) at (sound (map position all))
 
-  pub reading-start : Reading no_outline None 1
-  reading-start =
+  -- and what is kept of the points so far is an outline of points on the map
+  pub record Reading (o : Outline) (least : Option Fault) (at : ℕ) : Type 0 where
+    pub walked : Walked o least at
+    pub sized : Sized o
+
+  pub walked-start : Walked no_outline None 1
+  walked-start =
       record {
         passed = passed_start p;
-        sized = sized-none;
         tallies = λ w. tallies_start q position_found nothing single position_shape n p w;
         counted = λ w h. counted_start positions w (omega (arith, h, length-map (items_of p) (picked position_shape p)));
         sounds = λ w e h.
@@ -132,10 +135,13 @@ module _ (q : Field) (n : ℕ) (p : List ℕ) where
             (comes_start (λ ms. sound_from no_outline (points p ms)) (λ i. AlongItems.start (w.whole i).1));
       }
 
-  module _ {o : Outline} {least : Option Fault} {at : ℕ} (r : Reading o least at) {s : Option Item} (f : ItemPassed p at s) where
-    pub reading-end : s ≡ None → RingRoom (length p) (record { least = least; outline = o }) × (Listing p → RingRead q n all (record { least = least; outline = o }))
-    reading-end e = (
-      record { within = passed_within r.passed; sized = r.sized },
+  pub reading-start : Reading no_outline None 1
+  reading-start = record { walked = walked-start; sized = sized-none }
+
+  module _ {o : Outline} {least : Option Fault} {at : ℕ} (r : Walked o least at) {s : Option Item} (f : ItemPassed p at s) where
+    pub walked-end : s ≡ None → (o.count ≤ length p) × (Listing p → RingRead q n all (record { least = least; outline = o }))
+    walked-end e = (
+      passed_within r.passed,
       λ w.
           let t = tallies_end q position_found nothing single position_shape n p (tally_at o.count least) (r.tallies w) f e in
           record {
@@ -145,13 +151,12 @@ module _ (q : Field) (n : ℕ) (p : List ℕ) where
           },
     )
 
-    pub reading-more : {m : Item} → s ≡ Some m → (found : PositionFound) → OnMap found.point
+    pub walked-more : {m : Item} → s ≡ Some m → (found : PositionFound)
         → ((x : Json) → Whole (item_of p m) x → FindsPosition q (n + o.count) (position_kinds (pick position_shape x)) (position (pick position_shape x)) found)
-        → Reading (joined o found.point) (lesser least found.least) m.next
-    reading-more {m} e found on finds =
+        → Walked (joined o found.point) (lesser least found.least) m.next
+    walked-more {m} e found finds =
         record {
           passed = passed_next r.passed (f.placed m e);
-          sized = sized-next r.sized on;
           tallies = λ w.
               tallies_more q position_found nothing single position_shape n p (tally_at o.count least) (r.tallies w) f e {j = one_position found.least}
               (λ x i. ap one_position (finds x i).least);
@@ -163,3 +168,12 @@ module _ (q : Field) (n : ℕ) (p : List ℕ) where
               comes_more c f e (λ ms. sound_from (joined o found.point) (points p ms))
               (λ l. ap (λ z. sound_from o (z ∷ points p l)) (sym here) ∙ sound-next o found.point (points p l) few);
         }
+
+  module _ {o : Outline} {least : Option Fault} {at : ℕ} (r : Reading o least at) {s : Option Item} (f : ItemPassed p at s) where
+    pub reading-end : s ≡ None → RingRoom (length p) (record { least = least; outline = o }) × (Listing p → RingRead q n all (record { least = least; outline = o }))
+    reading-end e = let w = walked-end r.walked f e in (record { within = w.0; sized = r.sized }, w.1)
+
+    pub reading-more : {m : Item} → s ≡ Some m → (found : PositionFound) → OnMap found.point
+        → ((x : Json) → Whole (item_of p m) x → FindsPosition q (n + o.count) (position_kinds (pick position_shape x)) (position (pick position_shape x)) found)
+        → Reading (joined o found.point) (lesser least found.least) m.next
+    reading-more e found on finds = record { walked = walked-more r.walked f e found finds; sized = sized-next r.sized on }

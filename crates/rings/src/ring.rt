@@ -3,7 +3,7 @@ ghost use Rattle.std.specs.Prelude.{◌≡◌, ◌+◌, ◌<◌, ◌^◌, length
 ghost use Rattle.json_text.specs.Tree.{Json};
 ghost use Rattle.walk.specs.Part.{Whole};
 ghost use Rattle.schema.specs.Pick.{pick};
-ghost use Rattle.geometry.specs.inner.Outline.{Sized};
+ghost use Rattle.geometry.specs.inner.Outline.{Summed};
 ghost use Rattle.document.specs.inner.Items.{picked_items};
 ghost use Rattle.rings.specs.Rings.{ring, item_count};
 ghost use Rattle.rings.specs.inner.Parts.{position_shape, ring_shape, Listing, RingRead, RingRoom, area_least, judged_of, ring_judged, Within};
@@ -37,7 +37,7 @@ fn read_ring(p: &[u8], field: Field, n: u32) -> RingFound
 // kind 11.
 #[tactic(auto, using(crate::proofs::Areas::area_asked), unfolding(crate::specs::inner::Parts::area_least))]
 fn judge_area(r: RingFound, field: Field, n: u32) -> Option<Fault>
-    requires { Sized r.outline }
+    requires { Summed r.outline }
     ensures { result ≡ area_least field n r }
 {
     match r.least {

@@ -36,14 +36,18 @@ pub record Room (s : Balance) (k : ℕ) : Type 0 where
   pub plus : s.plus ≤ k * 64_800_000_000_000_000
   pub minus : s.minus ≤ k * 64_800_000_000_000_000
 
--- an outline of points on the map
-pub record Sized (o : Outline) : Type 0 where
+-- what an outline's functions ask of it: its area sum is one of few edges, and its last point is on the map
+pub record Summed (o : Outline) : Type 0 where
   pub edges : ℕ
   pub taken : edges ≤ o.count
   pub few : edges ≤ positions
   pub room : Room o.area edges
-  pub first : (a : Position) → o.first ≡ Some a → OnMap a
   pub last : OnMap o.last
+
+-- an outline of points on the map
+pub record Sized (o : Outline) : Type 0 where
+  pub summed : Summed o
+  pub first : (a : Position) → o.first ≡ Some a → OnMap a
 
 -- the area sum: what is kept, on to the origin, with the edges that are left
 unfoldable pub area_from : Outline → List Point → ℤ

@@ -53,5 +53,6 @@ returns-in-Some c =
     let passed : c.passes-passed.result ≡ passing a.sheet q = c.passes-passed.ensures ∙ ap (passing a.sheet) c.item_bytes-q.ensures in
     let told : NoIdBefore a.sheet q c.id_text-id.result.member × TextPlace q (id_of a.sheet q) c.id_text-id.result.text =
     (subst (λ (q : List ℕ). IdTold a.sheet q c.id_text-id.result) c.item_bytes-q.ensures c.id_text-id.ensures).told o.0 (subst (Whole q) o.1 x.whole) x.single.once in
+    let there = told.1.some c.in-Some.text c.in-Some.is in
     subst (λ (x : List ℕ). Noted a.sheet a.p.now (a.n + 1) x) (sym c.enter-in-Some.ensures)
-    (enter_some c.requires.1 c.requires.0 passed c.in-Some.text c.id_text-id.result.member (subst (TextPlace q (id_of a.sheet q)) c.in-Some.is told.1) told.0)
+    (enter_some c.requires.1 c.requires.0 passed c.in-Some.text c.id_text-id.result.member there.2 there.3 told.0)

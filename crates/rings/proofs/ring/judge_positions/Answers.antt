@@ -7,7 +7,7 @@ use Rattle.std.specs.Prelude.{Option}
 use Rattle.fault.specs.declared.Fault.{Fault}
 
 pub judge_area-requires : goal.judge_area-requires
-judge_area-requires c = c.read_ring-r.ensures.0.sized
+judge_area-requires c = c.read_ring-r.ensures.0.sized.summed
 
 pub returns : goal.returns
 returns c =

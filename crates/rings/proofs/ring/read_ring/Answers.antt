@@ -14,14 +14,14 @@ returns c = reading-end _ _ _ c.loop-m.invariant c.pass_item.ensures c.in_defaul
 
 pub overflow_add-n : goal.overflow_add-n
 overflow_add-n c =
-    omega (arith, c.requires, passed_within c.loop-m.invariant.passed)
+    omega (arith, c.requires, passed_within c.loop-m.invariant.walked.passed)
 
 pub with-outline-requires : goal.with-outline-requires
 with-outline-requires c =
     let r = c.loop-m.invariant in (
-      r.sized,
+      r.sized.summed,
       c.judge_position-position.ensures.0,
-      omega (arith, c.requires, passed_one r.passed (c.pass_item.ensures.placed _ c.in-Some.is)),
+      omega (arith, c.requires, passed_one r.walked.passed (c.pass_item.ensures.placed _ c.in-Some.is)),
     )
 
 pub loop-m-preserved : goal.loop-m-preserved

@@ -40,7 +40,7 @@ loop-m-init c =
     )
 
 pub holds-requires : goal.holds-requires
-holds-requires c = c.loop-m.invariant.0
+holds-requires c = c.loop-m.invariant.0.summed
 
 pub returns : goal.returns
 returns c =
@@ -49,15 +49,15 @@ returns c =
 
 -- the position that was read is the next of the ring's, and there is room for it
 pub meets-requires : goal.meets-requires
-meets-requires c = (c.loop-m.invariant.0, c.position_in-next.ensures.0, c.requires.1)
+meets-requires c = (c.loop-m.invariant.0.summed, c.position_in-next.ensures.0, c.requires.1)
 
 pub crosses-odd-requires : goal.crosses-odd-requires
-crosses-odd-requires c = (c.loop-m.invariant.0, c.position_in-next.ensures.0, c.requires.1)
+crosses-odd-requires c = (c.loop-m.invariant.0.summed, c.position_in-next.ensures.0, c.requires.1)
 
 pub with-ring-requires : goal.with-ring-requires
 with-ring-requires c =
     let less : c.loop-m.ring.count < positions = counted_less c.loop-m.ring.count positions c.loop-m.invariant.1 c.pass_item.ensures c.in-Some.is in
-    (c.loop-m.invariant.0, c.position_in-next.ensures.0, omega (arith, less))
+    (c.loop-m.invariant.0.summed, c.position_in-next.ensures.0, omega (arith, less))
 
 pub returns-then-meets : goal.returns-then-meets
 returns-then-meets c =
