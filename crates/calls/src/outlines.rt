@@ -9,16 +9,16 @@ fn begins_off_the_map(rt: HostRuntime) {
         lat: 0,
     };
     let north = Position {
-        lon: 180_000_000,
         lat: 91_000_000,
+        ..Position::origin()
     };
     let between = Position {
-        lon: 180_000_000,
         lat: 90_500_000,
+        ..north
     };
     let west = Position {
         lon: 179_000_000,
-        lat: 90_500_000,
+        ..between
     };
     let ring = Outline {
         count: 2,

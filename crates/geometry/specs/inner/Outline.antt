@@ -36,7 +36,7 @@ pub record Room (s : Balance) (k : ℕ) : Type 0 where
   pub plus : s.plus ≤ k * 64_800_000_000_000_000
   pub minus : s.minus ≤ k * 64_800_000_000_000_000
 
--- what an outline's functions ask of it: its area sum is one of few edges, and its last point is on the map
+-- what an outline's functions ask of it: its area sum is one of at most as many edges as a ring may have positions, and its last point is on the map
 pub record Summed (o : Outline) : Type 0 where
   pub edges : ℕ
   pub taken : edges ≤ o.count
@@ -44,7 +44,7 @@ pub record Summed (o : Outline) : Type 0 where
   pub room : Room o.area edges
   pub last : OnMap o.last
 
--- an outline of points on the map
+-- of an outline of points on the map: its first point, if there is one, is on the map too
 pub record Sized (o : Outline) : Type 0 where
   pub summed : Summed o
   pub first : (a : Position) → o.first ≡ Some a → OnMap a
